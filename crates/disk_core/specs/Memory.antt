@@ -1,0 +1,13 @@
+-- A disk in memory, as its callers see it.
+use Rattle.std.specs.Prelude.{ℕ, List}
+use Rattle.disk_core.specs.declared.memory.MemDisk.{MemDisk}
+use Rattle.disk_core.specs.Call.{events_of}
+use Rattle.disk_core.specs.Event.{kept_of}
+
+-- what a read gives
+abbrev pub bytes_of : MemDisk → List ℕ
+bytes_of disk = disk.bytes.items
+
+-- what a read gave at the last sync
+abbrev pub synced_bytes : MemDisk → List ℕ
+synced_bytes disk = kept_of disk.first.items (events_of disk.calls.items)
