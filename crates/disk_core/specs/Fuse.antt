@@ -11,6 +11,10 @@ calls_left disk = disk.left
 abbrev pub has_begun : {D : Type 0} → FuseDisk D → Bool
 has_begun disk = disk.begun
 
+-- the calls that failed at the fuse
+abbrev pub own_failures : {D : Type 0} → FuseDisk D → ℕ
+own_failures disk = disk.failed
+
 -- the disk below
 abbrev pub disk_of : {D : Type 0} → FuseDisk D → D
 disk_of disk = disk.inner

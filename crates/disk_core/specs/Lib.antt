@@ -3,5 +3,7 @@ pub mod Disk
 pub mod DiskLaws
 pub mod Event
 pub mod Fault
+pub mod File
 pub mod Fuse
 pub mod Memory
+pub mod Note

@@ -5,11 +5,14 @@
 mod call;
 mod disk;
 mod fault;
+mod file;
 mod fuse;
 mod memory;
 mod overwrite;
+mod record;
 
 pub use disk::{Crash, Disk};
 pub use fault::DiskFault;
+pub use file::FileDisk;
 pub use fuse::FuseDisk;
 pub use memory::MemDisk;

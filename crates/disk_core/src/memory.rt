@@ -2,6 +2,7 @@
 ghost use Rattle.std.specs.Prelude.{◌≡◌, ◌≢◌, ◌≤◌, [], length, take, IfOk};
 ghost use Rattle.disk_core.specs.Call.{events_of};
 ghost use Rattle.disk_core.specs.Event.{seen_of, kept_of, Image, ImageSince};
+ghost use Rattle.disk_core.specs.Disk.{Only};
 ghost use Rattle.disk_core.specs.DiskLaws.{image_as_seen, image_counts, image_only};
 
 use crate::call::{Call, note, replay};
@@ -11,7 +12,7 @@ use std::alloc::{AllocError, Global};
 
 /// A disk in memory, which keeps a record of its calls: what a crash may leave is what the record replays. It fails
 /// only by memory.
-#[derive(Drop)]
+#[derive(Debug, Drop)]
 pub struct MemDisk {
     alloc: Global,
     /// What stood there when the record began, all of it on the disk.
@@ -27,12 +28,13 @@ pub struct MemDisk {
 }
 
 impl MemDisk {
-    ghost use Rattle.disk_core.specs.Memory.{bytes_of, synced_bytes};
+    ghost use Rattle.disk_core.specs.Memory.{bytes_of, synced_bytes, images_of};
 
     /// An empty disk.
     pub fn new(alloc: Global) -> Self
         ensures bytes { bytes_of result ≡ [] }
         ensures synced { synced_bytes result ≡ [] }
+        ensures durable { Only [] (images_of result) }
     {
         MemDisk {
             alloc,
@@ -47,6 +49,7 @@ impl MemDisk {
     pub fn holding(alloc: Global, bytes: Vec<u8>) -> Result<Self, AllocError>
         ensures bytes { IfOk result (λ disk. bytes_of disk ≡ bytes.items) }
         ensures synced { IfOk result (λ disk. synced_bytes disk ≡ bytes.items) }
+        ensures durable { IfOk result (λ disk. Only bytes.items (images_of disk)) }
     {
         Ok(MemDisk {
             alloc,
@@ -122,14 +125,15 @@ impl Disk for MemDisk {
 }
 
 impl Crash for MemDisk {
-    ghost use Rattle.disk_core.specs.Memory.{bytes_of, synced_bytes};
+    ghost use Rattle.disk_core.specs.Memory.{bytes_of, synced_bytes, images_of};
 
     /// Does nothing.
     fn fuse(&mut self, _calls: u64) {}
 
     #[tactic(auto, using(crate::specs::DiskLaws::image_as_seen, crate::specs::DiskLaws::image_as_kept))]
+    /// 0 leaves the bytes of the last sync; any other number all writes and cuts since.
     fn crash(self, how: u8) -> Result<Self, AllocError>
-        ensures left { IfOk result (λ disk. Image self.first.items (events_of self.calls.items) disk.bytes.items) }
+        ensures left { IfOk result (λ disk. images_of self (bytes_of disk)) }
         ensures oldest { how ≡ 0 → IfOk result (λ disk. bytes_of disk ≡ synced_bytes self) }
         ensures newest { how ≢ 0 → IfOk result (λ disk. bytes_of disk ≡ bytes_of self) }
     {

@@ -49,7 +49,7 @@ fn overwrite_to_end(bytes: &mut Vec<u8>, at: usize, written: &[u8])
 }
 
 /// At most so many bytes from a place on.
-fn part_of(bytes: &[u8], at: usize, most: usize) -> &[u8]
+pub(crate) fn part_of(bytes: &[u8], at: usize, most: usize) -> &[u8]
     ensures { result.now ≡ part at most bytes.now }
 {
     let rest = if at < bytes.len() { &bytes[at..] } else { &[] };
