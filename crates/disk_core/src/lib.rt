@@ -16,3 +16,6 @@ pub use fault::DiskFault;
 pub use file::FileDisk;
 pub use fuse::FuseDisk;
 pub use memory::MemDisk;
+
+#[cfg(test)]
+mod tests;
