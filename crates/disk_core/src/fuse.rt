@@ -190,7 +190,12 @@ impl<D: Disk> Disk for FuseDisk<D> {
 
 impl<D: Crash> Crash for FuseDisk<D> {
     /// Sets this disk's own fuse.
-    fn fuse(&mut self, calls: u64) {
+    fn fuse(&mut self, calls: u64)
+        ensures fuse { calls_left self.new ≡ Some calls }
+        ensures disk { disk_of self.new ≡ disk_of self.old }
+        ensures begun { has_begun self.new ≡ has_begun self.old }
+        ensures failures { own_failures self.new ≡ own_failures self.old }
+    {
         FuseDisk::fuse(self, calls);
     }
 
