@@ -2,7 +2,7 @@
 use Rattle.std.proofs.Common.{◌≡◌, inl, inr, ⊎_elim, ℕ, ◌+◌, ◌-◌, ◌≤◌, List, [], ◌∷◌, ◌++◌, length, take, drop, replicate, refl, sym, ◌∙◌, ap, subst, arith, append_assoc, length-append, length-take, length-drop, take-append-drop}
 use Rattle.std.proofs.lemmas.List.{append-nil, drop-drop, drop_all, length-replicate}
 use Rattle.disk_core.specs.Disk.{overwritten, Spoilt, SpoiltFrom, Elapses, LeavesOnly}
-use Rattle.disk_core.specs.Event.{Event, Wrote, Shortened, Synced, BeganWrite, BeganCut, seen_of, kept_of, Image, ImageSince}
+use Rattle.disk_core.specs.Event.{Event, Wrote, Shortened, Synced, BeganWrite, BeganCut, seen_of, kept_of, ImagesNow, Images}
 
 -- a crash may leave a write undone
 pub spoilt_not : (at end : ℕ) (old : List ℕ) → at ≤ end → Spoilt at end old old
@@ -64,7 +64,7 @@ overwritten_inside at (byte ∷ bytes) old le =
     (ap (λ (n : ℕ). take at old ++ replicate n 0) (let none : at - length old ≡ 0 = omega (arith, le) in none) ∙ append-nil (take at old))
 
 -- what a read gives is one of the images
-pub image_seen : (first : List ℕ) (es : List Event) → Image first es (seen_of first es)
+pub image_seen : (first : List ℕ) (es : List Event) → ImagesNow first es (seen_of first es)
 image_seen first [] = refl
 image_seen first (Wrote at bytes ∷ es) = (seen_of first es, image_seen first es, spoilt_whole at bytes (seen_of first es))
 image_seen first (Shortened len ∷ es) = (seen_of first es, image_seen first es, spoilt_from_whole len (seen_of first es))
@@ -73,7 +73,7 @@ image_seen first (BeganWrite at count ∷ es) = (seen_of first es, image_seen fi
 image_seen first (BeganCut len ∷ es) = (seen_of first es, image_seen first es, spoilt_from_not len (seen_of first es))
 
 -- and so is what it gave at the last sync
-pub image_kept : (first : List ℕ) (es : List Event) → Image first es (kept_of first es)
+pub image_kept : (first : List ℕ) (es : List Event) → ImagesNow first es (kept_of first es)
 image_kept first [] = refl
 image_kept first (Wrote at bytes ∷ es) = (kept_of first es, image_kept first es, spoilt_not at (at + length bytes) (kept_of first es) (omega arith))
 image_kept first (Shortened len ∷ es) = (kept_of first es, image_kept first es, spoilt_from_not len (kept_of first es))
@@ -81,24 +81,24 @@ image_kept first (Synced ∷ es) = refl
 image_kept first (BeganWrite at count ∷ es) = (kept_of first es, image_kept first es, spoilt_not at (at + count) (kept_of first es) (omega arith))
 image_kept first (BeganCut len ∷ es) = (kept_of first es, image_kept first es, spoilt_from_not len (kept_of first es))
 
-pub image_as_seen : (first : List ℕ) (es : List Event) (c : List ℕ) → c ≡ seen_of first es → Image first es c
-image_as_seen first es c is = subst (λ (f : List ℕ). Image first es f) (sym is) (image_seen first es)
+pub image_as_seen : (first : List ℕ) (es : List Event) (c : List ℕ) → c ≡ seen_of first es → ImagesNow first es c
+image_as_seen first es c is = subst (λ (f : List ℕ). ImagesNow first es f) (sym is) (image_seen first es)
 
-pub image_as_kept : (first : List ℕ) (es : List Event) (c : List ℕ) → c ≡ kept_of first es → Image first es c
-image_as_kept first es c is = subst (λ (f : List ℕ). Image first es f) (sym is) (image_kept first es)
+pub image_as_kept : (first : List ℕ) (es : List Event) (c : List ℕ) → c ≡ kept_of first es → ImagesNow first es c
+image_as_kept first es c is = subst (λ (f : List ℕ). ImagesNow first es f) (sym is) (image_kept first es)
 
 -- after a sync there is what a read gives, which there might have been before
-pub image_synced : (first : List ℕ) (es now : List Event) (c : List ℕ) → now ≡ Synced ∷ es → Image first now c → Image first es c
+pub image_synced : (first : List ℕ) (es now : List Event) (c : List ℕ) → now ≡ Synced ∷ es → ImagesNow first now c → ImagesNow first es c
 image_synced first es now c is left =
-    image_as_seen first es c (subst (λ (l : List Event). Image first l c) is left)
+    image_as_seen first es c (subst (λ (l : List Event). ImagesNow first l c) is left)
 
 -- this moment is one of those since an earlier one
-pub image_counts : (first : List ℕ) (es : List Event) (t : ℕ) (c : List ℕ) → Image first es c → ImageSince first es t c
+pub image_counts : (first : List ℕ) (es : List Event) (t : ℕ) (c : List ℕ) → ImagesNow first es c → Images first es t c
 image_counts first [] t c now = now
 image_counts first (e ∷ es) t c now = inl now
 
 -- since this moment there is no other
-pub image_only : (first : List ℕ) (es : List Event) (c : List ℕ) → ImageSince first es (length es) c → Image first es c
+pub image_only : (first : List ℕ) (es : List Event) (c : List ℕ) → Images first es (length es) c → ImagesNow first es c
 image_only first [] c left = left
 image_only first (e ∷ es) c (inl now) = now
 image_only first (e ∷ es) c (inr earlier) = absurd (omega (arith, earlier.0))

@@ -29,15 +29,15 @@ kept_of first (BeganWrite at count ∷ es) = kept_of first es
 kept_of first (BeganCut len ∷ es) = kept_of first es
 
 -- what a crash may leave now: what was there at the last sync, spoilt by each write and cut since
-abbrev pub Image : List ℕ → List Event → List ℕ → Type 0
-Image first [] c = c ≡ first
-Image first (Wrote at bytes ∷ es) c = (d : List ℕ) × Image first es d × Spoilt at (at + length bytes) d c
-Image first (Shortened len ∷ es) c = (d : List ℕ) × Image first es d × SpoiltFrom len d c
-Image first (Synced ∷ es) c = c ≡ seen_of first es
-Image first (BeganWrite at count ∷ es) c = (d : List ℕ) × Image first es d × Spoilt at (at + count) d c
-Image first (BeganCut len ∷ es) c = (d : List ℕ) × Image first es d × SpoiltFrom len d c
+abbrev pub ImagesNow : List ℕ → List Event → List ℕ → Type 0
+ImagesNow first [] c = c ≡ first
+ImagesNow first (Wrote at bytes ∷ es) c = (d : List ℕ) × ImagesNow first es d × Spoilt at (at + length bytes) d c
+ImagesNow first (Shortened len ∷ es) c = (d : List ℕ) × ImagesNow first es d × SpoiltFrom len d c
+ImagesNow first (Synced ∷ es) c = c ≡ seen_of first es
+ImagesNow first (BeganWrite at count ∷ es) c = (d : List ℕ) × ImagesNow first es d × Spoilt at (at + count) d c
+ImagesNow first (BeganCut len ∷ es) c = (d : List ℕ) × ImagesNow first es d × SpoiltFrom len d c
 
 -- what a crash might have left at some moment from t on; a moment is the number of events before it
-abbrev pub ImageSince : List ℕ → List Event → ℕ → List ℕ → Type 0
-ImageSince first [] t c = Image first [] c
-ImageSince first (e ∷ es) t c = Image first (e ∷ es) c ⊎ ((t ≤ length es) × ImageSince first es t c)
+abbrev pub Images : List ℕ → List Event → ℕ → List ℕ → Type 0
+Images first [] t c = ImagesNow first [] c
+Images first (e ∷ es) t c = ImagesNow first (e ∷ es) c ⊎ ((t ≤ length es) × Images first es t c)

@@ -2,7 +2,7 @@
 use Rattle.std.specs.Prelude.{ℕ, List}
 use Rattle.disk_core.specs.declared.memory.MemDisk.{MemDisk}
 use Rattle.disk_core.specs.Call.{events_of}
-use Rattle.disk_core.specs.Event.{kept_of, Image}
+use Rattle.disk_core.specs.Event.{kept_of, ImagesNow}
 
 -- what a read gives
 abbrev pub bytes_of : MemDisk → List ℕ
@@ -14,4 +14,4 @@ synced_bytes disk = kept_of disk.first.items (events_of disk.calls.items)
 
 -- what a crash may leave
 abbrev pub images_of : MemDisk → List ℕ → Type 0
-images_of disk = Image disk.first.items (events_of disk.calls.items)
+images_of disk = ImagesNow disk.first.items (events_of disk.calls.items)

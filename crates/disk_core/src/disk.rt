@@ -32,31 +32,41 @@ pub trait Disk: Drop {
         ensures length { IfOk result (λ n. n ≡ length (seen self.old)) }
         ensures seen { seen self.new ≡ seen self.old }
         ensures crash { NoMore (may_leave self.old) (may_leave self.new) }
-        ensures time { Elapses (moment self.old) (moment self.new) (left_since self.old) (left_since self.new) (may_leave self.new) }
+        ensures time { Elapses (moment self.old) (moment self.new)
+            (left_since self.old) (left_since self.new)
+            (may_leave self.new) }
         ensures cause { HasCause (failures self.old) (failures self.new) result };
 
     /// Reads as much as there is from a place on and the buffer takes: nothing past the end. The rest of the buffer
     /// stays. At an `Err` the buffer may hold anything.
     fn read_at(&mut self, at: usize, buffer: &mut [u8]) -> Result<usize, DiskFault>
-        ensures count { IfOk result (λ n. n ≡ length (part at (length buffer.old) (seen self.old))) }
-        ensures bytes { IfOk result (λ n. buffer.new ≡ part at (length buffer.old) (seen self.old) ++ drop n buffer.old) }
+        ensures count { IfOk result
+            (λ n. n ≡ length (part at (length buffer.old) (seen self.old))) }
+        ensures bytes { IfOk result
+            (λ n. buffer.new ≡ part at (length buffer.old) (seen self.old) ++ drop n buffer.old) }
         ensures seen { seen self.new ≡ seen self.old }
         ensures crash { NoMore (may_leave self.old) (may_leave self.new) }
-        ensures time { Elapses (moment self.old) (moment self.new) (left_since self.old) (left_since self.new) (may_leave self.new) }
+        ensures time { Elapses (moment self.old) (moment self.new)
+            (left_since self.old) (left_since self.new)
+            (may_leave self.new) }
         ensures cause { HasCause (failures self.old) (failures self.new) result };
 
     /// Writes over what is there and past the end, and fills a gap before the place with zeros. Until a sync a crash
     /// may leave any bytes in the range and past the old end.
     fn write_at(&mut self, at: usize, bytes: &[u8]) -> Result<(), DiskFault>
         ensures written { OnOk result (seen self.new ≡ overwritten at bytes.now (seen self.old)) }
-        ensures crash { Follows (Spoilt at (at + length bytes.now)) (may_leave self.old) (may_leave self.new) }
+        ensures crash { Follows (Spoilt at (at + length bytes.now))
+            (may_leave self.old) (may_leave self.new) }
 
         // No bytes, or no memory: nothing was done.
         ensures idle { bytes.now ≡ [] → NoMore (may_leave self.old) (may_leave self.new) }
         ensures undone { IsErrOf result DiskFault.Memory → seen self.new ≡ seen self.old }
-        ensures undone_crash { IsErrOf result DiskFault.Memory → NoMore (may_leave self.old) (may_leave self.new) }
+        ensures undone_crash { IsErrOf result DiskFault.Memory →
+            NoMore (may_leave self.old) (may_leave self.new) }
 
-        ensures time { Elapses (moment self.old) (moment self.new) (left_since self.old) (left_since self.new) (may_leave self.new) }
+        ensures time { Elapses (moment self.old) (moment self.new)
+            (left_since self.old) (left_since self.new)
+            (may_leave self.new) }
         ensures cause { HasCause (failures self.old) (failures self.new) result };
 
     /// Cuts the file to a length. At or above the file's own length it changes nothing. Until a sync a crash may
@@ -66,11 +76,15 @@ pub trait Disk: Drop {
         ensures crash { Follows (SpoiltFrom len) (may_leave self.old) (may_leave self.new) }
 
         // No byte is cut, or no memory: nothing was done.
-        ensures idle { length (seen self.old) ≤ len → NoMore (may_leave self.old) (may_leave self.new) }
+        ensures idle { length (seen self.old) ≤ len →
+            NoMore (may_leave self.old) (may_leave self.new) }
         ensures undone { IsErrOf result DiskFault.Memory → seen self.new ≡ seen self.old }
-        ensures undone_crash { IsErrOf result DiskFault.Memory → NoMore (may_leave self.old) (may_leave self.new) }
+        ensures undone_crash { IsErrOf result DiskFault.Memory →
+            NoMore (may_leave self.old) (may_leave self.new) }
 
-        ensures time { Elapses (moment self.old) (moment self.new) (left_since self.old) (left_since self.new) (may_leave self.new) }
+        ensures time { Elapses (moment self.old) (moment self.new)
+            (left_since self.old) (left_since self.new)
+            (may_leave self.new) }
         ensures cause { HasCause (failures self.old) (failures self.new) result };
 
     /// After it a crash leaves what a read gives, bytes and length.
@@ -82,7 +96,9 @@ pub trait Disk: Drop {
         // No memory: nothing was done.
         ensures undone { IsErrOf result DiskFault.Memory → seen self.new ≡ seen self.old }
 
-        ensures time { Elapses (moment self.old) (moment self.new) (left_since self.old) (left_since self.new) (may_leave self.new) }
+        ensures time { Elapses (moment self.old) (moment self.new)
+            (left_since self.old) (left_since self.new)
+            (may_leave self.new) }
         ensures cause { HasCause (failures self.old) (failures self.new) result };
 
     /// What a read gives is one of the things that a crash may leave.
@@ -102,7 +118,9 @@ pub trait Crash: Disk {
     fn fuse(&mut self, calls: u64)
         ensures seen { Self.Disk.seen self.new ≡ Self.Disk.seen self.old }
         ensures crash { NoMore (Self.Disk.may_leave self.old) (Self.Disk.may_leave self.new) }
-        ensures time { Elapses (Self.Disk.moment self.old) (Self.Disk.moment self.new) (Self.Disk.left_since self.old) (Self.Disk.left_since self.new) (Self.Disk.may_leave self.new) }
+        ensures time { Elapses (Self.Disk.moment self.old) (Self.Disk.moment self.new)
+            (Self.Disk.left_since self.old) (Self.Disk.left_since self.new)
+            (Self.Disk.may_leave self.new) }
         ensures failures { Self.Disk.failures self.new ≡ Self.Disk.failures self.old };
 
     /// The disk after a stop, with no fuse set, its failures counted from 0: `how` 0 leaves what the last sync left,

@@ -2,7 +2,7 @@
 ghost use Rattle.std.specs.Prelude.{◌≡◌, ◌+◌, ◌++◌, ◌∷◌, [], length, drop, IfOk, IfErr, OnErr};
 ghost use Rattle.disk_core.specs.Disk.{part};
 ghost use Rattle.disk_core.specs.DiskLaws.{image_as_seen, image_counts, image_only};
-ghost use Rattle.disk_core.specs.Event.{seen_of, Image, ImageSince};
+ghost use Rattle.disk_core.specs.Event.{seen_of, ImagesNow, Images};
 ghost use Rattle.disk_core.specs.Note.{events_noted};
 
 use crate::overwrite::{overwrite, part_of, reserve_for};
@@ -116,11 +116,11 @@ fn make<R: Files<File = File>>(rt: &R, path: &str) -> io::Result<File> {
 impl Disk for FileDisk {
     ghost seen = { λ f. f.bytes.items };
 
-    ghost may_leave = { λ f. Image [] (events_noted f.history.notes) };
+    ghost may_leave = { λ f. ImagesNow [] (events_noted f.history.notes) };
 
     ghost moment = { λ f. length (events_noted f.history.notes) };
 
-    ghost left_since = { λ f. ImageSince [] (events_noted f.history.notes) };
+    ghost left_since = { λ f. Images [] (events_noted f.history.notes) };
 
     ghost failures = { λ f. f.failed };
 

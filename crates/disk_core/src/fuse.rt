@@ -95,8 +95,11 @@ impl<D: Disk> Disk for FuseDisk<D> {
         ensures length { IfOk result (λ n. n ≡ length (D.seen (disk_of self.old))) }
         ensures seen { D.seen (disk_of self.new) ≡ D.seen (disk_of self.old) }
         ensures crash { NoMore (D.may_leave (disk_of self.old)) (D.may_leave (disk_of self.new)) }
-        ensures time { Elapses (D.moment (disk_of self.old)) (D.moment (disk_of self.new)) (D.left_since (disk_of self.old)) (D.left_since (disk_of self.new)) (D.may_leave (disk_of self.new)) }
-        ensures cause { HasCause (D.failures (disk_of self.old) + own_failures self.old) (D.failures (disk_of self.new) + own_failures self.new) result }
+        ensures time { Elapses (D.moment (disk_of self.old)) (D.moment (disk_of self.new))
+            (D.left_since (disk_of self.old)) (D.left_since (disk_of self.new))
+            (D.may_leave (disk_of self.new)) }
+        ensures cause { HasCause (D.failures (disk_of self.old) + own_failures self.old)
+            (D.failures (disk_of self.new) + own_failures self.new) result }
 
         // A blown fuse lets no call through.
         ensures burns { Burns (calls_left self.old) (calls_left self.new) result }
@@ -108,12 +111,17 @@ impl<D: Disk> Disk for FuseDisk<D> {
     }
 
     fn read_at(&mut self, at: usize, buffer: &mut [u8]) -> Result<usize, DiskFault>
-        ensures count { IfOk result (λ n. n ≡ length (part at (length buffer.old) (D.seen (disk_of self.old)))) }
-        ensures bytes { IfOk result (λ n. buffer.new ≡ part at (length buffer.old) (D.seen (disk_of self.old)) ++ drop n buffer.old) }
+        ensures count { IfOk result
+            (λ n. n ≡ length (part at (length buffer.old) (D.seen (disk_of self.old)))) }
+        ensures bytes { IfOk result
+            (λ n. buffer.new ≡ part at (length buffer.old) (D.seen (disk_of self.old)) ++ drop n buffer.old) }
         ensures seen { D.seen (disk_of self.new) ≡ D.seen (disk_of self.old) }
         ensures crash { NoMore (D.may_leave (disk_of self.old)) (D.may_leave (disk_of self.new)) }
-        ensures time { Elapses (D.moment (disk_of self.old)) (D.moment (disk_of self.new)) (D.left_since (disk_of self.old)) (D.left_since (disk_of self.new)) (D.may_leave (disk_of self.new)) }
-        ensures cause { HasCause (D.failures (disk_of self.old) + own_failures self.old) (D.failures (disk_of self.new) + own_failures self.new) result }
+        ensures time { Elapses (D.moment (disk_of self.old)) (D.moment (disk_of self.new))
+            (D.left_since (disk_of self.old)) (D.left_since (disk_of self.new))
+            (D.may_leave (disk_of self.new)) }
+        ensures cause { HasCause (D.failures (disk_of self.old) + own_failures self.old)
+            (D.failures (disk_of self.new) + own_failures self.new) result }
 
         // A blown fuse lets no call through.
         ensures burns { Burns (calls_left self.old) (calls_left self.new) result }
@@ -125,19 +133,29 @@ impl<D: Disk> Disk for FuseDisk<D> {
     }
 
     fn write_at(&mut self, at: usize, bytes: &[u8]) -> Result<(), DiskFault>
-        ensures written { OnOk result (D.seen (disk_of self.new) ≡ overwritten at bytes.now (D.seen (disk_of self.old))) }
-        ensures crash { Follows (Spoilt at (at + length bytes.now)) (D.may_leave (disk_of self.old)) (D.may_leave (disk_of self.new)) }
-        ensures idle { bytes.now ≡ [] → NoMore (D.may_leave (disk_of self.old)) (D.may_leave (disk_of self.new)) }
-        ensures undone { IsErrOf result DiskFault.Memory → D.seen (disk_of self.new) ≡ D.seen (disk_of self.old) }
-        ensures undone_crash { IsErrOf result DiskFault.Memory → NoMore (D.may_leave (disk_of self.old)) (D.may_leave (disk_of self.new)) }
-        ensures time { Elapses (D.moment (disk_of self.old)) (D.moment (disk_of self.new)) (D.left_since (disk_of self.old)) (D.left_since (disk_of self.new)) (D.may_leave (disk_of self.new)) }
-        ensures cause { HasCause (D.failures (disk_of self.old) + own_failures self.old) (D.failures (disk_of self.new) + own_failures self.new) result }
+        ensures written { OnOk result
+            (D.seen (disk_of self.new) ≡ overwritten at bytes.now (D.seen (disk_of self.old))) }
+        ensures crash { Follows (Spoilt at (at + length bytes.now))
+            (D.may_leave (disk_of self.old)) (D.may_leave (disk_of self.new)) }
+        ensures idle { bytes.now ≡ [] →
+            NoMore (D.may_leave (disk_of self.old)) (D.may_leave (disk_of self.new)) }
+        ensures undone { IsErrOf result DiskFault.Memory →
+            D.seen (disk_of self.new) ≡ D.seen (disk_of self.old) }
+        ensures undone_crash { IsErrOf result DiskFault.Memory →
+            NoMore (D.may_leave (disk_of self.old)) (D.may_leave (disk_of self.new)) }
+        ensures time { Elapses (D.moment (disk_of self.old)) (D.moment (disk_of self.new))
+            (D.left_since (disk_of self.old)) (D.left_since (disk_of self.new))
+            (D.may_leave (disk_of self.new)) }
+        ensures cause { HasCause (D.failures (disk_of self.old) + own_failures self.old)
+            (D.failures (disk_of self.new) + own_failures self.new) result }
 
         // A blown fuse lets no write through, but the first one may have begun.
         ensures burns { Burns (calls_left self.old) (calls_left self.new) result }
-        ensures blown { calls_left self.old ≡ Some 0 → has_begun self.old ≡ true → disk_of self.new ≡ disk_of self.old }
+        ensures blown { calls_left self.old ≡ Some 0 → has_begun self.old ≡ true →
+            disk_of self.new ≡ disk_of self.old }
         ensures whole { OnOk result (has_begun self.new ≡ has_begun self.old) }
-        ensures begun { calls_left self.old ≡ Some 0 → own_failures self.new ≢ own_failures self.old → has_begun self.new ≡ true }
+        ensures begun { calls_left self.old ≡ Some 0 → own_failures self.new ≢ own_failures self.old →
+            has_begun self.new ≡ true }
     {
         if self.left != Some(0) || self.begun {
             self.spend()?;
@@ -153,13 +171,21 @@ impl<D: Disk> Disk for FuseDisk<D> {
     }
 
     fn cut(&mut self, len: usize) -> Result<(), DiskFault>
-        ensures cut { OnOk result (D.seen (disk_of self.new) ≡ take len (D.seen (disk_of self.old))) }
-        ensures crash { Follows (SpoiltFrom len) (D.may_leave (disk_of self.old)) (D.may_leave (disk_of self.new)) }
-        ensures idle { length (D.seen (disk_of self.old)) ≤ len → NoMore (D.may_leave (disk_of self.old)) (D.may_leave (disk_of self.new)) }
-        ensures undone { IsErrOf result DiskFault.Memory → D.seen (disk_of self.new) ≡ D.seen (disk_of self.old) }
-        ensures undone_crash { IsErrOf result DiskFault.Memory → NoMore (D.may_leave (disk_of self.old)) (D.may_leave (disk_of self.new)) }
-        ensures time { Elapses (D.moment (disk_of self.old)) (D.moment (disk_of self.new)) (D.left_since (disk_of self.old)) (D.left_since (disk_of self.new)) (D.may_leave (disk_of self.new)) }
-        ensures cause { HasCause (D.failures (disk_of self.old) + own_failures self.old) (D.failures (disk_of self.new) + own_failures self.new) result }
+        ensures cut { OnOk result
+            (D.seen (disk_of self.new) ≡ take len (D.seen (disk_of self.old))) }
+        ensures crash { Follows (SpoiltFrom len)
+            (D.may_leave (disk_of self.old)) (D.may_leave (disk_of self.new)) }
+        ensures idle { length (D.seen (disk_of self.old)) ≤ len →
+            NoMore (D.may_leave (disk_of self.old)) (D.may_leave (disk_of self.new)) }
+        ensures undone { IsErrOf result DiskFault.Memory →
+            D.seen (disk_of self.new) ≡ D.seen (disk_of self.old) }
+        ensures undone_crash { IsErrOf result DiskFault.Memory →
+            NoMore (D.may_leave (disk_of self.old)) (D.may_leave (disk_of self.new)) }
+        ensures time { Elapses (D.moment (disk_of self.old)) (D.moment (disk_of self.new))
+            (D.left_since (disk_of self.old)) (D.left_since (disk_of self.new))
+            (D.may_leave (disk_of self.new)) }
+        ensures cause { HasCause (D.failures (disk_of self.old) + own_failures self.old)
+            (D.failures (disk_of self.new) + own_failures self.new) result }
 
         // A blown fuse lets no call through.
         ensures burns { Burns (calls_left self.old) (calls_left self.new) result }
@@ -171,12 +197,17 @@ impl<D: Disk> Disk for FuseDisk<D> {
     }
 
     fn sync(&mut self) -> Result<(), DiskFault>
-        ensures durable { OnOk result (Only (D.seen (disk_of self.new)) (D.may_leave (disk_of self.new))) }
+        ensures durable { OnOk result
+            (Only (D.seen (disk_of self.new)) (D.may_leave (disk_of self.new))) }
         ensures seen { OnOk result (D.seen (disk_of self.new) ≡ D.seen (disk_of self.old)) }
         ensures crash { NoMore (D.may_leave (disk_of self.old)) (D.may_leave (disk_of self.new)) }
-        ensures undone { IsErrOf result DiskFault.Memory → D.seen (disk_of self.new) ≡ D.seen (disk_of self.old) }
-        ensures time { Elapses (D.moment (disk_of self.old)) (D.moment (disk_of self.new)) (D.left_since (disk_of self.old)) (D.left_since (disk_of self.new)) (D.may_leave (disk_of self.new)) }
-        ensures cause { HasCause (D.failures (disk_of self.old) + own_failures self.old) (D.failures (disk_of self.new) + own_failures self.new) result }
+        ensures undone { IsErrOf result DiskFault.Memory →
+            D.seen (disk_of self.new) ≡ D.seen (disk_of self.old) }
+        ensures time { Elapses (D.moment (disk_of self.old)) (D.moment (disk_of self.new))
+            (D.left_since (disk_of self.old)) (D.left_since (disk_of self.new))
+            (D.may_leave (disk_of self.new)) }
+        ensures cause { HasCause (D.failures (disk_of self.old) + own_failures self.old)
+            (D.failures (disk_of self.new) + own_failures self.new) result }
 
         // A blown fuse lets no call through.
         ensures burns { Burns (calls_left self.old) (calls_left self.new) result }
@@ -200,7 +231,8 @@ impl<D: Crash> Crash for FuseDisk<D> {
     }
 
     fn crash(self, how: u8) -> Result<Self, AllocError>
-        ensures left { IfOk result (λ disk. D.Disk.may_leave (disk_of self) (D.Disk.seen (disk_of disk))) }
+        ensures left { IfOk result
+            (λ disk. D.Disk.may_leave (disk_of self) (D.Disk.seen (disk_of disk))) }
         ensures fuse { IfOk result (λ disk. calls_left disk ≡ None) }
     {
         Ok(FuseDisk::new(self.into_inner().crash(how)?))

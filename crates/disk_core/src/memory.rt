@@ -1,7 +1,7 @@
 //! A disk in memory.
 ghost use Rattle.std.specs.Prelude.{◌≡◌, ◌≢◌, ◌≤◌, [], length, take, IfOk};
 ghost use Rattle.disk_core.specs.Call.{events_of};
-ghost use Rattle.disk_core.specs.Event.{seen_of, kept_of, Image, ImageSince};
+ghost use Rattle.disk_core.specs.Event.{seen_of, kept_of, ImagesNow, Images};
 ghost use Rattle.disk_core.specs.Disk.{Only};
 ghost use Rattle.disk_core.specs.DiskLaws.{image_as_seen, image_counts, image_only};
 
@@ -72,11 +72,11 @@ impl MemDisk {
 impl Disk for MemDisk {
     ghost seen = { λ m. m.bytes.items };
 
-    ghost may_leave = { λ m. Image m.first.items (events_of m.calls.items) };
+    ghost may_leave = { λ m. ImagesNow m.first.items (events_of m.calls.items) };
 
     ghost moment = { λ m. length (events_of m.calls.items) };
 
-    ghost left_since = { λ m. ImageSince m.first.items (events_of m.calls.items) };
+    ghost left_since = { λ m. Images m.first.items (events_of m.calls.items) };
 
     ghost failures = { λ m. 0 };
 
