@@ -1,6 +1,7 @@
 use super::*;
 use std::alloc::{AllocError, Global};
 use std::fs;
+use std::hash::{BuildHasher, RandomState};
 use std::path::PathBuf;
 use std::process::Abort;
 use std::test::Fail;
@@ -122,17 +123,19 @@ fn a_stop_behind_a_fuse(rt: HostRuntime) -> Result<(), Fail> {
     Ok(())
 }
 
-fn fresh_folder(rt: &HostRuntime, name: &str) -> Result<PathBuf, Fail> {
+/// A new folder with a name drawn at random, since runs of the tests may overlap.
+fn fresh_folder(rt: &HostRuntime) -> Result<PathBuf, Fail> {
+    let number = RandomState::new(rt)?.hash_one(&0u8);
+    let name = format!(in rt.alloc(); "disk_core_{number}")?;
     let mut folder = std::env::temp_dir(rt)?;
-    folder.push(name)?;
-    let _ = fs::remove_dir_all(rt, folder.as_str());
+    folder.push(name.as_str())?;
     fs::create_dir(rt, folder.as_str())?;
     Ok(folder)
 }
 
 #[test]
 fn a_file_keeps_what_was_written(rt: HostRuntime) -> Result<(), Fail> {
-    let folder = fresh_folder(&rt, "disk_core_a_file_keeps_what_was_written")?;
+    let folder = fresh_folder(&rt)?;
     let path = format!(in rt.alloc(); "{}/journal", folder.as_str())?;
     assert!(rt; FileDisk::open(&rt, rt.alloc(), path.as_str()).is_err());
     let mut disk = FileDisk::create(&rt, rt.alloc(), path.as_str())?;
@@ -179,7 +182,7 @@ fn a_full_device_fails(rt: HostRuntime) -> Result<(), Fail> {
 
 #[test]
 fn a_read_only_file_fails(rt: HostRuntime) -> Result<(), Fail> {
-    let folder = fresh_folder(&rt, "disk_core_a_read_only_file_fails")?;
+    let folder = fresh_folder(&rt)?;
     let path = format!(in rt.alloc(); "{}/journal", folder.as_str())?;
     fs::write(&rt, path.as_str(), b"abc".as_slice())?;
     let mut disk = FileDisk::over(rt.alloc(), fs::open(&rt, path.as_str())?)?;
@@ -195,7 +198,7 @@ fn a_read_only_file_fails(rt: HostRuntime) -> Result<(), Fail> {
 
 #[test]
 fn a_missing_folder_fails(rt: HostRuntime) -> Result<(), Fail> {
-    let folder = fresh_folder(&rt, "disk_core_a_missing_folder_fails")?;
+    let folder = fresh_folder(&rt)?;
     let path = format!(in rt.alloc(); "{}/missing/journal", folder.as_str())?;
     assert!(rt;
         matches!(
