@@ -1,6 +1,6 @@
 //! A disk over a file of the operating system.
-ghost use Rattle.std.specs.Prelude.{◌≡◌, ◌+◌, ◌++◌, ◌∷◌, [], length, drop, IfOk, IfErr, OnErr};
-ghost use Rattle.disk_core.specs.Disk.{part};
+ghost use Rattle.std.specs.Prelude.{◌≡◌, ◌+◌, ◌≤◌, ◌++◌, ◌∷◌, [], true, length, take, drop, IsErr, IsErrOf, IfOk, IfErr, OnOk};
+ghost use Rattle.disk_core.specs.Disk.{part, overwritten, Spoilt, SpoiltFrom, NoMore, Follows, Only, Elapses, HasCause};
 ghost use Rattle.disk_core.specs.DiskLaws.{image_as_seen, image_counts, image_only};
 ghost use Rattle.disk_core.specs.Event.{seen_of, ImagesNow, Images};
 ghost use Rattle.disk_core.specs.Note.{events_noted};
@@ -114,6 +114,8 @@ fn make<R: Files<File = File>>(rt: &R, path: &str) -> io::Result<File> {
 
 #[tactic(auto, using(crate::specs::DiskLaws::spoilt_not, crate::specs::DiskLaws::spoilt_from_not))]
 impl Disk for FileDisk {
+    ghost use Rattle.disk_core.specs.File.{bytes_in, failures_of, has_lost, images_of, moment_of, left_since_of};
+
     ghost seen = { λ f. f.bytes.items };
 
     ghost may_leave = { λ f. ImagesNow [] (events_noted f.history.notes) };
@@ -152,7 +154,20 @@ impl Disk for FileDisk {
         Ok(held.len())
     }
 
-    fn write_at(&mut self, at: usize, bytes: &[u8]) -> Result<(), DiskFault> {
+    fn write_at(&mut self, at: usize, bytes: &[u8]) -> Result<(), DiskFault>
+        ensures written { OnOk result (bytes_in self.new ≡ overwritten at bytes.now (bytes_in self.old)) }
+        ensures crash { Follows (Spoilt at (at + length bytes.now)) (images_of self.old) (images_of self.new) }
+        ensures idle { bytes.now ≡ [] → NoMore (images_of self.old) (images_of self.new) }
+        ensures undone { IsErrOf result DiskFault.Memory → bytes_in self.new ≡ bytes_in self.old }
+        ensures undone_crash { IsErrOf result DiskFault.Memory →
+            NoMore (images_of self.old) (images_of self.new) }
+        ensures time { Elapses (moment_of self.old) (moment_of self.new)
+            (left_since_of self.old) (left_since_of self.new) (images_of self.new) }
+        ensures cause { HasCause (failures_of self.old) (failures_of self.new) result }
+
+        // A call that fails leaves the bytes as they were.
+        ensures failed { IsErr result → bytes_in self.new ≡ bytes_in self.old }
+    {
         if bytes.is_empty() {
             return Ok(());
         }
@@ -168,7 +183,20 @@ impl Disk for FileDisk {
         Ok(())
     }
 
-    fn cut(&mut self, len: usize) -> Result<(), DiskFault> {
+    fn cut(&mut self, len: usize) -> Result<(), DiskFault>
+        ensures cut { OnOk result (bytes_in self.new ≡ take len (bytes_in self.old)) }
+        ensures crash { Follows (SpoiltFrom len) (images_of self.old) (images_of self.new) }
+        ensures idle { length (bytes_in self.old) ≤ len → NoMore (images_of self.old) (images_of self.new) }
+        ensures undone { IsErrOf result DiskFault.Memory → bytes_in self.new ≡ bytes_in self.old }
+        ensures undone_crash { IsErrOf result DiskFault.Memory →
+            NoMore (images_of self.old) (images_of self.new) }
+        ensures time { Elapses (moment_of self.old) (moment_of self.new)
+            (left_since_of self.old) (left_since_of self.new) (images_of self.new) }
+        ensures cause { HasCause (failures_of self.old) (failures_of self.new) result }
+
+        // A call that fails leaves the bytes as they were.
+        ensures failed { IsErr result → bytes_in self.new ≡ bytes_in self.old }
+    {
         if len >= self.bytes.len() {
             return Ok(());
         }
@@ -183,7 +211,19 @@ impl Disk for FileDisk {
         Ok(())
     }
 
-    fn sync(&mut self) -> Result<(), DiskFault> {
+    fn sync(&mut self) -> Result<(), DiskFault>
+        ensures durable { OnOk result (Only (bytes_in self.new) (images_of self.new)) }
+        ensures seen { bytes_in self.new ≡ bytes_in self.old }
+        ensures crash { NoMore (images_of self.old) (images_of self.new) }
+        ensures undone { IsErrOf result DiskFault.Memory → bytes_in self.new ≡ bytes_in self.old }
+        ensures time { Elapses (moment_of self.old) (moment_of self.new)
+            (left_since_of self.old) (left_since_of self.new) (images_of self.new) }
+        ensures cause { HasCause (failures_of self.old) (failures_of self.new) result }
+
+        // A sync that failed isn't made good by a later one.
+        ensures lost { has_lost self.old ≡ true → IsErr result }
+        ensures kept { IsErrOf result DiskFault.Failed → has_lost self.new ≡ true }
+    {
         let failed = self.next_failure()?;
         if self.sync_failed || self.file.sync_data().is_err() {
             self.sync_failed = true;
