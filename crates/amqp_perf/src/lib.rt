@@ -1,0 +1,21 @@
+//! The performatives of AMQP 1.0: the nine of the transport, the five bodies of SASL, delivery states and termini.
+#![tactic(auto)]
+
+pub mod fault;
+pub mod leaf;
+pub mod perf;
+pub mod read;
+pub mod state;
+pub mod terminus;
+
+pub use fault::PerfFault;
+pub use leaf::{AnyValue, Binary, Map, Symbol, Symbols, Text};
+pub use perf::{
+    Attach, Begin, Close, Detach, Disposition, End, Flow, Open, Perf, Role, SaslChallenge,
+    SaslInit, SaslMechanisms, SaslOutcome, SaslResponse, Transfer,
+};
+pub use read::{read_perf, read_state, write_perf, write_state};
+pub use state::{
+    DeliveryState, DeliveryTag, Fault, Modified, Received, Rejected, Unsettled, UnsettledDelivery,
+};
+pub use terminus::{Address, Source, SourceTerminus, Target, TargetTerminus};

@@ -1,0 +1,6 @@
+//! Stand-in.
+#![tactic(auto)]
+
+pub mod fault;
+
+pub use fault::TypeFault;
