@@ -1,15 +1,20 @@
 //! The performatives of AMQP 1.0: the nine of the transport, the five bodies of SASL, delivery states and termini.
 #![tactic(auto)]
 
+pub mod descriptor;
 pub mod fault;
+mod fields;
 pub mod leaf;
+mod opening;
 pub mod perf;
 pub mod read;
 pub mod state;
 pub mod terminus;
 
+pub use descriptor::Descriptor;
 pub use fault::PerfFault;
 pub use leaf::{AnyValue, Binary, Map, Symbol, Symbols, Text};
+pub use opening::Opening;
 pub use perf::{
     Attach, Begin, Close, Detach, Disposition, End, Flow, Open, Perf, Role, SaslChallenge,
     SaslInit, SaslMechanisms, SaslOutcome, SaslResponse, Transfer,
