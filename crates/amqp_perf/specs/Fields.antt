@@ -1,6 +1,7 @@
 -- Fields: values that stand one after the other in a list. A field that is absent at the end, or null, has none (AMQP 1.0
 -- part 1, section 1.4). A reader answers what it read, and the place behind it.
 use Rattle.std.specs.Prelude.{◌≡◌, ℕ, zero, suc, ◌-◌, Bool, true, false, List, [], ◌∷◌, ◌++◌, length, Option, Some, None, Result, Ok, Err, nat_lt, ◌==◌, if◌then◌else◌, unwrap_or}
+use Rattle.arrayvec.specs.ArrayVec.{ArrayVec}
 use Rattle.amqp_types.specs.declared.fault.TypeFault.TheVariants as type_fault
 use Rattle.amqp_types.specs.declared.code.Leaf.TheVariants as leaf
 use Rattle.amqp_types.specs.declared.code.Code.{Code}
@@ -16,8 +17,10 @@ use Rattle.amqp_perf.specs.declared.fault.PerfFault.TheVariants as fault
 use Rattle.amqp_perf.specs.declared.descriptor.Descriptor.{Descriptor}
 use Rattle.amqp_perf.specs.declared.opening.Opening.{Opening}
 use Rattle.amqp_perf.specs.declared.opening.Opening.TheVariants as opening
+use Rattle.amqp_perf.specs.declared.terminus.Address.{Address}
+use Rattle.amqp_perf.specs.declared.terminus.Address.TheVariants as address
 use Rattle.amqp_perf.specs.Descriptors.{named, symbol_named}
-use Rattle.amqp_perf.specs.Faults.{outer, inner, by_fault, ◌>>=◌}
+use Rattle.amqp_perf.specs.Faults.{outer, inner, within, by_fault, ◌>>=◌}
 
 -- a place among the fields of a list: how many levels a field's value may have, how many items are left, and the bytes
 -- from there on
@@ -167,6 +170,17 @@ binary at = plain at >>= judged is_binary
 unfoldable pub required_binary : Takes (List ℕ)
 required_binary at = plain at >>= judged is_binary >>= required
 
+-- at most 32 bytes (AMQP 1.0 part 2, section 2.8.7)
+abbrev pub tag_of : List ℕ → Result (ArrayVec ℕ) PerfFault
+tag_of bytes = if nat_lt 32 (length bytes) then Err fault.TagTooLong else Ok (record { items = bytes })
+
+abbrev pub is_tag : Data → Result (ArrayVec ℕ) PerfFault
+is_tag (d.binary bytes) = tag_of bytes
+is_tag _ = Err fault.WrongKind
+
+unfoldable pub tag : Takes (Option (ArrayVec ℕ))
+tag at = plain at >>= judged is_tag
+
 unfoldable pub map : Takes (Option (List ℕ))
 map at = value at >>= judged is_map
 
@@ -178,20 +192,28 @@ abbrev pub some_symbols : List (List ℕ) × At → Result (List (List ℕ) × A
 some_symbols ([], at) = Err fault.MissingField
 some_symbols (s ∷ ss, at) = Ok (s ∷ ss, at)
 
+-- the address of a terminus: a string, or any other value, carried as its canonical spelling
+abbrev pub address_of : Data → Address
+address_of (d.string s) = address.Text s
+address_of v = address.Other (spelling v)
+
+unfoldable pub address_at : Takes (Option Address)
+address_at at = value at >>= judged (λ v. Ok (address_of v))
+
 unfoldable pub required_symbols : Takes (List (List ℕ))
 required_symbols at = symbols at >>= some_symbols
 
--- which list a descriptor names
-abbrev pub name_of : Data → Option Descriptor
-name_of (d.ulong n) = named n
-name_of (d.symbol s) = symbol_named s
+-- which list a descriptor names; a value that holds others names none
+abbrev pub name_of : Option Data → Option Descriptor
+name_of (Some (d.ulong n)) = named n
+name_of (Some (d.symbol s)) = symbol_named s
 name_of _ = None
 
 -- how a value begins: null, a descriptor, or another constructor
 abbrev pub opened : ℕ → Code × List ℕ → Result (Opening × List ℕ) PerfFault
 opened depth (code.Leaf leaf.Null, rest) = Ok (opening.Null, rest)
 opened depth (code.Described, rest) =
-    by_fault outer (value_at (depth - 1) rest) >>= λ x. Ok (opening.Described (name_of x.0), x.1)
+    by_fault outer (to plain_part (value_at (depth - 1) rest)) >>= λ x. Ok (opening.Described (name_of x.0), x.1)
 opened depth (_, rest) = Ok (opening.Other, rest)
 
 unfoldable pub opening_at : ℕ → List ℕ → Result (Opening × List ℕ) PerfFault
@@ -216,3 +238,17 @@ listed_by depth limit wrong bytes (_, rest) = no_list depth wrong bytes
 -- the list at the front: the place of its first field, and the bytes behind it; what is wrong where no list stands there
 unfoldable pub listed : ℕ → ℕ → PerfFault → List ℕ → Result (At × List ℕ) PerfFault
 listed depth limit wrong bytes = by_fault outer (code_at bytes) >>= listed_by depth limit wrong bytes
+
+-- a field whose value read reads, and the place behind it; within a list, the end of the bytes is the list's end
+abbrev pub in_place : {A : Type 0} → (ℕ → List ℕ → Result (Option A × List ℕ) PerfFault) → Takes (Option A)
+in_place read at =
+    if at.left == 0 then absent at
+    else (within (read at.depth at.bytes) >>= λ x. Ok (x.0, next at x.1))
+
+-- a value of the wrong kind, spelt whole first
+abbrev pub refused : {A : Type 0} → ℕ → List ℕ → Result A PerfFault
+refused depth bytes = by_fault outer (after (value_at depth bytes)) >>= λ _. Err fault.WrongKind
+
+-- a value that is carried unread, as its canonical spelling
+abbrev pub carried : ℕ → List ℕ → Result (List ℕ × List ℕ) PerfFault
+carried depth bytes = by_fault outer (value_at depth bytes) >>= λ x. Ok (spelling x.0, x.1)

@@ -2,6 +2,8 @@ pub mod Contract
 pub mod Descriptors
 pub mod Faults
 pub mod Fields
+pub mod States
+pub mod Termini
 pub mod Places
 pub mod Performative
 pub mod Spelling

@@ -1,15 +1,18 @@
 //! Reading fields, front to back over the bytes of a list: one reader a kind of field. No value is built for the list, and
 //! none for a field that holds no other values.
-ghost use Rattle.std.specs.Prelude.{◌≡◌, option_map, string_bytes, OnOk};
-ghost use Rattle.amqp_types.specs.View.{plain_view, view};
+ghost use Rattle.std.specs.Prelude.{◌≡◌, option_map, IfOk};
+ghost use Rattle.amqp_types.specs.View.{items_view, plain_view, view};
+ghost use Rattle.amqp_types.specs.Spelling.{spelling};
 ghost use Rattle.amqp_perf.specs.Contract.{Gives};
 ghost use Rattle.amqp_perf.specs.Places.{Took, at_of};
 ghost use Rattle.amqp_perf.specs.Fields as fields;
 
 use crate::fault::{PerfFault, within_list};
-use crate::leaf::{Binary, Map, Symbol, Symbols, Text};
-use amqp_types::{Plain, TypeFault, Value, encode, front_of, value_of};
-use std::alloc::Global;
+use crate::leaf::{AnyValue, Binary, Map, Symbol, Symbols, Text};
+use crate::state::DeliveryTag;
+use crate::terminus::Address;
+use amqp_types::{Kind, Plain, TypeFault, Value, encode, front_of, value_of};
+use std::alloc::{AllocError, Global};
 
 /// A place among the fields of a list.
 #[derive(Clone, Copy, Debug)]
@@ -257,4 +260,102 @@ impl<'a> Fields<'a> {
             value => Ok(Some(value)),
         }
     }
+
+    /// A delivery tag: a binary of 32 bytes at most.
+    #[tactic(auto, unfolding(crate::specs::Fields::tag))]
+    pub fn tag(&mut self) -> Result<Option<DeliveryTag>, PerfFault>
+        ensures { Took (λ x. x) result (at_of self.new) (fields.tag (at_of self.old)) }
+    {
+        match self.plain()? {
+            None => Ok(None),
+            Some(Plain::Binary(octets)) => Ok(Some(tag_of(octets)?)),
+            Some(_) => Err(PerfFault::WrongKind),
+        }
+    }
+
+    /// A map, carried unread.
+    #[tactic(auto, unfolding(crate::specs::Fields::map))]
+    pub fn map(&mut self, alloc: Global) -> Result<Option<Map>, PerfFault>
+        ensures { Took (λ x. x) result (at_of self.new) (fields.map (at_of self.old)) }
+    {
+        match self.value(alloc)? {
+            None => Ok(None),
+            Some(Value::Map(pairs)) => Ok(Some(Map::new(spelt(alloc, &Value::Map(pairs))?))),
+            Some(_) => Err(PerfFault::WrongKind),
+        }
+    }
+
+    /// The address of a terminus.
+    #[tactic(auto, unfolding(crate::specs::Fields::address_at))]
+    pub fn address(&mut self, alloc: Global) -> Result<Option<Address>, PerfFault>
+        ensures { Took (λ x. x) result (at_of self.new) (fields.address_at (at_of self.old)) }
+    {
+        match self.value(alloc)? {
+            None => Ok(None),
+            Some(Value::String(text)) => Ok(Some(Address::Text(Text::new(text)))),
+            Some(value) => Ok(Some(Address::Other(AnyValue::new(spelt(alloc, &value)?)))),
+        }
+    }
+
+    /// Symbols: none, one, or an array of them.
+    #[tactic(auto, unfolding(crate::specs::Fields::symbols))]
+    pub fn symbols(&mut self, alloc: Global) -> Result<Symbols, PerfFault>
+        ensures { Took (λ x. x) result (at_of self.new) (fields.symbols (at_of self.old)) }
+    {
+        match self.value(alloc)? {
+            None => Ok(Symbols::new(Vec::new(alloc))),
+            Some(Value::Symbol(text)) => Ok(Symbols::new(Vec::from_array(
+                alloc,
+                [Symbol::new(text.into_bytes())],
+            )?)),
+            Some(Value::Array(Kind::Symbol, elements)) => symbols_of(alloc, elements),
+            Some(_) => Err(PerfFault::WrongKind),
+        }
+    }
+
+    /// Symbols, of which there must be one.
+    #[tactic(auto, unfolding(crate::specs::Fields::required_symbols))]
+    pub fn required_symbols(&mut self, alloc: Global) -> Result<Symbols, PerfFault>
+        ensures { Took (λ x. x) result (at_of self.new) (fields.required_symbols (at_of self.old)) }
+    {
+        let symbols = self.symbols(alloc)?;
+        if symbols.as_slice().is_empty() {
+            Err(PerfFault::MissingField)
+        } else {
+            Ok(symbols)
+        }
+    }
+}
+
+fn tag_of(octets: &[u8]) -> Result<DeliveryTag, PerfFault>
+    ensures { Gives result (fields.tag_of octets.now) }
+{
+    let mut tag = DeliveryTag::new();
+    match tag.try_extend_from_slice(octets) {
+        Ok(()) => Ok(tag),
+        Err(_) => Err(PerfFault::TagTooLong),
+    }
+}
+
+/// The canonical spelling of a value.
+pub(crate) fn spelt(alloc: Global, value: &Value) -> Result<Vec<u8>, AllocError>
+    ensures { IfOk result (λ bytes. bytes.items ≡ spelling (view value.now)) }
+{
+    let mut bytes = Vec::new(alloc);
+    encode(alloc, value, &mut bytes)?;
+    Ok(bytes)
+}
+
+/// The symbols of an array.
+fn symbols_of(alloc: Global, elements: Vec<Value>) -> Result<Symbols, PerfFault>
+    ensures { Gives result (fields.are_symbols (items_view elements.items)) }
+{
+    let mut symbols = Vec::with_capacity(alloc, elements.len())?;
+    for element in elements {
+        match element {
+            Value::Symbol(text) => symbols.push(Symbol::new(text.into_bytes()))?,
+            _ => return Err(PerfFault::WrongKind),
+        }
+    }
+    Ok(Symbols::new(symbols))
 }

@@ -8,6 +8,7 @@ pub mod leaf;
 mod opening;
 pub mod perf;
 pub mod read;
+mod read_states;
 pub mod state;
 pub mod terminus;
 
