@@ -3,6 +3,7 @@ pub mod Descriptors
 pub mod Faults
 pub mod Fields
 pub mod States
+pub mod Tags
 pub mod Termini
 pub mod Places
 pub mod Performative

@@ -1,6 +1,6 @@
 -- Errors, delivery states and unsettled maps, field by field (AMQP 1.0 part 2, section 2.8.14; part 3, section 3.4; part
 -- 2, section 2.7.3).
-use Rattle.std.specs.Prelude.{◌≡◌, ℕ, zero, suc, ◌-◌, ◌/◌, Bool, true, false, List, [], ◌∷◌, Option, Some, None, Result, Ok, Err, ◌==◌, if◌then◌else◌}
+use Rattle.std.specs.Prelude.{◌≡◌, ℕ, nat_eq, zero, suc, ◌-◌, ◌/◌, Bool, true, false, List, [], ◌∷◌, ◌++◌, Option, Some, None, Result, Ok, Err, ◌==◌, if◌then◌else◌}
 use Rattle.std.specs.List.{list_any}
 use Rattle.std.specs.Cmp.Lexicographic.{pointwise}
 use Rattle.arrayvec.specs.ArrayVec.{ArrayVec}
@@ -108,21 +108,20 @@ some_tag (Some tag, at) = Ok (tag, at)
 unfoldable pub tag_key : Takes (ArrayVec ℕ)
 tag_key at = tag at >>= some_tag
 
-abbrev pub is_among : List (ArrayVec ℕ) → ArrayVec ℕ → Bool
-is_among tags tag = list_any (λ other. pointwise ◌==◌ other.items tag.items) tags
+abbrev pub is_among : List UnsettledDelivery → ArrayVec ℕ → Bool
+is_among deliveries tag = list_any (λ other. pointwise nat_eq other.tag.items tag.items) deliveries
 
-abbrev pub not_among : List (ArrayVec ℕ) → ArrayVec ℕ → Result (Unit {0}) PerfFault
-not_among tags tag = if is_among tags tag then Err fault.DuplicateTag else Ok tt
+abbrev pub not_among : List UnsettledDelivery → ArrayVec ℕ → Result (Unit {0}) PerfFault
+not_among deliveries tag = if is_among deliveries tag then Err fault.DuplicateTag else Ok tt
 
--- so many deliveries, behind others with these tags
-unfoldable pub deliveries_at : List (ArrayVec ℕ) → ℕ → At → Result (List UnsettledDelivery) PerfFault
-deliveries_at tags zero at = Ok []
-deliveries_at tags (suc n) at = do
+-- so many deliveries more, behind these
+unfoldable pub deliveries_at : List UnsettledDelivery → ℕ → At → Result (List UnsettledDelivery) PerfFault
+deliveries_at before zero at = Ok before
+deliveries_at before (suc n) at = do
   tag ← tag_key at
-  _ ← not_among tags tag.0
+  _ ← not_among before tag.0
   state ← state_at tag.1
-  others ← deliveries_at (tag.0 ∷ tags) n state.1
-  Ok (record { tag = tag.0; state = state.0 } ∷ others)
+  deliveries_at (before ++ record { tag = tag.0; state = state.0 } ∷ []) n state.1
 
 abbrev pub unsettled_by : ℕ → List ℕ → Code × List ℕ → Result (Option (List UnsettledDelivery)) PerfFault
 unsettled_by depth bytes (code.Leaf leaf.Null, rest) = Ok None

@@ -7,10 +7,13 @@ mod fields;
 pub mod leaf;
 mod opening;
 pub mod perf;
-pub mod read;
+mod read;
+mod read_perfs;
 mod read_states;
+mod read_termini;
 pub mod state;
 pub mod terminus;
+mod write;
 
 pub use descriptor::Descriptor;
 pub use fault::PerfFault;
@@ -20,8 +23,9 @@ pub use perf::{
     Attach, Begin, Close, Detach, Disposition, End, Flow, Open, Perf, Role, SaslChallenge,
     SaslInit, SaslMechanisms, SaslOutcome, SaslResponse, Transfer,
 };
-pub use read::{read_perf, read_state, write_perf, write_state};
+pub use read::{read_perf, read_state};
 pub use state::{
     DeliveryState, DeliveryTag, Fault, Modified, Received, Rejected, Unsettled, UnsettledDelivery,
 };
 pub use terminus::{Address, Source, SourceTerminus, Target, TargetTerminus};
+pub use write::{write_perf, write_state};

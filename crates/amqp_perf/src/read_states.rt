@@ -1,5 +1,7 @@
 //! Reading errors, delivery states and unsettled maps, each a list of calls of field readers.
-ghost use Rattle.std.specs.Prelude.{◌≡◌, ◌/◌, [], List};
+ghost use Rattle.std.specs.Prelude.{◌≡◌, ◌/◌, [], ◌∷◌, ◌++◌, List, IfOk, OnOk};
+ghost use Rattle.amqp_perf.specs.declared.state.UnsettledDelivery.{UnsettledDelivery};
+ghost use Rattle.amqp_perf.specs.Tags.{Has};
 ghost use Rattle.amqp_perf.specs.Contract.{Gives, GivesAs};
 ghost use Rattle.amqp_perf.specs.Places.{Took, at_of};
 ghost use Rattle.amqp_perf.specs.States as states;
@@ -12,7 +14,8 @@ use crate::state::{
     DeliveryState, DeliveryTag, Fault, Modified, Received, Rejected, Unsettled, UnsettledDelivery,
 };
 use amqp_types::{Code, Leaf, code_of, size_of, sized_of, skip_at};
-use std::alloc::Global;
+use std::alloc::{AllocError, Global};
+use std::collections::BTreeSet;
 
 #[tactic(auto, unfolding(crate::specs::States::error_fields))]
 fn error_fields(alloc: Global, fields: &mut Fields<'_>) -> Result<Fault, PerfFault>
@@ -192,4 +195,91 @@ impl<'a> Fields<'a> {
             Some(tag) => Ok(tag),
         }
     }
+
+    /// The deliveries of an unsettled map.
+    #[tactic(auto, unfolding(crate::specs::States::unsettled_at))]
+    pub fn unsettled(&mut self, alloc: Global) -> Result<Option<Unsettled>, PerfFault>
+        ensures { Took (λ x. x) result (at_of self.new) (states.unsettled_at (at_of self.old)) }
+    {
+        if self.left == 0 {
+            self.ended()?;
+            return Ok(None);
+        }
+        match unsettled_of(alloc, self.depth, self.rest) {
+            Err(fault) => Err(fault.within()),
+            Ok((unsettled, rest)) => {
+                self.left -= 1;
+                self.rest = rest;
+                Ok(unsettled)
+            }
+        }
+    }
+}
+
+/// The unsettled map at the front, and the bytes behind it; none where null stands there. It is passed over first.
+#[tactic(auto, unfolding(crate::specs::States::unsettled_in))]
+fn unsettled_of(
+    alloc: Global,
+    depth: u32,
+    bytes: &[u8],
+) -> Result<(Option<Unsettled>, &[u8]), PerfFault>
+    ensures { GivesAs (λ x. (x.0, x.1.now)) result (states.unsettled_in depth bytes.now) }
+{
+    let behind = skip_at(depth, bytes)?;
+    let (code, rest) = code_of(bytes)?;
+    match code {
+        Code::Leaf(Leaf::Null) => Ok((None, behind)),
+        Code::Map(size) => {
+            let (inside, _) = sized_of(size, rest)?;
+            let (left, rest) = size_of(size, inside).map_err(within_list)?;
+            let mut fields = Fields {
+                depth: depth.saturating_sub(1),
+                left,
+                rest,
+            };
+            let deliveries = deliveries_of(alloc, &mut fields, left / 2)?;
+            Ok((Some(Unsettled::new(deliveries)), behind))
+        }
+        _ => Err(PerfFault::WrongKind),
+    }
+}
+
+/// The same tag.
+fn copy_of(tag: &DeliveryTag) -> Result<DeliveryTag, AllocError>
+    ensures { IfOk result (λ copy. copy ≡ tag.now) }
+{
+    let copy = tag.clone()?;
+    Ok(copy)
+}
+
+/// Notes a tag, unless it is there already.
+fn note_tag(tags: &mut BTreeSet<DeliveryTag>, tag: &DeliveryTag) -> Result<(), PerfFault>
+    ensures found { (ds : List UnsettledDelivery) → Has tags.old ds → Gives result (states.not_among ds tag.now) }
+    ensures noted { OnOk result ((ds : List UnsettledDelivery) (d : UnsettledDelivery) → Has tags.old ds → d.tag ≡ tag.now → Has tags.new (ds ++ d ∷ [])) }
+{
+    if tags.insert(copy_of(tag)?)? {
+        Ok(())
+    } else {
+        Err(PerfFault::DuplicateTag)
+    }
+}
+
+/// So many deliveries.
+#[tactic(auto, using(crate::proofs::Loops::one_delivery, crate::proofs::Loops::no_delivery))]
+fn deliveries_of(
+    alloc: Global,
+    fields: &mut Fields<'_>,
+    count: u32,
+) -> Result<Vec<UnsettledDelivery>, PerfFault>
+    ensures { GivesAs (λ v. v.items) result (states.deliveries_at [] count (at_of fields.old)) }
+{
+    let mut deliveries = Vec::new(alloc);
+    let mut tags = BTreeSet::new(alloc);
+    for _ in 0..count {
+        let tag = fields.tag_key()?;
+        note_tag(&mut tags, &tag)?;
+        let state = fields.state(alloc)?;
+        deliveries.push(UnsettledDelivery { tag, state })?;
+    }
+    Ok(deliveries)
 }
