@@ -1,6 +1,0 @@
-//! Stand-in.
-#![tactic(auto)]
-
-pub mod fault;
-
-pub use fault::TypeFault;
