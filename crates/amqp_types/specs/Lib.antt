@@ -1,0 +1,5 @@
+pub mod Faults
+pub mod Codes
+pub mod Data
+pub mod View
+pub mod Reading
