@@ -15,3 +15,9 @@ fault_number fault.OddMap = 8
 fault_number fault.TooDeep = 9
 fault_number fault.DescribedArray = 10
 fault_number fault.Memory = 11
+
+-- Within a list, a map or an array the bytes end where its size says, so that the size is wrong
+-- where a value goes on.
+abbrev pub inner : TypeFault → TypeFault
+inner fault.Truncated = fault.SizeMismatch
+inner e = e

@@ -3,3 +3,4 @@ pub mod Codes
 pub mod Data
 pub mod View
 pub mod Reading
+pub mod Opening

@@ -1,6 +1,6 @@
 -- Reading a value from the front of bytes, and the first fault that is met (AMQP 1.0 part 1, section 1.2).
 -- A reader answers what it read, and the bytes behind it.
-use Rattle.std.specs.Prelude.{◌≡◌, ℕ, zero, suc, ◌/◌, ◌%◌, Bool, true, false, List, [], ◌∷◌, length, take, drop, Option, Some, None, Result, Ok, Err, nat_lt, nat_le, ◌&&◌, ◌||◌, ◌==◌, if◌then◌else◌}
+use Rattle.std.specs.Prelude.{◌≡◌, ℕ, zero, suc, ◌-◌, ◌/◌, ◌%◌, Bool, true, false, List, [], ◌∷◌, length, take, drop, Option, Some, None, Result, Ok, Err, nat_lt, nat_le, ◌&&◌, ◌||◌, ◌==◌, if◌then◌else◌}
 use Rattle.std.specs.Int.{Width, w8, w16, w32, w64, byte_len, from_be_bytes, cast_signed}
 use Rattle.std.specs.Str.{is_utf8}
 use Rattle.std.specs.List.{list_all}
@@ -15,6 +15,7 @@ use Rattle.amqp_types.specs.declared.code.Layout.{Layout}
 use Rattle.amqp_types.specs.declared.code.Layout.TheVariants as layout
 use Rattle.amqp_types.specs.declared.code.Kind.{Kind}
 use Rattle.amqp_types.specs.Codes.{code_of, width, layout_of, kind_of, is_without_bytes}
+use Rattle.amqp_types.specs.Faults.{inner}
 use Rattle.amqp_types.specs.Data as d
 use Rattle.amqp_types.specs.Data.{Data, Items, no_items, item, Pairs, no_pairs, pair}
 
@@ -37,6 +38,10 @@ made f read = read >>= λ x. f x.0 >>= λ y. Ok (y, x.1)
 -- the bytes behind what was read
 abbrev pub after : {A : Type 0} → Result (A × List ℕ) TypeFault → Result (List ℕ) TypeFault
 after read = read >>= λ x. Ok x.1
+
+-- the bytes behind a compound whose inside was read
+abbrev pub behind : {A : Type 0} → Result A TypeFault → List ℕ → Result (List ℕ) TypeFault
+behind read rest = read >>= λ x. Ok rest
 
 -- what a function returned, seen by see, is what reading gives
 abbrev pub Same : {X Y : Type 0} → (X → Y) → Result X TypeFault → Result Y TypeFault → Type 0
@@ -130,11 +135,10 @@ content_of (leaf.Symbol s) bytes = symbol_of bytes
 unfoldable pub leaf_at : Leaf → Reads Data
 leaf_at l bytes = made (content_of l) (chunk_at (layout_of l) bytes)
 
--- What was read inside a compound has to be all of it; within, the end of the bytes is the
--- compound's, so that its size is wrong there.
+-- What was read inside a compound has to be all of it.
 abbrev pub within : {A : Type 0} → Result A TypeFault → Result A TypeFault
-within (Err fault.Truncated) = Err fault.SizeMismatch
-within read = read
+within (Ok x) = Ok x
+within (Err e) = Err (inner e)
 
 abbrev pub ended : {A : Type 0} → A × List ℕ → Result A TypeFault
 ended x = if length x.1 == 0 then Ok x.0 else Err fault.SizeMismatch
@@ -226,3 +230,10 @@ body_at (suc depth) c bytes = body_by (body_at depth) c bytes
 -- the value at the front, so many levels deep at most: 32 where no other is around it
 unfoldable pub value_at : ℕ → Reads Data
 value_at depth bytes = value_by (body_at depth) bytes
+
+-- what was read at the front of bytes, and how many of them spell it
+abbrev pub measured : {A : Type 0} → List ℕ → Result (A × List ℕ) TypeFault → Result (A × ℕ) TypeFault
+measured bytes read = read >>= λ x. Ok (x.0, length bytes - length x.1)
+
+abbrev pub length_of : {A : Type 0} → List ℕ → Result (A × List ℕ) TypeFault → Result ℕ TypeFault
+length_of bytes read = after read >>= λ rest. Ok (length bytes - length rest)

@@ -1,7 +1,7 @@
 //! Why bytes spell no value.
 
 ghost use Rattle.std.specs.Prelude.{◌≡◌};
-ghost use Rattle.amqp_types.specs.Faults.{fault_number};
+ghost use Rattle.amqp_types.specs.Faults.{fault_number, inner};
 ghost use Rattle.amqp_types.specs.declared.fault.TypeFault.TheVariants.{Memory};
 
 use std::alloc::{AllocError, AllocFailed};
@@ -63,6 +63,16 @@ impl TypeFault {
             TypeFault::TooDeep => 9,
             TypeFault::DescribedArray => 10,
             TypeFault::Memory => 11,
+        }
+    }
+
+    /// What this fault is inside a list, a map or an array, whose end the bytes end at.
+    pub fn inside(self) -> TypeFault
+        ensures { result ≡ inner self }
+    {
+        match self {
+            TypeFault::Truncated => TypeFault::SizeMismatch,
+            fault => fault,
         }
     }
 }

@@ -2,14 +2,18 @@
 #![tactic(auto)]
 
 mod code;
-mod decode;
+mod decoder;
 mod fault;
+mod opening;
 mod plain;
 mod reader;
+mod skipper;
 mod value;
 
 pub use code::{Code, Kind, Layout, Leaf, Size};
-pub use decode::value_of;
+pub use decoder::{decode, value_of};
 pub use fault::TypeFault;
+pub use opening::{Opening, element_of, front_of, opening_of};
 pub use plain::Plain;
+pub use skipper::{skip, skip_at};
 pub use value::Value;

@@ -1,7 +1,7 @@
 use Rattle.std.proofs.Common.{◌≡◌, ◌+◌, ◌-◌, ◌*◌}
 use Rattle.amqp_types.specs.Reading.{to, body_at, value_by, one_by, items_at, pairs_at}
 use Rattle.amqp_types.proofs.Loops.{items_before, pairs_before}
-use Rattle.amqp_types.proofs.decode.+read.Given as goal
+use Rattle.amqp_types.proofs.decoder.+read.Given as goal
 
 abbrev pub decreases-body_of : goal.decreases-body_of
 decreases-body_of l = 5 * l.depth

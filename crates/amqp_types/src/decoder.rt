@@ -5,7 +5,7 @@ ghost use Rattle.amqp_types.specs.Codes.{kind_of};
 ghost use Rattle.amqp_types.specs.Data.{Data};
 ghost use Rattle.amqp_types.specs.View.{view, items_view, pairs_view};
 ghost use Rattle.amqp_types.specs.declared.fault.TypeFault.{TypeFault};
-ghost use Rattle.amqp_types.specs.Reading.{Gives, Same, element_kind, whole, value_at, body_at, value_by, one_by, items_at, pair_at, pairs_at, list_in, map_in, array_in, described_at};
+ghost use Rattle.amqp_types.specs.Reading.{Gives, Same, element_kind, whole, measured, value_at, body_at, value_by, one_by, items_at, pair_at, pairs_at, list_in, map_in, array_in, described_at};
 
 use crate::code::{Code, Kind, Size};
 use crate::fault::TypeFault;
@@ -15,6 +15,18 @@ use std::alloc::Global;
 
 /// Elements of an array that have no bytes: so many at most.
 const MOST_EMPTY_ELEMENTS: u32 = 1024;
+
+/// How many values may stand around one another: a value is in at most 31 others.
+pub const MOST_LEVELS: u32 = 32;
+
+/// The value at the front of the bytes, and how many bytes spell it.
+pub fn decode(alloc: Global, bytes: &[u8]) -> Result<(Value, usize), TypeFault>
+    // Which value, which length, and which fault, unless memory runs out.
+    ensures exact { Gives (λ x. (view x.0, x.1)) result (measured bytes.now (value_at 32 bytes.now)) }
+{
+    let (value, rest) = value_of(alloc, MOST_LEVELS, bytes)?;
+    Ok((value, bytes.len().saturating_sub(rest.len())))
+}
 
 /// The value at the front of the bytes, and the bytes behind it, where `depth` values at most may
 /// stand around one another: the value itself is the first of them.
@@ -200,8 +212,7 @@ fn finished(read: Result<(Value, &[u8]), TypeFault>) -> Result<Value, TypeFault>
         → Gives (λ x. (view x.0, x.1.now)) read.entry all → Gives view result (whole all) }
 {
     match read {
-        Err(TypeFault::Truncated) => Err(TypeFault::SizeMismatch),
-        Err(fault) => Err(fault),
+        Err(fault) => Err(fault.inside()),
         Ok((value, [])) => Ok(value),
         Ok((_, _)) => Err(TypeFault::SizeMismatch),
     }

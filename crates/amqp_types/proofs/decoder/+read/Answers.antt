@@ -1,7 +1,7 @@
 use Rattle.std.proofs.lemmas.Result.{err_from_is_err_and}
 use Rattle.amqp_types.specs.Reading.{body_at, value_by, one_by, items_at, pairs_at}
 use Rattle.amqp_types.proofs.Loops.{items_more, items_fail, items_done, pairs_more, pairs_fail, pairs_done}
-use Rattle.amqp_types.proofs.decode.+read.Goals as goal
+use Rattle.amqp_types.proofs.decoder.+read.Goals as goal
 
 pub items_of-returns-in_err-value : goal.items_of-returns-in_err-value
 items_of-returns-in_err-value t c =
