@@ -13,7 +13,7 @@ use Rattle.amqp_types.specs.declared.code.Kind.{Kind}
 use Rattle.amqp_types.specs.declared.code.Kind.TheVariants as kind
 
 -- the constructor that a byte is
-abbrev pub code_of : ℕ → Option Code
+unfoldable pub code_of : ℕ → Option Code
 code_of byte =
     if byte == 0x00 then Some code.Described
     else if byte == 0x40 then Some (code.Leaf (leaf.Null))

@@ -4,3 +4,4 @@ pub mod Data
 pub mod View
 pub mod Reading
 pub mod Opening
+pub mod Spells

@@ -191,13 +191,13 @@ map_in body s inside = do
 
 -- The type of an array's elements. Described elements are refused, and so are more than 1,024
 -- elements without bytes.
+abbrev pub elements_of : Bool → Option Kind → Result Kind TypeFault
+elements_of many None = Err fault.DescribedArray
+elements_of true (Some k) = Err fault.SizeMismatch
+elements_of false (Some k) = Ok k
+
 abbrev pub element_kind : ℕ → Code → Result Kind TypeFault
 element_kind count c = elements_of (is_without_bytes c && nat_lt 1024 count) (kind_of c)
-  where
-    elements_of : Bool → Option Kind → Result Kind TypeFault
-    elements_of many None = Err fault.DescribedArray
-    elements_of true (Some k) = Err fault.SizeMismatch
-    elements_of false (Some k) = Ok k
 
 unfoldable pub array_in : (Code → Reads Data) → Size → Reads Data
 array_in body s inside = do
@@ -230,6 +230,10 @@ body_at (suc depth) c bytes = body_by (body_at depth) c bytes
 -- the value at the front, so many levels deep at most: 32 where no other is around it
 unfoldable pub value_at : ℕ → Reads Data
 value_at depth bytes = value_by (body_at depth) bytes
+
+-- a value, and how many bytes spell it
+abbrev pub found_at : Data → ℕ → Result (Data × ℕ) TypeFault
+found_at v n = Ok (v, n)
 
 -- what was read at the front of bytes, and how many of them spell it
 abbrev pub measured : {A : Type 0} → List ℕ → Result (A × List ℕ) TypeFault → Result (A × ℕ) TypeFault

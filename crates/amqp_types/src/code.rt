@@ -92,6 +92,7 @@ pub enum Kind {
 }
 
 /// The constructor that a byte is.
+#[tactic(auto, unfolding(crate::specs::Codes::code_of))]
 pub fn constructor(byte: u8) -> Option<Code>
     ensures { result ≡ code_of byte }
 {

@@ -1,11 +1,12 @@
 //! Reading values.
 
-ghost use Rattle.std.specs.Prelude.{◌≡◌, List, ℕ, Result};
+ghost use Rattle.std.specs.Prelude.{◌≡◌, ◌≤◌, ◌++◌, List, ℕ, Result, length, take, IfOk};
+ghost use Rattle.amqp_types.specs.Spells.{Spells};
 ghost use Rattle.amqp_types.specs.Codes.{kind_of};
 ghost use Rattle.amqp_types.specs.Data.{Data};
 ghost use Rattle.amqp_types.specs.View.{view, items_view, pairs_view};
 ghost use Rattle.amqp_types.specs.declared.fault.TypeFault.{TypeFault};
-ghost use Rattle.amqp_types.specs.Reading.{Gives, Same, element_kind, whole, measured, value_at, body_at, value_by, one_by, items_at, pair_at, pairs_at, list_in, map_in, array_in, described_at};
+ghost use Rattle.amqp_types.specs.Reading.{Gives, Same, element_kind, whole, found_at, measured, value_at, body_at, value_by, one_by, items_at, pair_at, pairs_at, list_in, map_in, array_in, described_at};
 
 use crate::code::{Code, Kind, Size};
 use crate::fault::TypeFault;
@@ -20,13 +21,36 @@ const MOST_EMPTY_ELEMENTS: u32 = 1024;
 pub const MOST_LEVELS: u32 = 32;
 
 /// The value at the front of the bytes, and how many bytes spell it.
+///
+/// Errors: the first fault from the front where no beginning of the bytes spells a value, or
+/// `TypeFault::Memory`.
 pub fn decode(alloc: Global, bytes: &[u8]) -> Result<(Value, usize), TypeFault>
-    // Which value, which length, and which fault, unless memory runs out.
+    // What is read is spelled so.
+    ensures found { IfOk result (λ x. Spells 32 (take x.1 bytes.now) (view x.0)) }
+    ensures bounded { IfOk result (λ x. x.1 ≤ length bytes.now) }
+
+    // What is spelled so is read, whatever follows, unless memory runs out.
+    ensures only { (v : Data) (text rest : List ℕ) → bytes.now ≡ text ++ rest → Spells 32 text v
+        → Gives (λ x. (view x.0, x.1)) result (found_at v (length text)) }
+
+    // Which value and length, or which fault.
     ensures exact { Gives (λ x. (view x.0, x.1)) result (measured bytes.now (value_at 32 bytes.now)) }
+{
+    decode_counted(alloc, bytes)
+}
+
+fn decode_counted(alloc: Global, bytes: &[u8]) -> Result<(Value, usize), TypeFault>
+    ensures { Gives (λ x. (view x.0, x.1)) result (measured bytes.now (value_at 32 bytes.now)) }
 {
     let (value, rest) = value_of(alloc, MOST_LEVELS, bytes)?;
     Ok((value, bytes.len().saturating_sub(rest.len())))
 }
+
+/// No spelling begins another: what the bytes at the front spell is settled, whatever follows.
+pub fn none_begins_another()
+    ensures { (depth : ℕ) (a b x y : List ℕ) (v w : Data)
+        → Spells depth a v → Spells depth b w → a ++ x ≡ b ++ y → (a ≡ b) × (v ≡ w) }
+{}
 
 /// The value at the front of the bytes, and the bytes behind it, where `depth` values at most may
 /// stand around one another: the value itself is the first of them.

@@ -1,6 +1,7 @@
 //! Passing over values: the same faults as reading them, and no memory.
 
-ghost use Rattle.std.specs.Prelude.{◌≡◌, List, ℕ, Result};
+ghost use Rattle.std.specs.Prelude.{◌≡◌, ◌≤◌, ◌++◌, List, ℕ, Result, length, take, IfOk};
+ghost use Rattle.amqp_types.specs.Spells.{Spells};
 ghost use Rattle.amqp_types.specs.Data.{Data};
 ghost use Rattle.amqp_types.specs.declared.fault.TypeFault.{TypeFault};
 ghost use Rattle.amqp_types.specs.Reading.{Same, after, behind, whole, length_of, value_at, body_at, value_by, one_by, items_at, pair_at, pairs_at, list_in, map_in, array_in, described_at};
@@ -13,7 +14,21 @@ use crate::reader::{code_of, leaf_of, size_of, sized_of};
 /// How many bytes spell the value at the front: the length and the faults of `decode`, without
 /// memory.
 pub fn skip(bytes: &[u8]) -> Result<usize, TypeFault>
+    // What is passed over is a value.
+    ensures found { IfOk result (λ n. (v : Data) × Spells 32 (take n bytes.now) v) }
+    ensures bounded { IfOk result (λ n. n ≤ length bytes.now) }
+
+    // What spells a value is passed over, whatever follows.
+    ensures only { (v : Data) (text rest : List ℕ) → bytes.now ≡ text ++ rest → Spells 32 text v → result ≡ Ok (length text) }
+
+    // Which length, or which fault.
     ensures exact { Same (λ n. n) result (length_of bytes.now (value_at 32 bytes.now)) }
+{
+    skip_counted(bytes)
+}
+
+fn skip_counted(bytes: &[u8]) -> Result<usize, TypeFault>
+    ensures { Same (λ n. n) result (length_of bytes.now (value_at 32 bytes.now)) }
 {
     let rest = skip_at(MOST_LEVELS, bytes)?;
     Ok(bytes.len().saturating_sub(rest.len()))
