@@ -6,3 +6,4 @@ pub mod Openings
 pub mod Sound
 pub mod Complete
 pub mod Lengths
+pub mod Writing

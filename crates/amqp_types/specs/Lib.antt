@@ -5,3 +5,4 @@ pub mod View
 pub mod Reading
 pub mod Opening
 pub mod Spells
+pub mod Spelling

@@ -4,6 +4,8 @@ use Rattle.amqp_types.specs.Data as d
 use Rattle.amqp_types.specs.Data.{Data, Items, no_items, item, Pairs, no_pairs, pair}
 use Rattle.amqp_types.specs.declared.value.Value.{Value, fold-Value}
 use Rattle.amqp_types.specs.declared.value.Value.TheOpen.{Value-F}
+use Rattle.amqp_types.specs.declared.pieces.Pieces.{Pieces}
+use Rattle.amqp_types.specs.Spelling.{Piece}
 use Rattle.amqp_types.specs.declared.plain.Plain.{Plain}
 use Rattle.amqp_types.specs.declared.plain.Plain.TheVariants as plain
 
@@ -82,3 +84,6 @@ plain_part (d.map ps) = None
 plain_part (d.array k vs) = None
 plain_part (d.described a b) = None
 plain_part v = Some v
+
+abbrev pub pieces_view : Pieces → Piece
+pieces_view p = record { fits = p.fits; narrow = p.narrow.items; wide = p.wide.items }

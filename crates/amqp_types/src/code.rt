@@ -2,6 +2,7 @@
 
 ghost use Rattle.std.specs.Prelude.{◌≡◌};
 ghost use Rattle.amqp_types.specs.Codes.{code_of, layout_of, leaf_kind, kind_of, is_without_bytes};
+ghost use Rattle.amqp_types.specs.Spelling.{narrow_code, wide_code};
 
 /// How many bytes a size and a count have.
 #[derive(Clone, Copy, Debug, PartialEq, Eq)]
@@ -219,6 +220,72 @@ impl Code {
             Code::Leaf(leaf) => leaf.layout() == Layout::Fixed(0),
             Code::EmptyList => true,
             Code::List(_) | Code::Map(_) | Code::Array(_) | Code::Described => false,
+        }
+    }
+}
+
+impl Kind {
+    /// The byte of the shorter constructor of this type that has bytes behind it.
+    pub fn narrow_code(self) -> u8
+        ensures { result ≡ narrow_code self }
+    {
+        match self {
+            Kind::Null => 0x40,
+            Kind::Boolean => 0x56,
+            Kind::Ubyte => 0x50,
+            Kind::Ushort => 0x60,
+            Kind::Uint => 0x52,
+            Kind::Ulong => 0x53,
+            Kind::Byte => 0x51,
+            Kind::Short => 0x61,
+            Kind::Int => 0x54,
+            Kind::Long => 0x55,
+            Kind::Float => 0x72,
+            Kind::Double => 0x82,
+            Kind::Decimal32 => 0x74,
+            Kind::Decimal64 => 0x84,
+            Kind::Decimal128 => 0x94,
+            Kind::Char => 0x73,
+            Kind::Timestamp => 0x83,
+            Kind::Uuid => 0x98,
+            Kind::Binary => 0xa0,
+            Kind::String => 0xa1,
+            Kind::Symbol => 0xa3,
+            Kind::List => 0xc0,
+            Kind::Map => 0xc1,
+            Kind::Array => 0xe0,
+        }
+    }
+
+    /// The byte of the longer constructor of this type.
+    pub fn wide_code(self) -> u8
+        ensures { result ≡ wide_code self }
+    {
+        match self {
+            Kind::Null => 0x40,
+            Kind::Boolean => 0x56,
+            Kind::Ubyte => 0x50,
+            Kind::Ushort => 0x60,
+            Kind::Uint => 0x70,
+            Kind::Ulong => 0x80,
+            Kind::Byte => 0x51,
+            Kind::Short => 0x61,
+            Kind::Int => 0x71,
+            Kind::Long => 0x81,
+            Kind::Float => 0x72,
+            Kind::Double => 0x82,
+            Kind::Decimal32 => 0x74,
+            Kind::Decimal64 => 0x84,
+            Kind::Decimal128 => 0x94,
+            Kind::Char => 0x73,
+            Kind::Timestamp => 0x83,
+            Kind::Uuid => 0x98,
+            Kind::Binary => 0xb0,
+            Kind::String => 0xb1,
+            Kind::Symbol => 0xb3,
+            Kind::List => 0xd0,
+            Kind::Map => 0xd1,
+            Kind::Array => 0xf0,
         }
     }
 }

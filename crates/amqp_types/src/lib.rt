@@ -3,17 +3,21 @@
 
 mod code;
 mod decoder;
+mod encoder;
 mod fault;
 mod opening;
+mod pieces;
 mod plain;
 mod reader;
 mod skipper;
 mod value;
 
 pub use code::{Code, Kind, Layout, Leaf, Size};
-pub use decoder::{decode, value_of};
+pub use decoder::{decode, none_begins_another, value_of};
+pub use encoder::{encode, put_array, put_list, put_map, put_plain};
 pub use fault::TypeFault;
 pub use opening::{Opening, element_of, front_of, opening_of};
+pub use pieces::Pieces;
 pub use plain::Plain;
 pub use skipper::{skip, skip_at};
 pub use value::Value;
