@@ -7,4 +7,7 @@ pub mod Tags
 pub mod Termini
 pub mod Places
 pub mod Performative
+pub mod Texts
+pub mod TextViews
+pub mod NestedViews
 pub mod Spelling

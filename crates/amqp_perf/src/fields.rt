@@ -196,10 +196,7 @@ impl<'a> Fields<'a> {
     {
         match self.plain()? {
             None => Ok(None),
-            Some(Plain::Symbol(symbol)) => Ok(Some(Symbol::new(Vec::from_slice(
-                alloc,
-                symbol.as_bytes(),
-            )?))),
+            Some(Plain::Symbol(symbol)) => Ok(Some(Symbol::new(String::from_str(alloc, symbol)?))),
             Some(_) => Err(PerfFault::WrongKind),
         }
     }
@@ -211,10 +208,7 @@ impl<'a> Fields<'a> {
     {
         match self.plain()? {
             None => Err(PerfFault::MissingField),
-            Some(Plain::Symbol(symbol)) => Ok(Symbol::new(Vec::from_slice(
-                alloc,
-                symbol.as_bytes(),
-            )?)),
+            Some(Plain::Symbol(symbol)) => Ok(Symbol::new(String::from_str(alloc, symbol)?)),
             Some(_) => Err(PerfFault::WrongKind),
         }
     }
@@ -306,7 +300,7 @@ impl<'a> Fields<'a> {
             None => Ok(Symbols::new(Vec::new(alloc))),
             Some(Value::Symbol(text)) => Ok(Symbols::new(Vec::from_array(
                 alloc,
-                [Symbol::new(text.into_bytes())],
+                [Symbol::new(text)],
             )?)),
             Some(Value::Array(Kind::Symbol, elements)) => symbols_of(alloc, elements),
             Some(_) => Err(PerfFault::WrongKind),
@@ -353,7 +347,7 @@ fn symbols_of(alloc: Global, elements: Vec<Value>) -> Result<Symbols, PerfFault>
     let mut symbols = Vec::with_capacity(alloc, elements.len())?;
     for element in elements {
         match element {
-            Value::Symbol(text) => symbols.push(Symbol::new(text.into_bytes()))?,
+            Value::Symbol(text) => symbols.push(Symbol::new(text))?,
             _ => return Err(PerfFault::WrongKind),
         }
     }

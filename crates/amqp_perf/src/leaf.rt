@@ -63,39 +63,39 @@ impl PartialEq for Text {
 /// A symbol: ASCII text (AMQP 1.0 part 1, section 1.6.21).
 #[derive(Debug, Drop)]
 pub struct Symbol {
-    bytes: Vec<u8>,
+    text: String,
 }
 
 impl Model for Symbol {
-    ghost use Rattle.std.specs.Prelude.{List, ℕ};
+    ghost use Rattle.std.specs.Prelude.{List, ℕ, string_bytes};
 
     ghost Value = { List ℕ };
 
-    ghost view = { λ b. b.bytes.items };
+    ghost view = { λ t. string_bytes t.text };
 }
 
 impl Symbol {
-    /// The symbol of these bytes, which move in. Nothing asks whether they are ASCII: a reader of symbols does.
-    pub fn new(bytes: Vec<u8>) -> Symbol
-        ensures { result ≡ bytes.items }
+    /// The symbol of a text, which moves in. Nothing asks whether it is ASCII: a reader of symbols does.
+    pub fn new(text: String) -> Symbol
+        ensures { result ≡ string_bytes text }
     {
-        Symbol { bytes }
+        Symbol { text }
     }
 
-    /// Its characters, a byte each.
-    pub fn as_slice(&self) -> &[u8]
+    /// Its text.
+    pub fn as_str(&self) -> &str
         ensures { result.now ≡ self.now }
     {
-        self.bytes.as_slice()
+        self.text.as_str()
     }
 }
 
 impl Clone for Symbol {
-    ghost is_clone = { λ b c. c ≡ b };
+    ghost is_clone = { λ t u. u ≡ t };
 
     fn clone(&self) -> Result<Symbol, AllocError> {
         Ok(Symbol {
-            bytes: self.bytes.clone()?,
+            text: self.text.clone()?,
         })
     }
 }
@@ -111,7 +111,7 @@ impl PartialEq for Symbol {
     ghost laws = { Prim.search (comparing, rules) };
 
     fn eq(&self, other: &Symbol) -> bool {
-        self.bytes.as_slice() == other.bytes.as_slice()
+        self.text.as_bytes() == other.text.as_bytes()
     }
 }
 

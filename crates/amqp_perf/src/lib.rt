@@ -13,7 +13,11 @@ mod read_states;
 mod read_termini;
 pub mod state;
 pub mod terminus;
+mod text;
 mod write;
+mod write_perfs;
+mod write_states;
+mod write_termini;
 
 pub use descriptor::Descriptor;
 pub use fault::PerfFault;

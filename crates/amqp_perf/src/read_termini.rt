@@ -15,7 +15,7 @@ use crate::terminus::{Source, SourceTerminus, Target, TargetTerminus};
 use std::alloc::Global;
 
 /// When a terminus ends, where nothing is told (AMQP 1.0 part 3, section 3.5.3).
-pub(crate) const SESSION_END: &[u8] = b"session-end";
+pub(crate) const SESSION_END: &str = "session-end";
 
 /// The expiry policy that is told, or the default.
 fn expiry_policy(alloc: Global, told: Option<Symbol>) -> Result<Symbol, PerfFault>
@@ -23,7 +23,7 @@ fn expiry_policy(alloc: Global, told: Option<Symbol>) -> Result<Symbol, PerfFaul
 {
     match told {
         Some(policy) => Ok(policy),
-        None => Ok(Symbol::new(Vec::from_slice(alloc, SESSION_END)?)),
+        None => Ok(Symbol::new(String::from_str(alloc, SESSION_END)?)),
     }
 }
 
