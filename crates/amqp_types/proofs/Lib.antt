@@ -7,3 +7,4 @@ pub mod Sound
 pub mod Complete
 pub mod Lengths
 pub mod Writing
+pub mod RoundTrip

@@ -46,12 +46,6 @@ fn decode_counted(alloc: Global, bytes: &[u8]) -> Result<(Value, usize), TypeFau
     Ok((value, bytes.len().saturating_sub(rest.len())))
 }
 
-/// No spelling begins another: what the bytes at the front spell is settled, whatever follows.
-pub fn none_begins_another()
-    ensures { (depth : ℕ) (a b x y : List ℕ) (v w : Data)
-        → Spells depth a v → Spells depth b w → a ++ x ≡ b ++ y → (a ≡ b) × (v ≡ w) }
-{}
-
 /// The value at the front of the bytes, and the bytes behind it, where `depth` values at most may
 /// stand around one another: the value itself is the first of them.
 #[cycle(read)]
