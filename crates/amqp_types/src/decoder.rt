@@ -211,7 +211,7 @@ fn described_of(alloc: Global, depth: u32, bytes: &[u8]) -> Result<(Value, &[u8]
 }
 
 /// The type of an array's elements, of which there are so many.
-pub fn kind_of_elements(count: u32, element: Code) -> Result<Kind, TypeFault>
+pub(crate) fn kind_of_elements(count: u32, element: Code) -> Result<Kind, TypeFault>
     ensures { Same (λ x. x) result (element_kind count element) }
 {
     match element.kind() {

@@ -23,3 +23,6 @@ pub use pieces::Pieces;
 pub use plain::Plain;
 pub use skipper::{skip, skip_at};
 pub use value::Value;
+
+#[cfg(test)]
+mod tests;
