@@ -292,7 +292,7 @@ sized_narrow bytes = record { field = length bytes ∷ []; parts = refl; size = 
 -- ---- values that hold others
 
 -- what fills its size, by what stands behind any field of its count
-compound_wide : (n : ℕ) (inside : List ℕ) (v : Data) (Inside : Spelling) → n < 2 ^ 32 → length inside + 4 < 2 ^ 32
+pub compound_wide : (n : ℕ) (inside : List ℕ) (v : Data) (Inside : Spelling) → n < 2 ^ 32 → length inside + 4 < 2 ^ 32
     → ((field : List ℕ) → IsNumber size.Four field n → Inside (field ++ inside) v) → Fills size.Four (wide_sizes n (length inside) ++ inside) v Inside
 compound_wide n inside v Inside few short is =
     let number : IsNumber size.Four (to_be_bytes w32 n) n = record { wide = refl; number = from_be_bytes-to_be_bytes_4 n few } in
@@ -307,7 +307,7 @@ compound_wide n inside v Inside few short is =
       spelled = is (to_be_bytes w32 n) number;
     }
 
-compound_narrow : (n : ℕ) (inside : List ℕ) (v : Data) (Inside : Spelling)
+pub compound_narrow : (n : ℕ) (inside : List ℕ) (v : Data) (Inside : Spelling)
     → ((field : List ℕ) → IsNumber size.One field n → Inside (field ++ inside) v) → Fills size.One ((length inside + 1) ∷ n ∷ inside) v Inside
 compound_narrow n inside v Inside is =
     let number : IsNumber size.One (n ∷ []) n = record { wide = refl; number = refl } in
@@ -570,3 +570,39 @@ Spells-spelling depth v h = (written_is depth v h).alone
 -- what is written is read again, whatever follows
 pub value_at-spelling : (depth : ℕ) (v : Data) (rest : List ℕ) → FitsIn depth v → value_at depth (spelling v ++ rest) ≡ Ok (v, rest)
 value_at-spelling depth v rest h = value_at-Spells depth (spelling v) v rest (Spells-spelling depth v h)
+
+-- the elements of an array as they are written: one constructor, and each behind it
+pub record WrittenElements (depth : ℕ) (k : Kind) (vs : Items) : Type 0 where
+  pub byte : ℕ
+  pub bytes : List ℕ
+  pub constructor : Code
+  pub parts : constructed k (pieces vs) ≡ byte ∷ bytes
+  pub known : code_of byte ≡ Some constructor
+  pub typed : kind_of constructor ≡ Some k
+  pub empty : is_without_bytes constructor ≡ true → k ≡ kind.Null
+  pub spelled : AreItems (Behind depth constructor) bytes vs
+
+pub elements_written : (depth : ℕ) (k : Kind) (vs : Items) → AllItems (FitsIn depth) vs → AreOf k vs → WrittenElements depth k vs
+elements_written depth k vs fits of = by_test (pieces vs).fits refl
+  where
+    by_test : (b : Bool) → (pieces vs).fits ≡ b → WrittenElements depth k vs
+    by_test true e = record {
+      byte = narrow_code k;
+      bytes = (pieces vs).narrow;
+      constructor = narrow_at k;
+      parts = ap (λ b. cond b (narrow_code k ∷ (pieces vs).narrow) (wide_code k ∷ (pieces vs).wide)) e;
+      known = narrow_known k;
+      typed = narrow_typed k;
+      empty = narrow_empty k;
+      spelled = narrow_items (Behind depth) k (FitsIn depth) (written_is depth) vs fits of e;
+    }
+    by_test false e = record {
+      byte = wide_code k;
+      bytes = (pieces vs).wide;
+      constructor = wide_at k;
+      parts = ap (λ b. cond b (narrow_code k ∷ (pieces vs).narrow) (wide_code k ∷ (pieces vs).wide)) e;
+      known = wide_known k;
+      typed = wide_typed k;
+      empty = wide_empty k;
+      spelled = wide_items (Behind depth) k (FitsIn depth) (written_is depth) vs fits of;
+    }

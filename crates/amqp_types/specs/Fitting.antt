@@ -83,3 +83,15 @@ FitsBy One (d.described a b) = One a × One b
 unfoldable pub FitsIn : ℕ → Data → Type 0
 FitsIn zero v = ⊥
 FitsIn (suc depth) v = FitsBy (FitsIn depth) v
+
+-- the elements of each array in a value are of its type
+abbrev pub TypedBy : (Data → Type 0) → Data → Type 0
+TypedBy One (d.list vs) = AllItems One vs
+TypedBy One (d.map ps) = AllPairs One ps
+TypedBy One (d.array k vs) = AllItems One vs × AreOf k vs
+TypedBy One (d.described a b) = One a × One b
+TypedBy One v = Unit {0}
+
+unfoldable pub IsTyped : ℕ → Data → Type 0
+IsTyped zero v = ⊥
+IsTyped (suc depth) v = TypedBy (IsTyped depth) v

@@ -2,7 +2,7 @@
 
 ghost use Rattle.std.specs.Prelude.{◌≡◌, ◌++◌, List, ℕ};
 ghost use Rattle.amqp_types.specs.Data.{Data};
-ghost use Rattle.amqp_types.specs.Fitting.{FitsIn};
+ghost use Rattle.amqp_types.specs.Fitting.{FitsIn, IsTyped};
 ghost use Rattle.amqp_types.specs.Spells.{Spells};
 ghost use Rattle.amqp_types.specs.Spelling.{spelling};
 ghost use Rattle.amqp_types.specs.Reading.{value_at, found_before};
@@ -18,4 +18,10 @@ pub fn written_is_read_again()
     ensures spelled { (depth : ℕ) (v : Data) → FitsIn depth v → Spells depth (spelling v) v }
     ensures again { (depth : ℕ) (v : Data) (rest : List ℕ)
         → FitsIn depth v → value_at depth (spelling v ++ rest) ≡ found_before v rest }
+{}
+
+/// The elements of each array in a value that is spelled, and so in one that was decoded, are of the
+/// array's type.
+pub fn arrays_are_of_one_type()
+    ensures { (depth : ℕ) (bytes : List ℕ) (v : Data) → Spells depth bytes v → IsTyped depth v }
 {}
