@@ -28,11 +28,11 @@ bytes_complete n text rest e =
     let le : length text ≤ length (text ++ rest) = omega (arith, length-append text rest) in
     subst (λ m. bytes_at m (text ++ rest) ≡ Ok (text, rest)) e (rw (le-ltb (length (text ++ rest)) (length text) le, take-append_seam text rest, drop-append_seam text rest) refl)
 
-size_complete : (s : Size) → Complete (size_at s) (IsNumber s)
+pub size_complete : (s : Size) → Complete (size_at s) (IsNumber s)
 size_complete s text n rest h =
     ap (λ r. to (from_be_bytes (width s)) r) (bytes_complete (byte_len (width s)) text rest h.wide) ∙ ap (λ m. Ok (m, rest)) h.number
 
-sized_complete : (s : Size) (text inside rest : List ℕ) → IsSized s text inside → sized_at s (text ++ rest) ≡ Ok (inside, rest)
+pub sized_complete : (s : Size) (text inside rest : List ℕ) → IsSized s text inside → sized_at s (text ++ rest) ≡ Ok (inside, rest)
 unfolding sized_at
 sized_complete s text inside rest h =
     let parts : text ++ rest ≡ h.field ++ (inside ++ rest) = ap (λ (t : List ℕ). t ++ rest) h.parts ∙ append_assoc h.field inside rest in
@@ -58,7 +58,7 @@ value_complete body Body complete text v rest h =
     ∙ ap (λ r. r >>= λ c. body c.0 c.1) (code_complete h.byte h.constructor (h.body ++ rest) h.known)
     ∙ complete h.constructor h.body v rest h.spelled
 
-items_complete : (one : Reads Data) (One : Spelling) → Complete one One → (vs : Items) (text rest : List ℕ) → AreItems One text vs → items_at one (count vs) (text ++ rest) ≡ Ok (vs, rest)
+pub items_complete : (one : Reads Data) (One : Spelling) → Complete one One → (vs : Items) (text rest : List ℕ) → AreItems One text vs → items_at one (count vs) (text ++ rest) ≡ Ok (vs, rest)
 unfolding items_at
 items_complete one One complete no_items text rest h = ap (λ (t : List ℕ). done (no_items, t ++ rest)) h
 items_complete one One complete (item v vs) text rest h =
@@ -112,7 +112,7 @@ map_complete body Body complete s inside v h =
     ∙ ap (λ r. to d.map r) pairs
     ∙ ap (λ w. done (w, [])) h.is
 
-element_complete : (n : ℕ) (c : Code) (k : Kind) → kind_of c ≡ Some k → (is_without_bytes c ≡ true → n ≤ 1024) → element_kind n c ≡ Ok k
+pub element_complete : (n : ℕ) (c : Code) (k : Kind) → kind_of c ≡ Some k → (is_without_bytes c ≡ true → n ≤ 1024) → element_kind n c ≡ Ok k
 element_complete n c k typed few = by_test (is_without_bytes c) few ∙ ap (λ o. elements_of false o) typed
   where
     by_test : (w : Bool) → (w ≡ true → n ≤ 1024) → elements_of (w && nat_lt 1024 n) (kind_of c) ≡ elements_of false (kind_of c)

@@ -7,3 +7,6 @@ pub mod Sound
 pub mod Complete
 pub mod Lengths
 pub mod Writing
+pub mod RoundTrip
+pub mod CallerLemmas
+pub mod Typed

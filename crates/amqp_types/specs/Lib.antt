@@ -6,3 +6,4 @@ pub mod Reading
 pub mod Opening
 pub mod Spells
 pub mod Spelling
+pub mod Fitting

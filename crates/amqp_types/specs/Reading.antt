@@ -231,6 +231,10 @@ body_at (suc depth) c bytes = body_by (body_at depth) c bytes
 unfoldable pub value_at : ℕ → Reads Data
 value_at depth bytes = value_by (body_at depth) bytes
 
+-- a value, and the bytes behind it
+abbrev pub found_before : Data → List ℕ → Result (Data × List ℕ) TypeFault
+found_before v rest = Ok (v, rest)
+
 -- a value, and how many bytes spell it
 abbrev pub found_at : Data → ℕ → Result (Data × ℕ) TypeFault
 found_at v n = Ok (v, n)

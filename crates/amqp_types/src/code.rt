@@ -94,7 +94,7 @@ pub enum Kind {
 
 /// The constructor that a byte is.
 #[tactic(auto, unfolding(crate::specs::Codes::code_of))]
-pub fn constructor(byte: u8) -> Option<Code>
+pub(crate) fn constructor(byte: u8) -> Option<Code>
     ensures { result ≡ code_of byte }
 {
     match byte {
@@ -144,7 +144,7 @@ pub fn constructor(byte: u8) -> Option<Code>
 
 impl Leaf {
     /// The type of a value behind this constructor.
-    pub fn kind(self) -> Kind
+    pub(crate) fn kind(self) -> Kind
         ensures { result ≡ leaf_kind self }
     {
         match self {
@@ -173,7 +173,7 @@ impl Leaf {
     }
 
     /// Where the bytes behind the constructor are.
-    pub fn layout(self) -> Layout
+    pub(crate) fn layout(self) -> Layout
         ensures { result ≡ layout_of self }
     {
         match self {
@@ -213,7 +213,7 @@ impl Code {
     }
 
     /// Whether nothing stands behind this constructor.
-    pub fn is_without_bytes(self) -> bool
+    pub(crate) fn is_without_bytes(self) -> bool
         ensures { result ≡ is_without_bytes self }
     {
         match self {
@@ -226,7 +226,7 @@ impl Code {
 
 impl Kind {
     /// The byte of the shorter constructor of this type that has bytes behind it.
-    pub fn narrow_code(self) -> u8
+    pub(crate) fn narrow_code(self) -> u8
         ensures { result ≡ narrow_code self }
     {
         match self {
@@ -258,7 +258,7 @@ impl Kind {
     }
 
     /// The byte of the longer constructor of this type.
-    pub fn wide_code(self) -> u8
+    pub(crate) fn wide_code(self) -> u8
         ensures { result ≡ wide_code self }
     {
         match self {

@@ -46,12 +46,6 @@ fn decode_counted(alloc: Global, bytes: &[u8]) -> Result<(Value, usize), TypeFau
     Ok((value, bytes.len().saturating_sub(rest.len())))
 }
 
-/// No spelling begins another: what the bytes at the front spell is settled, whatever follows.
-pub fn none_begins_another()
-    ensures { (depth : ℕ) (a b x y : List ℕ) (v w : Data)
-        → Spells depth a v → Spells depth b w → a ++ x ≡ b ++ y → (a ≡ b) × (v ≡ w) }
-{}
-
 /// The value at the front of the bytes, and the bytes behind it, where `depth` values at most may
 /// stand around one another: the value itself is the first of them.
 #[cycle(read)]
@@ -217,7 +211,7 @@ fn described_of(alloc: Global, depth: u32, bytes: &[u8]) -> Result<(Value, &[u8]
 }
 
 /// The type of an array's elements, of which there are so many.
-pub fn kind_of_elements(count: u32, element: Code) -> Result<Kind, TypeFault>
+pub(crate) fn kind_of_elements(count: u32, element: Code) -> Result<Kind, TypeFault>
     ensures { Same (λ x. x) result (element_kind count element) }
 {
     match element.kind() {

@@ -32,7 +32,7 @@ impl Pieces {
     }
 
     /// An element of a type with one constructor.
-    pub fn single(&mut self, bytes: &[u8]) -> Result<(), AllocError>
+    pub(crate) fn single(&mut self, bytes: &[u8]) -> Result<(), AllocError>
         ensures { OnOk result (pieces_view self.new ≡ join (pieces_view self.old) (single bytes.now)) }
     {
         self.fits = false;
@@ -40,7 +40,7 @@ impl Pieces {
     }
 
     /// A uint.
-    pub fn uint(&mut self, number: u32) -> Result<(), AllocError>
+    pub(crate) fn uint(&mut self, number: u32) -> Result<(), AllocError>
         ensures { OnOk result (pieces_view self.new ≡ join (pieces_view self.old) (number_piece w32 number)) }
     {
         if number < 256 {
@@ -52,7 +52,7 @@ impl Pieces {
     }
 
     /// A ulong.
-    pub fn ulong(&mut self, number: u64) -> Result<(), AllocError>
+    pub(crate) fn ulong(&mut self, number: u64) -> Result<(), AllocError>
         ensures { OnOk result (pieces_view self.new ≡ join (pieces_view self.old) (number_piece w64 number)) }
     {
         if number < 256 {
@@ -64,7 +64,7 @@ impl Pieces {
     }
 
     /// An int.
-    pub fn int(&mut self, number: i32) -> Result<(), AllocError>
+    pub(crate) fn int(&mut self, number: i32) -> Result<(), AllocError>
         ensures { OnOk result (pieces_view self.new ≡ join (pieces_view self.old) (signed_piece w32 number)) }
     {
         if -128 <= number && number <= 127 {
@@ -76,7 +76,7 @@ impl Pieces {
     }
 
     /// A long.
-    pub fn long(&mut self, number: i64) -> Result<(), AllocError>
+    pub(crate) fn long(&mut self, number: i64) -> Result<(), AllocError>
         ensures { OnOk result (pieces_view self.new ≡ join (pieces_view self.old) (signed_piece w64 number)) }
     {
         if -128 <= number && number <= 127 {
@@ -105,7 +105,7 @@ impl Pieces {
     }
 
     /// A list, a map or an array, by its count and the bytes behind the count.
-    pub fn compound(&mut self, count: usize, inside: &[u8]) -> Result<(), AllocError>
+    pub(crate) fn compound(&mut self, count: usize, inside: &[u8]) -> Result<(), AllocError>
         ensures { OnOk result (pieces_view self.new ≡ join (pieces_view self.old) (compound_piece count inside.now)) }
     {
         if inside.len() < 255 && count < 256 {
@@ -120,7 +120,7 @@ impl Pieces {
     }
 
     /// A map, by how many keys it has and the bytes of them and their values.
-    pub fn map(&mut self, count: usize, inside: &[u8]) -> Result<(), AllocError>
+    pub(crate) fn map(&mut self, count: usize, inside: &[u8]) -> Result<(), AllocError>
         ensures { OnOk result (pieces_view self.new ≡ join (pieces_view self.old) (compound_piece (2 * count) inside.now)) }
     {
         let Some(count) = count.checked_mul(2) else {
@@ -144,7 +144,11 @@ impl Pieces {
 }
 
 /// Appends the size and the count of a compound, of four bytes each.
-pub fn put_wide_sizes(out: &mut Vec<u8>, count: usize, length: usize) -> Result<(), AllocError>
+pub(crate) fn put_wide_sizes(
+    out: &mut Vec<u8>,
+    count: usize,
+    length: usize,
+) -> Result<(), AllocError>
     ensures { OnOk result (out.new.items ≡ out.old.items ++ wide_sizes count length) }
 {
     let Some(size) = length.checked_add(4) else {

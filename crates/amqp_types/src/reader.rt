@@ -10,7 +10,7 @@ use crate::fault::TypeFault;
 use crate::plain::Plain;
 
 /// The first so many bytes.
-pub fn bytes_of(count: usize, bytes: &[u8]) -> Result<(&[u8], &[u8]), TypeFault>
+pub(crate) fn bytes_of(count: usize, bytes: &[u8]) -> Result<(&[u8], &[u8]), TypeFault>
     ensures { Same (λ x. (x.0.now, x.1.now)) result (bytes_at count bytes.now) }
 {
     if bytes.len() < count {
@@ -20,7 +20,7 @@ pub fn bytes_of(count: usize, bytes: &[u8]) -> Result<(&[u8], &[u8]), TypeFault>
 }
 
 /// A size or a count.
-pub fn size_of(size: Size, bytes: &[u8]) -> Result<(u32, &[u8]), TypeFault>
+pub(crate) fn size_of(size: Size, bytes: &[u8]) -> Result<(u32, &[u8]), TypeFault>
     ensures { Same (λ x. (x.0, x.1.now)) result (size_at size bytes.now) }
 {
     match size {
@@ -37,7 +37,7 @@ pub fn size_of(size: Size, bytes: &[u8]) -> Result<(u32, &[u8]), TypeFault>
 
 /// A size and as many bytes.
 #[tactic(auto, unfolding(crate::specs::Reading::sized_at))]
-pub fn sized_of(size: Size, bytes: &[u8]) -> Result<(&[u8], &[u8]), TypeFault>
+pub(crate) fn sized_of(size: Size, bytes: &[u8]) -> Result<(&[u8], &[u8]), TypeFault>
     ensures { Same (λ x. (x.0.now, x.1.now)) result (sized_at size bytes.now) }
 {
     let (count, rest) = size_of(size, bytes)?;
@@ -45,7 +45,7 @@ pub fn sized_of(size: Size, bytes: &[u8]) -> Result<(&[u8], &[u8]), TypeFault>
 }
 
 /// A constructor.
-pub fn code_of(bytes: &[u8]) -> Result<(Code, &[u8]), TypeFault>
+pub(crate) fn code_of(bytes: &[u8]) -> Result<(Code, &[u8]), TypeFault>
     ensures { Same (λ x. (x.0, x.1.now)) result (code_at bytes.now) }
 {
     match bytes {
@@ -69,7 +69,7 @@ fn chunk_of(layout: Layout, bytes: &[u8]) -> Result<(&[u8], &[u8]), TypeFault>
 
 /// A value without others, behind its constructor.
 #[tactic(auto, unfolding(crate::specs::Reading::leaf_at))]
-pub fn leaf_of(leaf: Leaf, bytes: &[u8]) -> Result<(Plain<'_>, &[u8]), TypeFault>
+pub(crate) fn leaf_of(leaf: Leaf, bytes: &[u8]) -> Result<(Plain<'_>, &[u8]), TypeFault>
     ensures { Same (λ x. (plain_view x.0, x.1.now)) result (leaf_at leaf bytes.now) }
 {
     let (chunk, rest) = chunk_of(leaf.layout(), bytes)?;

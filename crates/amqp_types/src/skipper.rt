@@ -48,7 +48,7 @@ pub fn skip_at(depth: u32, bytes: &[u8]) -> Result<&[u8], TypeFault>
 /// The bytes behind what stands behind a constructor.
 #[cycle(pass)]
 #[tactic(auto, using(crate::proofs::Passing::after_body_at), unfolding(crate::specs::Reading::body_at))]
-pub fn pass_body(depth: u32, code: Code, bytes: &[u8]) -> Result<&[u8], TypeFault>
+pub(crate) fn pass_body(depth: u32, code: Code, bytes: &[u8]) -> Result<&[u8], TypeFault>
     ensures { Same (λ x. x.now) result (after (body_at depth code bytes.now)) }
 {
     if depth == 0 {
