@@ -1,0 +1,29 @@
+//! Why bytes are no item, or why none can be read.
+use amqp_perf::PerfFault;
+use thiserror::Error;
+
+/// Why bytes are no item of a stream (the first five), or why a reader answers none.
+#[derive(Clone, Copy, Debug, PartialEq, Eq, Error)]
+pub enum FrameFault {
+    /// The frame's size is below 8.
+    #[error("the frame's size is below 8")]
+    TooSmall,
+    /// The data offset is below 2, or past the frame's end.
+    #[error("the data offset is below 2 or past the frame's end")]
+    BadOffset,
+    /// The frame has more than 16,384 bytes, or a SASL frame more than 512.
+    #[error("the frame is too large")]
+    TooLarge,
+    /// The frame's type is neither AMQP (0) nor SASL (1).
+    #[error("the frame's type is unknown")]
+    BadType,
+    /// The body is no performative, or has bytes behind it that it can't have.
+    #[error("the frame's body is at fault: {0}")]
+    Perf(PerfFault),
+    /// Memory was refused; nothing of the piece was taken.
+    #[error("out of memory")]
+    Memory,
+    /// An earlier call answered a fault, or gave a `Bad`.
+    #[error("the stream ended in a fault before")]
+    Failed,
+}

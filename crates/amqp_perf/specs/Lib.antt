@@ -1,0 +1,13 @@
+pub mod Contract
+pub mod Descriptors
+pub mod Faults
+pub mod Fields
+pub mod States
+pub mod Tags
+pub mod Termini
+pub mod Places
+pub mod Performative
+pub mod Texts
+pub mod TextViews
+pub mod NestedViews
+pub mod Spelling

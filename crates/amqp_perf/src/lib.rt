@@ -1,0 +1,35 @@
+//! The performatives of AMQP 1.0: the nine of the transport, the five bodies of SASL, delivery states and termini.
+#![tactic(auto)]
+
+pub mod descriptor;
+pub mod fault;
+mod fields;
+pub mod leaf;
+mod opening;
+pub mod perf;
+mod read;
+mod read_perfs;
+mod read_states;
+mod read_termini;
+pub mod state;
+pub mod terminus;
+mod text;
+mod write;
+mod write_perfs;
+mod write_states;
+mod write_termini;
+
+pub use descriptor::Descriptor;
+pub use fault::PerfFault;
+pub use leaf::{AnyValue, Binary, Map, Symbol, Symbols, Text};
+pub use opening::Opening;
+pub use perf::{
+    Attach, Begin, Close, Detach, Disposition, End, Flow, Open, Perf, Role, SaslChallenge,
+    SaslInit, SaslMechanisms, SaslOutcome, SaslResponse, Transfer,
+};
+pub use read::{read_perf, read_state};
+pub use state::{
+    DeliveryState, DeliveryTag, Fault, Modified, Received, Rejected, Unsettled, UnsettledDelivery,
+};
+pub use terminus::{Address, Source, SourceTerminus, Target, TargetTerminus};
+pub use write::{write_perf, write_state};

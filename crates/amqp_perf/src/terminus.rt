@@ -1,0 +1,76 @@
+//! Sources and targets: where the messages of a link come from and go to (AMQP 1.0 part 3, sections 3.5.3 and 3.5.4).
+use crate::leaf::{AnyValue, Map, Symbol, Symbols, Text};
+use crate::state::DeliveryState;
+
+/// The address of a terminus (AMQP 1.0 part 3, section 3.5.3).
+#[derive(Debug, Drop)]
+pub enum Address {
+    /// A string, the only kind that is routed.
+    Text(Text),
+    /// A value of another type, carried unread.
+    Other(AnyValue),
+}
+
+/// What stands in the source of an attach.
+#[derive(Debug, Drop)]
+pub enum SourceTerminus {
+    /// A source.
+    Source(Source),
+    /// A terminus with another descriptor, carried unread.
+    Other(AnyValue),
+}
+
+/// What stands in the target of an attach.
+#[derive(Debug, Drop)]
+pub enum TargetTerminus {
+    /// A target.
+    Target(Target),
+    /// A terminus with another descriptor, as a coordinator, carried unread.
+    Other(AnyValue),
+}
+
+/// Where messages come from (AMQP 1.0 part 3, section 3.5.3).
+#[derive(Debug, Drop)]
+pub struct Source {
+    /// Its address.
+    pub address: Option<Address>,
+    /// What is kept of the terminus: 0 nothing, 1 its configuration, 2 its unsettled deliveries too.
+    pub durable: u32,
+    /// When it ends: `session-end` where nothing is told.
+    pub expiry_policy: Symbol,
+    /// Seconds from then on until it is gone.
+    pub timeout: u32,
+    /// Whether the peer is to make a node.
+    pub dynamic: bool,
+    /// Properties of such a node.
+    pub dynamic_node_properties: Option<Map>,
+    /// `move` or `copy`.
+    pub distribution_mode: Option<Symbol>,
+    /// Which messages are wanted.
+    pub filter: Option<Map>,
+    /// The outcome of deliveries that are settled without one.
+    pub default_outcome: Option<DeliveryState>,
+    /// The outcomes that the sender can take.
+    pub outcomes: Symbols,
+    /// What it can do.
+    pub capabilities: Symbols,
+}
+
+/// Where messages go to (AMQP 1.0 part 3, section 3.5.4).
+#[derive(Debug, Drop)]
+pub struct Target {
+    /// Its address.
+    pub address: Option<Address>,
+    /// What is kept of the terminus: 0 nothing, 1 its configuration, 2 its unsettled deliveries too.
+    pub durable: u32,
+    /// When it ends: `session-end` where nothing is told.
+    pub expiry_policy: Symbol,
+    /// Seconds from then on until it is gone.
+    pub timeout: u32,
+    /// Whether the peer is to make a node.
+    pub dynamic: bool,
+    /// Properties of such a node.
+    pub dynamic_node_properties: Option<Map>,
+    /// What it can do.
+    pub capabilities: Symbols,
+}

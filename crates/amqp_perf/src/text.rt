@@ -1,0 +1,328 @@
+//! Writing a described list from a slice of its fields, each by its shortest spelling and without the nulls at the end.
+ghost use Rattle.std.specs.Prelude.{◌≡◌, ◌≤◌, ◌++◌, length, take, drop, is_none, option_map, IfOk, OnOk};
+ghost use Rattle.amqp_types.specs.Data as d;
+ghost use Rattle.amqp_types.specs.View.{items_view};
+ghost use Rattle.amqp_types.specs.Spelling.{list_text};
+ghost use Rattle.amqp_perf.specs.Texts as texts;
+ghost use Rattle.amqp_perf.specs.Spelling as spellings;
+ghost use Rattle.amqp_perf.specs.NestedViews.{nested_view};
+ghost use Rattle.amqp_perf.specs.TextViews.{field_view, fields_view};
+
+use crate::descriptor::Descriptor;
+use crate::leaf::{Binary, Map, Symbol, Symbols, Text};
+use crate::perf::Role;
+use crate::read_termini::SESSION_END;
+use crate::state::DeliveryTag;
+use crate::terminus::Address;
+use crate::write_states::Nested;
+use amqp_types::{Kind, Plain, Value, encode, put_plain};
+use std::alloc::{AllocError, Global};
+
+/// A field to be written.
+#[derive(Clone, Copy, Debug)]
+pub(crate) enum Field<'a> {
+    /// Null: nothing, or the field's default.
+    Null,
+    /// A value that holds no others.
+    Plain(Plain<'a>),
+    /// A value that is spelt already.
+    Spelt(&'a [u8]),
+}
+
+impl<'a> Field<'a> {
+    /// A flag that is false where it is absent.
+    pub(crate) fn flag(flag: bool) -> Field<'a>
+        ensures { field_view result ≡ texts.flag_text flag }
+    {
+        if flag {
+            Field::Plain(Plain::Boolean(true))
+        } else {
+            Field::Null
+        }
+    }
+
+    /// A ubyte with a default.
+    pub(crate) fn ubyte_unless(default: u8, number: u8) -> Field<'a>
+        ensures { field_view result ≡ texts.ubyte_unless default number }
+    {
+        if number == default {
+            Field::Null
+        } else {
+            Field::Plain(Plain::Ubyte(number))
+        }
+    }
+
+    /// A ushort with a default.
+    pub(crate) fn ushort_unless(default: u16, number: u16) -> Field<'a>
+        ensures { field_view result ≡ texts.ushort_unless default number }
+    {
+        if number == default {
+            Field::Null
+        } else {
+            Field::Plain(Plain::Ushort(number))
+        }
+    }
+
+    /// A uint with a default.
+    pub(crate) fn uint_unless(default: u32, number: u32) -> Field<'a>
+        ensures { field_view result ≡ texts.uint_unless default number }
+    {
+        if number == default {
+            Field::Null
+        } else {
+            Field::Plain(Plain::Uint(number))
+        }
+    }
+
+    /// A ubyte, or null.
+    pub(crate) fn ubyte(number: Option<u8>) -> Field<'a>
+        ensures { field_view result ≡ texts.mapped (λ x. d.ubyte x) number }
+    {
+        match number {
+            Some(number) => Field::Plain(Plain::Ubyte(number)),
+            None => Field::Null,
+        }
+    }
+
+    /// A ushort, or null.
+    pub(crate) fn ushort(number: Option<u16>) -> Field<'a>
+        ensures { field_view result ≡ texts.mapped (λ x. d.ushort x) number }
+    {
+        match number {
+            Some(number) => Field::Plain(Plain::Ushort(number)),
+            None => Field::Null,
+        }
+    }
+
+    /// A uint, or null.
+    pub(crate) fn uint(number: Option<u32>) -> Field<'a>
+        ensures { field_view result ≡ texts.mapped (λ x. d.uint x) number }
+    {
+        match number {
+            Some(number) => Field::Plain(Plain::Uint(number)),
+            None => Field::Null,
+        }
+    }
+
+    /// A ulong, or null.
+    pub(crate) fn ulong(number: Option<u64>) -> Field<'a>
+        ensures { field_view result ≡ texts.mapped (λ x. d.ulong x) number }
+    {
+        match number {
+            Some(number) => Field::Plain(Plain::Ulong(number)),
+            None => Field::Null,
+        }
+    }
+
+    /// A string, or null.
+    pub(crate) fn text(text: &'a Option<Text>) -> Field<'a>
+        ensures { field_view result ≡ texts.mapped d.string text.now }
+    {
+        match text {
+            Some(text) => Field::Plain(Plain::String(text.as_str())),
+            None => Field::Null,
+        }
+    }
+
+    /// A symbol, or null.
+    pub(crate) fn symbol(symbol: &'a Option<Symbol>) -> Field<'a>
+        ensures { field_view result ≡ texts.mapped d.symbol symbol.now }
+    {
+        match symbol {
+            Some(symbol) => Field::Plain(Plain::Symbol(symbol.as_str())),
+            None => Field::Null,
+        }
+    }
+
+    /// A binary, or null.
+    pub(crate) fn binary(octets: &'a Option<Binary>) -> Field<'a>
+        ensures { field_view result ≡ texts.mapped d.binary octets.now }
+    {
+        match octets {
+            Some(octets) => Field::Plain(Plain::Binary(octets.as_slice())),
+            None => Field::Null,
+        }
+    }
+
+    /// A map that is carried, or null.
+    pub(crate) fn map(map: &'a Option<Map>) -> Field<'a>
+        ensures { field_view result ≡ map.now }
+    {
+        match map {
+            Some(map) => Field::Spelt(map.as_slice()),
+            None => Field::Null,
+        }
+    }
+
+    /// What is spelt already, or null.
+    pub(crate) fn spelt(bytes: &'a Option<Vec<u8>>) -> Field<'a>
+        ensures { field_view result ≡ option_map (λ v. v.items) bytes.now }
+    {
+        match bytes {
+            Some(bytes) => Field::Spelt(bytes.as_slice()),
+            None => Field::Null,
+        }
+    }
+
+    /// What an end of a link does: false is a sender.
+    pub(crate) fn role(role: Role) -> Field<'a>
+        ensures { field_view result ≡ spellings.role_text role }
+    {
+        Field::Plain(Plain::Boolean(role == Role::Receiver))
+    }
+
+    /// A delivery tag, or null.
+    pub(crate) fn tag(tag: &'a Option<DeliveryTag>) -> Field<'a>
+        ensures { field_view result ≡ texts.mapped (λ t. d.binary t.items) tag.now }
+    {
+        match tag {
+            Some(tag) => Field::Plain(Plain::Binary(tag.as_slice())),
+            None => Field::Null,
+        }
+    }
+
+    /// The address of a terminus, or null.
+    pub(crate) fn address(address: &'a Option<Address>) -> Field<'a>
+        ensures { field_view result ≡ spellings.address_text address.now }
+    {
+        match address {
+            Some(Address::Text(text)) => Field::Plain(Plain::String(text.as_str())),
+            Some(Address::Other(value)) => Field::Spelt(value.as_slice()),
+            None => Field::Null,
+        }
+    }
+
+    /// When a terminus ends: null where it is with its session.
+    pub(crate) fn policy(policy: &'a Symbol) -> Field<'a>
+        ensures { field_view result ≡ spellings.policy_text policy.now }
+    {
+        if policy.as_str() == SESSION_END {
+            Field::Null
+        } else {
+            Field::Plain(Plain::Symbol(policy.as_str()))
+        }
+    }
+
+    /// A delivery state that is spelt, or null.
+    pub(crate) fn nested(state: &'a Option<Nested>) -> Field<'a>
+        ensures { field_view result ≡ option_map nested_view state.now }
+    {
+        match state {
+            Some(Nested::Fixed(bytes)) => Field::Spelt(bytes.as_slice()),
+            Some(Nested::Written(bytes)) => Field::Spelt(bytes.as_slice()),
+            None => Field::Null,
+        }
+    }
+
+    /// Whether it is null.
+    fn is_null(self) -> bool
+        ensures { result ≡ is_none (field_view self.entry) }
+    {
+        matches!(self, Field::Null)
+    }
+}
+
+/// The fields without the nulls at their end.
+#[tactic(auto, using(crate::proofs::FieldTexts::given_without_null, crate::proofs::FieldTexts::given_with_value))]
+fn given_of<'a, 'b>(fields: &'b [Field<'a>]) -> &'b [Field<'a>]
+    ensures { fields_view result.now ≡ texts.given (fields_view fields.now) }
+{
+    match fields.split_last() {
+        Some((last, rest)) => {
+            if last.is_null() {
+                given_of(rest)
+            } else {
+                fields
+            }
+        }
+        None => fields,
+    }
+}
+
+fn put_field(out: &mut Vec<u8>, field: Field<'_>) -> Result<(), AllocError>
+    ensures { OnOk result (out.new.items ≡ out.old.items ++ texts.field_bytes (field_view field.entry)) }
+{
+    match field {
+        Field::Null => out.extend_from_slice(&[0x40]),
+        Field::Plain(plain) => put_plain(out, plain),
+        Field::Spelt(bytes) => out.extend_from_slice(bytes),
+    }
+}
+
+fn put_fields(out: &mut Vec<u8>, fields: &[Field<'_>]) -> Result<(), AllocError>
+    ensures { OnOk result (out.new.items ≡ out.old.items ++ texts.joined (fields_view fields.now)) }
+{
+    for field in fields {
+        put_field(out, *field)?;
+    }
+    Ok(())
+}
+
+/// Makes the items at the end of the bytes, from `start` on, a list: what stands before them moves in front of them.
+fn close_list(out: &mut Vec<u8>, start: usize, count: usize) -> Result<(), AllocError>
+    requires { start ≤ length out.old.items }
+    ensures { OnOk result (out.new.items ≡ take start out.old.items ++ list_text count (drop start out.old.items)) }
+{
+    let len = out.len() - start;
+    if count == 0 {
+        out.truncate(start);
+        return out.push(0x45).map_err(|_| AllocError);
+    }
+    if len < 255 && count < 256 {
+        out.extend_from_slice(&[0xc0, (len + 1) as u8, count as u8])?;
+        out[start..].rotate_right(3);
+        return Ok(());
+    }
+    let (Some(size), Ok(count)) = (len.checked_add(4), u32::try_from(count)) else {
+        return Err(AllocError);
+    };
+    let Ok(size) = u32::try_from(size) else {
+        return Err(AllocError);
+    };
+    out.push(0xd0)?;
+    out.extend_from_slice(&size.to_be_bytes())?;
+    out.extend_from_slice(&count.to_be_bytes())?;
+    out[start..].rotate_right(9);
+    Ok(())
+}
+
+/// Appends the described list of these fields. It writes once, and takes no memory but that of `out`.
+#[tactic(auto, unfolding(crate::specs::Texts::described_text))]
+pub(crate) fn put_described(
+    out: &mut Vec<u8>,
+    descriptor: Descriptor,
+    fields: &[Field<'_>],
+) -> Result<(), AllocError>
+    ensures { OnOk result (out.new.items ≡ out.old.items ++ texts.described_text descriptor (fields_view fields.now)) }
+{
+    let given = given_of(fields);
+    out.extend_from_slice(&[0x00, 0x53, descriptor.code()])?;
+    let start = out.len();
+    put_fields(out, given)?;
+    close_list(out, start, given.len())
+}
+
+/// The spelling of symbols, if there are any: always an array.
+pub(crate) fn symbols_text(alloc: Global, symbols: &Symbols) -> Result<Option<Vec<u8>>, AllocError>
+    ensures { IfOk result (λ text. option_map (λ v. v.items) text ≡ texts.symbols_text symbols.now) }
+{
+    let symbols = symbols.as_slice();
+    if symbols.is_empty() {
+        return Ok(None);
+    }
+    let elements = elements_of(alloc, symbols)?;
+    let mut text = Vec::new(alloc);
+    encode(alloc, &Value::Array(Kind::Symbol, elements), &mut text)?;
+    Ok(Some(text))
+}
+
+/// Symbols as the elements of an array.
+fn elements_of(alloc: Global, symbols: &[Symbol]) -> Result<Vec<Value>, AllocError>
+    ensures { IfOk result (λ v. items_view v.items ≡ texts.symbol_items symbols.now) }
+{
+    let mut elements = Vec::with_capacity(alloc, symbols.len())?;
+    for symbol in symbols {
+        elements.push(Value::Symbol(String::from_str(alloc, symbol.as_str())?))?;
+    }
+    Ok(elements)
+}
