@@ -1,0 +1,4 @@
+pub mod Contract
+pub mod Cuts
+pub mod Extents
+pub mod Frames

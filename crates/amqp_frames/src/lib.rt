@@ -1,8 +1,14 @@
 //! The frames of AMQP 1.0: a stream of bytes is the spellings of items, then a rest.
 #![tactic(auto)]
 
+mod cut;
+mod extent;
 pub mod fault;
+mod gather;
 pub mod item;
+mod read;
+pub mod reader;
 
 pub use fault::FrameFault;
 pub use item::Item;
+pub use reader::FrameReader;
