@@ -2,3 +2,4 @@ pub mod Contract
 pub mod Cuts
 pub mod Extents
 pub mod Frames
+pub mod ItemSpelling

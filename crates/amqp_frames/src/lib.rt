@@ -8,7 +8,9 @@ mod gather;
 pub mod item;
 mod read;
 pub mod reader;
+pub mod write;
 
 pub use fault::FrameFault;
 pub use item::Item;
 pub use reader::FrameReader;
+pub use write::write_item;
