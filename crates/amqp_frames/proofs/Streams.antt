@@ -1,8 +1,9 @@
 -- How streams are cut: one cut a stream, and the same however the bytes come.
-use Rattle.std.proofs.Common.{◌≡◌, ℕ, zero, suc, ◌<◌, List, [], ◌∷◌, ◌++◌, length, refl, sym, ap, subst, ◌∙◌, arith, append_assoc, Bool, true, false}
+use Rattle.std.proofs.Common.{◌≡◌, ℕ, zero, suc, ◌<◌, List, [], ◌∷◌, ◌++◌, length, refl, sym, ap, subst, ◌∙◌, arith, append_assoc, append-nil, Bool, true, false}
 use Rattle.amqp_frames.specs.declared.fault.FrameFault.{FrameFault}
 use Rattle.amqp_frames.specs.declared.item.Item.{Item}
 use Rattle.amqp_frames.specs.declared.item.Item.TheVariants as item
+use Rattle.amqp_frames.specs.Laws.{Feeds, HasOneCut, joined}
 use Rattle.amqp_frames.specs.Cuts.{Leads, Cuts}
 use Rattle.amqp_frames.specs.Frames.{Front, more, found, wrong, front}
 use Rattle.amqp_frames.proofs.Fronts.{front_stays, found_shorter}
@@ -93,3 +94,22 @@ cut_within (suc most) stream h = cut_by (cut_within most) stream h (front stream
 
 pub has_cut : (stream : List ℕ) → HasCut stream
 has_cut stream = cut_within (suc (length stream)) stream (omega arith)
+
+pub feeds_cut : (pieces : List (List ℕ)) (stream kept : List ℕ) (xs items : List Item) (ended : Bool) (rest : List ℕ) → Leads stream xs kept → front kept ≡ more
+    → Feeds kept pieces items ended rest → Cuts ended (stream ++ joined pieces) (xs ++ items) rest
+feeds_cut [] stream kept xs items ended rest h is fed =
+    let whole : stream ++ [] ≡ stream = append-nil stream in
+    let given : xs ++ items ≡ xs = ap (λ (l : List Item). xs ++ l) fed.0 ∙ append-nil xs in
+    rw (whole, given, fed.1) (subst (λ (l : List ℕ). Cuts false stream xs l) fed.2 (h, is))
+feeds_cut (piece ∷ []) stream kept xs items ended rest h is fed =
+    let last : piece ++ [] ≡ piece = append-nil piece in
+    rw last (cuts_append ended stream xs kept piece items rest h fed)
+feeds_cut (piece ∷ next ∷ pieces) stream kept xs items ended rest h is fed =
+    let cut = cuts_append false stream xs kept piece fed.0 fed.2 h fed.4 in
+    let others = feeds_cut (next ∷ pieces) (stream ++ piece) fed.2 (xs ++ fed.0) fed.1 ended rest cut.0 cut.1 fed.5 in
+    let bytes : (stream ++ piece) ++ joined (next ∷ pieces) ≡ stream ++ (piece ++ joined (next ∷ pieces)) = append_assoc stream piece (joined (next ∷ pieces)) in
+    let all : (xs ++ fed.0) ++ fed.1 ≡ xs ++ items = append_assoc xs fed.0 fed.1 ∙ ap (λ (l : List Item). xs ++ l) (sym fed.3) in
+    subst (λ (l : List ℕ). Cuts ended l (xs ++ items) rest) bytes (subst (λ (l : List Item). Cuts ended ((stream ++ piece) ++ joined (next ∷ pieces)) l rest) all others)
+
+pub has_one_cut : (stream : List ℕ) → HasOneCut stream
+has_one_cut stream = (has_cut stream, λ ended closed items others rest left h k. one_cut ended closed stream items others rest left h k)

@@ -1,5 +1,5 @@
 -- The canonical spelling of an item (AMQP 1.0 part 2, sections 2.2 and 2.3.1; part 5, section 5.3.1).
-use Rattle.std.specs.Prelude.{ℕ, ◌+◌, Bool, true, false, if◌then◌else◌, List, [], ◌∷◌, ◌++◌, length}
+use Rattle.std.specs.Prelude.{ℕ, ◌+◌, Bool, false, if◌then◌else◌, List, [], ◌∷◌, ◌++◌, length}
 use Rattle.std.specs.Int.{w16, w32, to_be_bytes}
 use Rattle.amqp_perf.specs.Spelling.{spelling}
 use Rattle.amqp_frames.specs.declared.item.Item.{Item}

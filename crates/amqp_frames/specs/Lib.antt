@@ -3,3 +3,4 @@ pub mod Cuts
 pub mod Extents
 pub mod Frames
 pub mod ItemSpelling
+pub mod Laws

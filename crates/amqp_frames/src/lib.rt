@@ -6,6 +6,7 @@ mod extent;
 pub mod fault;
 mod gather;
 pub mod item;
+pub mod laws;
 mod read;
 pub mod reader;
 pub mod write;
