@@ -58,7 +58,7 @@ rest_shorter : (read : Result Item FrameFault) (bytes : List ℕ) (size : ℕ) (
 rest_shorter (Ok y) bytes size x rest h less = let same : drop size bytes ≡ rest = cc in rw same at less
 rest_shorter (Err f) bytes size x rest h less = absurd (let bad : wrong f ≡ found x rest = h in cc)
 
-long_enough : (short : Bool) (bytes : List ℕ) (size : ℕ) (x : Item) (rest : List ℕ) → nat_lt (length bytes) size ≡ short → extent bytes ≡ Whole size
+pub long_enough : (short : Bool) (bytes : List ℕ) (size : ℕ) (x : Item) (rest : List ℕ) → nat_lt (length bytes) size ≡ short → extent bytes ≡ Whole size
     → front bytes ≡ found x rest → size ≤ length bytes
 long_enough true bytes size x rest test h found_is =
     let less : length bytes < size = grind arith in absurd (let bad : more ≡ found x rest = sym (front_short bytes size h less) ∙ found_is in cc)
@@ -83,3 +83,27 @@ front_stays bytes behind x rest is = (stays_by (extent bytes) bytes behind x res
 -- what stands behind an item is shorter
 pub found_shorter : (bytes : List ℕ) (x : Item) (rest : List ℕ) → front bytes ≡ found x rest → length rest < length bytes
 found_shorter bytes x rest is = (stays_by (extent bytes) bytes [] x rest refl (extent_stays bytes []) is).1
+
+-- what begins no item begins none however it goes on
+of_item_wrong : (after behind : List ℕ) (read : Result Item FrameFault) (f : FrameFault) → of_item after read ≡ wrong f → of_item (after ++ behind) read ≡ wrong f
+of_item_wrong after behind (Ok y) f h = absurd (let bad : found y after ≡ wrong f = h in cc)
+of_item_wrong after behind (Err e) f h = h
+
+wrong_long : (short : Bool) (bytes : List ℕ) (size : ℕ) (f : FrameFault) → nat_lt (length bytes) size ≡ short → extent bytes ≡ Whole size → front bytes ≡ wrong f → size ≤ length bytes
+wrong_long true bytes size f test h is =
+    let less : length bytes < size = grind arith in absurd (let bad : more ≡ wrong f = sym (front_short bytes size h less) ∙ is in cc)
+wrong_long false bytes size f test h is = grind arith
+
+wrong_by : (e : Extent) (bytes behind : List ℕ) (f : FrameFault) → extent bytes ≡ e → (extent bytes ≡ Untold) ⊎ (extent (bytes ++ behind) ≡ extent bytes) → front bytes ≡ wrong f → front (bytes ++ behind) ≡ wrong f
+wrong_by Untold bytes behind f h stays is = absurd (let bad : more ≡ wrong f = sym (front_untold bytes h) ∙ is in cc)
+wrong_by (Wrong g) bytes behind f h (inl untold) is = absurd (let bad : Wrong g ≡ Untold = sym h ∙ untold in cc)
+wrong_by (Wrong g) bytes behind f h (inr same) is = front_wrong (bytes ++ behind) g (same ∙ h) ∙ sym (front_wrong bytes g h) ∙ is
+wrong_by (Whole size) bytes behind f h (inl untold) is = absurd (let bad : Whole size ≡ Untold = sym h ∙ untold in cc)
+wrong_by (Whole size) bytes behind f h (inr same) is =
+    let long : size ≤ length bytes = wrong_long (nat_lt (length bytes) size) bytes size f refl h is in
+    let longer : size ≤ length (bytes ++ behind) = grind (arith, common_steps) in
+    front_whole (bytes ++ behind) size (same ∙ h) longer
+        ∙ (rw (take-append-le size bytes behind long, drop-append-le size bytes behind long) (of_item_wrong (drop size bytes) behind (item_of (take size bytes)) f (sym (front_whole bytes size h long) ∙ is)))
+
+pub wrong_stays : (bytes behind : List ℕ) (f : FrameFault) → front bytes ≡ wrong f → front (bytes ++ behind) ≡ wrong f
+wrong_stays bytes behind f is = wrong_by (extent bytes) bytes behind f refl (extent_stays bytes behind) is

@@ -10,7 +10,7 @@ use Rattle.amqp_frames.specs.declared.fault.FrameFault.TheVariants as fault
 use Rattle.amqp_frames.specs.Extents.{begins_header, typed, placed, sized, extent}
 
 -- the number of four bytes
-abbrev number : ℕ → ℕ → ℕ → ℕ → ℕ
+abbrev pub number : ℕ → ℕ → ℕ → ℕ → ℕ
 number a b c d = from_be_bytes w32 (a ∷ b ∷ c ∷ d ∷ [])
 
 -- fewer than four bytes tell nothing
@@ -95,11 +95,11 @@ untold_below (a ∷ b ∷ c ∷ d ∷ offset ∷ kind ∷ rest) h =
         (told (nat_lt offset 2 || nat_lt size (4 * offset)) _ _ (λ e. cc) kinds))) h)
 
 -- where a size is told past a test, the other outcome told it
-past_wrong : (test : Bool) (f : FrameFault) (y : Extent) (size : ℕ) → (if test then Wrong f else y) ≡ Whole size → (test ≡ false) × (y ≡ Whole size)
+pub past_wrong : (test : Bool) (f : FrameFault) (y : Extent) (size : ℕ) → (if test then Wrong f else y) ≡ Whole size → (test ≡ false) × (y ≡ Whole size)
 past_wrong true f y size h = absurd (let bad : Wrong f ≡ Whole size = h in cc)
 past_wrong false f y size h = (refl, h)
 
-same_size : (m n : ℕ) → Whole m ≡ Whole n → m ≡ n
+pub same_size : (m n : ℕ) → Whole m ≡ Whole n → m ≡ n
 same_size m n h = cc
 
 typed_size : (size n : ℕ) (rest : List ℕ) → typed size rest ≡ Whole n → size ≡ n
@@ -108,7 +108,7 @@ typed_size size n (kind ∷ rest) h =
     let sasl : Extent = if (kind == 1) && nat_lt 512 size then Wrong fault.TooLarge else Whole size in
     same_size size n (past_wrong ((kind == 1) && nat_lt 512 size) fault.TooLarge (Whole size) n (past_wrong (nat_lt 1 kind) fault.BadType sasl n h).1).1
 
-placed_size : (size n : ℕ) (rest : List ℕ) → placed size rest ≡ Whole n → size ≡ n
+pub placed_size : (size n : ℕ) (rest : List ℕ) → placed size rest ≡ Whole n → size ≡ n
 placed_size size n [] h = absurd (let bad : Untold ≡ Whole n = h in cc)
 placed_size size n (offset ∷ rest) h = typed_size size n rest (past_wrong (nat_lt offset 2 || nat_lt size (4 * offset)) fault.BadOffset (typed size rest) n h).1
 

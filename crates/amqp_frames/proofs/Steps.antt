@@ -43,7 +43,7 @@ wrong_stays buffer behind f is =
     elim (extent_stays buffer behind) [ inl untold ↦ absurd (let bad : Wrong f ≡ Untold = sym is ∙ untold in cc) | inr same ↦ front_wrong (buffer ++ behind) f (same ∙ is) ]
 
 -- the buffer is one item: it stands at the front, or its fault does
-whole_front : (buffer behind : List ℕ) (size : ℕ) → extent buffer ≡ Whole size → size ≤ length buffer → IsGathered (extent buffer) buffer behind
+pub whole_front : (buffer behind : List ℕ) (size : ℕ) → extent buffer ≡ Whole size → size ≤ length buffer → IsGathered (extent buffer) buffer behind
     → front (buffer ++ behind) ≡ of_item behind (item_of buffer)
 whole_front buffer behind size is long gathered =
     let either : (length buffer ≡ size) ⊎ ((length buffer < size) × (behind ≡ [])) = rw is at gathered in

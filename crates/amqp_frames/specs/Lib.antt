@@ -4,3 +4,5 @@ pub mod Extents
 pub mod Frames
 pub mod ItemSpelling
 pub mod Laws
+pub mod SpellsItem
+pub mod Within
