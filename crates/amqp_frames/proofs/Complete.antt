@@ -7,7 +7,7 @@ use Rattle.std.specs.Int.{w16, w32, from_be_bytes}
 use Rattle.amqp_perf.specs.declared.perf.Perf.{Perf}
 use Rattle.amqp_perf.specs.Performative.{performative}
 use Rattle.amqp_frames.specs.declared.extent.Extent.{Extent}
-use Rattle.amqp_frames.specs.declared.extent.Extent.TheVariants.{Untold, Whole, Wrong}
+use Rattle.amqp_frames.specs.declared.extent.Extent.TheVariants.{Unknown, Whole, Wrong}
 use Rattle.amqp_frames.specs.declared.item.Item.{Item}
 use Rattle.amqp_frames.specs.declared.item.Item.TheVariants as item
 use Rattle.amqp_frames.specs.declared.fault.FrameFault.TheVariants as fault
@@ -83,7 +83,7 @@ eight_frame sasl a b c d e g h extended body x counts words most reads =
     let behind : drop (4 * e) (first ++ (extended ++ body)) ≡ body = rw words (drop-append-add first (extended ++ body) (length extended) ∙ drop-append_seam extended body) in
     record {
       whole = eight_extent sasl a b c d e g h (extended ++ body) (omega arith) most (omega arith) (omega arith) ∙ ap Whole counts;
-      reads = eight_item sasl a b c d e g h (extended ++ body) most ∙ (rw behind reads)
+      reads = eight_item sasl a b c d e g h (extended ++ body) most ∙ (rw behind reads);
     }
 
 spelt_as : (text size numbered extended body : List ℕ) (a b c d e k g h : ℕ) → text ≡ size ++ (e ∷ k ∷ []) ++ numbered ++ extended ++ body

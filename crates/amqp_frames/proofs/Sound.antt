@@ -10,7 +10,7 @@ use Rattle.amqp_perf.specs.declared.fault.PerfFault.{PerfFault}
 use Rattle.amqp_perf.specs.declared.fault.PerfFault.TheVariants as perf_fault
 use Rattle.amqp_perf.specs.Performative.{performative}
 use Rattle.amqp_frames.specs.declared.extent.Extent.{Extent}
-use Rattle.amqp_frames.specs.declared.extent.Extent.TheVariants.{Untold, Whole, Wrong}
+use Rattle.amqp_frames.specs.declared.extent.Extent.TheVariants.{Unknown, Whole, Wrong}
 use Rattle.amqp_frames.specs.declared.fault.FrameFault.{FrameFault}
 use Rattle.amqp_frames.specs.declared.fault.FrameFault.TheVariants as fault
 use Rattle.amqp_frames.specs.declared.item.Item.{Item}
@@ -19,8 +19,8 @@ use Rattle.amqp_frames.specs.Extents.{begins_header, typed, placed, sized, exten
 use Rattle.amqp_frames.specs.Frames.{Front, more, found, wrong, front, frame, filled, item_of, of_item, is_empty, may_carry}
 use Rattle.amqp_frames.specs.SpellsItem.{IsFrame, SpellsItem}
 use Rattle.amqp_frames.proofs.Complete.{IsItem, code, limit}
-use Rattle.amqp_frames.proofs.Fronts.{front_untold, front_wrong, front_whole, long_enough, behind_shorter}
-use Rattle.amqp_frames.proofs.Sizes.{number, extent_stays, extent_at_least, untold_below, past_wrong, placed_size, same_size}
+use Rattle.amqp_frames.proofs.Fronts.{front_unknown, front_wrong, front_whole, long_enough, behind_shorter}
+use Rattle.amqp_frames.proofs.Sizes.{number, extent_stays, extent_at_least, unknown_below, past_wrong, placed_size, same_size}
 
 empty_is : (body : List ℕ) → is_empty body ≡ true → body ≡ []
 empty_is [] h = refl
@@ -93,14 +93,16 @@ placed_is size n offset kind rest h =
     let first : nat_lt offset 2 ≡ false = both.0 in
     let second : nat_lt size (4 * offset) ≡ false = both.1 in
     let third : nat_lt 1 kind ≡ false = kinds.0 in
-    let fourth : nat_lt 16384 size ≡ false = large.0 in
-    (same_size size n sizes.1, record {
-      low = grind arith;
-      high = grind arith;
-      known = grind arith;
-      within = grind arith;
-      within_sasl = λ (one : kind ≡ 1). (let test : (kind == 1) ≡ true = rw one refl in let fifth : nat_lt 512 size ≡ false = not_both (kind == 1) (nat_lt 512 size) sizes.0 test in let g : size ≤ 512 = grind arith in g)
-    })
+    let fourth : nat_lt 16384 size ≡ false = large.0 in (
+      same_size size n sizes.1,
+      record {
+        low = grind arith;
+        high = grind arith;
+        known = grind arith;
+        within = grind arith;
+        within_sasl = λ (one : kind ≡ 1). (let test : (kind == 1) ≡ true = rw one refl in let fifth : nat_lt 512 size ≡ false = not_both (kind == 1) (nat_lt 512 size) sizes.0 test in let g : size ≤ 512 = grind arith in g);
+      },
+    )
 
 -- of eight bytes and more: the first four are `AMQP`
 header_bytes : (a b c d : ℕ) → begins_header a b c d ≡ true → (a ≡ 65) × (b ≡ 77) × (c ≡ 81) × (d ≡ 80)
@@ -142,7 +144,7 @@ framed sasl a b c d e g h rest counts is =
       words = words ∙ (rw len refl);
       channel_field = refl;
       numbers = refl;
-      within = subst (λ (m : ℕ). m ≤ limit sasl) counts (limit_of sasl (number a b c d) e is)
+      within = subst (λ (m : ℕ). m ≤ limit sasl) counts (limit_of sasl (number a b c d) e is);
     }
 
 kind_at : (sasl : Bool) (a b c d e f g h : ℕ) (rest : List ℕ) (x : Item) → f ≡ code sasl → number a b c d ≡ length (a ∷ b ∷ c ∷ d ∷ e ∷ f ∷ g ∷ h ∷ rest) → IsPlaced (number a b c d) e f
@@ -187,22 +189,24 @@ read_ok : (after : List ℕ) (read : Result Item FrameFault) (x : Item) (rest : 
 read_ok after (Ok y) x rest h = (let same : y ≡ x = cc in ap answers same, cc)
 read_ok after (Err f) x rest h = absurd (let bad : wrong f ≡ found x rest = h in cc)
 
-told_text : (text behind bytes : List ℕ) (size : ℕ) → (extent text ≡ Untold) ⊎ (extent (text ++ behind) ≡ extent text) → text ++ behind ≡ bytes → 6 ≤ length text → extent bytes ≡ Whole size → extent text ≡ Whole size
-told_text text behind bytes size (inl untold) split enough is = let few = untold_below text untold in absurd (omega arith)
+told_text : (text behind bytes : List ℕ) (size : ℕ) → (extent text ≡ Unknown) ⊎ (extent (text ++ behind) ≡ extent text) → text ++ behind ≡ bytes → 6 ≤ length text → extent bytes ≡ Whole size → extent text ≡ Whole size
+told_text text behind bytes size (inl unknown) split enough is = let few = unknown_below text unknown in absurd (omega arith)
 told_text text behind bytes size (inr same) split enough is = sym same ∙ ap extent split ∙ is
 
 -- what is found at the front is an item, and the bytes behind it
 found_by : (e : Extent) (bytes : List ℕ) (x : Item) (after : List ℕ) → extent bytes ≡ e → front bytes ≡ found x after → (text : List ℕ) × (bytes ≡ text ++ after) × IsItem text x
-found_by Untold bytes x after h is = absurd (let bad : more ≡ found x after = sym (front_untold bytes h) ∙ is in cc)
+found_by Unknown bytes x after h is = absurd (let bad : more ≡ found x after = sym (front_unknown bytes h) ∙ is in cc)
 found_by (Wrong f) bytes x after h is = absurd (let bad : wrong f ≡ found x after = sym (front_wrong bytes f h) ∙ is in cc)
 found_by (Whole size) bytes x after h is =
     let long : size ≤ length bytes = long_enough (nat_lt (length bytes) size) bytes size x after refl h is in
     let read = read_ok (drop size bytes) (item_of (take size bytes)) x after (sym (front_whole bytes size h long) ∙ is) in
     let split : take size bytes ++ drop size bytes ≡ bytes = take-append-drop size bytes in
     let len : length (take size bytes) ≡ size = grind (arith, common_steps) in
-    let least = extent_at_least bytes size h in
-    (take size bytes, sym split ∙ ap (λ (l : List ℕ). take size bytes ++ l) read.1,
-     record { whole = told_text (take size bytes) (drop size bytes) bytes size (extent_stays (take size bytes) (drop size bytes)) split (omega (arith, len)) h ∙ ap Whole (sym len); reads = read.0 })
+    let least = extent_at_least bytes size h in (
+      take size bytes,
+      sym split ∙ ap (λ (l : List ℕ). take size bytes ++ l) read.1,
+      record { whole = told_text (take size bytes) (drop size bytes) bytes size (extent_stays (take size bytes) (drop size bytes)) split (omega (arith, len)) h ∙ ap Whole (sym len); reads = read.0 },
+    )
 
 pub found_sound : (bytes : List ℕ) (x : Item) (after : List ℕ) → front bytes ≡ found x after → (text : List ℕ) × (bytes ≡ text ++ after) × SpellsItem text x
 found_sound bytes x after is = let got = found_by (extent bytes) bytes x after refl is in (got.0, got.1, item_spelt got.0 x got.2)

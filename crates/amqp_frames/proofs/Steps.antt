@@ -2,7 +2,7 @@
 use Rattle.std.proofs.Common.{◌≡◌, ℕ, ◌<◌, ◌≤◌, List, [], ◌∷◌, ◌++◌, length, take, drop, refl, sym, ap, ◌∙◌, arith, append-nil, ◌⊎◌, inl, inr, Result, Ok, Err, IfOk, Bool, true, false}
 use Rattle.std.proofs.lemmas.Grind.{common_steps}
 use Rattle.std.proofs.Math.Seq.{take-append_seam}
-use Rattle.amqp_frames.specs.declared.extent.Extent.TheVariants.{Untold, Whole, Wrong}
+use Rattle.amqp_frames.specs.declared.extent.Extent.TheVariants.{Unknown, Whole, Wrong}
 use Rattle.amqp_frames.specs.declared.fault.FrameFault.{FrameFault}
 use Rattle.amqp_frames.specs.declared.item.Item.{Item}
 use Rattle.amqp_frames.specs.declared.item.Item.TheVariants as item
@@ -10,20 +10,20 @@ use Rattle.amqp_frames.specs.Contract.{IsGathered, loaded}
 use Rattle.amqp_frames.specs.Cuts.{Cuts}
 use Rattle.amqp_frames.specs.Extents.{extent}
 use Rattle.amqp_frames.specs.Frames.{front, more, wrong, of_item, item_of}
-use Rattle.amqp_frames.proofs.Fronts.{front_untold, front_wrong, front_short, front_whole}
-use Rattle.amqp_frames.proofs.Sizes.{extent_stays, untold_short}
+use Rattle.amqp_frames.proofs.Fronts.{front_unknown, front_wrong, front_short, front_whole}
+use Rattle.amqp_frames.proofs.Sizes.{extent_stays, unknown_short}
 use Rattle.amqp_frames.proofs.Streams.{one_more}
 
 pub front_nothing : (bytes : List ℕ) → bytes ≡ [] → front bytes ≡ more
-front_nothing bytes none = rw none (front_untold [] (untold_short [] (omega arith)))
+front_nothing bytes none = rw none (front_unknown [] (unknown_short [] (omega arith)))
 
 nothing_behind : (all buffer behind : List ℕ) → buffer ++ behind ≡ all → behind ≡ [] → all ≡ buffer
 nothing_behind all buffer behind joined none = sym joined ∙ ap (λ (l : List ℕ). buffer ++ l) none ∙ append-nil buffer
 
-pub cut_untold : (all buffer behind : List ℕ) (items : List Item) → buffer ++ behind ≡ all → extent buffer ≡ Untold → IsGathered (extent buffer) buffer behind → items ≡ [] → Cuts false all items buffer
-cut_untold all buffer behind items joined is gathered none =
+pub cut_unknown : (all buffer behind : List ℕ) (items : List Item) → buffer ++ behind ≡ all → extent buffer ≡ Unknown → IsGathered (extent buffer) buffer behind → items ≡ [] → Cuts false all items buffer
+cut_unknown all buffer behind items joined is gathered none =
     let empty : behind ≡ [] = rw is at gathered in
-    rw none (nothing_behind all buffer behind joined empty, front_untold buffer is)
+    rw none (nothing_behind all buffer behind joined empty, front_unknown buffer is)
 
 short_of : (buffer behind : List ℕ) (size : ℕ) → length buffer < size → (length buffer ≡ size) ⊎ ((length buffer < size) × (behind ≡ [])) → behind ≡ []
 short_of buffer behind size less (inl same) = absurd (omega arith)
@@ -40,7 +40,7 @@ ends_in all rest items f only same is = ([], f, only, sym same, rw same is)
 
 pub wrong_stays : (buffer behind : List ℕ) (f : FrameFault) → extent buffer ≡ Wrong f → front (buffer ++ behind) ≡ wrong f
 wrong_stays buffer behind f is =
-    elim (extent_stays buffer behind) [ inl untold ↦ absurd (let bad : Wrong f ≡ Untold = sym is ∙ untold in cc) | inr same ↦ front_wrong (buffer ++ behind) f (same ∙ is) ]
+    elim (extent_stays buffer behind) [ inl unknown ↦ absurd (let bad : Wrong f ≡ Unknown = sym is ∙ unknown in cc) | inr same ↦ front_wrong (buffer ++ behind) f (same ∙ is) ]
 
 -- the buffer is one item: it stands at the front, or its fault does
 pub whole_front : (buffer behind : List ℕ) (size : ℕ) → extent buffer ≡ Whole size → size ≤ length buffer → IsGathered (extent buffer) buffer behind
@@ -48,7 +48,7 @@ pub whole_front : (buffer behind : List ℕ) (size : ℕ) → extent buffer ≡ 
 whole_front buffer behind size is long gathered =
     let either : (length buffer ≡ size) ⊎ ((length buffer < size) × (behind ≡ [])) = rw is at gathered in
     let exact : length buffer ≡ size = elim either [ inl same ↦ same | inr h ↦ absurd (let less : length buffer < size = h.0 in omega arith) ] in
-    let told : extent (buffer ++ behind) ≡ Whole size = elim (extent_stays buffer behind) [ inl untold ↦ absurd (let bad : Whole size ≡ Untold = sym is ∙ untold in cc) | inr same ↦ same ∙ is ] in
+    let told : extent (buffer ++ behind) ≡ Whole size = elim (extent_stays buffer behind) [ inl unknown ↦ absurd (let bad : Whole size ≡ Unknown = sym is ∙ unknown in cc) | inr same ↦ same ∙ is ] in
     let longer : size ≤ length (buffer ++ behind) = grind (arith, common_steps) in
     let text : take size (buffer ++ behind) ≡ buffer = rw (← exact) (take-append_seam buffer behind) in
     let after : drop size (buffer ++ behind) ≡ behind = grind (arith, common_steps) in

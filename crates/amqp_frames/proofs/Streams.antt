@@ -27,9 +27,13 @@ leads_append stream (x ∷ xs) mid ys rest h k = (h.0, h.1, leads_append h.0 xs 
 pub cuts_append : (ended : Bool) (stream : List ℕ) (xs : List Item) (mid piece : List ℕ) (ys : List Item) (rest : List ℕ)
     → Leads stream xs mid → Cuts ended (mid ++ piece) ys rest → Cuts ended (stream ++ piece) (xs ++ ys) rest
 cuts_append false stream xs mid piece ys rest h k = (leads_append (stream ++ piece) xs (mid ++ piece) ys rest (leads_stays stream xs mid piece h) k.0, k.1)
-cuts_append true stream xs mid piece ys rest h k =
-    (xs ++ k.0, k.1, ap (λ (l : List Item). xs ++ l) k.2 ∙ sym (append_assoc xs k.0 (item.Bad k.1 ∷ [])),
-     leads_append (stream ++ piece) xs (mid ++ piece) k.0 rest (leads_stays stream xs mid piece h) k.3, k.4)
+cuts_append true stream xs mid piece ys rest h k = (
+  xs ++ k.0,
+  k.1,
+  ap (λ (l : List Item). xs ++ l) k.2 ∙ sym (append_assoc xs k.0 (item.Bad k.1 ∷ [])),
+  leads_append (stream ++ piece) xs (mid ++ piece) k.0 rest (leads_stays stream xs mid piece h) k.3,
+  k.4,
+)
 
 -- no item stands at the front
 abbrev Stops : List ℕ → Type 0

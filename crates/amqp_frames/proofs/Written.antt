@@ -37,7 +37,7 @@ written_frame sasl channel body h none most =
       words = refl;
       channel_field = refl;
       numbers = written_channel sasl channel h none;
-      within = rw len most
+      within = rw len most;
     }
 
 -- what is written is spelt
@@ -45,9 +45,15 @@ pub written_spelt : (x : Item) → IsWithin x → SpellsItem (item_spelling x) x
 unfolding item_spelling
 written_spelt (item.Header id major minor revision) is = refl
 written_spelt (item.Frame sasl channel p payload) is =
-    let some : 0 < length (spelling p ++ payload) = (let first : 0 < length (spelling p) = is.some in grind (arith, common_steps)) in
-    (spelling p ++ payload, length (spelling p), written_frame sasl channel (spelling p ++ payload) is.channel_field is.sasl_channel is.size, is.again,
-     sym (drop-append_seam (spelling p) payload), inr some, is.carried)
+    let some : 0 < length (spelling p ++ payload) = (let first : 0 < length (spelling p) = is.some in grind (arith, common_steps)) in (
+      spelling p ++ payload,
+      length (spelling p),
+      written_frame sasl channel (spelling p ++ payload) is.channel_field is.sasl_channel is.size,
+      is.again,
+      sym (drop-append_seam (spelling p) payload),
+      inr some,
+      is.carried,
+    )
 written_spelt (item.Beat channel) is = written_frame false channel [] is (λ h. absurd (let bad : false ≡ true = h in cc)) (omega arith)
 written_spelt (item.Bad f) is = absurd is
 

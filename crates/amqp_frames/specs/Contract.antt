@@ -52,6 +52,6 @@ IsShorter _ bytes = Unit {0}
 
 -- the bytes of an item whose extent is told are all of it, or there are no further bytes
 abbrev pub IsGathered : Extent → List ℕ → List ℕ → Type 0
-IsGathered extent.Untold bytes behind = behind ≡ []
+IsGathered extent.Unknown bytes behind = behind ≡ []
 IsGathered (extent.Whole size) bytes behind = (length bytes ≡ size) ⊎ ((length bytes < size) × (behind ≡ []))
 IsGathered (extent.Wrong f) bytes behind = Unit {0}

@@ -3,7 +3,7 @@
 use Rattle.std.specs.Prelude.{ℕ, ◌*◌, Bool, ◌&&◌, ◌||◌, ◌==◌, nat_lt, if◌then◌else◌, List, [], ◌∷◌}
 use Rattle.std.specs.Int.{w32, from_be_bytes}
 use Rattle.amqp_frames.specs.declared.extent.Extent.{Extent}
-use Rattle.amqp_frames.specs.declared.extent.Extent.TheVariants.{Untold, Whole, Wrong}
+use Rattle.amqp_frames.specs.declared.extent.Extent.TheVariants.{Unknown, Whole, Wrong}
 use Rattle.amqp_frames.specs.declared.fault.FrameFault.TheVariants as fault
 
 -- `AMQP` begins a protocol header
@@ -12,7 +12,7 @@ begins_header a b c d = (a == 65) && (b == 77) && (c == 81) && (d == 80)
 
 -- behind the data offset: the type, 0 for AMQP and 1 for SASL, whose frames have at most 512 bytes
 abbrev pub typed : ℕ → List ℕ → Extent
-typed size [] = Untold
+typed size [] = Unknown
 typed size (kind ∷ rest) =
     if nat_lt 1 kind then Wrong fault.BadType
     else if (kind == 1) && nat_lt 512 size then Wrong fault.TooLarge
@@ -20,7 +20,7 @@ typed size (kind ∷ rest) =
 
 -- behind the size: the data offset, in words of four bytes
 abbrev pub placed : ℕ → List ℕ → Extent
-placed size [] = Untold
+placed size [] = Unknown
 placed size (offset ∷ rest) =
     if nat_lt offset 2 || nat_lt size (4 * offset) then Wrong fault.BadOffset else typed size rest
 
@@ -35,4 +35,4 @@ sized size rest =
 unfoldable pub extent : List ℕ → Extent
 extent (a ∷ b ∷ c ∷ d ∷ rest) =
     if begins_header a b c d then Whole 8 else sized (from_be_bytes w32 (a ∷ b ∷ c ∷ d ∷ [])) rest
-extent _ = Untold
+extent _ = Unknown

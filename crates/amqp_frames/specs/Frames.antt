@@ -10,7 +10,7 @@ use Rattle.amqp_frames.specs.declared.fault.FrameFault.TheVariants as fault
 use Rattle.amqp_frames.specs.declared.item.Item.{Item}
 use Rattle.amqp_frames.specs.declared.item.Item.TheVariants as item
 use Rattle.amqp_frames.specs.declared.extent.Extent.{Extent}
-use Rattle.amqp_frames.specs.declared.extent.Extent.TheVariants.{Untold, Whole, Wrong}
+use Rattle.amqp_frames.specs.declared.extent.Extent.TheVariants.{Unknown, Whole, Wrong}
 use Rattle.amqp_frames.specs.Extents.{begins_header, extent}
 
 abbrev pub is_empty : List ℕ → Bool
@@ -54,7 +54,7 @@ of_item after (Ok x) = found x after
 of_item after (Err f) = wrong f
 
 abbrev pub front_by : List ℕ → Extent → Front
-front_by bytes Untold = more
+front_by bytes Unknown = more
 front_by bytes (Wrong f) = wrong f
 front_by bytes (Whole size) = if nat_lt (length bytes) size then more else of_item (drop size bytes) (item_of (take size bytes))
 

@@ -24,13 +24,13 @@ pub(crate) enum Next<'a> {
 }
 
 /// What stands at the front of these bytes. A payload is copied.
-#[tactic(auto, using(crate::proofs::Fronts::front_untold, crate::proofs::Fronts::front_wrong, crate::proofs::Fronts::front_short, crate::proofs::Fronts::front_item, crate::proofs::Fronts::front_fault, crate::proofs::Fronts::behind_shorter))]
+#[tactic(auto, using(crate::proofs::Fronts::front_unknown, crate::proofs::Fronts::front_wrong, crate::proofs::Fronts::front_short, crate::proofs::Fronts::front_item, crate::proofs::Fronts::front_fault, crate::proofs::Fronts::behind_shorter))]
 pub(crate) fn next_item(alloc: Global, bytes: &[u8]) -> Result<Next<'_>, AllocError>
     ensures front { IfOk result (λ next. front bytes.now ≡ next_front next) }
     ensures shorter { IfOk result (λ next. IsShorter next bytes.now) }
 {
     match extent_of(bytes) {
-        Extent::Untold => Ok(Next::More),
+        Extent::Unknown => Ok(Next::More),
         Extent::Wrong(fault) => Ok(Next::Wrong(fault)),
         Extent::Whole(size) if bytes.len() < size => Ok(Next::More),
         Extent::Whole(size) => {

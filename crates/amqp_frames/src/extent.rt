@@ -17,7 +17,7 @@ const MAX_SASL_FRAME_SIZE: usize = 512;
 #[derive(Clone, Copy, Debug, PartialEq, Eq)]
 pub(crate) enum Extent {
     /// Too few bytes have come.
-    Untold,
+    Unknown,
     /// So many bytes are the item, where they have come.
     Whole(usize),
     /// These bytes begin no item.
@@ -25,12 +25,12 @@ pub(crate) enum Extent {
 }
 
 /// How far the item at the front of these bytes goes. It looks at six bytes at most.
-#[tactic(auto, using(crate::proofs::Sizes::untold_short, crate::proofs::Sizes::extent_of_header))]
+#[tactic(auto, using(crate::proofs::Sizes::unknown_short, crate::proofs::Sizes::extent_of_header))]
 pub(crate) fn extent_of(bytes: &[u8]) -> Extent
     ensures { result ≡ extent bytes.now }
 {
     let [a, b, c, d, rest @ ..] = bytes else {
-        return Extent::Untold;
+        return Extent::Unknown;
     };
     let front = [*a, *b, *c, *d];
     if front == *b"AMQP" {
@@ -50,9 +50,11 @@ fn extent_of_frame(size: usize, rest: &[u8]) -> Extent
         return Extent::Wrong(FrameFault::TooLarge);
     }
     match rest {
-        [] => Extent::Untold,
-        [offset, ..] if *offset < 2 || 4 * (*offset as usize) > size => Extent::Wrong(FrameFault::BadOffset),
-        [_] => Extent::Untold,
+        [] => Extent::Unknown,
+        [offset, ..] if *offset < 2 || 4 * (*offset as usize) > size => Extent::Wrong(
+            FrameFault::BadOffset,
+        ),
+        [_] => Extent::Unknown,
         [_, kind, ..] if *kind > 1 => Extent::Wrong(FrameFault::BadType),
         [_, 1, ..] if size > MAX_SASL_FRAME_SIZE => Extent::Wrong(FrameFault::TooLarge),
         _ => Extent::Whole(size),

@@ -15,3 +15,6 @@ pub use fault::FrameFault;
 pub use item::Item;
 pub use reader::FrameReader;
 pub use write::write_item;
+
+#[cfg(test)]
+mod tests;

@@ -31,7 +31,13 @@ pub(crate) fn read_item(alloc: Global, text: &[u8]) -> Result<(Item, usize), Fra
     if *kind == 1 {
         return read_frame(alloc, true, 0, text, body_at);
     }
-    read_frame(alloc, false, u16::from_be_bytes([*high, *low]), text, body_at)
+    read_frame(
+        alloc,
+        false,
+        u16::from_be_bytes([*high, *low]),
+        text,
+        body_at,
+    )
 }
 
 /// Reads a frame whose body begins at this place.

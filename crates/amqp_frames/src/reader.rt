@@ -102,7 +102,7 @@ fn take_in(
 {
     let behind = gather_item(buffer, piece)?;
     match extent_of(buffer.as_slice()) {
-        Extent::Untold => Ok((Vec::new(alloc), false)),
+        Extent::Unknown => Ok((Vec::new(alloc), false)),
         Extent::Wrong(fault) => take_fault(alloc, buffer, fault, behind),
         Extent::Whole(size) if buffer.len() < size => Ok((Vec::new(alloc), false)),
         Extent::Whole(_) => match read_item(alloc, buffer.as_slice()) {

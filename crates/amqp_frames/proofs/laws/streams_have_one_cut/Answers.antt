@@ -6,5 +6,5 @@ use Rattle.amqp_frames.proofs.laws.streams_have_one_cut.Goals as goal
 pub returns : goal.returns
 returns c = record {
   one = has_one_cut;
-  any = λ pieces items ended rest fed. feeds_cut pieces [] [] [] items ended rest refl (front_nothing [] refl) fed
+  any = λ pieces items ended rest fed. feeds_cut pieces [] [] [] items ended rest refl (front_nothing [] refl) fed;
 }

@@ -1,15 +1,15 @@
 use Rattle.std.proofs.Common.{◌≡◌, sym, ◌∙◌, ap, arith, rules, Err}
 use Rattle.amqp_frames.specs.declared.fault.FrameFault.TheVariants as fault
-use Rattle.amqp_frames.specs.declared.extent.Extent.TheVariants.{Untold, Whole, Wrong}
+use Rattle.amqp_frames.specs.declared.extent.Extent.TheVariants.{Unknown, Whole, Wrong}
 use Rattle.amqp_frames.specs.Extents.{extent}
 use Rattle.amqp_frames.specs.Frames.{item_of}
-use Rattle.amqp_frames.proofs.Steps.{cut_untold, cut_short, wrong_stays, fault_front, ends_if}
+use Rattle.amqp_frames.proofs.Steps.{cut_unknown, cut_short, wrong_stays, fault_front, ends_if}
 use Rattle.amqp_frames.proofs.reader.take_in.Goals as goal
 
-pub returns-in-Untold-clause-cut : goal.returns-in-Untold-clause-cut
-returns-in-Untold-clause-cut c =
-    let is : extent c.gather_item.new.buffer.items ≡ Untold = ap extent (sym c.as_slice.ensures.value) ∙ sym c.in-Untold.ensures in
-    cut_untold _ _ _ _ c.in_ok-behind.ensures.joined is c.in_ok-behind.ensures.gathered c.new.ensures.items
+pub returns-in-Unknown-clause-cut : goal.returns-in-Unknown-clause-cut
+returns-in-Unknown-clause-cut c =
+    let is : extent c.gather_item.new.buffer.items ≡ Unknown = ap extent (sym c.as_slice.ensures.value) ∙ sym c.in-Unknown.ensures in
+    cut_unknown _ _ _ _ c.in_ok-behind.ensures.joined is c.in_ok-behind.ensures.gathered c.new.ensures.items
 
 pub returns-in-Wrong-clause-cut : goal.returns-in-Wrong-clause-cut
 returns-in-Wrong-clause-cut c =
@@ -27,4 +27,4 @@ returns-in-Err-clause-cut c =
     let other : c.in-Err.fault ≡ fault.Memory → ⊥ = search rules in
     let read : item_of c.gather_item.new.buffer.items ≡ Err c.in-Err.fault = ap item_of (sym c.as_slice-in-Whole-2.ensures.value) ∙ c.in-Err.ensures.item other in
     ends_if c.take_fault-in-Err.result (λ t. t.0.items) (λ t. t.1) _ _ _ c.in-Err.fault c.in_ok-behind.ensures.joined
-        (fault_front _ _ c.in-Whole.size c.in-Err.fault is (omega arith) c.in_ok-behind.ensures.gathered read) c.take_fault-in-Err.ensures.items c.take_fault-in-Err.ensures.rest
+    (fault_front _ _ c.in-Whole.size c.in-Err.fault is (omega arith) c.in_ok-behind.ensures.gathered read) c.take_fault-in-Err.ensures.items c.take_fault-in-Err.ensures.rest
