@@ -1,18 +1,16 @@
 -- What spells an item is found.
-use Rattle.std.proofs.Common.{◌≡◌, ℕ, suc, ◌+◌, ◌*◌, ◌<◌, ◌≤◌, List, [], ◌∷◌, ◌++◌, length, take, drop, refl, sym, ap, ◌∙◌, subst, arith, ◌⊎◌, inl, inr, Result, Ok, Err, Bool, true, false, ◌&&◌, ◌||◌, not, if◌then◌else◌, append_assoc}
+use Rattle.std.proofs.Common.{◌≡◌, ℕ, ◌+◌, ◌*◌, ◌<◌, ◌≤◌, List, [], ◌∷◌, ◌++◌, length, drop, refl, sym, ap, ◌∙◌, arith, ◌⊎◌, inl, inr, Ok, Bool, true, false, ◌&&◌, ◌||◌, not, if◌then◌else◌}
 use Rattle.std.proofs.lemmas.Grind.{common_steps}
 use Rattle.std.proofs.Math.Seq.{drop-append-add, drop-append_seam}
-use Rattle.std.specs.Prelude.{◌==◌, nat_lt}
+use Rattle.std.specs.Prelude.{nat_lt}
 use Rattle.std.specs.Int.{w16, w32, from_be_bytes}
 use Rattle.amqp_perf.specs.declared.perf.Perf.{Perf}
 use Rattle.amqp_perf.specs.Performative.{performative}
-use Rattle.amqp_frames.specs.declared.extent.Extent.{Extent}
-use Rattle.amqp_frames.specs.declared.extent.Extent.TheVariants.{Unknown, Whole, Wrong}
+use Rattle.amqp_frames.specs.declared.extent.Extent.TheVariants.{Whole}
 use Rattle.amqp_frames.specs.declared.item.Item.{Item}
 use Rattle.amqp_frames.specs.declared.item.Item.TheVariants as item
-use Rattle.amqp_frames.specs.declared.fault.FrameFault.TheVariants as fault
-use Rattle.amqp_frames.specs.Extents.{begins_header, typed, placed, sized, extent}
-use Rattle.amqp_frames.specs.Frames.{front, found, frame, filled, item_of, is_empty, may_carry}
+use Rattle.amqp_frames.specs.Extents.{begins_header, typed, extent}
+use Rattle.amqp_frames.specs.Frames.{front, found, frame, item_of, is_empty, may_carry}
 use Rattle.amqp_frames.specs.SpellsItem.{IsFrame, SpellsItem}
 use Rattle.amqp_frames.proofs.Sizes.{number}
 use Rattle.amqp_frames.proofs.Steps.{whole_front}

@@ -1,14 +1,12 @@
 -- What was gathered of an item.
-use Rattle.std.proofs.Common.{◌≡◌, ℕ, ◌<◌, ◌≤◌, List, [], ◌++◌, length, take, drop, max, sym, ap, ◌∙◌, arith, ◌⊎◌, inl, inr, Result, Ok, Err}
+use Rattle.std.proofs.Common.{◌≡◌, ℕ, ◌<◌, ◌≤◌, List, [], ◌++◌, length, take, drop, max, sym, ap, ◌∙◌, arith, ◌⊎◌, inl, inr}
 use Rattle.std.proofs.lemmas.Grind.{common_steps}
 use Rattle.std.proofs.lemmas.List.{take_all}
 use Rattle.amqp_frames.specs.declared.extent.Extent.{Extent}
 use Rattle.amqp_frames.specs.declared.extent.Extent.TheVariants.{Unknown, Whole, Wrong}
-use Rattle.amqp_frames.specs.declared.item.Item.{Item}
-use Rattle.amqp_frames.specs.declared.fault.FrameFault.{FrameFault}
 use Rattle.amqp_frames.specs.Contract.{IsGathered}
 use Rattle.amqp_frames.specs.Extents.{extent}
-use Rattle.amqp_frames.specs.Frames.{more, found, wrong, front, of_item, item_of}
+use Rattle.amqp_frames.specs.Frames.{more, front, item_of}
 use Rattle.amqp_frames.proofs.Fronts.{front_whole, never_more}
 use Rattle.amqp_frames.proofs.Sizes.{extent_stays, extent_at_least}
 

@@ -1,10 +1,10 @@
 -- What is found is spelt.
-use Rattle.std.proofs.Common.{◌≡◌, ℕ, suc, ◌+◌, ◌-◌, ◌*◌, ◌<◌, ◌≤◌, ◌≢◌, List, [], ◌∷◌, ◌++◌, length, take, drop, refl, sym, ap, ◌∙◌, subst, arith, ◌⊎◌, inl, inr, Result, Ok, Err, Bool, true, false, not, ◌&&◌, ◌||◌, if◌then◌else◌, append_assoc, nat_eq}
+use Rattle.std.proofs.Common.{◌≡◌, ℕ, ◌+◌, ◌-◌, ◌*◌, ◌<◌, ◌≤◌, List, [], ◌∷◌, ◌++◌, length, take, drop, refl, sym, ap, ◌∙◌, subst, arith, ◌⊎◌, inl, inr, Result, Ok, Err, Bool, true, false, not, ◌&&◌, ◌||◌, if◌then◌else◌}
 use Rattle.std.proofs.lemmas.Grind.{common_steps}
 use Rattle.std.proofs.lemmas.List.{take-append-drop}
 use Rattle.std.proofs.Math.Seq.{drop-append-add}
 use Rattle.std.specs.Prelude.{◌==◌, nat_lt}
-use Rattle.std.specs.Int.{w16, w32, from_be_bytes}
+use Rattle.std.specs.Int.{w16, from_be_bytes}
 use Rattle.amqp_perf.specs.declared.perf.Perf.{Perf}
 use Rattle.amqp_perf.specs.declared.fault.PerfFault.{PerfFault}
 use Rattle.amqp_perf.specs.declared.fault.PerfFault.TheVariants as perf_fault
@@ -16,11 +16,11 @@ use Rattle.amqp_frames.specs.declared.fault.FrameFault.TheVariants as fault
 use Rattle.amqp_frames.specs.declared.item.Item.{Item}
 use Rattle.amqp_frames.specs.declared.item.Item.TheVariants as item
 use Rattle.amqp_frames.specs.Extents.{begins_header, typed, placed, sized, extent}
-use Rattle.amqp_frames.specs.Frames.{Front, more, found, wrong, front, frame, filled, item_of, of_item, is_empty, may_carry}
+use Rattle.amqp_frames.specs.Frames.{more, found, wrong, front, frame, filled, item_of, of_item, is_empty, may_carry}
 use Rattle.amqp_frames.specs.SpellsItem.{IsFrame, SpellsItem}
 use Rattle.amqp_frames.proofs.Complete.{IsItem, code, limit}
-use Rattle.amqp_frames.proofs.Fronts.{front_unknown, front_wrong, front_whole, long_enough, behind_shorter}
-use Rattle.amqp_frames.proofs.Sizes.{number, extent_stays, extent_at_least, unknown_below, past_wrong, placed_size, same_size}
+use Rattle.amqp_frames.proofs.Fronts.{front_unknown, front_wrong, front_whole, long_enough}
+use Rattle.amqp_frames.proofs.Sizes.{number, extent_stays, extent_at_least, unknown_below, past_wrong, same_size}
 
 empty_is : (body : List ℕ) → is_empty body ≡ true → body ≡ []
 empty_is [] h = refl

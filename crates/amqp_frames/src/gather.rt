@@ -7,9 +7,8 @@ ghost use Rattle.amqp_frames.specs.Frames.{front, more};
 use crate::extent::{Extent, MIN_SIZE, extent_of};
 use std::alloc::AllocError;
 
-/// Appends to the beginning of an item what the piece has of it, and gives the bytes behind that. Each byte of the
-/// piece is copied at most once: no item is smaller than the bytes that tell its size, and memory for all of it is had
-/// as soon as that is told.
+/// Appends to the beginning of an item what the piece has of it, and gives the bytes behind that. Room for all of the
+/// item is made as soon as its first bytes tell the size, so that the bytes behind those are never moved again.
 #[tactic(auto, using(crate::proofs::Sizes::unknown_below, crate::proofs::Gathers::whole_gathered))]
 pub(crate) fn gather_item<'a>(buffer: &mut Vec<u8>, piece: &'a [u8]) -> Result<&'a [u8], AllocError>
     requires { front buffer.old.items ≡ more }
@@ -33,6 +32,9 @@ fn gather<'a>(buffer: &mut Vec<u8>, size: usize, piece: &'a [u8]) -> Result<&'a 
 {
     let lacking = size.saturating_sub(buffer.len());
     let (own, behind) = piece.split_at(lacking.min(piece.len()));
+    if own.is_empty() {
+        return Ok(behind);
+    }
     buffer.reserve_exact(lacking)?;
     buffer.extend_from_slice(own)?;
     Ok(behind)

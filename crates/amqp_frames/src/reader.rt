@@ -147,9 +147,20 @@ fn take_item(
     // The item takes this place at the end, when nothing that can fail is left: its payload takes the buffer.
     items.push(Item::Beat { channel: 0 })?;
     let (ended, rest) = cut(alloc, &mut items, behind)?;
-    let rest = Vec::from_slice(alloc, rest)?;
+    let rest = keep(alloc, rest)?;
     items[0] = share(buffer, rest, item, payload_at)?;
     Ok((items, ended))
+}
+
+/// These bytes in a buffer of their own, which has room for the item that they begin.
+#[tactic(auto, using(crate::proofs::Steps::front_nothing))]
+fn keep(alloc: Global, rest: &[u8]) -> Result<Vec<u8>, AllocError>
+    ensures { IfOk result (λ kept. kept.items ≡ rest.now) }
+{
+    let mut buffer = Vec::new(alloc);
+    let behind = gather_item(&mut buffer, rest)?;
+    buffer.extend_from_slice(behind)?;
+    Ok(buffer)
 }
 
 /// Puts the rest into the buffer. The bytes that it had become the item's payload, from the place on, uncopied.
