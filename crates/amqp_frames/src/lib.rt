@@ -17,4 +17,6 @@ pub use reader::FrameReader;
 pub use write::write_item;
 
 #[cfg(test)]
+mod frame_tests;
+#[cfg(test)]
 mod tests;
