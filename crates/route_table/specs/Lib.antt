@@ -1,0 +1,5 @@
+pub mod Laws
+pub mod Places
+pub mod Prefixes
+pub mod Sections
+pub mod Settings
