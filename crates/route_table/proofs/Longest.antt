@@ -1,7 +1,6 @@
 -- The longest prefix that matches is found by asking for each beginning of the address, the longest first.
-use Rattle.std.proofs.Common.{◌≡◌, ℕ, Bool, true, false, cond, List, [], ◌∷◌, ◌++◌, length, take, drop, Option, Some, None, IfSome, option_map, refl, sym, ◌∙◌, ap, subst, rules, arith, ◌≤◌, ◌<◌, ◌+◌, ◌-◌, ◌&&◌, zero, suc, nat_lt, nat_eq, add-one}
+use Rattle.std.proofs.Common.{◌≡◌, ℕ, Bool, true, false, cond, List, [], ◌∷◌, length, take, drop, Option, Some, None, IfSome, option_map, refl, sym, ◌∙◌, ap, subst, arith, ◌≤◌, ◌<◌, ◌+◌, ◌-◌, ◌&&◌, zero, suc, nat_lt, nat_eq, add-one}
 use Rattle.std.proofs.lemmas.List.{length-take-le, length-take}
-use Rattle.std.proofs.Common.{◌⊎◌, inl, inr}
 use Rattle.std.specs.Str.{bytes_eq}
 use Rattle.std.specs.Map.{lookup}
 use Rattle.std.proofs.lemmas.Slice.Eq.{bytes_eq-Decides}

@@ -1,5 +1,5 @@
 -- The laws of prefixes.
-use Rattle.std.proofs.Common.{◌≡◌, ℕ, Bool, true, false, cond, List, [], ◌∷◌, ◌++◌, ◌+◌, ◌<◌, ◌≤◌, length, map, filter, Option, Some, None, option_map, get_or, suc, zero, refl, sym, ◌∙◌, ap, arith, nat_lt, true≢false}
+use Rattle.std.proofs.Common.{◌≡◌, ℕ, Bool, true, false, cond, List, [], ◌∷◌, ◌++◌, ◌≤◌, length, filter, Option, Some, None, option_map, suc, refl, sym, ◌∙◌, ap, arith, nat_lt, true≢false}
 use Rattle.std.specs.Prelude.{All, Contains, MatchOption, unwrap_or}
 use Rattle.std.proofs.lemmas.Bool.Decides.{nat_tests}
 use Rattle.std.proofs.lemmas.List.{map-append}
@@ -10,7 +10,7 @@ use Rattle.route_table.specs.declared.sections.Direction.TheVariants.{In, Out}
 use Rattle.route_table.specs.declared.sections.Distribution.TheVariants.{Balanced}
 use Rattle.route_table.specs.declared.sections.Distribution.{Distribution}
 use Rattle.route_table.specs.declared.sections.LinkRoute.{LinkRoute}
-use Rattle.route_table.specs.Laws.{IsLongest, BestIsLongest, OtherAddressChangesNothing, OtherRouteChangesNothing}
+use Rattle.route_table.specs.Laws.{BestIsLongest, OtherAddressChangesNothing, OtherRouteChangesNothing}
 use Rattle.route_table.specs.Places.{address_pairs, route_pairs}
 use Rattle.route_table.specs.Prefixes.{best, candidate, longer, matches}
 use Rattle.route_table.specs.Sections.{is_direction}

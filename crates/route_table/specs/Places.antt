@@ -1,5 +1,5 @@
 -- Where an address belongs, by the sections of a configuration.
-use Rattle.std.specs.Prelude.{◌≡◌, ℕ, List, [], ◌∷◌, map, filter, Option, None, Some, option_map, unwrap_or}
+use Rattle.std.specs.Prelude.{◌≡◌, ℕ, List, map, filter, Option, option_map, unwrap_or}
 use Rattle.route_table.specs.declared.sections.Address.{Address}
 use Rattle.route_table.specs.declared.sections.LinkRoute.{LinkRoute}
 use Rattle.route_table.specs.declared.sections.Direction.{Direction}

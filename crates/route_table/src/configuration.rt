@@ -28,13 +28,33 @@ impl Config {
     pub fn standard(alloc: Global) -> Result<Config, AllocError>
         ensures { IfOk result (λ c. c ≡ standard) }
     {
-        Ok(Config {
-            router_id: Text::new(alloc, "R1")?,
-            listeners: Vec::new(alloc),
-            addresses: Vec::new(alloc),
-            link_routes: Vec::new(alloc),
-            users: Vec::new(alloc),
-        })
+        let router_id = Text::new(alloc, "R1")?;
+        Ok(Config::new(
+            router_id,
+            Vec::new(alloc),
+            Vec::new(alloc),
+            Vec::new(alloc),
+            Vec::new(alloc),
+        ))
+    }
+
+    // The configuration of these parts.
+    pub(crate) fn new(
+        router_id: Text,
+        listeners: Vec<Listener>,
+        addresses: Vec<Address>,
+        link_routes: Vec<LinkRoute>,
+        users: Vec<User>,
+    ) -> Config
+        ensures { result ≡ record { router_id = router_id; listeners = listeners.items; addresses = addresses.items; link_routes = link_routes.items; users = users.items } }
+    {
+        Config {
+            router_id,
+            listeners,
+            addresses,
+            link_routes,
+            users,
+        }
     }
 
     /// The router's id, at most 128 bytes.

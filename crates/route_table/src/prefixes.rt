@@ -36,7 +36,7 @@ impl<V> Prefixes<V> {
     {
         if !self.places.contains_key(prefix.as_bytes()) {
             let key = prefix.as_bytes().to_vec(alloc)?;
-            self.places.insert(key, value)?;
+            drop(self.places.insert(key, value)?);
         }
         Ok(())
     }

@@ -1,4 +1,4 @@
-use Rattle.std.proofs.Common.{◌≡◌, ℕ, List, Bool, true, refl, sym, ◌∙◌, cond, Option, None, take, drop, ap}
+use Rattle.std.proofs.Common.{◌≡◌, ℕ, List, true, ◌∙◌, Option, take, drop}
 use Rattle.std.specs.Map.{lookup}
 use Rattle.std.specs.Str.{bytes_eq}
 use Rattle.route_table.specs.Prefixes.{goes_on, value_at}
