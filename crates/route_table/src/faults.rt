@@ -7,7 +7,7 @@ use std::alloc::{AllocError, AllocFailed};
 use thiserror::Error;
 
 /// Why a line of a configuration is refused.
-#[derive(Clone, Copy, Debug, Error)]
+#[derive(Clone, Copy, Debug, PartialEq, Eq, Error)]
 pub enum FaultKind {
     /// A line that is no head, key with a value, end, comment or blank, or that stands where it may not; a key given twice; a section without its end.
     #[error("syntax")]
@@ -62,7 +62,7 @@ impl<T: Drop> From<AllocFailed<T>> for FaultKind {
 }
 
 /// The first faulty line of a configuration.
-#[derive(Clone, Copy, Debug, Error)]
+#[derive(Clone, Copy, Debug, PartialEq, Eq, Error)]
 #[error("line {line}: {kind}")]
 pub struct ConfigFault {
     /// The line's number, counted from 1. At `Memory` the line up to which was read.

@@ -7,7 +7,7 @@ use crate::texts::Text;
 use std::marker::Model;
 
 /// How the router shares the deliveries of an address among its consumers.
-#[derive(Clone, Copy, Debug)]
+#[derive(Clone, Copy, Debug, PartialEq, Eq)]
 pub enum Distribution {
     /// To the consumer with the fewest undecided deliveries.
     Balanced,
@@ -18,7 +18,7 @@ pub enum Distribution {
 }
 
 /// Which links a link route takes.
-#[derive(Clone, Copy, Debug)]
+#[derive(Clone, Copy, Debug, PartialEq, Eq)]
 pub enum Direction {
     /// Links on which the peer sends.
     In,
@@ -39,7 +39,7 @@ impl Direction {
 }
 
 /// What a listener's connections are for.
-#[derive(Clone, Copy, Debug)]
+#[derive(Clone, Copy, Debug, PartialEq, Eq)]
 pub enum Role {
     /// Peers that send and receive messages.
     Normal,
@@ -48,7 +48,7 @@ pub enum Role {
 }
 
 /// A SASL mechanism (AMQP 1.0 part 5, section 5.3.3).
-#[derive(Clone, Copy, Debug)]
+#[derive(Clone, Copy, Debug, PartialEq, Eq)]
 pub enum Mechanism {
     /// No proof of who the peer is (RFC 4505).
     Anonymous,

@@ -164,101 +164,69 @@ fn syntax(rt: HostRuntime) {
     ] {
         refuses(&rt, alloc, text, 1, 1);
     }
-    refuses(&rt, alloc, "\nrouter {\nlistener {\n}\n}\n", 3, 1);
-    refuses(&rt, alloc, "router {\nid:\n}\n", 2, 1);
-    refuses(&rt, alloc, "router {\nid: \t\n}\n", 2, 1);
-    refuses(&rt, alloc, "router {\ni d: x\n}\n", 2, 1);
-    refuses(&rt, alloc, "router {\nid x\n}\n", 2, 1);
-    refuses(&rt, alloc, "router {\nid: x\nid: x\n}\n", 3, 1);
-    refuses(&rt, alloc, "listener {\nport: 1\nport: x\n}\n", 3, 1);
-    refuses(&rt, alloc, "address {\nprefix: a\nprefix: b\n}\n", 3, 1);
-    refuses(
-        &rt,
-        alloc,
-        "linkRoute {\ndirection: in\ndirection: out\n}\n",
-        3,
-        1,
-    );
-    refuses(&rt, alloc, "user {\nname: a\nname: b\n}\n", 3, 1);
-    refuses(&rt, alloc, "user {\nname: a\n\n\n", 4, 1);
-    refuses(&rt, alloc, "user {\nname: a\n\n}x\n", 4, 1);
+    for (text, line, number) in [
+        ("\nrouter {\nlistener {\n}\n}\n", 3, 1),
+        ("router {\nid:\n}\n", 2, 1),
+        ("router {\nid: \t\n}\n", 2, 1),
+        ("router {\ni d: x\n}\n", 2, 1),
+        ("router {\nid x\n}\n", 2, 1),
+        ("router {\nid: x\nid: x\n}\n", 3, 1),
+        ("listener {\nport: 1\nport: x\n}\n", 3, 1),
+        ("address {\nprefix: a\nprefix: b\n}\n", 3, 1),
+        ("linkRoute {\ndirection: in\ndirection: out\n}\n", 3, 1),
+        ("user {\nname: a\nname: b\n}\n", 3, 1),
+        ("user {\nname: a\n\n\n", 4, 1),
+        ("user {\nname: a\n\n}x\n", 4, 1),
+    ] {
+        refuses(&rt, alloc, text, line, number);
+    }
 }
 
 #[test]
 fn unknown_names(rt: HostRuntime) {
     let alloc = rt.alloc();
-    refuses(&rt, alloc, "router {\n}\nconnector {\nhost: x\n}\n", 3, 2);
-    refuses(&rt, alloc, "autoLink {\n}\n", 1, 2);
-    refuses(&rt, alloc, "Router {\n}\n", 1, 2);
-    refuses(&rt, alloc, "} {\n", 1, 2);
-    refuses(&rt, alloc, "router {\nid: a\nworkerThreads: 4\n}\n", 3, 3);
-    refuses(&rt, alloc, "listener {\ncost: 1\n}\n", 2, 3);
-    refuses(&rt, alloc, "linkRoute {\npattern: a\n}\n", 2, 3);
-    refuses(&rt, alloc, "user {\nport: 1\n}\n", 2, 3);
+    for (text, line, number) in [
+        ("router {\n}\nconnector {\nhost: x\n}\n", 3, 2),
+        ("autoLink {\n}\n", 1, 2),
+        ("Router {\n}\n", 1, 2),
+        ("} {\n", 1, 2),
+        ("router {\nid: a\nworkerThreads: 4\n}\n", 3, 3),
+        ("listener {\ncost: 1\n}\n", 2, 3),
+        ("linkRoute {\npattern: a\n}\n", 2, 3),
+        ("user {\nport: 1\n}\n", 2, 3),
+    ] {
+        refuses(&rt, alloc, text, line, number);
+    }
 }
 
 #[test]
 fn bad_values(rt: HostRuntime) {
     let alloc = rt.alloc();
-    refuses(&rt, alloc, "router {\nmode: interior\n}\n", 2, 4);
-    refuses(&rt, alloc, "router {\n}\n\nrouter {\n}\n", 4, 4);
-    refuses(&rt, alloc, "listener {\nport: 0\n}\n", 2, 4);
-    refuses(&rt, alloc, "listener {\nport: 65536\n}\n", 2, 4);
-    refuses(&rt, alloc, "listener {\nport: +1\n}\n", 2, 4);
-    refuses(
-        &rt,
-        alloc,
-        "listener {\nport: 99999999999999999999999\n}\n",
-        2,
-        4,
-    );
-    refuses(&rt, alloc, "listener {\nport: 65535\n}\n", 0, 0);
-    refuses(&rt, alloc, "listener {\nrole: edge\n}\n", 2, 4);
-    refuses(&rt, alloc, "listener {\nauthenticatePeer: true\n}\n", 2, 4);
-    refuses(
-        &rt,
-        alloc,
-        "listener {\nsaslMechanisms: PLAIN EXTERNAL\n}\n",
-        2,
-        4,
-    );
-    refuses(
-        &rt,
-        alloc,
-        "address {\nprefix: a\n distribution: unicast\n}\n",
-        3,
-        4,
-    );
-    refuses(&rt, alloc, "address {\ndistribution: closest\n}\n", 3, 4);
-    refuses(
-        &rt,
-        alloc,
-        "linkRoute {\nprefix: a\ncontainerId: b\n}\n",
-        4,
-        4,
-    );
-    refuses(
-        &rt,
-        alloc,
-        "linkRoute {\nprefix: a\ndirection: both\n}\n",
-        3,
-        4,
-    );
-    refuses(
-        &rt,
-        alloc,
-        "user {\nname: anonymous\npassword: x\n}\n",
-        2,
-        4,
-    );
-    refuses(
-        &rt,
-        alloc,
-        "user {\nname: a\npassword: x\n}\nuser {\nname: a\npassword: y\n}\n",
-        6,
-        4,
-    );
-    refuses(&rt, alloc, "user {\nname: a\n}\n", 3, 4);
+    for (text, line, number) in [
+        ("router {\nmode: interior\n}\n", 2, 4),
+        ("router {\n}\n\nrouter {\n}\n", 4, 4),
+        ("listener {\nport: 0\n}\n", 2, 4),
+        ("listener {\nport: 65536\n}\n", 2, 4),
+        ("listener {\nport: +1\n}\n", 2, 4),
+        ("listener {\nport: 99999999999999999999999\n}\n", 2, 4),
+        ("listener {\nport: 65535\n}\n", 0, 0),
+        ("listener {\nrole: edge\n}\n", 2, 4),
+        ("listener {\nauthenticatePeer: true\n}\n", 2, 4),
+        ("listener {\nsaslMechanisms: PLAIN EXTERNAL\n}\n", 2, 4),
+        ("address {\nprefix: a\n distribution: unicast\n}\n", 3, 4),
+        ("address {\ndistribution: closest\n}\n", 3, 4),
+        ("linkRoute {\nprefix: a\ncontainerId: b\n}\n", 4, 4),
+        ("linkRoute {\nprefix: a\ndirection: both\n}\n", 3, 4),
+        ("user {\nname: anonymous\npassword: x\n}\n", 2, 4),
+        (
+            "user {\nname: a\npassword: x\n}\nuser {\nname: a\npassword: y\n}\n",
+            6,
+            4,
+        ),
+        ("user {\nname: a\n}\n", 3, 4),
+    ] {
+        refuses(&rt, alloc, text, line, number);
+    }
 }
 
 #[test]
