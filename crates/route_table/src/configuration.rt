@@ -7,7 +7,8 @@ use crate::texts::Text;
 use std::alloc::{AllocError, Global};
 use std::marker::Model;
 
-/// A router's configuration: its id, and the sections of each kind in the order of the file, with each default filled in.
+/// A router's configuration: its id, and the sections of each kind in the order of the file, with each default filled
+/// in.
 #[derive(Debug, Drop)]
 pub struct Config {
     router_id: Text,
@@ -20,7 +21,13 @@ pub struct Config {
 impl Model for Config {
     ghost Value = { Settings };
 
-    ghost view = { λ a. record { router_id = a.router_id; listeners = a.listeners.items; addresses = a.addresses.items; link_routes = a.link_routes.items; users = a.users.items } };
+    ghost view = { λ a. record {
+      router_id = a.router_id;
+      listeners = a.listeners.items;
+      addresses = a.addresses.items;
+      link_routes = a.link_routes.items;
+      users = a.users.items;
+    } };
 }
 
 impl Config {
@@ -46,7 +53,13 @@ impl Config {
         link_routes: Vec<LinkRoute>,
         users: Vec<User>,
     ) -> Config
-        ensures { result ≡ record { router_id = router_id; listeners = listeners.items; addresses = addresses.items; link_routes = link_routes.items; users = users.items } }
+        ensures { result ≡ record {
+          router_id = router_id;
+          listeners = listeners.items;
+          addresses = addresses.items;
+          link_routes = link_routes.items;
+          users = users.items;
+        } }
     {
         Config {
             router_id,

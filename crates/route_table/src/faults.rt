@@ -9,7 +9,8 @@ use thiserror::Error;
 /// Why a line of a configuration is refused.
 #[derive(Clone, Copy, Debug, PartialEq, Eq, Error)]
 pub enum FaultKind {
-    /// A line that is no head, key with a value, end, comment or blank, or that stands where it may not; a key given twice; a section without its end.
+    /// A line that is no head, key with a value, end, comment or blank, or that stands where it may not; a key given
+    /// twice; a section without its end.
     #[error("syntax")]
     Syntax,
     /// A section that isn't known.
@@ -18,7 +19,8 @@ pub enum FaultKind {
     /// An attribute that the section doesn't have.
     #[error("unknown attribute")]
     UnknownAttribute,
-    /// A value that the attribute doesn't take, a required attribute that isn't there, or one section of a kind too many.
+    /// A value that the attribute doesn't take, a required attribute that isn't there, or one section of a kind too
+    /// many.
     #[error("bad value")]
     BadValue,
     /// A prefix that an earlier section has, of a link route in the same direction.
@@ -65,7 +67,7 @@ impl<T: Drop> From<AllocFailed<T>> for FaultKind {
 #[derive(Clone, Copy, Debug, PartialEq, Eq, Error)]
 #[error("line {line}: {kind}")]
 pub struct ConfigFault {
-    /// The line's number, counted from 1. At `Memory` the line up to which was read.
+    /// The line's number, counted from 1. At `Memory` the line that was being read, and 0 once all lines were read.
     pub line: usize,
     /// What is wrong with it.
     pub kind: FaultKind,

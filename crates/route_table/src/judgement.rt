@@ -31,7 +31,9 @@ fn some_has(sections: &[Section<'_>], kind: SectionKind, attribute: Attribute, t
 }
 
 fn some_routes(sections: &[Section<'_>], prefix: &str, direction: Option<Direction>) -> bool
-    ensures { result ≡ list_any (λ s. has kinds.LinkRoute attributes.Prefix prefix.now s && is_same_direction (direction_of s []) direction) sections.now }
+    ensures { result ≡ list_any
+        (λ s. has kinds.LinkRoute attributes.Prefix prefix.now s && is_same_direction (direction_of s []) direction)
+        sections.now }
 {
     sections
         .iter()
@@ -80,8 +82,10 @@ fn judge(
     value: &str,
     behind: &str,
 ) -> Result<Attribute, FaultKind>
-    ensures fault { IfErr result (λ k. k ≢ FaultKind.Memory → given_fault section.now ended.now (attribute_of section.now.kind key.now) value.now (forms behind.now) ≡ Some k) }
-    ensures good { OnOk result (given_fault section.now ended.now (attribute_of section.now.kind key.now) value.now (forms behind.now) ≡ None) }
+    ensures fault { IfErr result (λ k. k ≢ FaultKind.Memory
+        → given_fault section.now ended.now (attribute_of section.now.kind key.now) value.now (forms behind.now) ≡ Some k) }
+    ensures good { OnOk result
+        (given_fault section.now ended.now (attribute_of section.now.kind key.now) value.now (forms behind.now) ≡ None) }
     ensures attribute { IfOk result (λ a. attribute_of section.now.kind key.now ≡ Some a) }
 {
     let attribute = section
@@ -141,7 +145,8 @@ fn inside<'a>(
     line: Line<'a>,
     behind: &'a str,
 ) -> Result<Option<Section<'a>>, FaultKind>
-    ensures fault { IfErr result (λ k. k ≢ FaultKind.Memory → inside_fault section.entry ended.old.items (form_seen line.entry) (forms behind.now) ≡ Some k) }
+    ensures fault { IfErr result (λ k. k ≢ FaultKind.Memory
+        → inside_fault section.entry ended.old.items (form_seen line.entry) (forms behind.now) ≡ Some k) }
     ensures good { OnOk result (inside_fault section.entry ended.old.items (form_seen line.entry) (forms behind.now) ≡ None) }
     ensures open { IfOk result (λ current. current ≡ open_behind (form_seen line.entry) (Some section.entry)) }
     ensures ended { OnOk result (ended.new.items ≡ ended_behind (form_seen line.entry) (Some section.entry) ended.old.items) }
@@ -164,7 +169,8 @@ fn inside<'a>(
     }
 }
 
-/// The section that is open behind a line, by the one that is open in front of it; one that ends is put behind the others. An error is the line's fault.
+/// The section that is open behind a line, by the one that is open in front of it; one that ends is put behind the
+/// others. An error is the line's fault.
 #[tactic(auto, unfolding(crate::specs::File::fault_in))]
 pub fn step<'a>(
     alloc: Global,
@@ -173,7 +179,8 @@ pub fn step<'a>(
     line: Line<'a>,
     behind: &'a str,
 ) -> Result<Option<Section<'a>>, FaultKind>
-    ensures fault { IfErr result (λ k. k ≢ FaultKind.Memory → fault_in current.entry ended.old.items (form_seen line.entry) (forms behind.now) ≡ Some k) }
+    ensures fault { IfErr result (λ k. k ≢ FaultKind.Memory
+        → fault_in current.entry ended.old.items (form_seen line.entry) (forms behind.now) ≡ Some k) }
     ensures good { OnOk result (fault_in current.entry ended.old.items (form_seen line.entry) (forms behind.now) ≡ None) }
     ensures open { IfOk result (λ next. next ≡ open_behind (form_seen line.entry) current.entry) }
     ensures ended { OnOk result (ended.new.items ≡ ended_behind (form_seen line.entry) current.entry ended.old.items) }

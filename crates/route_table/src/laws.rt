@@ -1,7 +1,8 @@
 //! Laws of prefixes. Nothing runs here: each function is a theorem on the definitions that the contracts cite.
 ghost use Rattle.route_table.specs.Laws.{BestIsLongest, OtherAddressChangesNothing, OtherRouteChangesNothing};
 
-/// The best entry matches the address, stands in the list, and no entry that matches has a longer prefix; there is none only where no entry matches.
+/// The best entry matches the address, stands in the list, and no entry that matches has a longer prefix; there is none
+/// only where no entry matches.
 pub fn best_is_longest()
     ensures { BestIsLongest }
 {}

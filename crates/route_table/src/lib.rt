@@ -1,6 +1,7 @@
 //! The configuration of a router, and the place that it gives an address.
 //!
-//! [`read_config`] reads the file's text, or says which line is the first faulty one. [`Table`] finds the longest prefix of an address.
+//! [`read_config`] reads the file's text, or says which line is the first faulty one. [`Table`] finds the longest prefix
+//! of an address.
 #![tactic(auto)]
 
 mod attributes;

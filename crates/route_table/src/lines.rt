@@ -33,7 +33,9 @@ pub fn first_line(text: &str) -> (&str, &str)
 
 // Without the first byte, where that is a blank.
 fn without_first_blank(text: &str) -> Option<&str>
-    ensures { MatchOption result (trim_front text.now ≡ text.now) (λ rest. (trim_front text.now ≡ trim_front rest.now) × (length rest.now < length text.now)) }
+    ensures { MatchOption result
+        (trim_front text.now ≡ text.now)
+        (λ rest. (trim_front text.now ≡ trim_front rest.now) × (length rest.now < length text.now)) }
 {
     match text.strip_prefix(' ') {
         Some(rest) => Some(rest),
@@ -43,7 +45,9 @@ fn without_first_blank(text: &str) -> Option<&str>
 
 // Without the last byte, where that is a blank.
 fn without_last_blank(text: &str) -> Option<&str>
-    ensures { MatchOption result (trim_back text.now ≡ text.now) (λ rest. (trim_back text.now ≡ trim_back rest.now) × (length rest.now < length text.now)) }
+    ensures { MatchOption result
+        (trim_back text.now ≡ text.now)
+        (λ rest. (trim_back text.now ≡ trim_back rest.now) × (length rest.now < length text.now)) }
 {
     match text.strip_suffix(' ') {
         Some(rest) => Some(rest),

@@ -135,7 +135,8 @@ impl<'a> Section<'a> {
 
     // Whether it is a link route of the prefix in the direction.
     pub fn routes(&self, prefix: &str, direction: Option<Direction>) -> bool
-        ensures { result ≡ (has kinds.LinkRoute attributes.Prefix prefix.now self.now && is_same_direction (direction_of self.now []) direction) }
+        ensures { result ≡ (has kinds.LinkRoute attributes.Prefix prefix.now self.now
+            && is_same_direction (direction_of self.now []) direction) }
     {
         self.has(SectionKind::LinkRoute, Attribute::Prefix, prefix)
             && is_same_direction(self.direction(""), direction)

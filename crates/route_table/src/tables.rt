@@ -47,8 +47,9 @@ impl Table {
         })
     }
 
-    /// Where the address belongs: the longest prefix that it equals, or that it goes on behind with `.` or `/`. Balanced and without routes where none
-    /// matches. Takes no memory, and one look-up for each `.` and `/` of the address.
+    /// Where the address belongs: the longest prefix that it equals, or that it goes on behind with `.` or `/`.
+    /// Balanced and without routes where none matches. Takes no memory, and one look-up for each `.` and `/` of the
+    /// address.
     pub fn find(&self, address: &str) -> Place<'_>
         ensures distribution { result.distribution ≡ distribution_of self.now address.now }
         ensures route_in { option_map (λ t. t.now) result.route_in ≡ route_in_of self.now address.now }
