@@ -19,4 +19,8 @@ pub use write::write_item;
 #[cfg(test)]
 mod frame_tests;
 #[cfg(test)]
+mod stream_tables;
+#[cfg(test)]
+mod stream_tests;
+#[cfg(test)]
 mod tests;
