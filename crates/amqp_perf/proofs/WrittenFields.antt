@@ -1,41 +1,36 @@
 -- Fields that were written, read again: each kind of field.
-use Rattle.std.proofs.Common.{◌≡◌, ℕ, zero, suc, ◌+◌, ◌-◌, ◌^◌, ◌<◌, ◌≤◌, Bool, true, false, cond, nat_lt, nat_eq, ◌==◌, List, [], ◌∷◌, ◌++◌, length, Option, Some, None, Result, Ok, Err, refl, sym, ap, subst, ◌∙◌, arith}
+use Rattle.std.proofs.Common.{◌≡◌, ℕ, suc, ◌^◌, ◌<◌, ◌≤◌, Bool, true, false, cond, ◌==◌, List, [], ◌∷◌, length, Option, Some, None, Result, Ok, Err, refl, sym, ap, subst, ◌∙◌, arith}
 use Rattle.std.specs.Option.{unwrap_or}
-use Rattle.std.specs.Cmp.Lexicographic.{pointwise, pointwise_decides}
 use Rattle.std.proofs.lemmas.Bool.{le-ltb, eqb-true}
-use Rattle.std.proofs.lemmas.Bool.Decides.{Decides-eqb}
 use Rattle.arrayvec.specs.ArrayVec.{ArrayVec}
-use Rattle.amqp_types.specs.declared.code.Kind.{Kind}
 use Rattle.amqp_types.specs.declared.code.Kind.TheVariants as kind
 use Rattle.amqp_types.specs.Data as d
 use Rattle.amqp_types.specs.Data.{Data, Items, no_items, item}
 use Rattle.amqp_types.specs.View.{plain_part}
 use Rattle.amqp_types.specs.Spells.{count}
-use Rattle.amqp_types.specs.Spelling.{spelling}
 use Rattle.amqp_types.specs.Fitting.{FitsIn, AllItems, AreOf}
 use Rattle.amqp_perf.specs.declared.fault.PerfFault.{PerfFault}
 use Rattle.amqp_perf.specs.declared.fault.PerfFault.TheVariants as fault
 use Rattle.amqp_perf.specs.declared.perf.Role.{Role}
 use Rattle.amqp_perf.specs.declared.perf.Role.TheVariants as role
 use Rattle.amqp_perf.specs.Faults.{◌>>=◌}
-use Rattle.amqp_perf.specs.Fields.{At, value, plain, unless_null, judged, required, or_else, is_boolean, is_ubyte, is_ushort, is_uint, is_ulong, is_text, is_symbol, is_binary, is_map, are_symbols, is_symbols, is_tag, tag_of, flag, required_flag, ubyte, required_ubyte, ushort, uint, required_uint, ulong, required_ulong, text, required_text, symbol, required_symbol, binary, required_binary, tag, map, symbols, some_symbols, required_symbols}
+use Rattle.amqp_perf.specs.Fields.{plain, unless_null, judged, required, or_else, is_boolean, is_ubyte, is_ushort, is_uint, is_ulong, is_text, is_symbol, is_binary, is_map, are_symbols, is_symbols, is_tag, flag, required_flag, ubyte, required_ubyte, ushort, uint, required_uint, ulong, required_ulong, text, required_text, symbol, required_symbol, binary, required_binary, tag, map, symbols, some_symbols, required_symbols}
 use Rattle.amqp_perf.specs.Performative.{role_of, required_role}
 use Rattle.amqp_perf.specs.Texts.{FieldText, spelt, ubyte_unless, uint_unless, ushort_unless, flag_text, symbol_items, symbols_text, mapped}
-use Rattle.amqp_perf.specs.Spelling.{role_text, policy_text}
-use Rattle.amqp_perf.specs.Termini.{session_end}
+use Rattle.amqp_perf.specs.Spelling.{role_text}
 use Rattle.amqp_perf.specs.Fitting.{Each, IsText, IsSymbol, IsBinary, IsTag, AllSymbols, AreSymbols, IsMap}
-use Rattle.amqp_perf.proofs.Places.{found, place, plain-some, plain-none, value-some, value-none}
+use Rattle.amqp_perf.proofs.WrittenPlaces.{found, place, plain-some, plain-none, value-some, value-none}
 
 -- ---- what holds something, and what may not
 
-kind-some : {A : Type 0} (is : Data → Result A PerfFault) (depth : ℕ) (v : Data) (x : A) (fs : List FieldText)
+pub kind-some : {A : Type 0} (is : Data → Result A PerfFault) (depth : ℕ) (v : Data) (x : A) (fs : List FieldText)
     → plain_part v ≡ Some v → unless_null v ≡ Some v → is v ≡ Ok x → FitsIn depth v → (plain (place depth (spelt v ∷ fs)) >>= judged is) ≡ Ok (Some x, place depth fs)
 kind-some is depth v x fs part some same fits =
     ap (λ r. r >>= judged is) (plain-some depth v fs part fits)
     ∙ ap (λ o. judged is (o, place depth fs)) some
     ∙ ap (λ r. r >>= λ y. found (Some y, place depth fs)) same
 
-kind-none : {A : Type 0} (is : Data → Result A PerfFault) (depth : ℕ) (fs : List FieldText) → (plain (place (suc depth) (None ∷ fs)) >>= judged is) ≡ Ok (None, place (suc depth) fs)
+pub kind-none : {A : Type 0} (is : Data → Result A PerfFault) (depth : ℕ) (fs : List FieldText) → (plain (place (suc depth) (None ∷ fs)) >>= judged is) ≡ Ok (None, place (suc depth) fs)
 kind-none is depth fs = ap (λ r. r >>= judged is) (plain-none depth fs)
 
 kind-mapped : {A : Type 0} (is : Data → Result A PerfFault) (of : A → Data) (Fits : A → Type 0) (depth : ℕ) (x : Option A) (fs : List FieldText)

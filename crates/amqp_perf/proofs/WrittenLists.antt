@@ -1,17 +1,16 @@
 -- Described lists that were written, read again: how they begin, and the places of their fields.
-use Rattle.std.proofs.Common.{◌≡◌, ℕ, zero, suc, ◌+◌, ◌-◌, ◌^◌, ◌<◌, ◌≤◌, Bool, true, false, cond, ◌&&◌, nat_lt, ◌==◌, List, [], ◌∷◌, ◌++◌, length, Option, Some, None, Result, Ok, Err, refl, sym, ap, subst, ◌∙◌, append_assoc, arith}
+use Rattle.std.proofs.Common.{◌≡◌, ℕ, suc, ◌+◌, ◌-◌, ◌^◌, ◌<◌, ◌≤◌, Bool, true, false, cond, ◌&&◌, nat_lt, List, [], ◌∷◌, ◌++◌, length, Some, None, Result, Ok, Err, refl, sym, ap, subst, ◌∙◌, arith}
 use Rattle.std.proofs.lemmas.Bool.{le-ltb}
 use Rattle.std.proofs.Math.Dec.{eqb-suc-zero}
 use Rattle.amqp_types.specs.declared.code.Size.{Size}
 use Rattle.amqp_types.specs.declared.code.Size.TheVariants as size
-use Rattle.amqp_types.specs.declared.code.Code.{Code}
 use Rattle.amqp_types.specs.declared.code.Code.TheVariants as code
 use Rattle.amqp_types.specs.declared.code.Kind.TheVariants as kind
 use Rattle.amqp_types.specs.Codes.{code_of as constructor_of}
 use Rattle.amqp_types.specs.Data as d
 use Rattle.amqp_types.specs.Data.{Data}
 use Rattle.amqp_types.specs.View.{plain_part}
-use Rattle.amqp_types.specs.Reading.{to, code_at, size_at, sized_at, value_at}
+use Rattle.amqp_types.specs.Reading.{to, size_at, value_at}
 use Rattle.amqp_types.specs.Spells.{Spelling, IsNumber, Fills}
 use Rattle.amqp_types.specs.Spelling.{constructed, compound_piece, wide_sizes, list_text, spelling}
 use Rattle.amqp_types.specs.Fitting.{FitsIn}
@@ -21,18 +20,17 @@ use Rattle.amqp_perf.specs.declared.fault.PerfFault.{PerfFault}
 use Rattle.amqp_perf.specs.declared.fault.PerfFault.TheVariants as fault
 use Rattle.amqp_perf.specs.declared.descriptor.Descriptor.{Descriptor}
 use Rattle.amqp_perf.specs.declared.descriptor.Descriptor.TheVariants as is
-use Rattle.amqp_perf.specs.declared.opening.Opening.{Opening}
 use Rattle.amqp_perf.specs.declared.opening.Opening.TheVariants as opening
 use Rattle.amqp_perf.specs.Descriptors.{code_of, named}
 use Rattle.amqp_perf.specs.Faults.{outer, inner, by_fault, ◌>>=◌}
 use Rattle.amqp_perf.specs.Fields.{At, name_of, opening_at, listed, listed_by, counted}
 use Rattle.amqp_perf.specs.Texts.{FieldText, given, given_by, joined, described_text}
 use Rattle.amqp_perf.specs.Fitting.{IsShort}
-use Rattle.amqp_perf.proofs.Places.{found, place}
+use Rattle.amqp_perf.proofs.WrittenPlaces.{found, place}
 
 -- ---- the descriptor
 
-descriptor_spelled : (name : Descriptor) → spelling (d.ulong (code_of name)) ≡ 0x53 ∷ code_of name ∷ []
+pub descriptor_spelled : (name : Descriptor) → spelling (d.ulong (code_of name)) ≡ 0x53 ∷ code_of name ∷ []
 unfolding spelling
 descriptor_spelled is.Open = refl
 descriptor_spelled is.Begin = refl
@@ -57,7 +55,7 @@ descriptor_spelled is.SaslChallenge = refl
 descriptor_spelled is.SaslResponse = refl
 descriptor_spelled is.SaslOutcome = refl
 
-descriptor_fits : (name : Descriptor) → code_of name < 2 ^ 64
+pub descriptor_fits : (name : Descriptor) → code_of name < 2 ^ 64
 descriptor_fits is.Open = omega arith
 descriptor_fits is.Begin = omega arith
 descriptor_fits is.Attach = omega arith
@@ -125,10 +123,10 @@ opening_again depth name fs rest =
 
 -- ---- the list
 
-abbrev Counted : Size → ℕ → List ℕ → Spelling
+abbrev pub Counted : Size → ℕ → List ℕ → Spelling
 Counted s n inside bytes v = (field : List ℕ) × (bytes ≡ field ++ inside) × IsNumber s field n
 
-number_is : (s : Size) (n : ℕ) (inside : List ℕ) (v : Data) (field : List ℕ) → IsNumber s field n → Counted s n inside (field ++ inside) v
+pub number_is : (s : Size) (n : ℕ) (inside : List ℕ) (v : Data) (field : List ℕ) → IsNumber s field n → Counted s n inside (field ++ inside) v
 number_is s n inside v field h = (field, refl, h)
 
 listed_sized : (depth limit : ℕ) (wrong : PerfFault) (b : ℕ) (s : Size) (n : ℕ) (inside text rest : List ℕ) (v : Data) → constructor_of b ≡ Some (code.List s) → Fills s text v (Counted s n inside) → n ≤ limit
@@ -165,7 +163,7 @@ given_by-shorter None [] = omega arith
 given_by-shorter None (g ∷ gs) = omega arith
 given_by-shorter (Some t) gs = omega arith
 
-given-shorter : (fs : List FieldText) → length (given fs) ≤ length fs
+pub given-shorter : (fs : List FieldText) → length (given fs) ≤ length fs
 unfolding given
 given-shorter [] = omega arith
 given-shorter (f ∷ fs) = let a = given_by-shorter f (given fs) in let b = given-shorter fs in omega (arith, a, b)

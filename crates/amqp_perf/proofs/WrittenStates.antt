@@ -1,5 +1,5 @@
 -- Errors and delivery states that were written, read again.
-use Rattle.std.proofs.Common.{◌≡◌, ℕ, zero, suc, ◌+◌, ◌-◌, ◌^◌, ◌<◌, ◌≤◌, Bool, true, false, List, [], ◌∷◌, ◌++◌, length, Option, Some, None, Result, Ok, Err, refl, sym, ap, subst, ◌∙◌, append_assoc, true≢false, arith}
+use Rattle.std.proofs.Common.{◌≡◌, ℕ, suc, ◌-◌, false, List, [], ◌∷◌, ◌++◌, Option, Some, None, Ok, refl, sym, ap, subst, ◌∙◌, append_assoc, true≢false, arith}
 use Rattle.amqp_types.specs.Codes.{code_of as constructor_of}
 use Rattle.amqp_types.specs.Data as d
 use Rattle.amqp_types.specs.Data.{Data}
@@ -11,7 +11,6 @@ use Rattle.amqp_types.proofs.RoundTrip.{value_at-spelling}
 use Rattle.amqp_perf.specs.declared.fault.PerfFault.TheVariants as fault
 use Rattle.amqp_perf.specs.declared.descriptor.Descriptor.{Descriptor}
 use Rattle.amqp_perf.specs.declared.descriptor.Descriptor.TheVariants as is
-use Rattle.amqp_perf.specs.declared.opening.Opening.{Opening}
 use Rattle.amqp_perf.specs.declared.opening.Opening.TheVariants as opening
 use Rattle.amqp_perf.specs.declared.state.Fault.{Fault}
 use Rattle.amqp_perf.specs.declared.state.Received.{Received}
@@ -22,10 +21,10 @@ use Rattle.amqp_perf.specs.declared.state.DeliveryState.TheVariants as state
 use Rattle.amqp_perf.specs.Faults.{outer, by_fault, ◌>>=◌}
 use Rattle.amqp_perf.specs.Fields.{ended, name_of, opening_at, carried}
 use Rattle.amqp_perf.specs.States.{error_fields, error_by, error_in, error_at, received_fields, rejected_fields, modified_fields, state_by, state_in, state_at}
-use Rattle.amqp_perf.specs.Texts.{FieldText, given, spelt, flag_text, mapped, described_text}
+use Rattle.amqp_perf.specs.Texts.{FieldText, given, field_bytes, spelt, flag_text, mapped, described_text}
 use Rattle.amqp_perf.specs.Spelling.{error_texts, error_text, received_texts, rejected_texts, modified_texts, state_spelling, state_text}
-use Rattle.amqp_perf.specs.Fitting.{Each, IsText, IsSymbol, IsMap, IsOther, IsShort, FitsError, FitsReceived, FitsRejected, FitsModified, FitsState, names_state}
-use Rattle.amqp_perf.proofs.Places.{found, place, place_ended, in_place-some, in_place-none}
+use Rattle.amqp_perf.specs.Fitting.{Each, IsMap, IsShort, FitsError, FitsReceived, FitsRejected, FitsModified, FitsState, names_state}
+use Rattle.amqp_perf.proofs.WrittenPlaces.{found, place, place_ended, in_place-text, in_place-some, in_place-none}
 use Rattle.amqp_perf.proofs.WrittenFields.{flag_again, required_uint_again, required_ulong_again, text_again, required_symbol_again, map_again}
 use Rattle.amqp_perf.proofs.WrittenLists.{opening_again, fields_again}
 
@@ -117,7 +116,7 @@ state_other depth bytes rest (Some is.SaslChallenge) h = refl
 state_other depth bytes rest (Some is.SaslResponse) h = refl
 state_other depth bytes rest (Some is.SaslOutcome) h = refl
 
-nothing_short : IsShort []
+pub nothing_short : IsShort []
 unfolding given
 nothing_short = omega arith
 
@@ -149,6 +148,13 @@ state_in_again depth (state.Other bytes) rest h =
 state_in_null : (depth : ℕ) (rest : List ℕ) → state_in depth (0x40 ∷ rest) ≡ Ok (None, rest)
 unfolding state_in
 state_in_null depth rest = ap (λ r. r >>= state_by depth (0x40 ∷ rest)) (opening_null depth rest)
+
+-- a state, or null, whose spelling is always there
+pub state_kept_again : (depth : ℕ) (x : Option DeliveryState) (fs : List FieldText) → Each (FitsState (suc (suc (suc (suc (suc depth)))))) x
+    → state_at (place (suc (suc (suc (suc (suc depth))))) (Some (field_bytes (state_text x)) ∷ fs)) ≡ Ok (x, place (suc (suc (suc (suc (suc depth))))) fs)
+unfolding state_at
+state_kept_again depth None fs h = in_place-text state_in (suc (suc (suc (suc (suc depth))))) (0x40 ∷ []) None fs (state_in_null (suc (suc (suc (suc (suc depth))))))
+state_kept_again depth (Some x) fs h = in_place-text state_in (suc (suc (suc (suc (suc depth))))) (state_spelling x) (Some x) fs (λ rest. state_in_again depth x rest h)
 
 pub state_at_again : (depth : ℕ) (x : Option DeliveryState) (fs : List FieldText) → Each (FitsState (suc (suc (suc (suc (suc depth)))))) x
     → state_at (place (suc (suc (suc (suc (suc depth))))) (state_text x ∷ fs)) ≡ Ok (x, place (suc (suc (suc (suc (suc depth))))) fs)

@@ -1,7 +1,7 @@
 -- Which performatives and delivery states are read again as they were written: numbers within their types, texts and
 -- symbols of their alphabets, carried values that are canonical spellings, and sizes below 2 ^ 32 (AMQP 1.0 part 1, section
 -- 1.6). A depth is how many values may be around one another there: 32 for a whole value, and 30 for a performative's field.
-use Rattle.std.specs.Prelude.{◌≡◌, ℕ, ◌+◌, ◌-◌, ◌^◌, ◌<◌, ◌≤◌, Bool, true, false, List, [], ◌∷◌, length, Option, Some, None, Result, Ok}
+use Rattle.std.specs.Prelude.{◌≡◌, ℕ, ◌+◌, ◌-◌, ◌*◌, ◌^◌, ◌<◌, ◌≤◌, Bool, true, false, List, [], ◌∷◌, length, Option, Some, None, Result, Ok}
 use Rattle.std.specs.Str.{is_utf8}
 use Rattle.arrayvec.specs.ArrayVec.{ArrayVec}
 use Rattle.amqp_types.specs.declared.code.Kind.TheVariants as kind
@@ -33,11 +33,22 @@ use Rattle.amqp_perf.specs.declared.perf.SaslInit.{SaslInit}
 use Rattle.amqp_perf.specs.declared.perf.SaslChallenge.{SaslChallenge}
 use Rattle.amqp_perf.specs.declared.perf.SaslResponse.{SaslResponse}
 use Rattle.amqp_perf.specs.declared.perf.SaslOutcome.{SaslOutcome}
+use Rattle.amqp_perf.specs.declared.perf.Attach.{Attach}
+use Rattle.amqp_perf.specs.declared.state.UnsettledDelivery.{UnsettledDelivery}
+use Rattle.amqp_perf.specs.declared.terminus.Address.{Address}
+use Rattle.amqp_perf.specs.declared.terminus.Source.{Source}
+use Rattle.amqp_perf.specs.declared.terminus.Target.{Target}
+use Rattle.amqp_perf.specs.declared.terminus.SourceTerminus.{SourceTerminus}
+use Rattle.amqp_perf.specs.declared.terminus.TargetTerminus.{TargetTerminus}
+use Rattle.amqp_perf.specs.declared.terminus.Address.TheVariants as address
+use Rattle.amqp_perf.specs.declared.terminus.SourceTerminus.TheVariants as source
+use Rattle.amqp_perf.specs.declared.terminus.TargetTerminus.TheVariants as target
 use Rattle.amqp_perf.specs.declared.perf.Perf.{Perf}
 use Rattle.amqp_perf.specs.declared.perf.Perf.TheVariants as perf
 use Rattle.amqp_perf.specs.Fields.{name_of}
+use Rattle.amqp_perf.specs.States.{is_among}
 use Rattle.amqp_perf.specs.Texts.{FieldText, given, joined, symbol_items}
-use Rattle.amqp_perf.specs.Spelling.{error_texts, received_texts, rejected_texts, modified_texts, open_texts, begin_texts, flow_texts, transfer_texts, disposition_texts, detach_texts, end_texts, close_texts, sasl_mechanisms_texts, sasl_init_texts, sasl_challenge_texts, sasl_response_texts, sasl_outcome_texts}
+use Rattle.amqp_perf.specs.Spelling.{error_texts, received_texts, rejected_texts, modified_texts, source_texts, target_texts, attach_texts, deliveries_text, open_texts, begin_texts, flow_texts, transfer_texts, disposition_texts, detach_texts, end_texts, close_texts, sasl_mechanisms_texts, sasl_init_texts, sasl_challenge_texts, sasl_response_texts, sasl_outcome_texts}
 
 -- what holds of a field, where it holds anything
 abbrev pub Each : {A : Type 0} → (A → Type 0) → Option A → Type 0
@@ -223,11 +234,97 @@ pub record FitsSaslOutcome (x : SaslOutcome) : Type 0 where
   pub additional_data : Each IsBinary x.additional_data
   pub whole : IsShort (sasl_outcome_texts x)
 
--- a performative is read again as it was written: each but attach
+-- a value that may be an address beside a string
+abbrev pub is_address_value : Data → Bool
+is_address_value d.null = false
+is_address_value (d.string s) = false
+is_address_value v = true
+
+pub record IsAddressValue (depth : ℕ) (bytes : List ℕ) : Type 0 where
+  pub value : Data
+  pub canonical : bytes ≡ spelling value
+  pub fits : FitsIn depth value
+  pub other : is_address_value value ≡ true
+
+abbrev pub FitsAddress : ℕ → Address → Type 0
+FitsAddress depth (address.Text s) = IsText s
+FitsAddress depth (address.Other bytes) = IsAddressValue depth bytes
+
+-- sources and targets (part 3, sections 3.5.3 and 3.5.4), which stand in an attach alone
+pub record FitsSource (x : Source) : Type 0 where
+  pub address : Each (FitsAddress 28) x.address
+  pub durable : x.durable < 2 ^ 32
+  pub expiry_policy : IsSymbol x.expiry_policy
+  pub timeout : x.timeout < 2 ^ 32
+  pub dynamic_node_properties : Each (IsMap 28) x.dynamic_node_properties
+  pub distribution_mode : Each IsSymbol x.distribution_mode
+  pub filter : Each (IsMap 28) x.filter
+  pub default_outcome : Each (FitsState 28) x.default_outcome
+  pub outcomes : AreSymbols x.outcomes
+  pub capabilities : AreSymbols x.capabilities
+  pub whole : IsShort (source_texts x)
+
+pub record FitsTarget (x : Target) : Type 0 where
+  pub address : Each (FitsAddress 28) x.address
+  pub durable : x.durable < 2 ^ 32
+  pub expiry_policy : IsSymbol x.expiry_policy
+  pub timeout : x.timeout < 2 ^ 32
+  pub dynamic_node_properties : Each (IsMap 28) x.dynamic_node_properties
+  pub capabilities : AreSymbols x.capabilities
+  pub whole : IsShort (target_texts x)
+
+abbrev pub names_source : Option Descriptor → Bool
+names_source (Some is.Source) = true
+names_source _ = false
+
+abbrev pub names_target : Option Descriptor → Bool
+names_target (Some is.Target) = true
+names_target _ = false
+
+abbrev pub FitsSourceTerminus : SourceTerminus → Type 0
+FitsSourceTerminus (source.Source x) = FitsSource x
+FitsSourceTerminus (source.Other bytes) = IsOther names_source 30 bytes
+
+abbrev pub FitsTargetTerminus : TargetTerminus → Type 0
+FitsTargetTerminus (target.Target x) = FitsTarget x
+FitsTargetTerminus (target.Other bytes) = IsOther names_target 30 bytes
+
+-- an unsettled map: its tags differ, and each state fits
+abbrev pub AllDeliveries : List UnsettledDelivery → Type 0
+AllDeliveries [] = Unit {0}
+AllDeliveries (u ∷ us) = IsTag u.tag × Each (FitsState 29) u.state × AllDeliveries us
+
+abbrev pub TagsDiffer : List UnsettledDelivery → Type 0
+TagsDiffer [] = Unit {0}
+TagsDiffer (u ∷ us) = (is_among us u.tag ≡ false) × TagsDiffer us
+
+pub record FitsUnsettled (us : List UnsettledDelivery) : Type 0 where
+  pub each : AllDeliveries us
+  pub differ : TagsDiffer us
+  pub few : 2 * length us < 2 ^ 32
+  pub short : length (deliveries_text us) + 4 < 2 ^ 32
+
+-- attach (part 2, section 2.7.3)
+pub record FitsAttach (x : Attach) : Type 0 where
+  pub name : IsText x.name
+  pub handle : x.handle < 2 ^ 32
+  pub snd_settle_mode : x.snd_settle_mode < 2 ^ 8
+  pub rcv_settle_mode : x.rcv_settle_mode < 2 ^ 8
+  pub source : Each FitsSourceTerminus x.source
+  pub target : Each FitsTargetTerminus x.target
+  pub unsettled : Each FitsUnsettled x.unsettled
+  pub initial_delivery_count : Each (λ n. n < 2 ^ 32) x.initial_delivery_count
+  pub max_message_size : Each (λ n. n < 2 ^ 64) x.max_message_size
+  pub offered_capabilities : AreSymbols x.offered_capabilities
+  pub desired_capabilities : AreSymbols x.desired_capabilities
+  pub properties : Each (IsMap 30) x.properties
+  pub whole : IsShort (attach_texts x)
+
+-- every performative
 abbrev pub Fits : Perf → Type 0
 Fits (perf.Open x) = FitsOpen x
 Fits (perf.Begin x) = FitsBegin x
-Fits (perf.Attach x) = ⊥
+Fits (perf.Attach x) = FitsAttach x
 Fits (perf.Flow x) = FitsFlow x
 Fits (perf.Transfer x) = FitsTransfer x
 Fits (perf.Disposition x) = FitsDisposition x

@@ -1,33 +1,17 @@
 -- Fields that were written, read again: the places among them.
-use Rattle.std.proofs.Common.{◌≡◌, ℕ, zero, suc, ◌+◌, ◌-◌, ◌^◌, ◌<◌, ◌≤◌, Bool, true, false, cond, ◌&&◌, nat_lt, ◌==◌, List, [], ◌∷◌, ◌++◌, length, Option, Some, None, Result, Ok, Err, refl, sym, ap, subst, ◌∙◌, append_assoc, arith}
-use Rattle.std.proofs.lemmas.Bool.{le-ltb}
+use Rattle.std.proofs.Common.{◌≡◌, ℕ, suc, ◌-◌, cond, ◌==◌, List, [], ◌∷◌, ◌++◌, length, Option, Some, None, Result, Ok, refl, ap, ◌∙◌, arith}
 use Rattle.std.proofs.Math.Dec.{eqb-suc-zero}
-use Rattle.amqp_types.specs.declared.code.Size.{Size}
-use Rattle.amqp_types.specs.declared.code.Size.TheVariants as size
-use Rattle.amqp_types.specs.declared.code.Code.{Code}
-use Rattle.amqp_types.specs.declared.code.Code.TheVariants as code
-use Rattle.amqp_types.specs.declared.code.Kind.TheVariants as kind
-use Rattle.amqp_types.specs.Codes.{code_of as constructor_of}
 use Rattle.amqp_types.specs.Data as d
 use Rattle.amqp_types.specs.Data.{Data}
 use Rattle.amqp_types.specs.View.{plain_part}
-use Rattle.amqp_types.specs.Reading.{to, code_at, size_at, sized_at, value_at}
-use Rattle.amqp_types.specs.Spells.{Spelling, IsNumber, Fills}
-use Rattle.amqp_types.specs.Spelling.{constructed, compound_piece, wide_sizes, list_text, spelling}
+use Rattle.amqp_types.specs.Reading.{to}
+use Rattle.amqp_types.specs.Spelling.{spelling}
 use Rattle.amqp_types.specs.Fitting.{FitsIn}
-use Rattle.amqp_types.proofs.Complete.{size_complete, sized_complete, code_complete}
-use Rattle.amqp_types.proofs.RoundTrip.{compound_wide, compound_narrow, value_at-spelling}
+use Rattle.amqp_types.proofs.RoundTrip.{value_at-spelling}
 use Rattle.amqp_perf.specs.declared.fault.PerfFault.{PerfFault}
-use Rattle.amqp_perf.specs.declared.fault.PerfFault.TheVariants as fault
-use Rattle.amqp_perf.specs.declared.descriptor.Descriptor.{Descriptor}
-use Rattle.amqp_perf.specs.declared.descriptor.Descriptor.TheVariants as is
-use Rattle.amqp_perf.specs.declared.opening.Opening.{Opening}
-use Rattle.amqp_perf.specs.declared.opening.Opening.TheVariants as opening
-use Rattle.amqp_perf.specs.Descriptors.{code_of, named}
-use Rattle.amqp_perf.specs.Faults.{outer, inner, within, by_fault, ◌>>=◌}
-use Rattle.amqp_perf.specs.Fields.{At, Takes, ended, absent, next, value, plain, plain_only, unless_null, judged, in_place, name_of, opened, opening_at, listed, listed_by, counted}
-use Rattle.amqp_perf.specs.Texts.{FieldText, given, given_by, field_bytes, joined, described_text, spelt}
-use Rattle.amqp_perf.specs.Fitting.{IsShort}
+use Rattle.amqp_perf.specs.Faults.{inner, within, by_fault, ◌>>=◌}
+use Rattle.amqp_perf.specs.Fields.{At, ended, next, value, plain, plain_only, unless_null, in_place}
+use Rattle.amqp_perf.specs.Texts.{FieldText, given, given_by, joined, spelt}
 
 abbrev pub found : {A : Type 0} → A → Result A PerfFault
 found x = Ok x
@@ -96,13 +80,17 @@ abbrev pub Reader : Type 0 → Type 0
 Reader A = ℕ → List ℕ → Result (Option A × List ℕ) PerfFault
 
 -- a value that a reader of its own reads
-pub in_place-some : {A : Type 0} (read : Reader A) (depth : ℕ) (text : List ℕ) (x : A) (fs : List FieldText)
-    → ((rest : List ℕ) → read depth (text ++ rest) ≡ Ok (Some x, rest)) → in_place read (place depth (Some text ∷ fs)) ≡ Ok (Some x, place depth fs)
+pub in_place-text : {A : Type 0} (read : Reader A) (depth : ℕ) (text : List ℕ) (x : Option A) (fs : List FieldText)
+    → ((rest : List ℕ) → read depth (text ++ rest) ≡ Ok (x, rest)) → in_place read (place depth (Some text ∷ fs)) ≡ Ok (x, place depth fs)
 unfolding place given
-in_place-some read depth text x fs reads =
+in_place-text read depth text x fs reads =
     not_empty (length (given fs)) _ _ ∙
     ap (λ r. within r >>= λ y. found (y.0, next (before depth (Some text ∷ given fs)) y.1)) (reads (joined (given fs)))
-    ∙ ap (λ p. found (Some x, p)) (behind_item depth (Some text) (given fs))
+    ∙ ap (λ p. found (x, p)) (behind_item depth (Some text) (given fs))
+
+pub in_place-some : {A : Type 0} (read : Reader A) (depth : ℕ) (text : List ℕ) (x : A) (fs : List FieldText)
+    → ((rest : List ℕ) → read depth (text ++ rest) ≡ Ok (Some x, rest)) → in_place read (place depth (Some text ∷ fs)) ≡ Ok (Some x, place depth fs)
+in_place-some read depth text x fs reads = in_place-text read depth text (Some x) fs reads
 
 pub in_place-none : {A : Type 0} (read : Reader A) (depth : ℕ) (fs : List FieldText)
     → ((rest : List ℕ) → read depth (0x40 ∷ rest) ≡ Ok (None, rest)) → in_place read (place depth (None ∷ fs)) ≡ Ok (None, place depth fs)
