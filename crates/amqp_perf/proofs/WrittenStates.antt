@@ -1,11 +1,14 @@
 -- Errors and delivery states that were written, read again.
-use Rattle.std.proofs.Common.{◌≡◌, ℕ, suc, ◌-◌, false, List, [], ◌∷◌, ◌++◌, Option, Some, None, Ok, refl, sym, ap, subst, ◌∙◌, append_assoc, true≢false, arith}
+use Rattle.std.proofs.Common.{◌≡◌, ℕ, suc, ◌-◌, ◌≤◌, Bool, true, false, cond, nat_lt, ◌==◌, List, [], ◌∷◌, ◌++◌, length, Option, Some, None, Ok, refl, sym, ap, subst, ◌∙◌, append_assoc, true≢false, arith}
 use Rattle.amqp_types.specs.Codes.{code_of as constructor_of}
 use Rattle.amqp_types.specs.Data as d
 use Rattle.amqp_types.specs.Data.{Data}
 use Rattle.amqp_types.specs.View.{plain_part}
 use Rattle.amqp_types.specs.Reading.{to, value_at}
-use Rattle.amqp_types.specs.Spelling.{spelling}
+use Rattle.amqp_types.specs.declared.code.Kind.TheVariants as kind
+use Rattle.amqp_types.specs.Spelling.{constructed, piece_by, spelling}
+use Rattle.std.specs.Int.{w32, w64, to_be_bytes}
+use Rattle.std.proofs.lemmas.List.{length-append}
 use Rattle.amqp_types.specs.Fitting.{FitsIn}
 use Rattle.amqp_types.proofs.RoundTrip.{value_at-spelling}
 use Rattle.amqp_perf.specs.declared.fault.PerfFault.TheVariants as fault
@@ -79,6 +82,35 @@ received_fields_again : (depth : ℕ) (x : Received) → FitsReceived x → rece
 unfolding received_fields
 received_fields_again depth x h = rw (required_uint_again depth x.section_number ((spelt (d.ulong x.section_offset)) ∷ []) h.section_number, required_ulong_again depth x.section_offset [] h.section_offset, place_ended (suc depth)) refl
 
+uint_short : (n : ℕ) → length (spelling (d.uint n)) ≤ 5
+unfolding spelling
+uint_short n = by_test (n == 0) (nat_lt n 256)
+  where
+    by_test : (none small : Bool) → length (cond none (0x43 ∷ []) (constructed kind.Uint (piece_by small (n ∷ []) (to_be_bytes w32 n)))) ≤ 5
+    by_test true small = omega arith
+    by_test false true = omega arith
+    by_test false false = omega arith
+
+ulong_short : (n : ℕ) → length (spelling (d.ulong n)) ≤ 9
+unfolding spelling
+ulong_short n = by_test (n == 0) (nat_lt n 256)
+  where
+    by_test : (none small : Bool) → length (cond none (0x44 ∷ []) (constructed kind.Ulong (piece_by small (n ∷ []) (to_be_bytes w64 n)))) ≤ 9
+    by_test true small = omega arith
+    by_test false true = omega arith
+    by_test false false = omega arith
+
+pub received_short : (x : Received) → IsShort (received_texts x)
+unfolding given
+received_short x =
+    let number = spelling (d.uint x.section_number) in
+    let offset = spelling (d.ulong x.section_offset) in
+    let first = uint_short x.section_number in
+    let second = ulong_short x.section_offset in
+    let all = length-append number (offset ++ []) in
+    let last = length-append offset [] in
+    omega (arith, first, second, all, last)
+
 rejected_fields_again : (depth : ℕ) (x : Rejected) → FitsRejected (suc (suc (suc (suc (suc depth))))) x → rejected_fields (place (suc (suc (suc depth))) (rejected_texts x)) ≡ Ok x
 unfolding rejected_fields
 rejected_fields_again depth x h =
@@ -125,7 +157,7 @@ pub state_in_again : (depth : ℕ) (x : DeliveryState) (rest : List ℕ) → Fit
 unfolding state_in state_spelling
 state_in_again depth (state.Received x) rest h =
     ap (λ r. r >>= state_by (suc (suc (suc (suc (suc depth))))) (described_text is.Received (received_texts x) ++ rest)) (opening_again (suc (suc (suc depth))) is.Received (received_texts x) rest)
-    ∙ fields_again (suc (suc depth)) 2 fault.WrongKind (received_texts x) rest received_fields (λ y. Some (state.Received y)) x (omega arith) (omega arith) h.whole (received_fields_again (suc (suc depth)) x h)
+    ∙ fields_again (suc (suc depth)) 2 fault.WrongKind (received_texts x) rest received_fields (λ y. Some (state.Received y)) x (omega arith) (omega arith) (received_short x) (received_fields_again (suc (suc depth)) x h)
 state_in_again depth state.Accepted rest h =
     ap (λ r. r >>= state_by (suc (suc (suc (suc (suc depth))))) (described_text is.Accepted [] ++ rest)) (opening_again (suc (suc (suc depth))) is.Accepted [] rest)
     ∙ fields_again (suc (suc depth)) 0 fault.WrongKind [] rest ended (λ y. Some state.Accepted) tt (omega arith) (omega arith) nothing_short (place_ended (suc (suc (suc depth))))

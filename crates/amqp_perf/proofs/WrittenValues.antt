@@ -15,7 +15,7 @@ use Rattle.amqp_perf.specs.Texts.{FieldText, given, given_by, field_bytes, joine
 use Rattle.amqp_perf.specs.Spelling.{error_texts, error_text, received_texts, rejected_texts, modified_texts, state_spelling, state_text}
 use Rattle.amqp_perf.specs.Fitting.{Each, IsText, IsMap, IsShort, FitsError, FitsState}
 use Rattle.amqp_perf.proofs.WrittenLists.{descriptor_spelled, descriptor_fits, given-shorter}
-use Rattle.amqp_perf.proofs.WrittenStates.{less_two, nothing_short}
+use Rattle.amqp_perf.proofs.WrittenStates.{less_two, nothing_short, received_short}
 
 -- the bytes spell this value
 pub record Spelt (depth : ℕ) (bytes : List ℕ) : Type 0 where
@@ -107,7 +107,7 @@ error_spelt depth (Some x) h =
 state_is_spelt : (depth : ℕ) (x : DeliveryState) → FitsState (suc (suc (suc (suc (suc depth))))) x → Spelt (suc (suc (suc (suc (suc depth))))) (state_spelling x)
 unfolding FitsIn state_spelling
 state_is_spelt depth (state.Received x) h =
-    described_spelt (suc (suc (suc depth))) is.Received (received_texts x) (omega arith) h.whole
+    described_spelt (suc (suc (suc depth))) is.Received (received_texts x) (omega arith) (received_short x)
     (value_spelt (suc (suc (suc depth))) (d.uint x.section_number) h.section_number, (value_spelt (suc (suc (suc depth))) (d.ulong x.section_offset) h.section_offset, tt))
 state_is_spelt depth state.Accepted h = described_spelt (suc (suc (suc depth))) is.Accepted [] (omega arith) nothing_short tt
 state_is_spelt depth (state.Rejected x) h =

@@ -1,6 +1,7 @@
 -- Which performatives and delivery states are read again as they were written: numbers within their types, texts and
--- symbols of their alphabets, carried values that are canonical spellings, and sizes below 2 ^ 32 (AMQP 1.0 part 1, section
--- 1.6). A depth is how many values may be around one another there: 32 for a whole value, and 30 for a performative's field.
+-- symbols of their alphabets, carried values that are canonical spellings, and sizes below 2 ^ 32 (AMQP 1.0 part 1,
+-- section 1.6). A depth is how many values may be around one another from there on: 32 for a whole value, 30 for a
+-- performative's field, and two less for each list further in.
 use Rattle.std.specs.Prelude.{◌≡◌, ℕ, ◌+◌, ◌-◌, ◌*◌, ◌^◌, ◌<◌, ◌≤◌, Bool, true, false, List, [], ◌∷◌, length, Option, Some, None, Result, Ok}
 use Rattle.std.specs.Str.{is_utf8}
 use Rattle.arrayvec.specs.ArrayVec.{ArrayVec}
@@ -48,7 +49,7 @@ use Rattle.amqp_perf.specs.declared.perf.Perf.TheVariants as perf
 use Rattle.amqp_perf.specs.Fields.{name_of}
 use Rattle.amqp_perf.specs.States.{is_among}
 use Rattle.amqp_perf.specs.Texts.{FieldText, given, joined, symbol_items}
-use Rattle.amqp_perf.specs.Spelling.{error_texts, received_texts, rejected_texts, modified_texts, source_texts, target_texts, attach_texts, deliveries_text, open_texts, begin_texts, flow_texts, transfer_texts, disposition_texts, detach_texts, end_texts, close_texts, sasl_mechanisms_texts, sasl_init_texts, sasl_challenge_texts, sasl_response_texts, sasl_outcome_texts}
+use Rattle.amqp_perf.specs.Spelling.{error_texts, rejected_texts, modified_texts, source_texts, target_texts, attach_texts, deliveries_text, open_texts, begin_texts, flow_texts, transfer_texts, disposition_texts, detach_texts, end_texts, close_texts, sasl_mechanisms_texts, sasl_init_texts, sasl_challenge_texts, sasl_response_texts, sasl_outcome_texts}
 
 -- what holds of a field, where it holds anything
 abbrev pub Each : {A : Type 0} → (A → Type 0) → Option A → Type 0
@@ -92,7 +93,7 @@ pub record IsOther (known : Option Descriptor → Bool) (depth : ℕ) (bytes : L
   pub fits : FitsIn depth (d.described descriptor value)
   pub unknown : known (name_of (plain_part descriptor)) ≡ false
 
--- the size of a list of fields
+-- the size of a list of fields, whose field for it has 32 bits
 abbrev pub IsShort : List FieldText → Type 0
 IsShort fs = length (joined (given fs)) + 4 < 2 ^ 32
 
@@ -115,7 +116,6 @@ names_state _ = false
 pub record FitsReceived (x : Received) : Type 0 where
   pub section_number : x.section_number < 2 ^ 32
   pub section_offset : x.section_offset < 2 ^ 64
-  pub whole : IsShort (received_texts x)
 
 pub record FitsRejected (depth : ℕ) (x : Rejected) : Type 0 where
   pub error : Each (FitsError (depth - 2)) x.error
@@ -234,7 +234,7 @@ pub record FitsSaslOutcome (x : SaslOutcome) : Type 0 where
   pub additional_data : Each IsBinary x.additional_data
   pub whole : IsShort (sasl_outcome_texts x)
 
--- a value that may be an address beside a string
+-- the value of an address that is no string; null is none at all
 abbrev pub is_address_value : Data → Bool
 is_address_value d.null = false
 is_address_value (d.string s) = false
@@ -289,7 +289,7 @@ abbrev pub FitsTargetTerminus : TargetTerminus → Type 0
 FitsTargetTerminus (target.Target x) = FitsTarget x
 FitsTargetTerminus (target.Other bytes) = IsOther names_target 30 bytes
 
--- an unsettled map: its tags differ, and each state fits
+-- an unsettled map (part 2, section 2.7.3): its tags differ, and each state fits
 abbrev pub AllDeliveries : List UnsettledDelivery → Type 0
 AllDeliveries [] = Unit {0}
 AllDeliveries (u ∷ us) = IsTag u.tag × Each (FitsState 29) u.state × AllDeliveries us
