@@ -1,4 +1,6 @@
 //! Streams from outside, cut in pieces of every size.
+ghost use Rattle.std.specs.Prelude.{◌<◌};
+
 use super::{FrameReader, Item, write_item};
 use crate::stream_tables::{HOSTILE, STREAMS};
 use crate::tests::Fail;
@@ -77,28 +79,81 @@ fn put_item(lines: &mut String, item: &Item) -> Result<(), Fail> {
     Ok(())
 }
 
+fn put_items(lines: &mut String, items: &[Item]) -> Result<(), Fail> {
+    for item in items {
+        put_item(lines, item)?;
+    }
+    Ok(())
+}
+
+/// A line for each item of a stream that comes in pieces of this size, and one for the rest.
+fn lines_of(alloc: Global, stream: &[u8], size: usize) -> Result<String, Fail>
+    requires { 0 < size }
+{
+    let mut reader = FrameReader::new(alloc);
+    let mut lines = String::new(alloc);
+    let mut taken = 0usize;
+    for piece in stream.chunks(size) {
+        match reader.feed(piece) {
+            Ok(items) => {
+                taken = taken.wrapping_add(piece.len());
+                put_items(&mut lines, &items)?;
+            }
+            Err(_) => break,
+        }
+    }
+    let unread = stream.len().wrapping_sub(taken);
+    put_rest(&mut lines, reader.rest().len().wrapping_add(unread))?;
+    Ok(lines)
+}
+
+fn put_rest(lines: &mut String, rest: usize) -> Result<(), Fail> {
+    writeln!(lines, "rest {rest}")?;
+    Ok(())
+}
+
+/// Whether a stream has these lines, in pieces of every size from 1 to 64.
+fn is_cut_so(alloc: Global, hex: &str, wanted: &str) -> Result<bool, Fail> {
+    let stream = unhex(alloc, hex)?;
+    for size in 1..65usize {
+        let lines = lines_of(alloc, &stream, size)?;
+        if lines.as_str() != wanted {
+            return Ok(false);
+        }
+    }
+    Ok(true)
+}
+
+fn shown(alloc: Global, items: &[Item]) -> Result<String, Fail> {
+    let mut text = String::new(alloc);
+    for item in items {
+        writeln!(text, "{item:?}")?;
+    }
+    Ok(text)
+}
+
+/// Whether the items of a stream are read again from what is written of them.
+fn is_read_again(alloc: Global, hex: &str) -> Result<bool, Fail> {
+    let stream = unhex(alloc, hex)?;
+    let mut reader = FrameReader::new(alloc);
+    let mut items = reader.feed(&stream)?;
+    if let Some(Item::Bad(_)) = items.last() {
+        drop(items.pop());
+    }
+    let mut bytes = Vec::new(alloc);
+    for item in &items {
+        write_item(alloc, item, &mut bytes)?;
+    }
+    let mut again = FrameReader::new(alloc);
+    let wanted = shown(alloc, &items)?;
+    let read = shown(alloc, &again.feed(&bytes)?)?;
+    Ok(read.as_str() == wanted.as_str())
+}
+
 #[test]
 fn real_streams_however_cut(rt: HostRuntime) -> Result<(), Fail> {
     for (_, hex, wanted) in &STREAMS {
-        let stream = unhex(rt.alloc(), hex)?;
-        for size in 1..65usize {
-            let mut reader = FrameReader::new(rt.alloc());
-            let mut lines = String::new(rt.alloc());
-            let mut taken = 0usize;
-            for piece in stream.chunks(size) {
-                let Ok(items) = reader.feed(piece) else {
-                    break;
-                };
-                taken = taken.wrapping_add(piece.len());
-                for item in &items {
-                    put_item(&mut lines, item)?;
-                }
-            }
-            let unread = stream.len().wrapping_sub(taken);
-            let rest = reader.rest().len().wrapping_add(unread);
-            writeln!(lines, "rest {rest}")?;
-            assert_eq!(rt; lines.as_str(), *wanted);
-        }
+        assert!(rt; is_cut_so(rt.alloc(), hex, wanted)?);
     }
     Ok(())
 }
@@ -121,22 +176,7 @@ fn hostile_streams_are_answered(rt: HostRuntime) -> Result<(), Fail> {
 #[test]
 fn real_frames_are_read_as_they_are_written(rt: HostRuntime) -> Result<(), Fail> {
     for (_, hex, _) in &STREAMS {
-        let stream = unhex(rt.alloc(), hex)?;
-        let mut reader = FrameReader::new(rt.alloc());
-        for item in &reader.feed(&stream)? {
-            let mut once = Vec::new(rt.alloc());
-            write_item(rt.alloc(), item, &mut once)?;
-            let mut again = FrameReader::new(rt.alloc());
-            let mut shown = String::new(rt.alloc());
-            for read in &again.feed(&once)? {
-                writeln!(shown, "{read:?}")?;
-            }
-            if !matches!(item, Item::Bad(_)) {
-                let mut wanted = String::new(rt.alloc());
-                writeln!(wanted, "{item:?}")?;
-                assert_eq!(rt; shown.as_str(), wanted.as_str());
-            }
-        }
+        assert!(rt; is_read_again(rt.alloc(), hex)?);
     }
     Ok(())
 }
