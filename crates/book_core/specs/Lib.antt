@@ -1,0 +1,7 @@
+pub mod Act
+pub mod Book
+pub mod Fault
+pub mod Rising
+pub mod Slots
+pub mod Table
+pub mod Tables
