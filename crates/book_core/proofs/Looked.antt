@@ -1,13 +1,13 @@
 -- The lemmas of `Shown` at termini and at rows.
-use Rattle.std.proofs.Common.{◌≡◌, ℕ, Bool, List, length, get_or, None, false, sym}
-use Rattle.std.specs.Prelude.{count_by, is_some}
+use Rattle.std.proofs.Common.{[], ◌∷◌, refl, ap, ◌≡◌, ℕ, Bool, List, length, get_or, None, false, sym}
+use Rattle.std.specs.Prelude.{filter, count_by, is_some}
 use Rattle.std.specs.List.{list_any}
 use Rattle.std.specs.Option.{option_map_or}
 use Rattle.book_core.specs.declared.row.Row.{Row}
 use Rattle.book_core.specs.declared.slot.RowSlot.{RowSlot}
 use Rattle.book_core.specs.declared.slot.TerminusSlot.{TerminusSlot}
 use Rattle.book_core.specs.declared.terminus.Terminus.{Terminus}
-use Rattle.book_core.specs.Book.{row_at, terminus_at}
+use Rattle.book_core.specs.Book.{row_at, terminus_at, is_wanted}
 use Rattle.book_core.specs.Rising.{Rises, Lacks, IsAt}
 use Rattle.book_core.specs.Slots.{rows_in, termini_in}
 use Rattle.book_core.proofs.Shown as shown
@@ -38,3 +38,7 @@ length_rows xs = sym (shown.length_shown (λ (s : RowSlot). s.row) xs)
 
 pub length_termini : (xs : List TerminusSlot) → length (termini_in xs) ≡ count_by (λ s. is_some s.terminus) xs
 length_termini xs = sym (shown.length_shown (λ (s : TerminusSlot). s.terminus) xs)
+
+pub all_wanted : (rs : List Row) → filter (is_wanted None) rs ≡ rs
+all_wanted [] = refl
+all_wanted (r ∷ rs) = ap (λ ss. r ∷ ss) (all_wanted rs)

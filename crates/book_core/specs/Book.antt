@@ -74,6 +74,10 @@ is_undecided r = is_none r.outcome
 abbrev pub has_tag : ℕ → List ℕ → Row → Bool
 has_tag n tag r = is_from n r && not r.forgotten && same_bytes r.tag.items tag
 
+-- the unforgotten row of this terminus with this tag
+abbrev pub row_named : ℕ → List ℕ → List Row → Option Row
+row_named n tag = find (has_tag n tag)
+
 -- Conditions.
 
 -- there is a terminus of this number and role
@@ -191,3 +195,8 @@ effects b (act ∷ acts) = effects (effect b act) acts
 -- the rows that came on the link of a terminus or are bound to it
 abbrev pub is_of : ℕ → Row → Bool
 is_of n r = is_from n r || is_for n r
+
+-- the rows of a walk: all, or those of a terminus
+abbrev pub is_wanted : Option TerminusNumber → Row → Bool
+is_wanted None r = true
+is_wanted (Some n) r = is_of n.0 r

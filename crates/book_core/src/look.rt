@@ -2,7 +2,7 @@
 ghost use Rattle.std.specs.Prelude.{◌≡◌, ◌&&◌, not, false, is_some, count_by, length};
 ghost use Rattle.std.specs.Option.{option_copied, option_map_or};
 ghost use Rattle.std.specs.List.{list_any};
-ghost use Rattle.book_core.specs.Book.{terminus_at, row_at, same_role, same_key, is_from, is_for, is_undecided, has_tag, has_role, may_bind, undecided_for, keeps};
+ghost use Rattle.book_core.specs.Book.{terminus_at, terminus_of, row_at, row_named, same_role, same_key, is_from, is_for, is_undecided, has_tag, has_role, may_bind, undecided_for, keeps, is_wanted};
 ghost use Rattle.book_core.specs.Rising.{Rises};
 ghost use Rattle.book_core.specs.Slots.{rows_in, termini_in};
 
@@ -86,6 +86,16 @@ fn holds(row: &Row, role: LinkRole, terminus: TerminusNumber) -> bool
     match role {
         LinkRole::Producer => came_from(row, terminus) && !row.forgotten,
         LinkRole::Consumer => waits_for(row, terminus),
+    }
+}
+
+/// Whether a row came on the link of this terminus or is bound to it; any row where none is named.
+pub(crate) fn is_wanted_row(row: &Row, terminus: Option<TerminusNumber>) -> bool
+    ensures { result ≡ is_wanted terminus row.now }
+{
+    match terminus {
+        None => true,
+        Some(terminus) => came_from(row, terminus) || is_bound_to(row, terminus),
     }
 }
 
@@ -197,4 +207,34 @@ pub(crate) fn count_termini(slots: &[TerminusSlot]) -> usize
     ensures { result ≡ length (termini_in slots.now) }
 {
     slots.iter().filter(|slot| slot.terminus.is_some()).count()
+}
+
+/// The terminus of the link with this key.
+pub(crate) fn terminus_with<'a>(slots: &'a [TerminusSlot], key: &LinkKey) -> Option<&'a Terminus>
+    ensures { option_copied result ≡ terminus_of key.now (termini_in slots.now) }
+{
+    for slot in slots {
+        match &slot.terminus {
+            Some(terminus) if is_key(&terminus.key, key) => return Some(terminus),
+            _ => {}
+        }
+    }
+    None
+}
+
+/// The unforgotten row of this producer with this tag.
+pub(crate) fn row_named<'a>(
+    slots: &'a [RowSlot],
+    producer: TerminusNumber,
+    tag: &DeliveryTag,
+) -> Option<&'a Row>
+    ensures { option_copied result ≡ row_named producer.0 tag.now.items (rows_in slots.now) }
+{
+    for slot in slots {
+        match &slot.row {
+            Some(row) if is_named(row, producer, tag) => return Some(row),
+            _ => {}
+        }
+    }
+    None
 }
