@@ -1,0 +1,57 @@
+-- What the calls of a disk do to its bytes, and what a crash may leave of them.
+-- Source: the project's own disk model, told in docs/disk.md. Between two syncs each written range and the part
+-- past the old end may hold any bytes; bytes outside stay; after a sync that succeeds a crash leaves what a read gives.
+use Rattle.std.specs.Prelude.{◌<◌, ◌≡◌, ◌⊎◌, ℕ, ◌+◌, ◌-◌, ◌≤◌, List, [], ◌∷◌, ◌++◌, length, take, drop, replicate, Result, IsErrOf}
+use Rattle.disk_core.specs.declared.fault.DiskFault.{DiskFault}
+use Rattle.disk_core.specs.declared.fault.DiskFault.TheVariants.{Failed}
+
+-- at most so many bytes of a file from a place on: fewer where it ends earlier, none past its end
+abbrev pub part : ℕ → ℕ → List ℕ → List ℕ
+part at most file = take most (drop at file)
+
+-- a file after a write: zeros fill a gap before the place, and a write of no bytes changes nothing
+abbrev pub overwritten : ℕ → List ℕ → List ℕ → List ℕ
+overwritten at [] old = old
+overwritten at (byte ∷ bytes) old = take at old ++ replicate (at - length old) 0 ++ (byte ∷ bytes) ++ drop (at + length (byte ∷ bytes)) old
+
+-- A crash may leave new where old stood before a write from one place to another, the end: any bytes between the
+-- two places and past the old end, the same bytes elsewhere.
+pub record Spoilt (at end : ℕ) (old new : List ℕ) : Type 0 where
+  pub middle : List ℕ
+  pub past : List ℕ
+  pub is : new ≡ take at old ++ middle ++ drop end old ++ past
+  pub fits : end < length old → length middle ≡ end - at
+
+-- the same of a cut: it counts as a write of all from its place on
+abbrev pub SpoiltFrom : ℕ → List ℕ → List ℕ → Type 0
+SpoiltFrom at old new = Spoilt at (length old) old new
+
+-- a crash leaves nothing that it might not have left before
+abbrev pub NoMore : (List ℕ → Type 0) → (List ℕ → Type 0) → Type 0
+NoMore old new = (c : List ℕ) → new c → old c
+
+-- each new outcome of a crash is an old outcome after a step
+abbrev pub Follows : (List ℕ → List ℕ → Type 0) → (List ℕ → Type 0) → (List ℕ → Type 0) → Type 0
+Follows step old new = (c : List ℕ) → new c → (d : List ℕ) × old d × step d c
+
+-- a crash leaves this and nothing else
+abbrev pub Only : List ℕ → (List ℕ → Type 0) → Type 0
+Only file outcomes = (c : List ℕ) → outcomes c → c ≡ file
+
+-- Time goes on: a crash since t might have left what it might have left before, or what it may leave now.
+pub record Elapses (before now : ℕ) (past since : ℕ → List ℕ → Type 0) (may_leave : List ℕ → Type 0) : Type 0 where
+  pub later : before ≤ now
+  pub nothing_else : (t : ℕ) (c : List ℕ) → t ≤ before → since t c → past t c ⊎ may_leave c
+  pub keeps : (t : ℕ) (c : List ℕ) → t ≤ before → past t c → since t c
+
+-- a crash at any moment since old, up to new, leaves a file that has P
+pub record LeavesOnly {D : Type 0} (moment : D → ℕ) (left_since : D → ℕ → List ℕ → Type 0) (old new : D) (P : List ℕ → Type 0) : Type 0 where
+  pub later : moment old ≤ moment new
+  pub each : (c : List ℕ) → left_since new (moment old) c → P c
+  -- for a run that began earlier
+  pub before : (t : ℕ) (c : List ℕ) → t ≤ moment old → left_since new t c → left_since old t c ⊎ P c
+
+-- `Failed` is answered exactly where the disk failed once more
+pub record HasCause {T : Type 0} (before now : ℕ) (result : Result T DiskFault) : Type 0 where
+  pub failed : IsErrOf result Failed → now ≡ before + 1
+  pub else_same : (IsErrOf result Failed → ⊥) → now ≡ before

@@ -1,0 +1,43 @@
+-- A disk told by what was done to it, the newest first: what a read gives then, and what a crash may leave.
+use Rattle.std.specs.Prelude.{◌≡◌, ◌⊎◌, ℕ, ◌+◌, ◌≤◌, List, [], ◌∷◌, length, take}
+use Rattle.disk_core.specs.Disk.{overwritten, Spoilt, SpoiltFrom}
+
+-- The last two are a write and a cut that failed: nothing of them is seen, but a crash may leave them begun.
+pub data Event : Type 0 where
+  Wrote : (at : ℕ) (bytes : List ℕ) → Event
+  Shortened : (len : ℕ) → Event
+  Synced : Event
+  BeganWrite : (at count : ℕ) → Event
+  BeganCut : (len : ℕ) → Event
+
+-- what a read gives, where these bytes stood at first
+abbrev pub seen_of : List ℕ → List Event → List ℕ
+seen_of first [] = first
+seen_of first (Wrote at bytes ∷ es) = overwritten at bytes (seen_of first es)
+seen_of first (Shortened len ∷ es) = take len (seen_of first es)
+seen_of first (Synced ∷ es) = seen_of first es
+seen_of first (BeganWrite at count ∷ es) = seen_of first es
+seen_of first (BeganCut len ∷ es) = seen_of first es
+
+-- what a read gave at the last sync
+abbrev pub kept_of : List ℕ → List Event → List ℕ
+kept_of first [] = first
+kept_of first (Wrote at bytes ∷ es) = kept_of first es
+kept_of first (Shortened len ∷ es) = kept_of first es
+kept_of first (Synced ∷ es) = seen_of first es
+kept_of first (BeganWrite at count ∷ es) = kept_of first es
+kept_of first (BeganCut len ∷ es) = kept_of first es
+
+-- what a crash may leave now: what was there at the last sync, spoilt by each write and cut since
+abbrev pub ImagesNow : List ℕ → List Event → List ℕ → Type 0
+ImagesNow first [] c = c ≡ first
+ImagesNow first (Wrote at bytes ∷ es) c = (d : List ℕ) × ImagesNow first es d × Spoilt at (at + length bytes) d c
+ImagesNow first (Shortened len ∷ es) c = (d : List ℕ) × ImagesNow first es d × SpoiltFrom len d c
+ImagesNow first (Synced ∷ es) c = c ≡ seen_of first es
+ImagesNow first (BeganWrite at count ∷ es) c = (d : List ℕ) × ImagesNow first es d × Spoilt at (at + count) d c
+ImagesNow first (BeganCut len ∷ es) c = (d : List ℕ) × ImagesNow first es d × SpoiltFrom len d c
+
+-- what a crash might have left at some moment from t on; a moment is the number of events before it
+abbrev pub Images : List ℕ → List Event → ℕ → List ℕ → Type 0
+Images first [] t c = ImagesNow first [] c
+Images first (e ∷ es) t c = ImagesNow first (e ∷ es) c ⊎ ((t ≤ length es) × Images first es t c)

@@ -1,0 +1,9 @@
+pub mod Call
+pub mod Disk
+pub mod DiskLaws
+pub mod Event
+pub mod Fault
+pub mod File
+pub mod Fuse
+pub mod Memory
+pub mod Note

@@ -1,0 +1,22 @@
+-- What a file's record says, and the events that it tells.
+use Rattle.std.specs.Prelude.{ℕ, List, length, map, slice_index, if◌then◌else◌, ◌==◌}
+use Rattle.disk_core.specs.Event.{Event, Wrote, Shortened, Synced, BeganWrite, BeganCut}
+
+-- a code of src/record.rt, a place or a length, and bytes
+abbrev pub Note : Type 0
+Note = ℕ × ℕ × List ℕ
+
+abbrev pub note_of : List ℕ → List ℕ → Note
+note_of numbers bytes = (slice_index numbers 0, slice_index numbers 1, bytes)
+
+abbrev pub noted : Note → Event
+noted note =
+    if note.0 == 0 then Wrote note.1 note.2
+    else if note.0 == 1 then Shortened note.1
+    else if note.0 == 2 then BeganWrite note.1 (length note.2)
+    else if note.0 == 3 then BeganCut note.1
+    else Synced
+
+-- the newest first
+abbrev pub events_noted : List Note → List Event
+events_noted notes = map noted notes
