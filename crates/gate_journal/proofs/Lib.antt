@@ -1,3 +1,4 @@
 pub mod Fronts
 pub mod Outcomes
 pub mod Joins
+pub mod Spelled

@@ -11,7 +11,7 @@ use Rattle.book_core.specs.declared.act.Admission.{Admission}
 use Rattle.book_core.specs.declared.terminus.Terminus.{Terminus}
 use Rattle.book_core.specs.declared.terminus.TerminusNumber.{TerminusNumber}
 use Rattle.book_core.specs.Book.{BookView, empty_book, first_fault, effects}
-use Rattle.gate_journal.specs.Format.{acts_bytes, front}
+use Rattle.gate_journal.specs.Format.{acts_bytes, front, or_zero}
 
 -- a text whose length two bytes can tell
 pub record IsText (text : List ℕ) : Type 0 where
@@ -27,16 +27,15 @@ IsTerminal states.Released = Unit {0}
 IsTerminal (states.Modified m) = Unit {0}
 IsTerminal (states.Other v) = ⊥
 
--- an outcome: a terminal state that its canonical spelling gives back, and whose length two bytes can tell
+-- an outcome: a terminal state that its canonical spelling gives back
 pub record IsOutcome (outcome : DeliveryState) : Type 0 where
   pub terminal : IsTerminal outcome
-  pub short : length (state_spelling outcome) < 2 ^ 16
   pub reads_back : state_at (state_spelling outcome) ≡ Ok (outcome, length (state_spelling outcome))
 
 -- a terminus has a number above 0, which stands for none
-abbrev pub IsTerminusOrNone : Option TerminusNumber → Type 0
-IsTerminusOrNone None = Unit {0}
-IsTerminusOrNone (Some n) = (0 < n.0) × (n.0 < 2 ^ 64)
+abbrev pub IsAboveZero : Option TerminusNumber → Type 0
+IsAboveZero None = Unit {0}
+IsAboveZero (Some n) = 0 < n.0
 
 pub record IsMake (t : Terminus) : Type 0 where
   pub number : t.number.0 < 2 ^ 64
@@ -49,7 +48,8 @@ pub record IsAdmission (a : Admission) : Type 0 where
   pub row : a.row.0 < 2 ^ 64
   pub producer : a.producer.0 < 2 ^ 64
   pub tag : length a.tag.items ≤ 32
-  pub consumer : IsTerminusOrNone a.consumer
+  pub consumer : or_zero a.consumer < 2 ^ 64
+  pub above_zero : IsAboveZero a.consumer
   pub format : a.format < 2 ^ 32
   pub payload : length a.payload < 2 ^ 32
 
@@ -57,10 +57,11 @@ pub record IsAdmission (a : Admission) : Type 0 where
 abbrev pub IsWritable : Act → Type 0
 IsWritable (Make t) = IsMake t
 IsWritable (Admit a) = IsAdmission a
-IsWritable (Decide d) = (d.row.0 < 2 ^ 64) × IsOutcome d.outcome
+IsWritable (Decide d) = (d.row.0 < 2 ^ 64) × (length (state_spelling d.outcome) < 2 ^ 16) × IsOutcome d.outcome
 IsWritable (Forget n) = n.0 < 2 ^ 64
 IsWritable (Drop n) = n.0 < 2 ^ 64
 
+-- each act is
 abbrev pub AreWritable : List Act → Type 0
 AreWritable [] = Unit {0}
 AreWritable (act ∷ acts) = IsWritable act × AreWritable acts
@@ -88,3 +89,23 @@ pub record Holds (file : List ℕ) (bs : List (List Act)) : Type 0 where
   pub shut : gate ≢ 1
   pub is : file ≡ front bs ++ gate ∷ rest
   pub valid : AllApply empty_book bs
+
+-- Of what a batch needs, what isn't seen from its acts' numbers and lengths: that an outcome is one, and that a
+-- terminus has a number above 0.
+abbrev pub HasOutcome : Act → Type 0
+HasOutcome (Decide d) = IsOutcome d.outcome
+HasOutcome _ = Unit {0}
+
+abbrev pub HasTerminus : Act → Type 0
+HasTerminus (Admit a) = IsAboveZero a.consumer
+HasTerminus _ = Unit {0}
+
+-- each outcome that these acts decide is one
+abbrev pub HaveOutcomes : List Act → Type 0
+HaveOutcomes [] = Unit {0}
+HaveOutcomes (act ∷ acts) = HasOutcome act × HaveOutcomes acts
+
+-- each terminus that these acts bind to has a number above 0
+abbrev pub HaveTermini : List Act → Type 0
+HaveTermini [] = Unit {0}
+HaveTermini (act ∷ acts) = HasTerminus act × HaveTermini acts

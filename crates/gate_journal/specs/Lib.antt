@@ -1,3 +1,5 @@
 pub mod Batches
+pub mod Fault
 pub mod Format
+pub mod Reserve
 pub mod Stands

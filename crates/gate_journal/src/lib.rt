@@ -3,5 +3,9 @@
 #![tactic(auto)]
 
 mod device;
+mod fault;
+mod figures;
 mod spell;
 mod store;
+
+pub use fault::{JournalFault, OpenFault};

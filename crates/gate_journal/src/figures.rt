@@ -1,0 +1,69 @@
+//! The figures of a journal: how long it is, how much room it keeps free, and how many batches it has.
+ghost use Rattle.std.specs.Prelude.{◌≡◌, ◌+◌, ◌<◌, sum, sum_by, length, IfSome, IsTrue, ◌↔◌};
+ghost use Rattle.gate_journal.specs.Reserve.{growth, release};
+
+use book_core::Act;
+
+/// The figures of a journal.
+#[derive(Clone, Copy, Debug)]
+pub(crate) struct Figures {
+    /// The place of the gate that ends the journal.
+    pub(crate) place: usize,
+    /// The bytes that are kept free.
+    pub(crate) reserve: u64,
+    /// The number of batches.
+    pub(crate) count: u64,
+}
+
+/// A sum, where it has a number.
+pub(crate) fn total(parts: &[u64]) -> Option<u64>
+    ensures { IfSome result (λ n. n ≡ sum parts.now) }
+{
+    let mut total = 0u64;
+    for part in parts {
+        total = total.checked_add(*part)?;
+    }
+    Some(total)
+}
+
+fn growth_of(act: &Act) -> u64
+    ensures { result ≡ growth act.now }
+{
+    match act {
+        Act::Make(_) => 14,
+        Act::Admit(_) => 430,
+        _ => 0,
+    }
+}
+
+fn release_of(act: &Act) -> u64
+    ensures { result ≡ release act.now }
+{
+    match act {
+        Act::Decide(_) => 416,
+        Act::Forget(_) | Act::Drop(_) => 14,
+        _ => 0,
+    }
+}
+
+/// By how much acts make the reserve larger.
+pub(crate) fn growth_by(acts: &[Act]) -> Option<u64>
+    ensures { IfSome result (λ n. n ≡ sum_by growth acts.now) }
+{
+    let mut total = 0u64;
+    for act in acts {
+        total = total.checked_add(growth_of(act))?;
+    }
+    Some(total)
+}
+
+/// By how much acts make the reserve smaller.
+pub(crate) fn release_by(acts: &[Act]) -> Option<u64>
+    ensures { IfSome result (λ n. n ≡ sum_by release acts.now) }
+{
+    let mut total = 0u64;
+    for act in acts {
+        total = total.checked_add(release_of(act))?;
+    }
+    Some(total)
+}
