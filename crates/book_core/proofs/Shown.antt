@@ -149,7 +149,7 @@ filter_as_change name n (v ∷ vs) = by_bool (name v == n) (filter_as_change nam
 
 -- Numbers still rise.
 module _ {S : Type 0} (number : S → ℕ) where
-  above_more : (m : ℕ) (xs : List S) (s : S) → AllAbove number m xs → m < number s → AllAbove number m (xs ++ s ∷ [])
+  pub above_more : (m : ℕ) (xs : List S) (s : S) → AllAbove number m xs → m < number s → AllAbove number m (xs ++ s ∷ [])
   above_more m [] s h l = (l, tt)
   above_more m (x ∷ xs) s h l = (h.0, above_more m xs s h.1 l)
 
@@ -176,7 +176,7 @@ module _ {S : Type 0} (number : S → ℕ) where
   below_set m (x ∷ xs) zero s e h = (let below : number x < m = h.0 in let same = e x in omega arith, h.1)
   below_set m (x ∷ xs) (suc at) s e h = (h.0, below_set m xs at s e h.1)
 
-  above_filter : (m : ℕ) (p : S → Bool) (xs : List S) → AllAbove number m xs → AllAbove number m (filter p xs)
+  pub above_filter : (m : ℕ) (p : S → Bool) (xs : List S) → AllAbove number m xs → AllAbove number m (filter p xs)
   above_filter m p [] h = tt
   above_filter m p (x ∷ xs) h = by_bool (p x) (above_filter m p xs h.1)
     where

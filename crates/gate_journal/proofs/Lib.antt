@@ -2,3 +2,5 @@ pub mod Fronts
 pub mod Outcomes
 pub mod Joins
 pub mod Spelled
+pub mod Ordered
+pub mod Reserves
