@@ -4,3 +4,4 @@ pub mod Joins
 pub mod Spelled
 pub mod Ordered
 pub mod Reserves
+pub mod Nexts

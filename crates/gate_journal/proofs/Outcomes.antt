@@ -82,13 +82,13 @@ spoilt_gate bs acts file c place valid is applies st e s =
     let byte = one_byte s.middle (omega (arith, s.fits long)) in
     by_gate bs acts c (st.rest ++ s.past) byte.0 valid is applies
     (
-      s.is
-      ∙ ap (λ (l : List ℕ). l ++ s.middle ++ drop (place + 1) file ++ s.past) (ap (take place) st.is ∙ take_at (front bs) (st.gate ∷ (batch acts ++ 0 ∷ st.rest)) place (sym e))
-      ∙ ap (λ (l : List ℕ). front bs ++ l ++ drop (place + 1) file ++ s.past) byte.1
-      ∙ ap (λ (l : List ℕ). front bs ++ byte.0 ∷ [] ++ l ++ s.past) (ap (drop (place + 1)) st.is ∙ behind_gate (front bs) (batch acts ++ 0 ∷ st.rest) st.gate place e)
-      ∙ append_assoc (front bs ++ byte.0 ∷ []) (batch acts ++ 0 ∷ st.rest) s.past
-      ∙ append_assoc (front bs) (byte.0 ∷ []) (batch acts ++ 0 ∷ st.rest ++ s.past)
-      ∙ ap (λ (l : List ℕ). front bs ++ byte.0 ∷ l) (append_assoc (batch acts) (0 ∷ st.rest) s.past)
+    s.is
+    ∙ ap (λ (l : List ℕ). l ++ s.middle ++ drop (place + 1) file ++ s.past) (ap (take place) st.is ∙ take_at (front bs) (st.gate ∷ (batch acts ++ 0 ∷ st.rest)) place (sym e))
+    ∙ ap (λ (l : List ℕ). front bs ++ l ++ drop (place + 1) file ++ s.past) byte.1
+    ∙ ap (λ (l : List ℕ). front bs ++ byte.0 ∷ [] ++ l ++ s.past) (ap (drop (place + 1)) st.is ∙ behind_gate (front bs) (batch acts ++ 0 ∷ st.rest) st.gate place e)
+    ∙ append_assoc (front bs ++ byte.0 ∷ []) (batch acts ++ 0 ∷ st.rest) s.past
+    ∙ append_assoc (front bs) (byte.0 ∷ []) (batch acts ++ 0 ∷ st.rest ++ s.past)
+    ∙ ap (λ (l : List ℕ). front bs ++ byte.0 ∷ l) (append_assoc (batch acts) (0 ∷ st.rest) s.past)
     )
 
 opened : (bs : List (List Act)) (acts : List Act) (file new : List ℕ) (place : ℕ) → AllApply empty_book bs → IsBatch acts → first_fault (book_after empty_book bs) acts ≡ None

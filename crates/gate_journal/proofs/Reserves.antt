@@ -50,20 +50,20 @@ module _ {V : Type 0} (number : V → ℕ) (n : ℕ) (f : V → ℕ) (change : V
   sum_changed (v ∷ vs) old up e =
       by_test (number v == n)
       (λ t.
-        let here : v ≡ old = (let found : cond (number v == n) (Some v) (find (λ v. number v == n) vs) ≡ Some old = e in let found' : Some v ≡ Some old = rw t at found in cc) in
-        let P : ℕ → Type 0 = λ m. AllAbove number m vs in
-        let rest = shown.changed_none number n change vs (none_above number n vs (subst P (same_number (number v) n t) up.0)) in
-        rw (t, rest) (let sums : sum_by f (cons_option (change v) vs) ≡ weight f (change v) + sum_by f vs = sum_option f (change v) vs in
-          let whole : sum_by f (v ∷ vs) ≡ f v + sum_by f vs = sum_by-cons f v vs in
-          let same : f v ≡ f old = ap f here in
-          let same_change : weight f (change v) ≡ weight f (change old) = ap (λ w. weight f (change w)) here in
-          omega arith))
+      let here : v ≡ old = (let found : cond (number v == n) (Some v) (find (λ v. number v == n) vs) ≡ Some old = e in let found' : Some v ≡ Some old = rw t at found in cc) in
+      let P : ℕ → Type 0 = λ m. AllAbove number m vs in
+      let rest = shown.changed_none number n change vs (none_above number n vs (subst P (same_number (number v) n t) up.0)) in
+      rw (t, rest) (let sums : sum_by f (cons_option (change v) vs) ≡ weight f (change v) + sum_by f vs = sum_option f (change v) vs in
+      let whole : sum_by f (v ∷ vs) ≡ f v + sum_by f vs = sum_by-cons f v vs in
+      let same : f v ≡ f old = ap f here in
+      let same_change : weight f (change v) ≡ weight f (change old) = ap (λ w. weight f (change w)) here in
+      omega arith))
       (λ t.
-        let found : find (λ v. number v == n) vs ≡ Some old = (let found : cond (number v == n) (Some v) (find (λ v. number v == n) vs) ≡ Some old = e in rw t at found) in
-        let rest = sum_changed vs old up.1 found in
-        rw t (let sums : sum_by f (v ∷ filter_map (λ v. cond (number v == n) (change v) (Some v)) vs) ≡ f v + sum_by f (filter_map (λ v. cond (number v == n) (change v) (Some v)) vs) = sum_by-cons f v (filter_map (λ v. cond (number v == n) (change v) (Some v)) vs) in
-          let whole : sum_by f (v ∷ vs) ≡ f v + sum_by f vs = sum_by-cons f v vs in
-          omega (arith, rest)))
+      let found : find (λ v. number v == n) vs ≡ Some old = (let found : cond (number v == n) (Some v) (find (λ v. number v == n) vs) ≡ Some old = e in rw t at found) in
+      let rest = sum_changed vs old up.1 found in
+      rw t (let sums : sum_by f (v ∷ filter_map (λ v. cond (number v == n) (change v) (Some v)) vs) ≡ f v + sum_by f (filter_map (λ v. cond (number v == n) (change v) (Some v)) vs) = sum_by-cons f v (filter_map (λ v. cond (number v == n) (change v) (Some v)) vs) in
+      let whole : sum_by f (v ∷ vs) ≡ f v + sum_by f vs = sum_by-cons f v vs in
+      omega (arith, rest)))
 
 length_as_sum : {V : Type 0} (vs : List V) → sum_by (λ v. 1) vs ≡ length vs
 length_as_sum [] = refl

@@ -48,9 +48,9 @@ writable_more acts i item l e so_far here =
     let P : List Act → Type 0 = λ b. HaveOutcomes b → HaveTermini b → AreWritable b in
     subst P (sym (one_more acts i item l e))
     (λ outcomes termini.
-      let o = outcomes_before (take i acts) item outcomes in
-      let t = termini_before (take i acts) item termini in
-      writable_behind (take i acts) item (so_far o.0 t.0) (here o.1 t.1))
+    let o = outcomes_before (take i acts) item outcomes in
+    let t = termini_before (take i acts) item termini in
+    writable_behind (take i acts) item (so_far o.0 t.0) (here o.1 t.1))
 
 -- a batch whose length is written last
 pub sealed : (items front new list : List ℕ) (len size : ℕ) → items ≡ in_4 0 ++ list → length items ≡ size → front ≡ items → len ≡ size - 4 → new ≡ in_4 len ++ drop 4 front
@@ -65,3 +65,7 @@ sealed items front new list len size is is_size same is_len put =
 pub sealed_batch : (acts : List Act) → in_4 (length (acts_bytes acts)) ++ acts_bytes acts ≡ batch acts
 unfolding batch
 sealed_batch acts = refl
+
+pub length-batch : (acts : List Act) → length (batch acts) ≡ 4 + length (acts_bytes acts)
+unfolding batch
+length-batch acts = length-append (in_4 (length (acts_bytes acts))) (acts_bytes acts) ∙ ap (λ (n : ℕ). n + length (acts_bytes acts)) (length-in_4 (length (acts_bytes acts)))

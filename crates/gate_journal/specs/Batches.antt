@@ -109,3 +109,10 @@ HaveOutcomes (act ∷ acts) = HasOutcome act × HaveOutcomes acts
 abbrev pub HaveTermini : List Act → Type 0
 HaveTermini [] = Unit {0}
 HaveTermini (act ∷ acts) = HasTerminus act × HaveTermini acts
+
+-- a batch that applies behind these batches
+pub record IsNext (bs : List (List Act)) (acts : List Act) : Type 0 where
+  pub some : acts ≢ []
+  pub small : length (acts_bytes acts) ≤ 4194304
+  pub outcomes : HaveOutcomes acts
+  pub applies : first_fault (book_after empty_book bs) acts ≡ None

@@ -38,3 +38,7 @@ Costs acts = sum_by release acts < 5 + length (acts_bytes acts) + sum_by growth 
 -- The batch costs more than there is room in a journal of so many bytes with so large a reserve.
 abbrev pub Exceeds : ℕ → ℕ → List Act → Type 0
 Exceeds used kept acts = journal_limit + sum_by release acts < 5 + length (acts_bytes acts) + sum_by growth acts + used + kept
+
+-- a batch costs more than nothing, and more than there is room
+abbrev pub IsFull : ℕ → ℕ → List Act → Type 0
+IsFull used kept acts = Costs acts × Exceeds used kept acts

@@ -1,5 +1,5 @@
 //! The figures of a journal: how long it is, how much room it keeps free, and how many batches it has.
-ghost use Rattle.std.specs.Prelude.{◌≡◌, ◌+◌, ◌<◌, sum, sum_by, length, IfSome, IsTrue, ◌↔◌};
+ghost use Rattle.std.specs.Prelude.{◌≡◌, ◌+◌, ◌-◌, sum, sum_by, length, IfSome, IsTrue, ◌↔◌};
 ghost use Rattle.gate_journal.specs.Reserve.{growth, release};
 
 use book_core::Act;
@@ -66,4 +66,19 @@ pub(crate) fn release_by(acts: &[Act]) -> Option<u64>
         total = total.checked_add(release_of(act))?;
     }
     Some(total)
+}
+
+impl Figures {
+    /// The figures with a batch more, of so many bytes from its length up to and with the gate behind it.
+    pub(crate) fn after(self, bytes: usize, growth: u64, release: u64) -> Option<Figures>
+        ensures place { IfSome result (λ f. f.place ≡ self.place + bytes) }
+        ensures reserve { IfSome result (λ f. f.reserve ≡ self.reserve + growth - release) }
+        ensures count { IfSome result (λ f. f.count ≡ self.count + 1) }
+    {
+        Some(Figures {
+            place: self.place.checked_add(bytes)?,
+            reserve: self.reserve.checked_add(growth)?.saturating_sub(release),
+            count: self.count.checked_add(1)?,
+        })
+    }
 }

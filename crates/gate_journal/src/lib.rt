@@ -5,7 +5,9 @@
 mod device;
 mod fault;
 mod figures;
+mod journal;
 mod spell;
 mod store;
 
 pub use fault::{JournalFault, OpenFault};
+pub use journal::Journal;

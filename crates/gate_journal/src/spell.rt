@@ -1,5 +1,5 @@
 //! The bytes of acts.
-ghost use Rattle.std.specs.Prelude.{◌≡◌, ◌++◌, [], ◌∷◌, ◌<◌, ◌≤◌, ◌^◌, drop, length, vec_len, OnOk, OnErr, IfOk};
+ghost use Rattle.std.specs.Prelude.{◌≡◌, ◌+◌, ◌++◌, [], ◌∷◌, ◌<◌, ◌≤◌, ◌^◌, drop, length, vec_len, OnOk, OnErr, IfOk};
 ghost use Rattle.std.specs.List.{flat_map};
 ghost use Rattle.amqp_perf.specs.Spelling.{state_spelling};
 ghost use Rattle.gate_journal.specs.Batches.{IsMake, IsAdmission, IsAboveZero, HasOutcome, HasTerminus, IsWritable, HaveOutcomes, HaveTermini, AreWritable};
@@ -167,6 +167,7 @@ fn seal(block: &mut [u8], len: u32)
 /// The bytes of a batch, with a closed gate behind it.
 pub(crate) fn block_of(alloc: Global, acts: &[Act]) -> Result<Vec<u8>, AllocError>
     ensures block { IfOk result (λ v. v.items ≡ batch acts.now ++ 0 ∷ []) }
+    ensures len { IfOk result (λ v. vec_len v ≡ 5 + length (acts_bytes acts.now)) }
     ensures writable { OnOk result (HaveOutcomes acts.now → HaveTermini acts.now → AreWritable acts.now) }
 {
     let mut block = Vec::new(alloc);

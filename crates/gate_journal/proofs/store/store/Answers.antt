@@ -22,14 +22,14 @@ returns-clause-any_moment g c bs acts at is_block is applies =
     let P = λ (f : List ℕ). Holds f bs ⊎ Holds f (bs ++ acts ∷ []) in
     joined g.D.Disk.moment g.D.Disk.left_since c.args.disk.now c.put.new.disk c.put-2.new.disk P
     (widened g.D.Disk.moment g.D.Disk.left_since c.args.disk.now c.put.new.disk _ P moments
-      (λ f left. inl (first_leaves _ _ c.args.place bs acts c.args.block.now at is_block is applies f left)))
+    (λ f left. inl (first_leaves _ _ c.args.place bs acts c.args.block.now at is_block is applies f left)))
     (widened g.D.Disk.moment g.D.Disk.left_since c.put.new.disk c.put-2.new.disk _ P c.put-2.ensures.moments
-      (λ f left. second_leaves _ _ c.args.place bs acts c.args.block.now at is_block is applies _ _ written c.in_ok-put.ensures.durable f left))
+    (λ f left. second_leaves _ _ c.args.place bs acts c.args.block.now at is_block is applies _ _ written c.in_ok-put.ensures.durable f left))
 
 pub returns-clause-done : goal.returns-clause-done
 returns-clause-done g c =
     on_ok c.put-2.result
     (λ gated durable bs acts at is_block is applies.
-      let written = rw c.in-Some.ensures.1 at c.in_ok-put.ensures.written in
-      stored _ _ c.args.place bs acts c.args.block.now at is_block is applies _ _ _ written gated durable)
+    let written = rw c.in-Some.ensures.1 at c.in_ok-put.ensures.written in
+    stored _ _ c.args.place bs acts c.args.block.now at is_block is applies _ _ _ written gated durable)
     c.put-2.ensures.written c.put-2.ensures.durable
