@@ -5,3 +5,4 @@ pub mod Spelled
 pub mod Ordered
 pub mod Reserves
 pub mod Nexts
+pub mod Texts

@@ -6,6 +6,7 @@ mod device;
 mod fault;
 mod figures;
 mod journal;
+mod read;
 mod spell;
 mod store;
 
