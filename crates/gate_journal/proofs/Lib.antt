@@ -6,3 +6,6 @@ pub mod Ordered
 pub mod Reserves
 pub mod Nexts
 pub mod Texts
+pub mod Tools
+pub mod Back
+pub mod Forth
