@@ -15,8 +15,15 @@ use Rattle.gate_journal.proofs.Spelled.{length-in_2, length-in_4, length-in_8}
 abbrev pub done : {A : Type 0} → A → List ℕ → Result (A × List ℕ) ReadFault
 done x rest = Ok (x, rest)
 
+abbrev pub paired : {A : Type 0} → A → List ℕ → A × List ℕ
+paired x rest = (x, rest)
+
 same_pair : {A : Type 0} (p q : A × List ℕ) (r s : Result (A × List ℕ) ReadFault) → r ≡ Ok p → s ≡ Ok q → r ≡ s → p ≡ q
 same_pair p q r s e f g = cc
+
+-- both parts
+pub same_both : {A : Type 0} (x y : A) (a b : List ℕ) → done x a ≡ done y b → paired x a ≡ paired y b
+same_both x y a b e = same_pair (x, a) (y, b) (done x a) (done y b) refl refl e
 
 pub same_read : {A : Type 0} (x y : A) (a b : List ℕ) → done x a ≡ done y b → x ≡ y
 same_read x y a b e = ap (λ p. p.0) (same_pair (x, a) (y, b) (done x a) (done y b) refl refl e)
