@@ -9,3 +9,4 @@ pub mod Texts
 pub mod Tools
 pub mod Back
 pub mod Forth
+pub mod Unique
