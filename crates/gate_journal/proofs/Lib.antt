@@ -10,3 +10,5 @@ pub mod Tools
 pub mod Back
 pub mod Forth
 pub mod Unique
+pub mod Scans
+pub mod Walks

@@ -12,7 +12,7 @@ use Rattle.gate_journal.specs.Reading.{number_at, chunk_at, act_at}
 use Rattle.gate_journal.proofs.Back.{act_back}
 use Rattle.gate_journal.proofs.Tools.{done, same_read, same_rest, back_4, chunk_back}
 
-none_at_all : act_at [] ≡ Err Misspelt
+pub none_at_all : act_at [] ≡ Err Misspelt
 unfolding act_at
 none_at_all = refl
 

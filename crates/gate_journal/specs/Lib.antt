@@ -2,6 +2,8 @@ pub mod Batches
 pub mod Fault
 pub mod Format
 pub mod Journal
+pub mod Opening
 pub mod Reading
 pub mod Reserve
+pub mod Scanning
 pub mod Stands

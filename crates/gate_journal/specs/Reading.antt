@@ -128,3 +128,11 @@ act_behind kind bytes =
 
 unfoldable pub act_at : Reads Act
 act_at bytes = byte_at bytes >>= λ kind. act_behind kind.0 kind.1
+
+-- the acts' bytes of a batch, and what stands behind it: a gate at least
+unfoldable pub inside_at : Reads (List ℕ)
+inside_at bytes =
+    number_at w32 bytes >>= λ size.
+    if size.0 == 0 then Err Misspelt
+    else if nat_lt 4194304 size.0 then Err Misspelt
+    else (chunk_at size.0 size.1 >>= λ inside. if length inside.1 == 0 then Err Misspelt else Ok inside)

@@ -1,8 +1,8 @@
 //! The figures of a journal: how long it is, how much room it keeps free, and how many batches it has.
 ghost use Rattle.std.specs.Prelude.{◌≡◌, ◌+◌, ◌-◌, sum, sum_by, length, IfSome, IsTrue, ◌↔◌};
-ghost use Rattle.gate_journal.specs.Reserve.{growth, release};
+ghost use Rattle.gate_journal.specs.Reserve.{row_reserve, reserve, growth, release};
 
-use book_core::Act;
+use book_core::{Act, Book, Row};
 
 /// The figures of a journal.
 #[derive(Clone, Copy, Debug)]
@@ -44,6 +44,35 @@ fn release_of(act: &Act) -> u64
         Act::Forget(_) | Act::Drop(_) => 14,
         _ => 0,
     }
+}
+
+fn reserve_of_row(row: &Row) -> u64
+    ensures { result ≡ row_reserve row.now }
+{
+    let undecided = if row.outcome.is_none() { 416 } else { 0 };
+    let unforgotten = if row.forgotten { 0 } else { 14 };
+    undecided + unforgotten
+}
+
+/// The reserve of all rows of a book.
+fn reserve_of_rows(book: &Book) -> Option<u64>
+    ensures { IfSome result (λ n. n ≡ sum_by row_reserve book.now.rows) }
+{
+    let mut total = 0u64;
+    for row in book.rows() {
+        total = total.checked_add(reserve_of_row(row))?;
+    }
+    Some(total)
+}
+
+/// What a journal keeps free for a book.
+#[tactic(auto, unfolding(crate::specs::Reserve::reserve))]
+pub(crate) fn reserve_of(book: &Book) -> Option<u64>
+    ensures { IfSome result (λ n. n ≡ reserve book.now) }
+{
+    let rows = reserve_of_rows(book)?;
+    let termini = 14u64.checked_mul(book.terminus_count() as u64)?;
+    rows.checked_add(termini)
 }
 
 /// By how much acts make the reserve larger.

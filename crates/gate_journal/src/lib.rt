@@ -7,8 +7,10 @@ mod fault;
 mod figures;
 mod journal;
 mod read;
+mod scan;
 mod spell;
 mod store;
+mod whole;
 
 pub use fault::{JournalFault, OpenFault};
 pub use journal::Journal;

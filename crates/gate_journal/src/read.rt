@@ -3,14 +3,17 @@ ghost use Rattle.std.specs.Prelude.{◌≡◌, ◌==◌, IfOk};
 ghost use Rattle.std.specs.Cmp.Lexicographic.{pointwise};
 ghost use Rattle.amqp_perf.specs.Spelling.{state_spelling};
 ghost use Rattle.std.specs.Int.{w16, w32, w64};
-ghost use Rattle.gate_journal.specs.Reading.{Gives, byte_at, number_at, chunk_at, sized_at, text_at, role_at, make_at, tag_at, terminus_or_none, payload_at, admission_at, is_terminal, outcome_of, decision_at, act_behind, act_at};
+ghost use Rattle.gate_journal.specs.Reading.{Gives, byte_at, number_at, chunk_at, sized_at, text_at, role_at, make_at, tag_at, terminus_or_none, payload_at, admission_at, is_terminal, outcome_of, decision_at, act_behind, act_at, inside_at};
 
 use amqp_perf::{DeliveryState, DeliveryTag, PerfFault, Text, read_state, write_state};
 use book_core::{
     Act, Admission, Decision, LinkKey, LinkRole, RowNumber, Terminus, TerminusNumber,
 };
 use bytes::Bytes;
-use std::alloc::{AllocError, Global};
+use std::alloc::{AllocError, AllocFailed, Global};
+
+/// The most bytes of a batch's acts.
+const BATCH_LIMIT: u32 = 4_194_304;
 
 /// Why no act is read.
 #[derive(Clone, Copy, Debug, PartialEq, Eq)]
@@ -27,6 +30,16 @@ impl From<AllocError> for ReadFault {
     ghost from_gives = { λ _ f. f ≡ Memory };
 
     fn from(_error: AllocError) -> ReadFault {
+        ReadFault::Memory
+    }
+}
+
+impl<T: Drop> From<AllocFailed<T>> for ReadFault {
+    ghost use Rattle.gate_journal.specs.declared.read.ReadFault.TheVariants.{Memory};
+
+    ghost from_gives = { λ _ f. f ≡ Memory };
+
+    fn from(_error: AllocFailed<T>) -> ReadFault {
         ReadFault::Memory
     }
 }
@@ -274,4 +287,23 @@ pub(crate) fn act(alloc: Global, bytes: &[u8]) -> Result<(Act, &[u8]), ReadFault
 {
     let (kind, rest) = byte(bytes)?;
     behind_kind(alloc, kind, rest)
+}
+
+/// The bytes of the acts of the batch at the front, and what stands behind it, which is something.
+#[tactic(auto, unfolding(crate::specs::Reading::inside_at))]
+pub(crate) fn inside(bytes: &[u8]) -> Result<(&[u8], &[u8]), ReadFault>
+    ensures { Gives (λ x. (x.0.now, x.1.now)) result (inside_at bytes.now) }
+{
+    let (size, rest) = number_4(bytes)?;
+    if size == 0 {
+        return Err(ReadFault::Misspelt);
+    }
+    if size > BATCH_LIMIT {
+        return Err(ReadFault::Misspelt);
+    }
+    let (inside, behind) = chunk(size as usize, rest)?;
+    if behind.is_empty() {
+        return Err(ReadFault::Misspelt);
+    }
+    Ok((inside, behind))
 }

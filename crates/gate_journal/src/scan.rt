@@ -1,0 +1,121 @@
+//! The batches of a file, one behind the other.
+ghost use Rattle.std.specs.Prelude.{◌≡◌, ◌≢◌, ◌++◌, [], ◌∷◌, List, ℕ, IfNone, IfSome, IfOk, IfErr, IsErrOf};
+ghost use Rattle.book_core.specs.declared.act.Act.{Act};
+ghost use Rattle.gate_journal.specs.Format.{acts_bytes, batch};
+ghost use Rattle.gate_journal.specs.Batches.{AreWritable, IsBatch};
+ghost use Rattle.gate_journal.specs.Opening.{Explains, IsFound};
+ghost use Rattle.gate_journal.specs.Scanning.{NoActs, NoneBegins, refused_as};
+
+use crate::fault::OpenFault;
+use crate::read::{ReadFault, act, inside};
+use book_core::{Act, Book, BookFault};
+use std::alloc::Global;
+
+/// What begins each journal of this format.
+pub(crate) const MAGIC: [u8; 8] = *b"AMQRJ001";
+
+/// The acts that all of these bytes are.
+fn read_acts(alloc: Global, bytes: &[u8]) -> Result<Vec<Act>, ReadFault>
+    ensures spelled { IfOk result (λ v. bytes.now ≡ acts_bytes v.items) }
+    ensures writable { IfOk result (λ v. AreWritable v.items) }
+    ensures none { IsErrOf result ReadFault.Misspelt → NoActs bytes.now }
+{
+    let mut acts = Vec::new(alloc);
+    let mut rest = bytes;
+    while !rest.is_empty() {
+        match act(alloc, rest) {
+            Err(fault) => return Err(fault),
+            Ok((read, behind)) => {
+                acts.push(read)?;
+                rest = behind;
+            }
+        }
+    }
+    Ok(acts)
+}
+
+/// The batch at the front, and what stands behind it, which is something.
+fn read_batch(alloc: Global, bytes: &[u8]) -> Result<(Vec<Act>, &[u8]), ReadFault>
+    ensures spelled { IfOk result (λ x. bytes.now ≡ batch x.0.items ++ x.1.now) }
+    ensures is_batch { IfOk result (λ x. IsBatch x.0.items) }
+    ensures behind { IfOk result (λ x. x.1.now ≢ []) }
+    ensures none { IsErrOf result ReadFault.Misspelt → NoneBegins bytes.now }
+{
+    match inside(bytes) {
+        Err(fault) => Err(fault),
+        Ok((inside, behind)) => match read_acts(alloc, inside) {
+            Err(fault) => Err(fault),
+            Ok(acts) => Ok((acts, behind)),
+        },
+    }
+}
+
+/// What stands behind an open gate.
+fn behind_gate(rest: &[u8]) -> Option<&[u8]>
+    ensures open_gate { IfSome result (λ inside. rest.now ≡ 1 ∷ inside.now) }
+    ensures shut_gate { IfNone result ((gate : ℕ) (behind : List ℕ) → rest.now ≡ gate ∷ behind → gate ≢ 1) }
+{
+    match rest {
+        [1, inside @ ..] => Some(inside),
+        _ => None,
+    }
+}
+
+/// Why a file isn't opened whose book refuses a batch.
+fn refused(fault: BookFault, at: usize) -> OpenFault
+    ensures { result ≡ refused_as fault at }
+{
+    match fault {
+        BookFault::Memory => OpenFault::Memory,
+        _ => OpenFault::Damaged { at },
+    }
+}
+
+/// What was found in a file.
+#[derive(Drop)]
+pub(crate) struct Found {
+    /// The book that the batches leave.
+    pub(crate) book: Book,
+    /// The place of the gate that ends them.
+    pub(crate) place: usize,
+    /// Their number.
+    pub(crate) count: u64,
+}
+
+/// The batches of a file: up to the first gate that isn't open.
+pub(crate) fn scan(alloc: Global, bytes: &[u8]) -> Result<Found, OpenFault>
+    ensures found { IfOk result (λ f. IsFound bytes.now f.book f.place f.count) }
+    ensures fault { IfErr result (Explains bytes.now) }
+    ensures never_disk { IsErrOf result OpenFault.Disk → ⊥ }
+{
+    if bytes.len() < 9 {
+        return Err(OpenFault::NotAJournal);
+    }
+    let (head, behind) = bytes.split_at(8);
+    if head != MAGIC.as_slice() {
+        return Err(OpenFault::NotAJournal);
+    }
+    let mut rest = behind;
+    let mut book = Book::empty(alloc);
+    let mut count = 0u64;
+    while let Some(inside) = behind_gate(rest) {
+        let at = bytes.len() - rest.len();
+        match read_batch(alloc, inside) {
+            Err(ReadFault::Memory) => return Err(OpenFault::Memory),
+            Err(ReadFault::Misspelt) => return Err(OpenFault::Damaged { at }),
+            Ok((acts, behind)) => {
+                match book.apply(acts.as_slice()) {
+                    Err(fault) => return Err(refused(fault, at)),
+                    Ok(()) => {}
+                }
+                let Some(next) = count.checked_add(1) else {
+                    return Err(OpenFault::Memory);
+                };
+                count = next;
+                rest = behind;
+            }
+        }
+    }
+    let place = bytes.len() - rest.len();
+    Ok(Found { book, place, count })
+}
