@@ -1,8 +1,7 @@
 -- What is spelled is read back.
-use Rattle.std.proofs.Common.{◌≡◌, ℕ, zero, suc, ◌+◌, ◌<◌, ◌≤◌, ◌^◌, Bool, true, false, List, [], ◌∷◌, ◌++◌, length, Option, Some, None, Result, Ok, Err, refl, sym, ap, ◌∙◌, subst, arith, append_assoc}
-use Rattle.std.specs.Prelude.{nat_lt, ◌==◌, ◌&&◌}
-use Rattle.std.specs.Int.{w16, w32, w64}
-use Rattle.std.specs.Str.{is_utf8}
+use Rattle.std.proofs.Common.{◌≡◌, ℕ, ◌<◌, ◌≤◌, ◌^◌, true, false, List, [], ◌∷◌, ◌++◌, length, Option, Some, None, Ok, refl, ap, ◌∙◌, arith, append_assoc}
+use Rattle.std.specs.Prelude.{nat_lt, ◌==◌}
+use Rattle.std.specs.Int.{w16, w32}
 use Rattle.std.specs.Cmp.Lexicographic.{pointwise, bytes_decides}
 use Rattle.std.proofs.lemmas.Bool.Decides.{nat_tests}
 use Rattle.std.proofs.lemmas.Str.{is_utf8-from_IsUtf8}
@@ -17,11 +16,9 @@ use Rattle.book_core.specs.declared.terminus.LinkRole.{LinkRole}
 use Rattle.book_core.specs.declared.terminus.LinkRole.TheVariants.{Producer, Consumer}
 use Rattle.book_core.specs.declared.terminus.Terminus.{Terminus}
 use Rattle.book_core.specs.declared.terminus.TerminusNumber.{TerminusNumber}
-use Rattle.gate_journal.specs.declared.read.ReadFault.{ReadFault}
-use Rattle.gate_journal.specs.declared.read.ReadFault.TheVariants.{Misspelt}
-use Rattle.gate_journal.specs.Format.{in_2, in_4, in_8, text_bytes, role_byte, or_zero, make_bytes, admit_bytes, decide_bytes, act_bytes}
+use Rattle.gate_journal.specs.Format.{in_2, in_4, in_8, text_bytes, role_byte, or_zero, act_bytes}
 use Rattle.gate_journal.specs.Batches.{IsText, IsTerminal, IsOutcome, IsAboveZero, IsMake, IsAdmission, IsWritable}
-use Rattle.gate_journal.specs.Reading.{◌>>=◌, byte_at, number_at, chunk_at, sized_at, text_by, text_at, role_of, role_at, make_at, tag_at, terminus_or_none, payload_at, admission_at, is_terminal, outcome_by, outcome_of, decision_at, act_behind, act_at}
+use Rattle.gate_journal.specs.Reading.{number_at, chunk_at, sized_at, text_by, text_at, role_at, make_at, tag_at, terminus_or_none, payload_at, admission_at, is_terminal, outcome_of, decision_at, act_behind, act_at}
 use Rattle.gate_journal.proofs.Joins.{split_4, split_7, split_9}
 use Rattle.gate_journal.proofs.Tools.{done, goes, back_2, back_4, back_8, chunk_back}
 

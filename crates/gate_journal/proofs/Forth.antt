@@ -1,5 +1,5 @@
 -- What is read is spelled so.
-use Rattle.std.proofs.Common.{◌≡◌, ℕ, zero, suc, ◌+◌, ◌<◌, ◌≤◌, ◌^◌, Bool, true, false, cond, List, [], ◌∷◌, ◌++◌, length, Option, Some, None, Result, Ok, Err, refl, sym, ap, ◌∙◌, subst, arith, append_assoc}
+use Rattle.std.proofs.Common.{◌≡◌, ℕ, ◌<◌, ◌≤◌, ◌^◌, Bool, true, false, List, [], ◌∷◌, ◌++◌, length, Result, Ok, Err, refl, sym, ap, ◌∙◌, subst, arith, append_assoc}
 use Rattle.std.specs.Prelude.{nat_lt, ◌==◌, ◌&&◌}
 use Rattle.std.specs.Int.{w16, w32, w64}
 use Rattle.std.specs.Str.{is_utf8}
@@ -18,14 +18,11 @@ use Rattle.book_core.specs.declared.act.Decision.{Decision}
 use Rattle.book_core.specs.declared.terminus.LinkRole.{LinkRole}
 use Rattle.book_core.specs.declared.terminus.LinkRole.TheVariants.{Producer, Consumer}
 use Rattle.book_core.specs.declared.terminus.Terminus.{Terminus}
-use Rattle.book_core.specs.declared.terminus.TerminusNumber.{TerminusNumber}
-use Rattle.gate_journal.specs.declared.read.ReadFault.{ReadFault}
-use Rattle.gate_journal.specs.declared.read.ReadFault.TheVariants.{Misspelt}
 use Rattle.gate_journal.specs.Format.{in_2, in_4, in_8, text_bytes, role_byte, or_zero, make_bytes, admit_bytes, decide_bytes, act_bytes}
 use Rattle.gate_journal.specs.Batches.{IsText, IsTerminal, IsOutcome, IsAboveZero, IsMake, IsAdmission, IsWritable}
-use Rattle.gate_journal.specs.Reading.{◌>>=◌, byte_at, number_at, chunk_at, sized_at, text_by, text_at, role_of, role_at, make_at, tag_at, terminus_or_none, payload_at, admission_at, is_terminal, outcome_by, outcome_of, decision_at, act_behind, act_at}
-use Rattle.gate_journal.proofs.Joins.{split_4, split_7, split_9}
-use Rattle.gate_journal.proofs.Tools.{done, paired, bind_ok, same_both, same_read, same_rest, AreBytes, bytes_behind, forth_2, forth_4, forth_8, chunk_forth, by_test, is_not_less}
+use Rattle.gate_journal.specs.Reading.{number_at, chunk_at, sized_at, text_by, text_at, role_of, role_at, make_at, tag_at, terminus_or_none, payload_at, admission_at, is_terminal, outcome_by, outcome_of, decision_at, act_behind, act_at}
+use Rattle.gate_journal.proofs.Joins.{split_4, split_7}
+use Rattle.gate_journal.proofs.Tools.{done, bind_ok, same_both, same_read, same_rest, AreBytes, bytes_behind, forth_2, forth_4, forth_8, chunk_forth, by_test}
 
 -- some bytes are spelled first, then come others
 pub record Leads (bytes spelled rest : List ℕ) : Type 0 where
@@ -63,13 +60,13 @@ text_forth bytes text rest h e =
     let b = bind_ok (sized_at bytes) text_by (text, rest) e in
     by_test (is_utf8 b.read.0)
     (λ t.
-      let so = rw t at b.gives in
-      let same = same_read b.read.0 text b.read.1 rest so in
-      let same_behind = same_rest b.read.0 text b.read.1 rest so in
-      let P : List ℕ → List ℕ → Type 0 = λ l m. sized_at bytes ≡ Ok (l, m) in
-      let read : sized_at bytes ≡ Ok (text, rest) = b.is ∙ so in
-      let s = sized_forth bytes text rest h read in
-      record { leads = s.leads; text_is = record { utf8 = IsUtf8-from_is_utf8 text (ap is_utf8 (sym same) ∙ t); short = s.short } })
+    let so = rw t at b.gives in
+    let same = same_read b.read.0 text b.read.1 rest so in
+    let same_behind = same_rest b.read.0 text b.read.1 rest so in
+    let P : List ℕ → List ℕ → Type 0 = λ l m. sized_at bytes ≡ Ok (l, m) in
+    let read : sized_at bytes ≡ Ok (text, rest) = b.is ∙ so in
+    let s = sized_forth bytes text rest h read in
+    record { leads = s.leads; text_is = record { utf8 = IsUtf8-from_is_utf8 text (ap is_utf8 (sym same) ∙ t); short = s.short } })
     (λ t. absurd (let no = rw t at b.gives in cc))
 
 equal : (a b : ℕ) → (a == b) ≡ true → a ≡ b
@@ -145,10 +142,10 @@ tag_forth (size ∷ behind) tag rest h e =
     by_test (nat_lt 32 size)
     (λ t. absurd (let no = rw t at e in cc))
     (λ t.
-      let so = rw t at e in
-      let c = chunk_forth size behind tag rest so in
-      let is : size ∷ behind ≡ (length tag ∷ tag) ++ rest = ap (λ (l : List ℕ). size ∷ l) c.is ∙ ap (λ (n : ℕ). n ∷ (tag ++ rest)) (sym c.size_is) in
-      record { leads = record { is = is; bytes_left = left (length tag ∷ tag) rest (size ∷ behind) is h }; short = (let fits = within_32 size t in omega (arith, fits, c.size_is)) })
+    let so = rw t at e in
+    let c = chunk_forth size behind tag rest so in
+    let is : size ∷ behind ≡ (length tag ∷ tag) ++ rest = ap (λ (l : List ℕ). size ∷ l) c.is ∙ ap (λ (n : ℕ). n ∷ (tag ++ rest)) (sym c.size_is) in
+    record { leads = record { is = is; bytes_left = left (length tag ∷ tag) rest (size ∷ behind) is h }; short = (let fits = within_32 size t in omega (arith, fits, c.size_is)) })
 
 record IsPayloadRead (bytes payload rest : List ℕ) : Type 0 where
   pub leads : Leads bytes (in_4 (length payload) ++ payload) rest
@@ -245,6 +242,7 @@ outcome_forth bytes s e = by_read (state_at bytes) refl e
         let P : List ℕ → ℕ → Type 0 = λ l n. state_at l ≡ Ok (state, n) in
         let here : state_at (state_spelling state) ≡ Ok (state, length bytes) = ap state_at same ∙ read ∙ ap (λ (n : ℕ). Ok (state, n)) (equal len (length bytes) first.0) in
         record { is = sym same; outcome = record { terminal = terminal_forth state first.1; reads_back = here ∙ ap (λ (l : List ℕ). Ok (state, length l)) (sym same) } }
+
     by_read : (r : Result (DeliveryState × ℕ) PerfFault) → state_at bytes ≡ r → outcome_by bytes r ≡ Ok s → IsOutcomeRead bytes s
     by_read (Err f) read i = absurd cc
     by_read (Ok (state, len)) read i =
@@ -300,40 +298,40 @@ behind_forth kind bytes rest act h e =
     let P : Act × List ℕ → Type 0 = λ p. IsActRead (kind ∷ bytes) p.0 p.1 in
     by_test (kind == 1)
     (λ t.
-      let so = rw t at e in
-      let b = bind_ok (make_at bytes) _ (act, rest) so in
-      let made = make_forth bytes b.read.1 b.read.0 h b.is in
-      let whole : IsActRead (kind ∷ bytes) (Make b.read.0) b.read.1 = record { is = kind_is kind 1 bytes t ∙ made.is; bytes_left = made.bytes_left; writable = made.make } in
-      subst P (same_both (Make b.read.0) act b.read.1 rest b.gives) whole)
+    let so = rw t at e in
+    let b = bind_ok (make_at bytes) _ (act, rest) so in
+    let made = make_forth bytes b.read.1 b.read.0 h b.is in
+    let whole : IsActRead (kind ∷ bytes) (Make b.read.0) b.read.1 = record { is = kind_is kind 1 bytes t ∙ made.is; bytes_left = made.bytes_left; writable = made.make } in
+    subst P (same_both (Make b.read.0) act b.read.1 rest b.gives) whole)
     (λ t. by_test (kind == 2)
-      (λ u.
-        let so = rw (t, u) at e in
-        let b = bind_ok (admission_at bytes) _ (act, rest) so in
-        let made = admission_forth bytes b.read.1 b.read.0 h b.is in
-        let whole : IsActRead (kind ∷ bytes) (Admit b.read.0) b.read.1 = record { is = kind_is kind 2 bytes u ∙ made.is; bytes_left = made.bytes_left; writable = made.admission } in
-        subst P (same_both (Admit b.read.0) act b.read.1 rest b.gives) whole)
-      (λ u. by_test (kind == 3)
-        (λ v.
-          let so = rw (t, u, v) at e in
-          let b = bind_ok (decision_at bytes) _ (act, rest) so in
-          let made = decision_forth bytes b.read.1 b.read.0 h b.is in
-          let whole : IsActRead (kind ∷ bytes) (Decide b.read.0) b.read.1 = record { is = kind_is kind 3 bytes v ∙ made.is; bytes_left = made.bytes_left; writable = (made.row, made.short, made.outcome) } in
-          subst P (same_both (Decide b.read.0) act b.read.1 rest b.gives) whole)
-        (λ v. by_test (kind == 4)
-          (λ w.
-            let so = rw (t, u, v, w) at e in
-            let b = bind_ok (number_at w64 bytes) _ (act, rest) so in
-            let made = forth_8 bytes b.read.1 b.read.0 h b.is in
-            let whole : IsActRead (kind ∷ bytes) (Forget (record { 0 = b.read.0 })) b.read.1 = record { is = kind_is kind 4 bytes w ∙ ap (λ (l : List ℕ). 4 ∷ l) made.is; bytes_left = made.bytes_left; writable = made.fits } in
-            subst P (same_both (Forget (record { 0 = b.read.0 })) act b.read.1 rest b.gives) whole)
-          (λ w. by_test (kind == 5)
-            (λ x.
-              let so = rw (t, u, v, w, x) at e in
-              let b = bind_ok (number_at w64 bytes) _ (act, rest) so in
-              let made = forth_8 bytes b.read.1 b.read.0 h b.is in
-              let whole : IsActRead (kind ∷ bytes) (Drop (record { 0 = b.read.0 })) b.read.1 = record { is = kind_is kind 5 bytes x ∙ ap (λ (l : List ℕ). 5 ∷ l) made.is; bytes_left = made.bytes_left; writable = made.fits } in
-              subst P (same_both (Drop (record { 0 = b.read.0 })) act b.read.1 rest b.gives) whole)
-            (λ x. absurd (let no = rw (t, u, v, w, x) at e in cc))))))
+    (λ u.
+    let so = rw (t, u) at e in
+    let b = bind_ok (admission_at bytes) _ (act, rest) so in
+    let made = admission_forth bytes b.read.1 b.read.0 h b.is in
+    let whole : IsActRead (kind ∷ bytes) (Admit b.read.0) b.read.1 = record { is = kind_is kind 2 bytes u ∙ made.is; bytes_left = made.bytes_left; writable = made.admission } in
+    subst P (same_both (Admit b.read.0) act b.read.1 rest b.gives) whole)
+    (λ u. by_test (kind == 3)
+    (λ v.
+    let so = rw (t, u, v) at e in
+    let b = bind_ok (decision_at bytes) _ (act, rest) so in
+    let made = decision_forth bytes b.read.1 b.read.0 h b.is in
+    let whole : IsActRead (kind ∷ bytes) (Decide b.read.0) b.read.1 = record { is = kind_is kind 3 bytes v ∙ made.is; bytes_left = made.bytes_left; writable = (made.row, made.short, made.outcome) } in
+    subst P (same_both (Decide b.read.0) act b.read.1 rest b.gives) whole)
+    (λ v. by_test (kind == 4)
+    (λ w.
+    let so = rw (t, u, v, w) at e in
+    let b = bind_ok (number_at w64 bytes) _ (act, rest) so in
+    let made = forth_8 bytes b.read.1 b.read.0 h b.is in
+    let whole : IsActRead (kind ∷ bytes) (Forget (record { 0 = b.read.0 })) b.read.1 = record { is = kind_is kind 4 bytes w ∙ ap (λ (l : List ℕ). 4 ∷ l) made.is; bytes_left = made.bytes_left; writable = made.fits } in
+    subst P (same_both (Forget (record { 0 = b.read.0 })) act b.read.1 rest b.gives) whole)
+    (λ w. by_test (kind == 5)
+    (λ x.
+    let so = rw (t, u, v, w, x) at e in
+    let b = bind_ok (number_at w64 bytes) _ (act, rest) so in
+    let made = forth_8 bytes b.read.1 b.read.0 h b.is in
+    let whole : IsActRead (kind ∷ bytes) (Drop (record { 0 = b.read.0 })) b.read.1 = record { is = kind_is kind 5 bytes x ∙ ap (λ (l : List ℕ). 5 ∷ l) made.is; bytes_left = made.bytes_left; writable = made.fits } in
+    subst P (same_both (Drop (record { 0 = b.read.0 })) act b.read.1 rest b.gives) whole)
+    (λ x. absurd (let no = rw (t, u, v, w, x) at e in cc))))))
 
 pub act_forth : (bytes rest : List ℕ) (act : Act) → AreBytes bytes → act_at bytes ≡ Ok (act, rest) → IsActRead bytes act rest
 unfolding act_at

@@ -1,10 +1,11 @@
 -- One batch more.
-use Rattle.std.proofs.Common.{◌≡◌, ℕ, ◌+◌, List, [], ◌∷◌, ◌++◌, length, None, refl, sym, ap, ◌∙◌, append_assoc, length-append, arith}
+use Rattle.std.proofs.Common.{◌≡◌, ℕ, List, [], ◌∷◌, ◌++◌, None, refl, sym, ap, ◌∙◌, append_assoc, arith}
 use Rattle.std.proofs.lemmas.List.{append-nil}
 use Rattle.book_core.specs.declared.act.Act.{Act}
-use Rattle.book_core.specs.Book.{BookView, empty_book, first_fault, effects}
+use Rattle.book_core.specs.Book.{BookView, first_fault, effects}
 use Rattle.gate_journal.specs.Format.{magic, batch, blocks, front}
-use Rattle.gate_journal.specs.Batches.{IsBatch, AllApply, book_after}
+use Rattle.gate_journal.specs.Batches.{IsBatch, AllApply, Holds, book_after}
+use Rattle.disk_core.specs.Disk.{overwritten}
 
 pub blocks_more : (bs : List (List Act)) (acts : List Act) → blocks (bs ++ acts ∷ []) ≡ blocks bs ++ 1 ∷ batch acts
 unfolding blocks
@@ -23,3 +24,11 @@ pub book_more : (b : BookView) (bs : List (List Act)) (acts : List Act) → book
 unfolding book_after
 book_more b [] acts = refl
 book_more b (a ∷ bs) acts = book_more (effects b a) bs acts
+
+-- a file of nine bytes
+pub fresh_file : (old : List ℕ) → old ≡ [] → overwritten 0 (magic ++ 0 ∷ []) old ≡ magic ++ 0 ∷ []
+fresh_file old e = ap (overwritten 0 (magic ++ 0 ∷ [])) e
+
+pub fresh_holds : (file : List ℕ) → file ≡ magic ++ 0 ∷ [] → Holds file []
+unfolding blocks AllApply
+fresh_holds file e = record { gate = 0; rest = []; shut = λ i. absurd (omega (arith, i)); is = e; valid = tt }

@@ -12,3 +12,5 @@ pub mod Forth
 pub mod Unique
 pub mod Scans
 pub mod Walks
+pub mod Releases
+pub mod Lists

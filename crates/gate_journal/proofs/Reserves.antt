@@ -1,6 +1,6 @@
 -- The reserve follows the acts.
-use Rattle.std.proofs.Common.{◌≡◌, ℕ, zero, suc, ◌+◌, ◌*◌, ◌<◌, ◌≤◌, Bool, true, false, cond, not, List, [], ◌∷◌, ◌++◌, length, Option, Some, None, refl, sym, ap, ◌∙◌, subst, arith, length-append}
-use Rattle.std.specs.Prelude.{find, filter, filter_map, sum_by, is_some, is_none, ◌==◌}
+use Rattle.std.proofs.Common.{◌≡◌, ℕ, ◌+◌, ◌<◌, Bool, true, false, cond, not, List, [], ◌∷◌, ◌++◌, length, Option, Some, None, refl, ap, subst, arith, length-append}
+use Rattle.std.specs.Prelude.{find, filter, filter_map, sum_by, ◌==◌}
 use Rattle.std.specs.List.{cons_option}
 use Rattle.std.proofs.lemmas.Bool.Decides.{nat_tests}
 use Rattle.std.proofs.lemmas.List.Sums.{sum_by-cons, sum_by_push}
@@ -11,8 +11,8 @@ use Rattle.book_core.specs.declared.fault.BookFault.{BookFault}
 use Rattle.book_core.specs.declared.row.Row.{Row}
 use Rattle.book_core.specs.declared.terminus.Terminus.{Terminus}
 use Rattle.book_core.specs.declared.terminus.TerminusNumber.{TerminusNumber}
-use Rattle.book_core.specs.Book.{BookView, refusal, effect, first_fault, effects, unless, or_else, row_at, terminus_at, with_row, decided, forgotten, admitted, decide_refusal, forget_refusal, drop_refusal, may_bind, has_role, same_role, is_undecided}
-use Rattle.book_core.specs.declared.terminus.LinkRole.TheVariants.{Producer, Consumer}
+use Rattle.book_core.specs.Book.{BookView, refusal, effect, first_fault, effects, unless, or_else, row_at, terminus_at, decided, forgotten, admitted, decide_refusal, forget_refusal, drop_refusal, may_bind, has_role, is_undecided}
+use Rattle.book_core.specs.declared.terminus.LinkRole.TheVariants.{Consumer}
 use Rattle.book_core.specs.Rising.{Rises, AllAbove}
 use Rattle.book_core.proofs.Shown as shown
 use Rattle.gate_journal.specs.Batches.{HasTerminus, HaveTermini, IsAboveZero}

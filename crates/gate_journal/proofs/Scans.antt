@@ -1,10 +1,9 @@
 -- The steps of a scan.
-use Rattle.std.proofs.Common.{◌≡◌, ◌≢◌, ℕ, zero, suc, ◌+◌, ◌<◌, ◌≤◌, Bool, true, false, cond, List, [], ◌∷◌, ◌++◌, length, get_or, Result, Ok, Err, refl, sym, ap, ◌∙◌, subst, arith, append_assoc, length-append}
+use Rattle.std.proofs.Common.{◌≡◌, ◌≢◌, ℕ, suc, ◌<◌, ◌≤◌, true, false, List, [], ◌∷◌, ◌++◌, length, get_or, Ok, Err, refl, sym, ap, ◌∙◌, subst, arith, append_assoc, length-append}
 use Rattle.std.specs.Prelude.{nat_lt, ◌==◌}
-use Rattle.std.specs.List.{flat_map}
 use Rattle.std.specs.Int.{w32}
 use Rattle.std.proofs.lemmas.Bool.Decides.{nat_tests}
-use Rattle.std.proofs.lemmas.List.{get_or_past, flat_map_more, append-nil}
+use Rattle.std.proofs.lemmas.List.{get_or_past, flat_map_more}
 use Rattle.book_core.specs.declared.act.Act.{Act}
 use Rattle.gate_journal.specs.declared.read.ReadFault.{ReadFault}
 use Rattle.gate_journal.specs.declared.read.ReadFault.TheVariants.{Misspelt, Memory}
@@ -77,7 +76,7 @@ inside_back acts gate rest h =
     let within : nat_lt 4194304 (length (acts_bytes acts)) ≡ false = (let small = h.small in grind (arith, nat_tests)) in
     ap inside_at (append_assoc (in_4 (length (acts_bytes acts))) (acts_bytes acts) (gate ∷ rest))
     ∙ (rw (back_4 (length (acts_bytes acts)) (acts_bytes acts ++ gate ∷ rest) (let small = h.small in omega (arith, small)))
-      (rw (above, within) (rw (chunk_back (acts_bytes acts) (gate ∷ rest)) (rw (let gates : (suc (length rest) == 0) ≡ false = grind (arith, nat_tests) in gates) refl))))
+    (rw (above, within) (rw (chunk_back (acts_bytes acts) (gate ∷ rest)) (rw (let gates : (suc (length rest) == 0) ≡ false = grind (arith, nat_tests) in gates) refl))))
 
 pub none_inside : (bytes : List ℕ) (fault : ReadFault) → ((fault ≡ Memory → ⊥) → inside_at bytes ≡ Err fault) → fault ≡ Misspelt → NoneBegins bytes
 none_inside bytes fault read is acts gate rest h e =
@@ -105,25 +104,25 @@ inside_forth bytes inside behind h e =
     by_test (b.read.0 == 0)
     (λ t. absurd (let no = rw t at b.gives in cc))
     (λ t. by_test (nat_lt 4194304 b.read.0)
-      (λ u. absurd (let no = rw (t, u) at b.gives in cc))
-      (λ u.
-        let so = rw (t, u) at b.gives in
-        let c = bind_ok (chunk_at b.read.0 b.read.1) _ (inside, behind) so in
-        by_test (length c.read.1 == 0)
-        (λ v. absurd (let no = rw v at c.gives in cc))
-        (λ v.
-          let last = rw v at c.gives in
-          let same = same_read c.read.0 inside c.read.1 behind last in
-          let same_behind = same_rest c.read.0 inside c.read.1 behind last in
-          let chunk = chunk_forth b.read.0 b.read.1 inside behind (c.is ∙ last) in
-          let above : 0 < b.read.0 = grind (arith, nat_tests) in
-          let within : b.read.0 ≤ 4194304 = grind (arith, nat_tests) in
-          record {
-            is = n.is ∙ ap (λ (l : List ℕ). in_4 b.read.0 ++ l) chunk.is ∙ ap (λ (m : ℕ). in_4 m ++ (inside ++ behind)) (sym chunk.size_is);
-            some = omega (arith, above, chunk.size_is);
-            small = omega (arith, within, chunk.size_is);
-            gate = λ none. absurd (let long : (length behind == 0) ≡ false = ap (λ (l : List ℕ). length l == 0) (sym same_behind) ∙ v in let short : (length behind == 0) ≡ true = ap (λ (l : List ℕ). length l == 0) none in cc);
-          })))
+    (λ u. absurd (let no = rw (t, u) at b.gives in cc))
+    (λ u.
+    let so = rw (t, u) at b.gives in
+    let c = bind_ok (chunk_at b.read.0 b.read.1) _ (inside, behind) so in
+    by_test (length c.read.1 == 0)
+    (λ v. absurd (let no = rw v at c.gives in cc))
+    (λ v.
+    let last = rw v at c.gives in
+    let same = same_read c.read.0 inside c.read.1 behind last in
+    let same_behind = same_rest c.read.0 inside c.read.1 behind last in
+    let chunk = chunk_forth b.read.0 b.read.1 inside behind (c.is ∙ last) in
+    let above : 0 < b.read.0 = grind (arith, nat_tests) in
+    let within : b.read.0 ≤ 4194304 = grind (arith, nat_tests) in
+    record {
+      is = n.is ∙ ap (λ (l : List ℕ). in_4 b.read.0 ++ l) chunk.is ∙ ap (λ (m : ℕ). in_4 m ++ (inside ++ behind)) (sym chunk.size_is);
+      some = omega (arith, above, chunk.size_is);
+      small = omega (arith, within, chunk.size_is);
+      gate = λ none. absurd (let long : (length behind == 0) ≡ false = ap (λ (l : List ℕ). length l == 0) (sym same_behind) ∙ v in let short : (length behind == 0) ≡ true = ap (λ (l : List ℕ). length l == 0) none in cc);
+    })))
 
 pub batch_is : (bytes inside behind : List ℕ) (acts : List Act) → IsInside bytes inside behind → inside ≡ acts_bytes acts → bytes ≡ batch acts ++ behind
 unfolding batch

@@ -1,5 +1,5 @@
 -- Acts spelled one after the other.
-use Rattle.std.proofs.Common.{◌≡◌, ℕ, ◌+◌, ◌-◌, ◌<◌, List, [], ◌∷◌, ◌++◌, length, take, drop, get_or, refl, sym, ap, ◌∙◌, subst, append_assoc, length-append, arith}
+use Rattle.std.proofs.Common.{◌≡◌, ℕ, ◌+◌, ◌-◌, ◌<◌, List, [], ◌∷◌, ◌++◌, length, take, drop, get_or, refl, sym, ap, ◌∙◌, subst, length-append, arith}
 use Rattle.std.proofs.lemmas.List.{take_more, flat_map_more, take_at, drop_at}
 use Rattle.book_core.specs.declared.act.Act.{Act}
 use Rattle.gate_journal.specs.Format.{in_2, in_4, in_8, act_bytes, acts_bytes, batch}

@@ -1,14 +1,13 @@
 -- Tools of the laws of reading.
-use Rattle.std.proofs.Common.{◌≡◌, ℕ, zero, suc, ◌+◌, ◌*◌, ◌-◌, ◌<◌, ◌≤◌, ◌^◌, Bool, true, false, cond, List, [], ◌∷◌, ◌++◌, length, take, drop, get_or, Result, Ok, Err, refl, sym, ap, ◌∙◌, subst, arith, append_assoc, length-append, length-take, take-append-drop, lit<}
-use Rattle.std.specs.Prelude.{nat_lt, nat_eq, ◌==◌, ◌&&◌}
-use Rattle.std.specs.Int.{w16, w32, w64, to_be_bytes, from_be_bytes}
+use Rattle.std.proofs.Common.{◌≡◌, ℕ, ◌+◌, ◌<◌, ◌≤◌, ◌^◌, Bool, true, false, List, [], ◌∷◌, ◌++◌, length, take, drop, get_or, Result, Ok, Err, refl, sym, ap, ◌∙◌, subst, arith, length-append, length-take, take-append-drop}
+use Rattle.std.specs.Prelude.{nat_lt}
+use Rattle.std.specs.Int.{w16, w32, w64, from_be_bytes}
 use Rattle.std.proofs.lemmas.Bool.Decides.{nat_tests}
 use Rattle.std.proofs.lemmas.List.{take_at, drop_at, get_or-drop, get_or-take, get_or_past, length-take-le}
 use Rattle.std.proofs.lemmas.Nat.{be_bytes_2, be_bytes_4, be_bytes_8, from_be_bytes-to_be_bytes_2, from_be_bytes-to_be_bytes_4, from_be_bytes-to_be_bytes_8}
 use Rattle.gate_journal.specs.declared.read.ReadFault.{ReadFault}
-use Rattle.gate_journal.specs.declared.read.ReadFault.TheVariants.{Misspelt}
 use Rattle.gate_journal.specs.Format.{in_2, in_4, in_8}
-use Rattle.gate_journal.specs.Reading.{◌>>=◌, byte_at, number_at, chunk_at, sized_at}
+use Rattle.gate_journal.specs.Reading.{◌>>=◌, number_at, chunk_at}
 use Rattle.gate_journal.proofs.Spelled.{length-in_2, length-in_4, length-in_8}
 
 -- what was read, and what stands behind it
@@ -109,13 +108,13 @@ chunk_forth size bytes chunk rest e =
     by_test (nat_lt (length bytes) size)
     (λ t. absurd (let no = rw t at e in cc))
     (λ t.
-      let so = rw t at e in
-      let front = same_read (take size bytes) chunk (drop size bytes) rest so in
-      let back = same_rest (take size bytes) chunk (drop size bytes) rest so in
-      record {
-        is = sym (take-append-drop size bytes) ∙ ap (λ (l : List ℕ). l ++ drop size bytes) front ∙ ap (λ (l : List ℕ). chunk ++ l) back;
-        size_is = ap length (sym front) ∙ length-take-le size bytes (is_not_less (length bytes) size t);
-      })
+    let so = rw t at e in
+    let front = same_read (take size bytes) chunk (drop size bytes) rest so in
+    let back = same_rest (take size bytes) chunk (drop size bytes) rest so in
+    record {
+      is = sym (take-append-drop size bytes) ∙ ap (λ (l : List ℕ). l ++ drop size bytes) front ∙ ap (λ (l : List ℕ). chunk ++ l) back;
+      size_is = ap length (sym front) ∙ length-take-le size bytes (is_not_less (length bytes) size t);
+    })
 
 -- a number that was read
 pub record IsRead (most : ℕ) (bytes spelled rest : List ℕ) (n : ℕ) : Type 0 where
@@ -138,16 +137,16 @@ forth_2 bytes rest n h e =
     by_test (nat_lt (length bytes) 2)
     (λ t. absurd (let no = rw t at e in cc))
     (λ t.
-      let so = rw t at e in
-      let number = same_read (from_be_bytes w16 (take 2 bytes)) n (drop 2 bytes) rest so in
-      let back = same_rest (from_be_bytes w16 (take 2 bytes)) n (drop 2 bytes) rest so in
-      let field = number_forth_2 (take 2 bytes) n (length-take-le 2 bytes (is_not_less (length bytes) 2 t)) (bytes_take 2 bytes h) number in
-      let P : List ℕ → Type 0 = λ l. AreBytes l in
-      record {
-        is = sym (take-append-drop 2 bytes) ∙ ap (λ (l : List ℕ). l ++ drop 2 bytes) (sym field.0) ∙ ap (λ (l : List ℕ). in_2 n ++ l) back;
-        fits = field.1;
-        bytes_left = subst P back (bytes_drop 2 bytes h);
-      })
+    let so = rw t at e in
+    let number = same_read (from_be_bytes w16 (take 2 bytes)) n (drop 2 bytes) rest so in
+    let back = same_rest (from_be_bytes w16 (take 2 bytes)) n (drop 2 bytes) rest so in
+    let field = number_forth_2 (take 2 bytes) n (length-take-le 2 bytes (is_not_less (length bytes) 2 t)) (bytes_take 2 bytes h) number in
+    let P : List ℕ → Type 0 = λ l. AreBytes l in
+    record {
+      is = sym (take-append-drop 2 bytes) ∙ ap (λ (l : List ℕ). l ++ drop 2 bytes) (sym field.0) ∙ ap (λ (l : List ℕ). in_2 n ++ l) back;
+      fits = field.1;
+      bytes_left = subst P back (bytes_drop 2 bytes h);
+    })
 
 fits_4 : (bytes : List ℕ) → length bytes ≡ 4 → AreBytes bytes → from_be_bytes w32 bytes < 2 ^ 32
 fits_4 [] len are = absurd (omega (arith, len))
@@ -166,16 +165,16 @@ forth_4 bytes rest n h e =
     by_test (nat_lt (length bytes) 4)
     (λ t. absurd (let no = rw t at e in cc))
     (λ t.
-      let so = rw t at e in
-      let number = same_read (from_be_bytes w32 (take 4 bytes)) n (drop 4 bytes) rest so in
-      let back = same_rest (from_be_bytes w32 (take 4 bytes)) n (drop 4 bytes) rest so in
-      let field = number_forth_4 (take 4 bytes) n (length-take-le 4 bytes (is_not_less (length bytes) 4 t)) (bytes_take 4 bytes h) number in
-      let P : List ℕ → Type 0 = λ l. AreBytes l in
-      record {
-        is = sym (take-append-drop 4 bytes) ∙ ap (λ (l : List ℕ). l ++ drop 4 bytes) (sym field.0) ∙ ap (λ (l : List ℕ). in_4 n ++ l) back;
-        fits = field.1;
-        bytes_left = subst P back (bytes_drop 4 bytes h);
-      })
+    let so = rw t at e in
+    let number = same_read (from_be_bytes w32 (take 4 bytes)) n (drop 4 bytes) rest so in
+    let back = same_rest (from_be_bytes w32 (take 4 bytes)) n (drop 4 bytes) rest so in
+    let field = number_forth_4 (take 4 bytes) n (length-take-le 4 bytes (is_not_less (length bytes) 4 t)) (bytes_take 4 bytes h) number in
+    let P : List ℕ → Type 0 = λ l. AreBytes l in
+    record {
+      is = sym (take-append-drop 4 bytes) ∙ ap (λ (l : List ℕ). l ++ drop 4 bytes) (sym field.0) ∙ ap (λ (l : List ℕ). in_4 n ++ l) back;
+      fits = field.1;
+      bytes_left = subst P back (bytes_drop 4 bytes h);
+    })
 
 fits_8 : (bytes : List ℕ) → length bytes ≡ 8 → AreBytes bytes → from_be_bytes w64 bytes < 2 ^ 64
 fits_8 [] len are = absurd (omega (arith, len))
@@ -198,13 +197,13 @@ forth_8 bytes rest n h e =
     by_test (nat_lt (length bytes) 8)
     (λ t. absurd (let no = rw t at e in cc))
     (λ t.
-      let so = rw t at e in
-      let number = same_read (from_be_bytes w64 (take 8 bytes)) n (drop 8 bytes) rest so in
-      let back = same_rest (from_be_bytes w64 (take 8 bytes)) n (drop 8 bytes) rest so in
-      let field = number_forth_8 (take 8 bytes) n (length-take-le 8 bytes (is_not_less (length bytes) 8 t)) (bytes_take 8 bytes h) number in
-      let P : List ℕ → Type 0 = λ l. AreBytes l in
-      record {
-        is = sym (take-append-drop 8 bytes) ∙ ap (λ (l : List ℕ). l ++ drop 8 bytes) (sym field.0) ∙ ap (λ (l : List ℕ). in_8 n ++ l) back;
-        fits = field.1;
-        bytes_left = subst P back (bytes_drop 8 bytes h);
-      })
+    let so = rw t at e in
+    let number = same_read (from_be_bytes w64 (take 8 bytes)) n (drop 8 bytes) rest so in
+    let back = same_rest (from_be_bytes w64 (take 8 bytes)) n (drop 8 bytes) rest so in
+    let field = number_forth_8 (take 8 bytes) n (length-take-le 8 bytes (is_not_less (length bytes) 8 t)) (bytes_take 8 bytes h) number in
+    let P : List ℕ → Type 0 = λ l. AreBytes l in
+    record {
+      is = sym (take-append-drop 8 bytes) ∙ ap (λ (l : List ℕ). l ++ drop 8 bytes) (sym field.0) ∙ ap (λ (l : List ℕ). in_8 n ++ l) back;
+      fits = field.1;
+      bytes_left = subst P back (bytes_drop 8 bytes h);
+    })

@@ -1,12 +1,11 @@
 -- One spelling: a file holds one list of batches only.
-use Rattle.std.proofs.Common.{◌≡◌, ◌≢◌, ℕ, zero, suc, ◌+◌, ◌<◌, ◌≤◌, ◌^◌, List, [], ◌∷◌, ◌++◌, length, None, Some, Result, Ok, Err, refl, sym, ap, ◌∙◌, subst, arith, append_assoc, length-append}
+use Rattle.std.proofs.Common.{◌≡◌, ◌≢◌, ℕ, ◌<◌, ◌≤◌, ◌^◌, List, [], ◌∷◌, ◌++◌, length, Err, refl, sym, ap, ◌∙◌, subst, arith, append_assoc}
 use Rattle.std.specs.Int.{w32}
 use Rattle.std.proofs.lemmas.List.{append_cancel_left, append-nil}
 use Rattle.book_core.specs.declared.act.Act.{Act}
-use Rattle.book_core.specs.Book.{BookView, empty_book, first_fault, effects}
-use Rattle.gate_journal.specs.declared.read.ReadFault.{ReadFault}
+use Rattle.book_core.specs.Book.{BookView, empty_book, effects}
 use Rattle.gate_journal.specs.declared.read.ReadFault.TheVariants.{Misspelt}
-use Rattle.gate_journal.specs.Format.{magic, in_4, act_bytes, acts_bytes, batch, blocks, front}
+use Rattle.gate_journal.specs.Format.{magic, in_4, act_bytes, acts_bytes, batch, blocks}
 use Rattle.gate_journal.specs.Batches.{IsWritable, AreWritable, IsBatch, AllApply, Holds}
 use Rattle.gate_journal.specs.Reading.{number_at, chunk_at, act_at}
 use Rattle.gate_journal.proofs.Back.{act_back}
@@ -63,11 +62,11 @@ unfolding batch
 batch_unique a b r s h i e =
     let split = sym (append_assoc (in_4 (length (acts_bytes a))) (acts_bytes a) r) ∙ e ∙ append_assoc (in_4 (length (acts_bytes b))) (acts_bytes b) s in
     let numbers : done (length (acts_bytes a)) (acts_bytes a ++ r) ≡ done (length (acts_bytes b)) (acts_bytes b ++ s) =
-      sym (back_4 (length (acts_bytes a)) (acts_bytes a ++ r) (small (length (acts_bytes a)) h.small)) ∙ ap (number_at w32) split ∙ back_4 (length (acts_bytes b)) (acts_bytes b ++ s) (small (length (acts_bytes b)) i.small) in
+    sym (back_4 (length (acts_bytes a)) (acts_bytes a ++ r) (small (length (acts_bytes a)) h.small)) ∙ ap (number_at w32) split ∙ back_4 (length (acts_bytes b)) (acts_bytes b ++ s) (small (length (acts_bytes b)) i.small) in
     let sizes = same_read (length (acts_bytes a)) (length (acts_bytes b)) (acts_bytes a ++ r) (acts_bytes b ++ s) numbers in
     let bytes = same_rest (length (acts_bytes a)) (length (acts_bytes b)) (acts_bytes a ++ r) (acts_bytes b ++ s) numbers in
     let chunks : done (acts_bytes a) r ≡ done (acts_bytes b) s =
-      sym (chunk_back (acts_bytes a) r) ∙ ap (chunk_at (length (acts_bytes a))) bytes ∙ ap (λ (n : ℕ). chunk_at n (acts_bytes b ++ s)) sizes ∙ chunk_back (acts_bytes b) s in
+    sym (chunk_back (acts_bytes a) r) ∙ ap (chunk_at (length (acts_bytes a))) bytes ∙ ap (λ (n : ℕ). chunk_at n (acts_bytes b ++ s)) sizes ∙ chunk_back (acts_bytes b) s in
     record {
       acts = acts_unique a b h.writable i.writable (same_read (acts_bytes a) (acts_bytes b) r s chunks);
       rests = same_rest (acts_bytes a) (acts_bytes b) r s chunks;
@@ -90,4 +89,4 @@ pub holds_unique : (file : List ℕ) (xs ys : List (List Act)) → Holds file xs
 holds_unique file xs ys h i =
     blocks_unique empty_book xs ys h.gate i.gate h.rest i.rest h.shut i.shut h.valid i.valid
     (append_cancel_left magic (blocks xs ++ h.gate ∷ h.rest) (blocks ys ++ i.gate ∷ i.rest)
-      (sym (append_assoc magic (blocks xs) (h.gate ∷ h.rest)) ∙ sym h.is ∙ i.is ∙ append_assoc magic (blocks ys) (i.gate ∷ i.rest)))
+    (sym (append_assoc magic (blocks xs) (h.gate ∷ h.rest)) ∙ sym h.is ∙ i.is ∙ append_assoc magic (blocks ys) (i.gate ∷ i.rest)))

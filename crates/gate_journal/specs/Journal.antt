@@ -1,11 +1,10 @@
 -- A journal as its callers see it.
-use Rattle.std.specs.Prelude.{◌≡◌, ℕ, ◌+◌, Bool, ℤ, pos, ◌-ℤ◌, List, length}
+use Rattle.std.specs.Prelude.{◌≡◌, ℕ, ◌+◌, Bool, List, length}
 use Rattle.book_core.specs.declared.act.Act.{Act}
-use Rattle.book_core.specs.Book.{BookView, empty_book}
-use Rattle.gate_journal.specs.declared.figures.Figures.{Figures}
+use Rattle.book_core.specs.Book.{empty_book}
 use Rattle.gate_journal.specs.declared.journal.Journal.{Journal}
 use Rattle.gate_journal.specs.Batches.{book_after}
-use Rattle.gate_journal.specs.Reserve.{journal_limit, reserve, Exceeds}
+use Rattle.gate_journal.specs.Reserve.{reserve}
 use Rattle.gate_journal.specs.Stands.{IsAt}
 
 -- its disk

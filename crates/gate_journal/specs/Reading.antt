@@ -1,6 +1,6 @@
 -- How the bytes of an act are read, from front to back. Laws of proofs/ tie it to the spelling of Format, which is what the
 -- contracts of the journal speak of.
-use Rattle.std.specs.Prelude.{◌≡◌, ℕ, Bool, true, false, List, [], ◌∷◌, length, take, drop, Option, Some, None, Result, Ok, Err, nat_lt, nat_le, ◌==◌, ◌&&◌, if◌then◌else◌}
+use Rattle.std.specs.Prelude.{◌≡◌, ℕ, Bool, true, false, List, [], ◌∷◌, length, take, drop, Option, Some, None, Result, Ok, Err, nat_lt, ◌==◌, ◌&&◌, if◌then◌else◌}
 use Rattle.std.specs.Int.{Width, w16, w32, w64, byte_len, from_be_bytes}
 use Rattle.std.specs.Str.{is_utf8}
 use Rattle.std.specs.Cmp.Lexicographic.{pointwise}
@@ -13,7 +13,6 @@ use Rattle.book_core.specs.declared.act.Act.{Act}
 use Rattle.book_core.specs.declared.act.Act.TheVariants.{Make, Admit, Decide, Forget, Drop}
 use Rattle.book_core.specs.declared.act.Admission.{Admission}
 use Rattle.book_core.specs.declared.act.Decision.{Decision}
-use Rattle.book_core.specs.declared.row.RowNumber.{RowNumber}
 use Rattle.book_core.specs.declared.terminus.LinkRole.{LinkRole}
 use Rattle.book_core.specs.declared.terminus.LinkRole.TheVariants.{Producer, Consumer}
 use Rattle.book_core.specs.declared.terminus.Terminus.{Terminus}

@@ -1,6 +1,7 @@
 -- The room that a journal keeps free, so that what is begun can be ended: an undecided row can be decided, an unforgotten one
 -- forgotten, and a terminus dropped, each in a batch of its own.
-use Rattle.std.specs.Prelude.{ℕ, ◌+◌, ◌*◌, List, length, sum_by, not, if◌then◌else◌, ◌<◌}
+use Rattle.amqp_perf.specs.Spelling.{state_spelling}
+use Rattle.std.specs.Prelude.{ℕ, ◌+◌, ◌*◌, ◌≤◌, List, [], ◌∷◌, length, sum_by, if◌then◌else◌, ◌<◌}
 use Rattle.book_core.specs.declared.act.Act.{Act}
 use Rattle.book_core.specs.declared.act.Act.TheVariants.{Make, Admit, Decide, Forget, Drop}
 use Rattle.book_core.specs.declared.row.Row.{Row}
@@ -42,3 +43,14 @@ Exceeds used kept acts = journal_limit + sum_by release acts < 5 + length (acts_
 -- a batch costs more than nothing, and more than there is room
 abbrev pub IsFull : ℕ → ℕ → List Act → Type 0
 IsFull used kept acts = Costs acts × Exceeds used kept acts
+
+-- acts that decide, forget and drop, each outcome of at most 400 bytes
+abbrev pub Releases : Act → Type 0
+Releases (Decide d) = length (state_spelling d.outcome) ≤ 400
+Releases (Forget n) = Unit {0}
+Releases (Drop n) = Unit {0}
+Releases _ = ⊥
+
+abbrev pub OnlyRelease : List Act → Type 0
+OnlyRelease [] = Unit {0}
+OnlyRelease (act ∷ acts) = Releases act × OnlyRelease acts

@@ -7,6 +7,7 @@ use Rattle.gate_journal.specs.declared.fault.OpenFault.{OpenFault}
 use Rattle.gate_journal.specs.declared.fault.OpenFault.TheVariants as opening
 use Rattle.book_core.specs.Book.{BookView, empty_book}
 use Rattle.gate_journal.specs.Format.{acts_bytes, batch, front}
+use Rattle.gate_journal.specs.Opening.{NoBatch}
 use Rattle.gate_journal.specs.Batches.{AreWritable, IsBatch, AllApply, book_after}
 
 -- these bytes are those of no acts
@@ -30,3 +31,9 @@ pub record Walked (bytes rest : List ℕ) (book : BookView) (count : ℕ) : Type
 abbrev pub refused_as : BookFault → ℕ → OpenFault
 refused_as books.Memory at = opening.Memory
 refused_as _ at = opening.Damaged at
+
+-- why no batch behind an open gate at this place is applied to this book
+abbrev pub IsNoNext : BookView → List ℕ → ℕ → OpenFault → Type 0
+IsNoNext book inside at opening.Memory = Unit {0}
+IsNoNext book inside at (opening.Damaged place) = (place ≡ at) × NoBatch book inside
+IsNoNext book inside at _ = ⊥

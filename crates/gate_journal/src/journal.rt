@@ -1,20 +1,23 @@
 //! The journal.
-ghost use Rattle.std.specs.Prelude.{◌≡◌, ◌≢◌, ◌⊎◌, ◌+◌, ◌-◌, ◌<◌, ◌≤◌, sum_by, ◌++◌, [], ◌∷◌, ℕ, List, true, false, None, OnOk, IfOk, IfSome, IsTrue, ◌↔◌, IsErrOf, length};
-ghost use Rattle.disk_core.specs.Disk.{LeavesOnly};
+ghost use Rattle.std.specs.Prelude.{◌≡◌, ◌≢◌, ◌⊎◌, pos, ◌-ℤ◌, ◌+◌, ◌-◌, ◌<◌, ◌≤◌, sum_by, ◌++◌, [], ◌∷◌, ℕ, List, true, false, None, OnOk, IfOk, IfErr, IfSome, IsTrue, ◌↔◌, IsErrOf, length};
+ghost use Rattle.disk_core.specs.Disk.{LeavesOnly, NoMore, Elapses};
 ghost use Rattle.book_core.specs.declared.act.Act.{Act};
 ghost use Rattle.book_core.specs.Book.{empty_book, first_fault, effects};
 ghost use Rattle.gate_journal.specs.Format.{acts_bytes};
 ghost use Rattle.gate_journal.specs.Batches.{Holds, HaveOutcomes, IsNext, book_after};
 ghost use Rattle.gate_journal.specs.Reserve.{growth, release, IsFull};
 ghost use Rattle.gate_journal.specs.Journal.{Keeps, disk_of, batch_count, used_bytes, kept_bytes, has_failed};
+ghost use Rattle.gate_journal.specs.Opening.{Explains};
 ghost use Rattle.gate_journal.specs.Stands.{IsAt};
 
-use crate::fault::JournalFault;
-use crate::figures::{Figures, growth_by, release_by, total};
+use crate::fault::{JournalFault, OpenFault};
+use crate::figures::{Figures, growth_by, release_by, reserve_of, total};
+use crate::scan::{Found, scan};
 use crate::spell::block_of;
 use crate::store::store;
+use crate::whole::read_all;
 use book_core::{Act, Book};
-use disk_core::Disk;
+use disk_core::{Crash, Disk};
 use std::alloc::Global;
 
 /// The most bytes of a journal, what it keeps free among them.
@@ -129,6 +132,48 @@ impl<D: Disk> Journal<D> {
         }
     }
 
+    /// Opens the journal on a disk, and gives the book that its batches leave. It begins with a sync, so that a crash leaves
+    /// what was read. At an `Err` the disk is dropped: `Disk` comes where it failed, `Memory` where memory was refused.
+    pub fn open(alloc: Global, disk: D) -> Result<(Journal<D>, Book), OpenFault>
+        ensures opened { IfOk result (λ r. (bs : List (List Act)) × Keeps D.seen D.may_leave r.0 bs × (r.1 ≡ book_after empty_book bs)) }
+        ensures works { IfOk result (λ r. has_failed r.0 ≡ false) }
+        ensures seen { IfOk result (λ r. D.seen (disk_of r.0) ≡ D.seen disk) }
+        ensures crash { IfOk result (λ r. NoMore (D.may_leave disk) (D.may_leave (disk_of r.0))) }
+        ensures fault { IfErr result (Explains (D.seen disk)) }
+    {
+        let mut disk = disk;
+        let bytes = read_all(alloc, &mut disk)?;
+        let found = scan(alloc, bytes.as_slice())?;
+        let Some(reserve) = reserve_of(&found.book) else {
+            return Err(OpenFault::Memory);
+        };
+        let figures = Figures {
+            place: found.place,
+            reserve,
+            count: found.count,
+        };
+        let failed = false;
+        let Found { book, .. } = found;
+        Ok((
+            Journal {
+                alloc,
+                disk,
+                figures,
+                failed,
+            },
+            book,
+        ))
+    }
+
+    /// The bytes that are left: the limit less the journal's length and what it keeps free. Below 0 only in a file that
+    /// `format` and `append` didn't make.
+    pub fn room(&self) -> i128
+        ensures { result ≡ pos 67108864 -ℤ pos (used_bytes self.now + kept_bytes self.now) }
+    {
+        let used = i128::from(self.figures.place as u64) + 1;
+        i128::from(JOURNAL_LIMIT) - (used + i128::from(self.figures.reserve))
+    }
+
     /// How many batches the file has that no longer stand in it: none in this format.
     pub fn base(&self) -> u64
         ensures { result ≡ 0 }
@@ -141,5 +186,20 @@ impl<D: Disk> Journal<D> {
         ensures { result ≡ disk_of self }
     {
         self.disk
+    }
+}
+
+impl<D: Crash> Journal<D> {
+    /// After so many calls of the disk more every call fails, on a disk that has a fuse.
+    pub fn fuse(&mut self, calls: u64)
+        ensures seen { D.Disk.seen (disk_of self.new) ≡ D.Disk.seen (disk_of self.old) }
+        ensures crash { NoMore (D.Disk.may_leave (disk_of self.old)) (D.Disk.may_leave (disk_of self.new)) }
+        ensures time { Elapses (D.Disk.moment (disk_of self.old)) (D.Disk.moment (disk_of self.new))
+            (D.Disk.left_since (disk_of self.old)) (D.Disk.left_since (disk_of self.new))
+            (D.Disk.may_leave (disk_of self.new)) }
+        ensures failures { D.Disk.failures (disk_of self.new) ≡ D.Disk.failures (disk_of self.old) }
+        ensures figures { self.new ≡ record self.old { disk = disk_of self.new } }
+    {
+        self.disk.fuse(calls);
     }
 }

@@ -5,7 +5,10 @@
 mod device;
 mod fault;
 mod figures;
+mod fresh;
 mod journal;
+pub mod laws;
+mod listing;
 mod read;
 mod scan;
 mod spell;
@@ -13,4 +16,6 @@ mod store;
 mod whole;
 
 pub use fault::{JournalFault, OpenFault};
+pub use fresh::format;
 pub use journal::Journal;
+pub use listing::{Entry, Listing, list};

@@ -6,9 +6,7 @@ ghost use Rattle.std.specs.Int.{w16, w32, w64};
 ghost use Rattle.gate_journal.specs.Reading.{Gives, byte_at, number_at, chunk_at, sized_at, text_at, role_at, make_at, tag_at, terminus_or_none, payload_at, admission_at, is_terminal, outcome_of, decision_at, act_behind, act_at, inside_at};
 
 use amqp_perf::{DeliveryState, DeliveryTag, PerfFault, Text, read_state, write_state};
-use book_core::{
-    Act, Admission, Decision, LinkKey, LinkRole, RowNumber, Terminus, TerminusNumber,
-};
+use book_core::{Act, Admission, Decision, LinkKey, LinkRole, RowNumber, Terminus, TerminusNumber};
 use bytes::Bytes;
 use std::alloc::{AllocError, AllocFailed, Global};
 

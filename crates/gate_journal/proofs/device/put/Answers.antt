@@ -1,5 +1,5 @@
 use Rattle.std.proofs.Common.{ℕ, ◌+◌, List, length, arith}
-use Rattle.disk_core.specs.Disk.{Spoilt, LeavesOnly}
+use Rattle.disk_core.specs.Disk.{Spoilt}
 use Rattle.disk_core.specs.DiskLaws.{started, goes_on, spoilt_not}
 use Rattle.gate_journal.proofs.device.put.Goals as goal
 

@@ -1,6 +1,4 @@
 use Rattle.std.proofs.Common.{◌≡◌, take, sum}
-use Rattle.std.specs.Prelude.{sum_by}
-use Rattle.gate_journal.specs.Reserve.{growth, release}
 use Rattle.gate_journal.proofs.figures.total.Given as goal
 
 abbrev pub invariant-loop-part : goal.invariant-loop-part

@@ -1,6 +1,4 @@
-use Rattle.std.proofs.Common.{◌≡◌, ℕ, ◌+◌, List, ap, sym, ◌∙◌, subst}
-use Rattle.book_core.specs.declared.act.Act.{Act}
-use Rattle.gate_journal.specs.Stands.{IsAt}
+use Rattle.std.proofs.Common.{◌∙◌}
 use Rattle.gate_journal.proofs.Nexts.{next_is_batch}
 use Rattle.gate_journal.proofs.journal.added.Goals as goal
 

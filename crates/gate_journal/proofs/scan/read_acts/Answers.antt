@@ -1,5 +1,4 @@
-use Rattle.std.proofs.Common.{◌≡◌, ◌<◌, length, arith}
-use Rattle.gate_journal.proofs.Tools.{AreBytes}
+use Rattle.std.proofs.Common.{◌≡◌, arith}
 use Rattle.gate_journal.proofs.Scans.{read_more, read_shorter, none_left}
 use Rattle.gate_journal.specs.declared.read.ReadFault.TheVariants.{Misspelt}
 use Rattle.gate_journal.proofs.scan.read_acts.Goals as goal

@@ -1,4 +1,4 @@
-use Rattle.std.proofs.Common.{◌≡◌, Result, Ok, Err, arith, ap}
+use Rattle.std.proofs.Common.{◌≡◌, Err, arith, ap}
 use Rattle.gate_journal.proofs.Scans.{none_inside, none_of_acts, inside_forth, batch_is, is_batch}
 use Rattle.gate_journal.specs.declared.read.ReadFault.{ReadFault}
 use Rattle.gate_journal.specs.declared.read.ReadFault.TheVariants.{Misspelt}

@@ -1,4 +1,4 @@
-use Rattle.std.proofs.Common.{◌≡◌, None, ◌+◌, ◌∷◌, [], sym, ap, ◌∙◌, subst, arith, length-append, length}
+use Rattle.std.proofs.Common.{◌≡◌, None, ◌∷◌, [], sym, subst, arith, length-append}
 use Rattle.book_core.specs.Book.{BookView, first_fault}
 use Rattle.gate_journal.specs.Batches.{IsNext}
 use Rattle.gate_journal.proofs.Nexts.{next_reserve}
