@@ -2,7 +2,7 @@
 ghost use Rattle.std.specs.Prelude.{◌<◌};
 
 use super::{FrameReader, Item, write_item};
-use crate::stream_tables::{HOSTILE, STREAMS};
+use crate::stream_tables::{DURABLE, ERLANG, HOSTILE, PROTON, PYTHON, Stream, UAMQP};
 use crate::tests::Fail;
 use amqp_perf::Perf;
 use std::alloc::{AllocError, Global};
@@ -150,11 +150,44 @@ fn is_read_again(alloc: Global, hex: &str) -> Result<bool, Fail> {
     Ok(read.as_str() == wanted.as_str())
 }
 
-#[test]
-fn real_streams_however_cut(rt: HostRuntime) -> Result<(), Fail> {
-    for (_, hex, wanted) in &STREAMS {
-        assert!(rt; is_cut_so(rt.alloc(), hex, wanted)?);
+/// Whether each of these streams has its lines, however it is cut, and its items are read again as they are written.
+fn are_as_told(alloc: Global, streams: &[Stream]) -> Result<bool, Fail> {
+    for stream in streams {
+        let (_, hex, wanted) = *stream;
+        if !is_cut_so(alloc, hex, wanted)? || !is_read_again(alloc, hex)? {
+            return Ok(false);
+        }
     }
+    Ok(true)
+}
+
+#[test]
+fn rabbitmq_streams(rt: HostRuntime) -> Result<(), Fail> {
+    assert!(rt; are_as_told(rt.alloc(), &ERLANG)?);
+    Ok(())
+}
+
+#[test]
+fn proton_streams(rt: HostRuntime) -> Result<(), Fail> {
+    assert!(rt; are_as_told(rt.alloc(), &PROTON)?);
+    Ok(())
+}
+
+#[test]
+fn proton_logins(rt: HostRuntime) -> Result<(), Fail> {
+    assert!(rt; are_as_told(rt.alloc(), &PYTHON)?);
+    Ok(())
+}
+
+#[test]
+fn proton_messages(rt: HostRuntime) -> Result<(), Fail> {
+    assert!(rt; are_as_told(rt.alloc(), &DURABLE)?);
+    Ok(())
+}
+
+#[test]
+fn uamqp_streams(rt: HostRuntime) -> Result<(), Fail> {
+    assert!(rt; are_as_told(rt.alloc(), &UAMQP)?);
     Ok(())
 }
 
@@ -169,14 +202,6 @@ fn hostile_streams_are_answered(rt: HostRuntime) -> Result<(), Fail> {
             .filter(|item| matches!(item, Item::Bad(_)))
             .count();
         assert!(rt; bad <= 1);
-    }
-    Ok(())
-}
-
-#[test]
-fn real_frames_are_read_as_they_are_written(rt: HostRuntime) -> Result<(), Fail> {
-    for (_, hex, _) in &STREAMS {
-        assert!(rt; is_read_again(rt.alloc(), hex)?);
     }
     Ok(())
 }
