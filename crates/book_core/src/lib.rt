@@ -22,3 +22,6 @@ pub use fault::BookFault;
 pub use row::{Row, RowNumber};
 pub use rows::Rows;
 pub use terminus::{LinkKey, LinkRole, Terminus, TerminusNumber};
+
+#[cfg(test)]
+mod tests;

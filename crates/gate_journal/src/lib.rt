@@ -19,3 +19,6 @@ pub use fault::{JournalFault, OpenFault};
 pub use fresh::format;
 pub use journal::Journal;
 pub use listing::{Entry, Listing, list};
+
+#[cfg(test)]
+mod tests;
