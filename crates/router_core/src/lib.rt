@@ -1,0 +1,6 @@
+//! The router's core: events in, items out.
+#![tactic(auto)]
+
+pub mod state;
+
+pub use state::{ConnectionId, Event, Peer, PeerRole};

@@ -1,0 +1,6 @@
+//! The router's tables.
+pub mod connections;
+pub mod event;
+pub mod row;
+
+pub use event::{ConnectionId, Event, Peer, PeerRole};
