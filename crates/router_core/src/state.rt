@@ -2,5 +2,8 @@
 pub mod connections;
 pub mod event;
 pub mod row;
+pub mod tables;
 
 pub use event::{ConnectionId, Event, Peer, PeerRole};
+pub use row::Taken;
+pub use tables::State;

@@ -67,6 +67,16 @@ impl Connections {
         }
     }
 
+    /// The phase of a connection, whether live or over.
+    pub fn phase(&self, conn: u64) -> Option<Conn>
+        ensures { result ≡ option_map (λ v. v.phase) (get nat_cmp self.now.rows conn) }
+    {
+        match self.rows.get(&conn) {
+            None => None,
+            Some(row) => Some(row.phase()),
+        }
+    }
+
     /// Whether an event ends a connection for its full outbox.
     fn is_due(&self, event: &Event, conn: u64) -> bool
         ensures { result ≡ is_due event.now conn (get nat_cmp self.now.rows conn) }

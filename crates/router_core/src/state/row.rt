@@ -79,6 +79,13 @@ impl Row {
         }
     }
 
+    /// The phase, whether the connection is live or over.
+    pub fn phase(&self) -> Conn
+        ensures { result ≡ self.now.phase }
+    {
+        self.phase
+    }
+
     /// The phase, while the connection is live.
     pub fn standing(&self) -> Option<Conn>
         ensures { result ≡ standing (Some self.now) }
