@@ -16,8 +16,8 @@ use Rattle.router_core.specs.declared.state.event.ConnectionId.{ConnectionId}
 use Rattle.router_core.specs.declared.state.event.Peer.{Peer}
 use Rattle.router_core.specs.declared.state.event.Event.{Event}
 use Rattle.router_core.specs.declared.state.event.Event.TheVariants as event
-use Rattle.router_core.specs.Trace.{Entry, Step, Did, Out, Took, did, ups, with_up, newest}
-use Rattle.router_core.specs.Connection.{Connection, conn, behind, behind_perf, with_item, fresh, took, ended, is_live, is_full, is_due, has, due, due_of, unless_due, unless_gone, unless_empty, found, live_of, at_event}
+use Rattle.router_core.specs.Trace.{Entry, Did, Out, Took, did, ups, with_up, newest}
+use Rattle.router_core.specs.Connection.{Connection, conn, behind, behind_perf, with_item, fresh, took, ended, is_live, is_full, is_due, has, due, unless_due, found, live_of, at_event}
 use Rattle.router_core.proofs.Lists.{by_test, filter_both, filter_none, filter_agree_in, from_push, has_push, has_pushed, has_filter}
 
 -- nobody is due where no outbox is full

@@ -8,7 +8,7 @@ use Rattle.amqp_frames.specs.declared.item.Item.TheVariants as item
 use Rattle.amqp_conn.specs.declared.conn.Conn.{Conn}
 use Rattle.router_core.specs.declared.state.event.Event.{Event}
 use Rattle.router_core.specs.declared.state.event.Event.TheVariants as event
-use Rattle.router_core.specs.Trace.{Entry, Did, Out, Took, Trace, ups}
+use Rattle.router_core.specs.Trace.{Did, Out, Took, Trace, ups}
 
 -- a connection: whether its header and open are written and whether it is over, the items that wait in its outbox, and
 -- how many left it

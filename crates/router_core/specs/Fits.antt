@@ -1,5 +1,5 @@
 -- When the router's tables are those that a trace gives.
-use Rattle.std.specs.Prelude.{◌≡◌, ℕ, Bool, true, false, not, nat_lt, nat_le, length, List, Option, Some, None}
+use Rattle.std.specs.Prelude.{◌≡◌, ℕ, Bool, true, false, not, nat_lt, nat_le, length, Option, Some, None}
 use Rattle.std.specs.Ordering.{nat_cmp}
 use Rattle.std.specs.BTreeMap.{get}
 use Rattle.router_core.specs.declared.state.event.Event.{Event}
@@ -7,7 +7,7 @@ use Rattle.router_core.specs.declared.state.event.Event.TheVariants as event
 use Rattle.router_core.specs.declared.state.row.Taken.{Taken}
 use Rattle.router_core.specs.declared.state.connections.Connections.{Connections}
 use Rattle.router_core.specs.Trace.{Trace, ups, newest}
-use Rattle.router_core.specs.Connection.{Connection, Batched, conn, due, found, live, live_of, is_live, is_full, has}
+use Rattle.router_core.specs.Connection.{Connection, Batched, conn, found, live, live_of, is_live, is_full, has}
 
 -- a number is not above the newest
 abbrev pub reaches : ℕ → Option ℕ → Bool

@@ -5,3 +5,5 @@ pub mod Tables
 pub mod Frames
 pub mod Rows
 pub mod Replies
+pub mod Faults
+pub mod Handling

@@ -9,7 +9,7 @@ use Rattle.router_core.specs.declared.state.event.Event.TheVariants as event
 use Rattle.router_core.specs.Trace.{Trace, did, puts}
 use Rattle.router_core.specs.Connection.{Connection, conn, standing, found, due}
 use Rattle.router_core.specs.Frames.{closing}
-use Rattle.router_core.specs.Rows.{item_reply, down_reply, silent_reply}
+use Rattle.router_core.specs.Rows.{item_reply, down_reply}
 
 -- a connection is closed with an error: its open stands before the close where it isn't written yet
 abbrev pub closing_of : List ℕ → Option Connection → Condition → List Item

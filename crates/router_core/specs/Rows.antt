@@ -1,6 +1,6 @@
 -- The rows of the reply table: what the router puts out for an item on a live connection, by the phase that the item
 -- finds it in, the first item first (AMQP 1.0 part 2, sections 2.2, 2.4 and 2.7).
-use Rattle.std.specs.Prelude.{ℕ, Bool, true, false, nat_lt, if◌then◌else◌, List, [], ◌∷◌, length, Option, Some, None, Result, Ok, Err}
+use Rattle.std.specs.Prelude.{ℕ, Bool, nat_lt, if◌then◌else◌, List, [], ◌∷◌, length, None, Result, Ok, Err}
 use Rattle.amqp_perf.specs.declared.perf.Open.{Open}
 use Rattle.amqp_perf.specs.declared.perf.Perf.{Perf}
 use Rattle.amqp_perf.specs.declared.perf.Perf.TheVariants as perf
@@ -10,7 +10,7 @@ use Rattle.amqp_frames.specs.declared.item.Item.{Item}
 use Rattle.amqp_frames.specs.declared.item.Item.TheVariants as item
 use Rattle.amqp_conn.specs.declared.conn.Conn.{Conn}
 use Rattle.amqp_conn.specs.declared.fault.ConnFault.{ConnFault}
-use Rattle.amqp_conn.specs.declared.fault.ConnFault.TheVariants.{WrongPhase, FrameSizeTooSmall, ChannelTooHigh}
+use Rattle.amqp_conn.specs.declared.fault.ConnFault.TheVariants.{ChannelTooHigh}
 use Rattle.amqp_conn.specs.Phase.{after_header, after_open, after_frame}
 use Rattle.router_core.specs.declared.reply.condition.Condition.{Condition}
 use Rattle.router_core.specs.declared.reply.condition.Condition.TheVariants.{NotAllowed, FramingError, DecodeError, ResourceLimitExceeded, NotImplemented}

@@ -7,10 +7,10 @@ use Rattle.router_core.specs.Connection.{due}
 use Rattle.router_core.specs.Fits.{ConnectionsFit, ConnectionsAt}
 
 -- all tables are those of the trace
-pub record Fits (s : State) (t : Trace) : Type 0 where
+pub record TablesFit (s : State) (t : Trace) : Type 0 where
   pub connections : ConnectionsFit s.connections t
 
 -- all tables are what an event finds behind the trace, which ends these connections first
-pub record FitsAt (s : State) (t : Trace) (e : Event) (ends : List ℕ) : Type 0 where
+pub record TablesAt (s : State) (t : Trace) (e : Event) (ends : List ℕ) : Type 0 where
   pub connections : ConnectionsAt s.connections t e
   pub are_due : ends ≡ due t e

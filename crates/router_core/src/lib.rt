@@ -1,7 +1,13 @@
 //! The router's core: events in, items out.
 #![tactic(auto)]
 
+pub mod config;
+pub mod fault;
 pub mod reply;
+pub mod router;
 pub mod state;
 
+pub use config::Config;
+pub use fault::CoreFault;
+pub use router::{Batch, Core, Done};
 pub use state::{ConnectionId, Event, Peer, PeerRole};

@@ -1,6 +1,7 @@
 //! The replies to events.
 pub mod closing;
 pub mod condition;
+pub mod events;
 pub mod router_id;
 pub mod rows;
 

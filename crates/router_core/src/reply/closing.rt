@@ -1,7 +1,7 @@
 //! Closes with an error, and the ends for full outboxes.
 ghost use Rattle.std.specs.Prelude.{◌∷◌, List, [], OnOk};
 ghost use Rattle.router_core.specs.Trace.{Entry, puts};
-ghost use Rattle.router_core.specs.Tables.{Fits};
+ghost use Rattle.router_core.specs.Tables.{TablesFit};
 ghost use Rattle.router_core.specs.Frames.{closing, open_item, close_item};
 ghost use Rattle.router_core.specs.Replies.{ends};
 
@@ -20,7 +20,7 @@ pub fn close_with(
     phase: Conn,
     condition: Condition,
 ) -> Result<(), AllocError>
-    ensures { OnOk result ((t : List Entry) → Fits state.old t → Fits state.new (puts conn (closing id.now phase condition) t)) }
+    ensures { OnOk result ((t : List Entry) → TablesFit state.old t → TablesFit state.new (puts conn (closing id.now phase condition) t)) }
 {
     if phase.opened {
         write_close(state, id, conn, Some(condition))?;
@@ -33,7 +33,7 @@ pub fn close_with(
 
 /// Writes the router's open.
 pub fn write_open(state: &mut State, id: &RouterId, conn: u64) -> Result<(), AllocError>
-    ensures { OnOk result ((t : List Entry) → Fits state.old t → Fits state.new (puts conn (open_item id.now ∷ []) t)) }
+    ensures { OnOk result ((t : List Entry) → TablesFit state.old t → TablesFit state.new (puts conn (open_item id.now ∷ []) t)) }
 {
     let item = id.open_item()?;
     state.put(conn, item)?;
@@ -47,7 +47,7 @@ pub fn write_close(
     conn: u64,
     condition: Option<Condition>,
 ) -> Result<(), AllocError>
-    ensures { OnOk result ((t : List Entry) → Fits state.old t → Fits state.new (puts conn (close_item condition ∷ []) t)) }
+    ensures { OnOk result ((t : List Entry) → TablesFit state.old t → TablesFit state.new (puts conn (close_item condition ∷ []) t)) }
 {
     let item = id.close_item(condition)?;
     state.put(conn, item)?;
@@ -57,7 +57,7 @@ pub fn write_close(
 /// Closes these connections for their full outboxes, one after the other. They are over already, so that nothing else is
 /// put out for them.
 pub fn close_all(state: &mut State, id: &RouterId, due: &[u64]) -> Result<(), AllocError>
-    ensures { OnOk result ((t : List Entry) → Fits state.old t → Fits state.new (ends id.now due.now t)) }
+    ensures { OnOk result ((t : List Entry) → TablesFit state.old t → TablesFit state.new (ends id.now due.now t)) }
 {
     for conn in due {
         if let Some(phase) = state.phase(*conn) {

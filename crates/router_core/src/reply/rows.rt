@@ -2,7 +2,7 @@
 //! item finds it in.
 ghost use Rattle.std.specs.Prelude.{◌≡◌, List, OnOk};
 ghost use Rattle.router_core.specs.Trace.{Entry, puts};
-ghost use Rattle.router_core.specs.Tables.{Fits};
+ghost use Rattle.router_core.specs.Tables.{TablesFit};
 ghost use Rattle.amqp_conn.specs.Phase.{after_frame};
 ghost use Rattle.router_core.specs.Rows.{header_reply as header_row, bad_frame_reply as bad_frame_row, open_reply as open_row, early_frame_reply as early_frame_row, channel_reply as channel_row, begin_reply as begin_row, no_session_reply as no_session_row, close_reply as close_row, beat_reply as beat_row, open_in_turn, in_turn, turn_by, perf_reply as perf_row, item_reply as item_row, condition_of};
 
@@ -26,7 +26,7 @@ pub fn header_reply(
     conn: u64,
     phase: Conn,
 ) -> Result<(), AllocError>
-    ensures { OnOk result ((t : List Entry) → Fits state.old t → Fits state.new (puts conn (header_row id.now phase) t)) }
+    ensures { OnOk result ((t : List Entry) → TablesFit state.old t → TablesFit state.new (puts conn (header_row id.now phase) t)) }
 {
     let mut phase_behind = phase;
     match phase_behind.take_header() {
@@ -54,7 +54,7 @@ pub fn bad_frame_reply(
     phase: Conn,
     fault: FrameFault,
 ) -> Result<(), AllocError>
-    ensures { OnOk result ((t : List Entry) → Fits state.old t → Fits state.new (puts conn (bad_frame_row id.now phase fault) t)) }
+    ensures { OnOk result ((t : List Entry) → TablesFit state.old t → TablesFit state.new (puts conn (bad_frame_row id.now phase fault) t)) }
 {
     close_with(state, id, conn, phase, condition_of(fault))
 }
@@ -68,7 +68,7 @@ pub fn open_reply(
     phase: Conn,
     open: &Open,
 ) -> Result<(), AllocError>
-    ensures { OnOk result ((t : List Entry) → Fits state.old t → Fits state.new (puts conn (open_row id.now phase «open».now) t)) }
+    ensures { OnOk result ((t : List Entry) → TablesFit state.old t → TablesFit state.new (puts conn (open_row id.now phase «open».now) t)) }
 {
     let mut phase_behind = phase;
     let long = open.container_id.as_str().len() > CONTAINER_ID;
@@ -87,7 +87,7 @@ fn open_in_turn(
     phase: Conn,
     long: bool,
 ) -> Result<(), AllocError>
-    ensures { OnOk result ((t : List Entry) → Fits state.old t → Fits state.new (puts conn (open_in_turn id.now phase long) t)) }
+    ensures { OnOk result ((t : List Entry) → TablesFit state.old t → TablesFit state.new (puts conn (open_in_turn id.now phase long) t)) }
 {
     if long {
         close_with(state, id, conn, phase, Condition::ResourceLimitExceeded)?;
@@ -104,7 +104,7 @@ pub fn early_frame_reply(
     conn: u64,
     phase: Conn,
 ) -> Result<(), AllocError>
-    ensures { OnOk result ((t : List Entry) → Fits state.old t → Fits state.new (puts conn (early_frame_row id.now phase) t)) }
+    ensures { OnOk result ((t : List Entry) → TablesFit state.old t → TablesFit state.new (puts conn (early_frame_row id.now phase) t)) }
 {
     close_with(state, id, conn, phase, Condition::NotAllowed)
 }
@@ -116,7 +116,7 @@ pub fn channel_reply(
     conn: u64,
     phase: Conn,
 ) -> Result<(), AllocError>
-    ensures { OnOk result ((t : List Entry) → Fits state.old t → Fits state.new (puts conn (channel_row id.now phase) t)) }
+    ensures { OnOk result ((t : List Entry) → TablesFit state.old t → TablesFit state.new (puts conn (channel_row id.now phase) t)) }
 {
     close_with(state, id, conn, phase, Condition::FramingError)
 }
@@ -128,7 +128,7 @@ pub fn begin_reply(
     conn: u64,
     phase: Conn,
 ) -> Result<(), AllocError>
-    ensures { OnOk result ((t : List Entry) → Fits state.old t → Fits state.new (puts conn (begin_row id.now phase) t)) }
+    ensures { OnOk result ((t : List Entry) → TablesFit state.old t → TablesFit state.new (puts conn (begin_row id.now phase) t)) }
 {
     close_with(state, id, conn, phase, Condition::NotImplemented)
 }
@@ -140,14 +140,14 @@ pub fn no_session_reply(
     conn: u64,
     phase: Conn,
 ) -> Result<(), AllocError>
-    ensures { OnOk result ((t : List Entry) → Fits state.old t → Fits state.new (puts conn (no_session_row id.now phase) t)) }
+    ensures { OnOk result ((t : List Entry) → TablesFit state.old t → TablesFit state.new (puts conn (no_session_row id.now phase) t)) }
 {
     close_with(state, id, conn, phase, Condition::NotAllowed)
 }
 
 /// A close: the router's close, which ends the connection (AMQP 1.0 part 2, section 2.7.9).
 pub fn close_reply(state: &mut State, id: &RouterId, conn: u64) -> Result<(), AllocError>
-    ensures { OnOk result ((t : List Entry) → Fits state.old t → Fits state.new (puts conn close_row t)) }
+    ensures { OnOk result ((t : List Entry) → TablesFit state.old t → TablesFit state.new (puts conn close_row t)) }
 {
     write_close(state, id, conn, None)
 }
@@ -160,7 +160,7 @@ pub fn beat_reply(
     phase: Conn,
     channel: u16,
 ) -> Result<(), AllocError>
-    ensures { OnOk result ((t : List Entry) → Fits state.old t → Fits state.new (puts conn (beat_row id.now phase channel) t)) }
+    ensures { OnOk result ((t : List Entry) → TablesFit state.old t → TablesFit state.new (puts conn (beat_row id.now phase channel) t)) }
 {
     if channel > amqp_conn::conn::CHANNEL_MAX {
         channel_reply(state, id, conn, phase)?;
@@ -176,7 +176,7 @@ fn reply_in_turn(
     phase: Conn,
     perf: &Perf,
 ) -> Result<(), AllocError>
-    ensures { OnOk result ((t : List Entry) → Fits state.old t → Fits state.new (puts conn (in_turn id.now phase perf.now) t)) }
+    ensures { OnOk result ((t : List Entry) → TablesFit state.old t → TablesFit state.new (puts conn (in_turn id.now phase perf.now) t)) }
 {
     match perf {
         Perf::Begin(_) => begin_reply(state, id, conn, phase),
@@ -194,7 +194,7 @@ fn turn_reply(
     channel: u16,
     perf: &Perf,
 ) -> Result<(), AllocError>
-    ensures { OnOk result ((t : List Entry) → Fits state.old t → Fits state.new (puts conn (turn_by id.now phase perf.now (after_frame channel phase)) t)) }
+    ensures { OnOk result ((t : List Entry) → TablesFit state.old t → TablesFit state.new (puts conn (turn_by id.now phase perf.now (after_frame channel phase)) t)) }
 {
     match phase.take_frame(channel) {
         Ok(()) => reply_in_turn(state, id, conn, phase, perf)?,
@@ -213,7 +213,7 @@ pub fn perf_reply(
     channel: u16,
     perf: &Perf,
 ) -> Result<(), AllocError>
-    ensures { OnOk result ((t : List Entry) → Fits state.old t → Fits state.new (puts conn (perf_row id.now phase channel perf.now) t)) }
+    ensures { OnOk result ((t : List Entry) → TablesFit state.old t → TablesFit state.new (puts conn (perf_row id.now phase channel perf.now) t)) }
 {
     match perf {
         Perf::Open(open) => open_reply(state, id, conn, phase, open),
@@ -229,7 +229,7 @@ pub fn item_reply(
     phase: Conn,
     item: &Item,
 ) -> Result<(), AllocError>
-    ensures { OnOk result ((t : List Entry) → Fits state.old t → Fits state.new (puts conn (item_row id.now phase item.now) t)) }
+    ensures { OnOk result ((t : List Entry) → TablesFit state.old t → TablesFit state.new (puts conn (item_row id.now phase item.now) t)) }
 {
     match item {
         Item::Header { .. } => header_reply(state, id, conn, phase),

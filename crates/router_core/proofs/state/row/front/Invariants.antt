@@ -1,4 +1,4 @@
-use Rattle.std.proofs.Common.{◌≡◌, take, drop, length}
+use Rattle.std.proofs.Common.{◌≡◌, take, drop}
 use Rattle.router_core.proofs.state.row.front.Given as goal
 
 abbrev pub invariant-loop-turn : goal.invariant-loop-turn

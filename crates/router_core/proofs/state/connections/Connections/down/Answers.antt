@@ -1,5 +1,5 @@
 use Rattle.std.proofs.Common.{refl}
-use Rattle.router_core.proofs.Turns.{WentDown, went_down}
+use Rattle.router_core.proofs.Turns.{went_down}
 use Rattle.router_core.proofs.state.connections.Connections.down.Goals as goal
 
 pub returns : goal.returns

@@ -1,8 +1,7 @@
-use Rattle.std.proofs.Common.{refl, ap, sym, ◌∙◌, true, false, not, rules}
+use Rattle.std.proofs.Common.{ap, ◌∙◌, rules}
 use Rattle.std.specs.Ordering.{nat_cmp}
 use Rattle.std.specs.BTreeMap.{get}
-use Rattle.std.specs.Prelude.{filter, nat_eq, if◌then◌else◌}
-use Rattle.router_core.proofs.Turns.{Put, put_fits}
+use Rattle.router_core.proofs.Turns.{put_fits}
 use Rattle.router_core.proofs.state.connections.Connections.put.Goals as goal
 
 pub returns : goal.returns

@@ -1,9 +1,9 @@
-use Rattle.std.proofs.Common.{refl, sym, ap, ◌∙◌, not}
+use Rattle.std.proofs.Common.{sym, ap, ◌∙◌, not}
 use Rattle.std.specs.Ordering.{nat_cmp}
 use Rattle.std.specs.BTreeMap.{get}
 use Rattle.std.specs.Prelude.{filter}
 use Rattle.router_core.specs.Connection.{unless_due, has}
-use Rattle.router_core.proofs.Turns.{calm, Turned, turned_at, turned_due}
+use Rattle.router_core.proofs.Turns.{calm, turned_at, turned_due}
 use Rattle.router_core.proofs.state.connections.Connections.turn.Goals as goal
 
 pub returns-then-self-clause-at : goal.returns-then-self-clause-at

@@ -1,5 +1,5 @@
 use Rattle.std.proofs.Common.{refl, rules}
-use Rattle.router_core.proofs.Turns.{CameUp, came_up}
+use Rattle.router_core.proofs.Turns.{came_up}
 use Rattle.router_core.proofs.state.connections.Connections.up.Goals as goal
 
 pub returns : goal.returns
