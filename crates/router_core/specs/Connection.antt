@@ -75,6 +75,15 @@ abbrev pub is_full : Option Connection → Bool
 is_full None = false
 is_full (Some v) = if v.phase.closed then false else nat_le 4096 (length v.waiting)
 
+-- something can be taken of it: an item waits, or it is over
+abbrev pub is_item : List Item → Bool
+is_item [] = false
+is_item (i ∷ is) = true
+
+abbrev pub is_ready : Option Connection → Bool
+is_ready None = false
+is_ready (Some v) = if v.phase.closed then true else is_item v.waiting
+
 -- an event ends this connection for its full outbox; not the one that it says is lost
 abbrev pub is_due : Event → ℕ → Option Connection → Bool
 is_due (event.Down d) c v = if d.0 == c then false else is_full v

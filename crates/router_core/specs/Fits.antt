@@ -1,5 +1,5 @@
 -- When the router's tables are those that a trace gives.
-use Rattle.std.specs.Prelude.{◌≡◌, ℕ, Bool, true, false, not, nat_lt, nat_le, length, Option, Some, None}
+use Rattle.std.specs.Prelude.{◌≡◌, ◌<◌, ℕ, Bool, true, false, not, nat_lt, nat_le, length, Option, Some, None}
 use Rattle.std.specs.Ordering.{nat_cmp}
 use Rattle.std.specs.BTreeMap.{get}
 use Rattle.router_core.specs.declared.state.event.Event.{Event}
@@ -58,3 +58,8 @@ refuses t _ = false
 abbrev pub is_loss : Event → Bool
 is_loss (event.Down c) = true
 is_loss _ = false
+
+-- the lowest number that passes a test, or none does
+abbrev pub IsLeast : (ℕ → Bool) → Option ℕ → Type 0
+IsLeast test None = (c : ℕ) → test c ≡ false
+IsLeast test (Some first) = (test first ≡ true) × ((c : ℕ) → c < first → test c ≡ false)

@@ -1,6 +1,7 @@
 //! The router's tables.
 pub mod connections;
 pub mod event;
+pub mod ready;
 pub mod row;
 pub mod tables;
 

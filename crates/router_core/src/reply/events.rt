@@ -84,7 +84,7 @@ fn on_down(
 ) -> Result<(), AllocError>
     ensures { OnOk result ((t : List Entry) → TablesAt state.old t (event.Down conn) ends.now → TablesFit state.new (answered id.now t (event.Down conn))) }
 {
-    state.down(conn);
+    state.down(conn)?;
     close_all(state, id, ends)?;
     Ok(())
 }

@@ -3,7 +3,7 @@ ghost use Rattle.std.specs.Prelude.{◌≡◌, ◌==◌, ◌∷◌, ◌++◌, �
 ghost use Rattle.std.specs.Ordering.{nat_cmp};
 ghost use Rattle.std.specs.BTreeMap.{get};
 ghost use Rattle.router_core.specs.Trace.{Entry, Out, Took, did, newest};
-ghost use Rattle.router_core.specs.Connection.{conn as known, took, standing, is_live, is_full, with_item, is_due, has, ended, unless_due, due};
+ghost use Rattle.router_core.specs.Connection.{conn as known, took, standing, is_live, is_full, is_ready, with_item, is_due, has, ended, unless_due, due};
 ghost use Rattle.router_core.specs.Fits.{IsBatch, count, ConnectionsFit, ConnectionsAt, refuses, rises, is_loss};
 ghost use Rattle.router_core.specs.declared.state.event.Event.TheVariants as event;
 
@@ -74,6 +74,16 @@ impl Connections {
         match self.rows.get(&conn) {
             None => None,
             Some(row) => Some(row.phase()),
+        }
+    }
+
+    /// Whether something can be taken of a connection.
+    pub fn is_ready(&self, conn: u64) -> bool
+        ensures { result ≡ is_ready (get nat_cmp self.now.rows conn) }
+    {
+        match self.rows.get(&conn) {
+            None => false,
+            Some(row) => row.is_ready(),
         }
     }
 

@@ -1,6 +1,6 @@
 //! One connection: its phase and its outbox.
 ghost use Rattle.std.specs.Prelude.{◌≡◌, ◌≤◌, is_none, length, take, drop, OnOk, IfOk, None, Some, if◌then◌else◌};
-ghost use Rattle.router_core.specs.Connection.{behind, behind_perf, with_item, ended, fresh, standing, is_full, unless_gone, took, Batched};
+ghost use Rattle.router_core.specs.Connection.{behind, behind_perf, with_item, ended, fresh, standing, is_full, is_ready, unless_gone, took, Batched};
 ghost use Rattle.std.specs.VecDeque.{deque_len};
 
 use amqp_conn::Conn;
@@ -105,6 +105,17 @@ impl Row {
             false
         } else {
             OUTBOX <= self.waiting.len()
+        }
+    }
+
+    /// Whether something can be taken of it.
+    pub fn is_ready(&self) -> bool
+        ensures { result ≡ is_ready (Some self.now) }
+    {
+        if self.phase.closed {
+            true
+        } else {
+            !self.waiting.is_empty()
         }
     }
 
