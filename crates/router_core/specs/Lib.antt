@@ -7,3 +7,4 @@ pub mod Rows
 pub mod Replies
 pub mod Faults
 pub mod Handling
+pub mod Runs

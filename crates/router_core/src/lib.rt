@@ -2,12 +2,14 @@
 #![tactic(auto)]
 
 pub mod config;
+pub mod driving;
 pub mod fault;
 pub mod reply;
 pub mod router;
 pub mod state;
 
 pub use config::Config;
+pub use driving::{Driven, Sent, drive};
 pub use fault::CoreFault;
 pub use router::{Batch, Core, Done};
 pub use state::{ConnectionId, Event, Peer, PeerRole};

@@ -1,8 +1,8 @@
 //! The router: one event or one take at a time.
-ghost use Rattle.std.specs.Prelude.{◌≡◌, ◌∷◌, ℕ, List, [], length, true, false, Ok, Err, None, OnOk, IfOk, IfErr};
+ghost use Rattle.std.specs.Prelude.{◌≡◌, ◌∷◌, ℕ, List, [], length, true, false, Ok, Err, None, option_map, OnOk, IfOk, IfErr};
 ghost use Rattle.router_core.specs.Trace.{Entry, Took};
-ghost use Rattle.router_core.specs.Connection.{conn as known};
-ghost use Rattle.router_core.specs.Fits.{refuses};
+ghost use Rattle.router_core.specs.Connection.{conn as known, is_ready};
+ghost use Rattle.router_core.specs.Fits.{refuses, IsLeast};
 ghost use Rattle.router_core.specs.Replies.{Replies};
 ghost use Rattle.router_core.specs.Handling.{Fits, is_failed, id_of, IsBatchOf};
 ghost use Rattle.router_core.specs.declared.fault.CoreFault.TheVariants.{Disk, Memory, Failed, NoConnection};
@@ -129,6 +129,16 @@ impl Core {
                 self.failed = true;
                 Err(CoreFault::Memory)
             }
+        }
+    }
+
+    /// The lowest connection of which something can be taken: an item waits, or the router ended it.
+    pub fn ready(&self) -> Option<ConnectionId>
+        ensures { (t : List Entry) → Fits self.now t → IsLeast (λ c. is_ready (known t c)) (option_map (λ c. c.0) result) }
+    {
+        match self.state.ready() {
+            None => None,
+            Some(conn) => Some(ConnectionId(conn)),
         }
     }
 }
