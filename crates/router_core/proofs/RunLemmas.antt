@@ -24,11 +24,13 @@ pub one_more : (core : Core) (place : ℕ) (t : List Entry) (before mid after : 
     → Fits core (took_one x (took_all xs t)) → mid ≡ before ++ sent place xs t
     → after ≡ mid ++ map (as_sent place x.conn) (items_of x (took_all xs t))
     → (takes : List Taking) × Fits core (took_all takes t) × (after ≡ before ++ sent place takes t)
-one_more core place t before mid after xs x fit was now =
-    (xs ++ x ∷ [], subst (λ (u : List Entry). Fits core u) (sym (took_more xs x t)) fit,
-        now ∙ ap (λ ys. ys ++ map (as_sent place x.conn) (items_of x (took_all xs t))) was
-        ∙ append_assoc before (sent place xs t) (map (as_sent place x.conn) (items_of x (took_all xs t)))
-        ∙ ap (λ ys. before ++ ys) (sym (sent_more place xs x t)))
+one_more core place t before mid after xs x fit was now = (
+  xs ++ x ∷ [],
+  subst (λ (u : List Entry). Fits core u) (sym (took_more xs x t)) fit,
+  now ∙ ap (λ ys. ys ++ map (as_sent place x.conn) (items_of x (took_all xs t))) was
+      ∙ append_assoc before (sent place xs t) (map (as_sent place x.conn) (items_of x (took_all xs t)))
+      ∙ ap (λ ys. before ++ ys) (sym (sent_more place xs x t)),
+)
 
 -- nothing is left to run
 pub run_done : (id : List ℕ) (place : ℕ) (m : List Entry) (rest : List Event) → length rest ≡ 0 → Run id place m rest [] m

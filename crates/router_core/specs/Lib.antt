@@ -8,3 +8,4 @@ pub mod Replies
 pub mod Faults
 pub mod Handling
 pub mod Runs
+pub mod Door

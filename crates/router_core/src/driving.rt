@@ -89,12 +89,7 @@ fn empty(core: &mut Core, event: usize, taken: &mut Vec<Sent>) -> Result<(), Cor
 }
 
 /// Handles an event, which may be refused, and empties all outboxes.
-fn step(
-    core: &mut Core,
-    place: usize,
-    event: Event,
-    taken: &mut Vec<Sent>,
-) -> Result<(), CoreFault>
+fn step(core: &mut Core, place: usize, event: Event, taken: &mut Vec<Sent>) -> Result<(), CoreFault>
     ensures fits { OnOk result ((t : List Entry) → Fits core.old t → (ys : List ASent) × (u : List Entry) × Steps (id_of core.old) place t event ys u × Fits core.new u × (taken.new.items ≡ taken.old.items ++ ys)) }
     ensures named { id_of core.new ≡ id_of core.old }
 {

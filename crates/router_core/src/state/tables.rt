@@ -118,11 +118,7 @@ fn note(ready: &mut Ready, connections: &Connections, conn: u64) -> Result<(), A
 }
 
 /// Notes of each of these connections whether something can be taken of it.
-fn note_all(
-    ready: &mut Ready,
-    connections: &Connections,
-    ends: &[u64],
-) -> Result<(), AllocError>
+fn note_all(ready: &mut Ready, connections: &Connections, ends: &[u64]) -> Result<(), AllocError>
     ensures { OnOk result ((c : ℕ) → contains nat_cmp ready.new.set c ≡ (if has c ends.now then is_ready (get nat_cmp connections.now.rows c) else contains nat_cmp ready.old.set c)) }
 {
     for conn in ends {
