@@ -1,3 +1,6 @@
+pub mod Asks
+pub mod Bytes
 pub mod Lists
 pub mod RunLemmas
+pub mod Scenes
 pub mod Turns

@@ -9,3 +9,6 @@ pub mod Faults
 pub mod Handling
 pub mod Runs
 pub mod Door
+pub mod Script
+pub mod Playing
+pub mod Asking
