@@ -4,3 +4,4 @@ pub mod Lists
 pub mod RunLemmas
 pub mod Scenes
 pub mod Turns
+pub mod Order

@@ -12,3 +12,4 @@ pub mod Door
 pub mod Script
 pub mod Playing
 pub mod Asking
+pub mod Laws
