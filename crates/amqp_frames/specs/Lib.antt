@@ -1,0 +1,8 @@
+pub mod Contract
+pub mod Cuts
+pub mod Extents
+pub mod Frames
+pub mod ItemSpelling
+pub mod Laws
+pub mod SpellsItem
+pub mod Within

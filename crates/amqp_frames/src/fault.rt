@@ -1,4 +1,7 @@
 //! Why bytes are no item, or why none can be read.
+ghost use Rattle.std.specs.Prelude.{◌≡◌};
+ghost use Rattle.amqp_frames.specs.Contract.{fault_number, of_perf};
+
 use amqp_perf::PerfFault;
 use thiserror::Error;
 
@@ -26,4 +29,32 @@ pub enum FrameFault {
     /// An earlier call answered a fault, or gave a `Bad`.
     #[error("the stream ended in a fault before")]
     Failed,
+}
+
+impl FrameFault {
+    /// The number by which the fault is told, 1 to 7 in the order above.
+    pub fn number(&self) -> u8
+        ensures { result ≡ fault_number self.now }
+    {
+        match self {
+            FrameFault::TooSmall => 1,
+            FrameFault::BadOffset => 2,
+            FrameFault::TooLarge => 3,
+            FrameFault::BadType => 4,
+            FrameFault::Perf(_) => 5,
+            FrameFault::Memory => 6,
+            FrameFault::Failed => 7,
+        }
+    }
+}
+
+impl From<PerfFault> for FrameFault {
+    ghost from_gives = { λ e f. f ≡ of_perf e };
+
+    fn from(fault: PerfFault) -> FrameFault {
+        match fault {
+            PerfFault::Memory => FrameFault::Memory,
+            other => FrameFault::Perf(other),
+        }
+    }
 }

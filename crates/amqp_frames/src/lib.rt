@@ -1,8 +1,20 @@
 //! The frames of AMQP 1.0: a stream of bytes is the spellings of items, then a rest.
 #![tactic(auto)]
 
+mod cut;
+mod extent;
 pub mod fault;
+mod gather;
 pub mod item;
+pub mod laws;
+mod read;
+pub mod reader;
+pub mod write;
 
 pub use fault::FrameFault;
 pub use item::Item;
+pub use reader::FrameReader;
+pub use write::write_item;
+
+#[cfg(test)]
+mod tests;

@@ -1,0 +1,9 @@
+pub mod Complete
+pub mod Fronts
+pub mod Gathers
+pub mod Items
+pub mod Sound
+pub mod Sizes
+pub mod Steps
+pub mod Streams
+pub mod Written

@@ -1,0 +1,26 @@
+-- The items that a reader finds again once they are written.
+use Rattle.std.specs.Prelude.{◌≡◌, ℕ, ◌+◌, ◌^◌, ◌<◌, ◌≤◌, ◌⊎◌, Bool, true, if◌then◌else◌, List, [], ◌++◌, length, Ok}
+use Rattle.amqp_perf.specs.declared.perf.Perf.{Perf}
+use Rattle.amqp_perf.specs.Performative.{performative}
+use Rattle.amqp_perf.specs.Spelling.{spelling}
+use Rattle.amqp_frames.specs.declared.item.Item.{Item}
+use Rattle.amqp_frames.specs.declared.item.Item.TheVariants as item
+use Rattle.amqp_frames.specs.Frames.{may_carry}
+
+-- a frame that can be written so that it is read again
+pub record IsFrameWithin (sasl : Bool) (channel : ℕ) (p : Perf) (payload : List ℕ) : Type 0 where
+  -- its performative is written as at least a byte, and is read again with this payload behind it
+  pub some : 0 < length (spelling p)
+  pub again : performative (spelling p ++ payload) ≡ Ok (p, length (spelling p))
+  -- only a transfer has a payload
+  pub carried : (may_carry p ≡ true) ⊎ (payload ≡ [])
+  -- a channel has two bytes, and a SASL frame none
+  pub channel_field : channel < 2 ^ 16
+  pub sasl_channel : sasl ≡ true → channel ≡ 0
+  pub size : 8 + length (spelling p ++ payload) ≤ (if sasl then 512 else 16384)
+
+abbrev pub IsWithin : Item → Type 0
+IsWithin (item.Header id major minor revision) = Unit {0}
+IsWithin (item.Frame sasl channel p payload) = IsFrameWithin sasl channel p payload
+IsWithin (item.Beat channel) = channel < 2 ^ 16
+IsWithin (item.Bad f) = ⊥
