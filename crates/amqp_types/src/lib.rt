@@ -21,7 +21,7 @@ pub use laws::{arrays_are_of_one_type, none_begins_another, written_is_read_agai
 pub use opening::{Opening, element_of, front_of, opening_of};
 pub use pieces::Pieces;
 pub use plain::Plain;
-pub use reader::{code_of, leaf_of, size_of, sized_of};
+pub use reader::{code_of, size_of, sized_of};
 pub use skipper::{skip, skip_at};
 pub use value::Value;
 

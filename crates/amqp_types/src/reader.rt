@@ -20,7 +20,7 @@ pub(crate) fn bytes_of(count: usize, bytes: &[u8]) -> Result<(&[u8], &[u8]), Typ
 }
 
 /// A size or a count.
-pub(crate) fn size_of(size: Size, bytes: &[u8]) -> Result<(u32, &[u8]), TypeFault>
+pub fn size_of(size: Size, bytes: &[u8]) -> Result<(u32, &[u8]), TypeFault>
     ensures { Same (λ x. (x.0, x.1.now)) result (size_at size bytes.now) }
 {
     match size {
@@ -37,7 +37,7 @@ pub(crate) fn size_of(size: Size, bytes: &[u8]) -> Result<(u32, &[u8]), TypeFaul
 
 /// A size and as many bytes.
 #[tactic(auto, unfolding(crate::specs::Reading::sized_at))]
-pub(crate) fn sized_of(size: Size, bytes: &[u8]) -> Result<(&[u8], &[u8]), TypeFault>
+pub fn sized_of(size: Size, bytes: &[u8]) -> Result<(&[u8], &[u8]), TypeFault>
     ensures { Same (λ x. (x.0.now, x.1.now)) result (sized_at size bytes.now) }
 {
     let (count, rest) = size_of(size, bytes)?;
@@ -45,7 +45,7 @@ pub(crate) fn sized_of(size: Size, bytes: &[u8]) -> Result<(&[u8], &[u8]), TypeF
 }
 
 /// A constructor.
-pub(crate) fn code_of(bytes: &[u8]) -> Result<(Code, &[u8]), TypeFault>
+pub fn code_of(bytes: &[u8]) -> Result<(Code, &[u8]), TypeFault>
     ensures { Same (λ x. (x.0, x.1.now)) result (code_at bytes.now) }
 {
     match bytes {
