@@ -1,0 +1,12 @@
+use Rattle.std.proofs.Common.{◌≡◌, ◌++◌, List}
+use Rattle.router_core.specs.declared.driving.Sent.{Sent}
+use Rattle.router_core.specs.Trace.{Entry}
+use Rattle.router_core.specs.Handling.{Fits, id_of}
+use Rattle.router_core.specs.Runs.{Taking, took_all, sent}
+use Rattle.router_core.proofs.driving.empty.Given as goal
+
+abbrev pub invariant-loop-turn : goal.invariant-loop-turn
+invariant-loop-turn l = record {
+  fits : (t : List Entry) → Fits l.fn.core t → (takes : List Taking) × Fits l.core (took_all takes t) × (l.taken.items ≡ l.fn.taken.items ++ sent l.event takes t);
+  named : id_of l.core ≡ id_of l.fn.core;
+}

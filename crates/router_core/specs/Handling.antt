@@ -1,0 +1,24 @@
+-- The router as a whole against a trace.
+use Rattle.std.specs.Prelude.{ℕ, Bool, List, Option, Some, None}
+use Rattle.router_core.specs.declared.router.Core.{Core}
+use Rattle.router_core.specs.declared.router.Batch.{Batch}
+use Rattle.router_core.specs.Trace.{Trace}
+use Rattle.router_core.specs.Connection.{Connection, Batched}
+use Rattle.router_core.specs.Tables.{TablesFit}
+
+-- the router's tables are those of the trace
+pub record Fits (core : Core) (t : Trace) : Type 0 where
+  pub tables : TablesFit core.state t
+
+-- it answered a fault of the disk or of memory, and answers nothing else
+abbrev pub is_failed : Core → Bool
+is_failed core = core.failed
+
+-- its id
+abbrev pub id_of : Core → List ℕ
+id_of core = core.id
+
+-- a batch of a connection that is known: its outbox's first items, up to so many
+abbrev pub IsBatchOf : Option Connection → ℕ → Batch → Type 0
+IsBatchOf None most b = ⊥
+IsBatchOf (Some v) most b = Batched v most b.first b.items.items b.ended

@@ -1,0 +1,11 @@
+pub mod Trace
+pub mod Connection
+pub mod Fits
+pub mod Tables
+pub mod Frames
+pub mod Rows
+pub mod Replies
+pub mod Faults
+pub mod Handling
+pub mod Runs
+pub mod Door

@@ -1,0 +1,66 @@
+-- A list of events, one after the other, each outbox emptied behind each.
+use Rattle.std.specs.Prelude.{◌≡◌, ◌⊎◌, ℕ, suc, ◌+◌, Bool, true, false, List, [], ◌∷◌, ◌++◌, map, take, length, Option, Some, None}
+use Rattle.amqp_frames.specs.declared.item.Item.{Item}
+use Rattle.router_core.specs.declared.state.event.Event.{Event}
+use Rattle.router_core.specs.declared.state.event.ConnectionId.{ConnectionId}
+use Rattle.router_core.specs.declared.driving.Sent.{Sent}
+use Rattle.router_core.specs.Trace.{Trace, Took}
+use Rattle.router_core.specs.Connection.{Connection, conn, is_ready}
+use Rattle.router_core.specs.Fits.{refuses}
+use Rattle.router_core.specs.Replies.{Replies}
+
+-- the items that wait in an outbox
+abbrev pub waiting_of : Option Connection → List Item
+waiting_of None = []
+waiting_of (Some v) = v.waiting
+
+-- up to so many items are taken of the outbox of a connection
+pub record Taking : Type 0 where
+  pub conn : ConnectionId
+  pub most : ℕ
+
+-- 64 items at a time
+abbrev pub taking : ConnectionId → Taking
+taking c = record { conn = c; most = 64 }
+
+-- the items of a take, and the trace behind it
+abbrev pub items_of : Taking → Trace → List Item
+items_of x t = take x.most (waiting_of (conn t x.conn.0))
+
+abbrev pub took_one : Taking → Trace → Trace
+took_one x t = Took x.conn.0 (length (items_of x t)) ∷ t
+
+-- takes one after the other: the trace behind them, and the items with their connection and the event that they follow
+abbrev pub took_all : List Taking → Trace → Trace
+took_all [] t = t
+took_all (x ∷ xs) t = took_all xs (took_one x t)
+
+abbrev pub as_sent : ℕ → ConnectionId → Item → Sent
+as_sent place c i = record { event = place; conn = c; item = i }
+
+abbrev pub sent : ℕ → List Taking → Trace → List Sent
+sent place [] t = []
+sent place (x ∷ xs) t = map (as_sent place x.conn) (items_of x t) ++ sent place xs (took_one x t)
+
+-- u is t with takes of these items, behind which no outbox has anything left
+pub record Emptied (place : ℕ) (t : Trace) (ys : List Sent) (u : Trace) : Type 0 where
+  pub takes : List Taking
+  pub trace : u ≡ took_all takes t
+  pub items : ys ≡ sent place takes t
+  pub empty : (c : ℕ) → is_ready (conn u c) ≡ false
+
+-- an event is refused, and isn't in the trace, or its replies stand behind it
+abbrev pub MayStep : List ℕ → Trace → Event → Trace → Type 0
+MayStep id t e u = ((refuses t e ≡ true) × (u ≡ t)) ⊎ ((refuses t e ≡ false) × Replies id t e u)
+
+-- an event, and then the outboxes emptied
+pub record Steps (id : List ℕ) (place : ℕ) (t : Trace) (e : Event) (ys : List Sent) (u : Trace) : Type 0 where
+  pub behind : Trace
+  pub event : MayStep id t e behind
+  pub emptied : Emptied place behind ys u
+
+-- u is t with these events, the first of which stands at this place, and xs are the items taken
+abbrev pub Run : List ℕ → ℕ → Trace → List Event → List Sent → Trace → Type 0
+Run id place t [] xs u = (u ≡ t) × (xs ≡ [])
+Run id place t (e ∷ es) xs u = (mid : Trace) × (ys : List Sent) × (zs : List Sent)
+    × Steps id place t e ys mid × Run id (place + 1) mid es zs u × (xs ≡ ys ++ zs)

@@ -1,0 +1,36 @@
+//! Why the router doesn't do what it is told.
+ghost use Rattle.std.specs.Prelude.{◌≡◌};
+ghost use Rattle.router_core.specs.Faults.{number_of};
+
+use thiserror::Error;
+
+/// Why the router doesn't do what it is told; `number` has the fault's number.
+#[derive(Clone, Copy, Debug, PartialEq, Eq, Error)]
+pub enum CoreFault {
+    /// The disk failed.
+    #[error("the disk failed")]
+    Disk,
+    /// Memory was refused.
+    #[error("out of memory")]
+    Memory,
+    /// An earlier call answered a fault of the disk or of memory.
+    #[error("the router failed before")]
+    Failed,
+    /// There is no such connection, or its number doesn't rise.
+    #[error("no such connection")]
+    NoConnection,
+}
+
+impl CoreFault {
+    /// The fault's number: 1 to 4, in the order above.
+    pub fn number(self) -> u8
+        ensures { result ≡ number_of self }
+    {
+        match self {
+            CoreFault::Disk => 1,
+            CoreFault::Memory => 2,
+            CoreFault::Failed => 3,
+            CoreFault::NoConnection => 4,
+        }
+    }
+}

@@ -1,0 +1,144 @@
+//! The router: one event or one take at a time.
+ghost use Rattle.std.specs.Prelude.{◌≡◌, ◌∷◌, ℕ, List, [], length, true, false, Ok, Err, None, option_map, OnOk, IfOk, IfErr};
+ghost use Rattle.router_core.specs.Trace.{Entry, Took};
+ghost use Rattle.router_core.specs.Connection.{conn as known, is_ready};
+ghost use Rattle.router_core.specs.Fits.{refuses, IsLeast};
+ghost use Rattle.router_core.specs.Replies.{Replies};
+ghost use Rattle.router_core.specs.Handling.{Fits, is_failed, id_of, IsBatchOf};
+ghost use Rattle.router_core.specs.declared.fault.CoreFault.TheVariants.{Disk, Memory, Failed, NoConnection};
+
+use crate::config::Config;
+use crate::fault::CoreFault;
+use crate::reply::RouterId;
+use crate::reply::events::reply;
+use crate::state::{ConnectionId, Event, State};
+use amqp_frames::Item;
+use std::alloc::{AllocError, Global};
+
+/// An event was handled.
+#[derive(Clone, Copy, Debug, PartialEq, Eq)]
+pub struct Done {}
+
+/// Items that were taken of an outbox.
+#[derive(Debug, Drop)]
+pub struct Batch {
+    /// The connection.
+    pub conn: ConnectionId,
+    /// The number of the first item, counted from 0: so many left the outbox before.
+    pub first: u64,
+    /// The items, in order.
+    pub items: Vec<Item>,
+    /// Whether the router ended the connection and these were its last items.
+    pub ended: bool,
+}
+
+/// The router. It handles one event at a time, and gives the items that it puts out where they are asked for.
+#[derive(Debug, Drop)]
+pub struct Core {
+    id: RouterId,
+    state: State,
+    failed: bool,
+}
+
+impl Core {
+    /// A router to which nothing happened.
+    pub fn open(alloc: Global, config: Config) -> Result<Core, AllocError>
+        ensures fits { IfOk result (λ core. Fits core []) }
+        ensures works { IfOk result (λ core. is_failed core ≡ false) }
+        ensures named { IfOk result (λ core. id_of core ≡ config) }
+    {
+        Ok(Core {
+            id: RouterId::new(alloc, config.router_id())?,
+            state: State::new(alloc),
+            failed: false,
+        })
+    }
+
+    /// Whether the router answered a fault of the disk or of memory; it answers `Failed` from then on.
+    pub fn is_failed(&self) -> bool
+        ensures { result ≡ is_failed self.now }
+    {
+        self.failed
+    }
+
+    /// Handles an event. It answers `NoConnection` exactly where the event tells of a connection that isn't live, or of
+    /// one that comes up with a number that doesn't rise, and `Failed` exactly where an earlier call answered `Memory`;
+    /// both change nothing. Behind `Memory` the router is failed.
+    pub fn handle(&mut self, event: Event) -> Result<Done, CoreFault>
+        // The trace goes on with the event and its replies.
+        ensures fits { OnOk result ((t : List Entry) → Fits self.old t → (u : List Entry) × Replies (id_of self.old) t event u × Fits self.new u) }
+        ensures works { OnOk result (is_failed self.new ≡ false) }
+        ensures named { id_of self.new ≡ id_of self.old }
+
+        // Which fault comes, and what it leaves.
+        ensures refused { IfErr result (λ f. f ≡ NoConnection → (self.new ≡ self.old) × ((t : List Entry) → Fits self.old t → refuses t event ≡ true)) }
+        ensures refuses { (t : List Entry) → Fits self.old t → is_failed self.old ≡ false → refuses t event ≡ true → result ≡ Err NoConnection }
+        ensures failed { is_failed self.old ≡ true → result ≡ Err Failed }
+        ensures unchanged { IfErr result (λ f. f ≡ Failed → (self.new ≡ self.old) × (is_failed self.old ≡ true)) }
+        ensures memory { IfErr result (λ f. f ≡ Memory → is_failed self.new ≡ true) }
+        ensures no_disk { IfErr result (λ f. f ≡ Disk → ⊥) }
+    {
+        if self.failed {
+            return Err(CoreFault::Failed);
+        }
+        if self.state.refuses(&event) {
+            return Err(CoreFault::NoConnection);
+        }
+        match reply(&mut self.state, &self.id, &event) {
+            Ok(()) => Ok(Done {}),
+            Err(AllocError) => {
+                self.failed = true;
+                Err(CoreFault::Memory)
+            }
+        }
+    }
+
+    /// Takes up to `most` items out of the outbox of a connection, the first of them first. It answers `NoConnection`
+    /// exactly where nothing is known of the connection, and `Failed` exactly where an earlier call answered `Memory`;
+    /// both change nothing. Behind `Memory` the router is failed.
+    pub fn take(&mut self, conn: ConnectionId, most: usize) -> Result<Batch, CoreFault>
+        // The trace goes on with the items taken.
+        ensures fits { IfOk result (λ b. (t : List Entry) → Fits self.old t → Fits self.new (Took conn.0 (length b.items.items) ∷ t)) }
+        ensures batch { IfOk result (λ b. (t : List Entry) → Fits self.old t → IsBatchOf (known t conn.0) most b) }
+        ensures whose { IfOk result (λ b. b.conn ≡ conn) }
+        ensures works { OnOk result (is_failed self.new ≡ false) }
+        ensures named { id_of self.new ≡ id_of self.old }
+
+        // Which fault comes, and what it leaves.
+        ensures refused { IfErr result (λ f. f ≡ NoConnection → (self.new ≡ self.old) × ((t : List Entry) → Fits self.old t → known t conn.0 ≡ None)) }
+        ensures refuses { (t : List Entry) → Fits self.old t → is_failed self.old ≡ false → known t conn.0 ≡ None → result ≡ Err NoConnection }
+        ensures failed { is_failed self.old ≡ true → result ≡ Err Failed }
+        ensures unchanged { IfErr result (λ f. f ≡ Failed → (self.new ≡ self.old) × (is_failed self.old ≡ true)) }
+        ensures memory { IfErr result (λ f. f ≡ Memory → is_failed self.new ≡ true) }
+        ensures no_disk { IfErr result (λ f. f ≡ Disk → ⊥) }
+    {
+        if self.failed {
+            return Err(CoreFault::Failed);
+        }
+        if self.state.phase(conn.0).is_none() {
+            return Err(CoreFault::NoConnection);
+        }
+        match self.state.take(conn.0, most) {
+            Ok(Some(taken)) => Ok(Batch {
+                conn,
+                first: taken.first,
+                items: taken.items,
+                ended: taken.ended,
+            }),
+            _ => {
+                self.failed = true;
+                Err(CoreFault::Memory)
+            }
+        }
+    }
+
+    /// The lowest connection of which something can be taken: an item waits, or the router ended it.
+    pub fn ready(&self) -> Option<ConnectionId>
+        ensures { (t : List Entry) → Fits self.now t → IsLeast (λ c. is_ready (known t c)) (option_map (λ c. c.0) result) }
+    {
+        match self.state.ready() {
+            None => None,
+            Some(conn) => Some(ConnectionId(conn)),
+        }
+    }
+}
