@@ -1,3 +1,4 @@
 pub mod Cuts
 pub mod Numbers
+pub mod Listings
 pub mod Reading

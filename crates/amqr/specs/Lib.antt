@@ -2,3 +2,4 @@ pub mod Words
 pub mod Lines
 pub mod Cut
 pub mod Script
+pub mod Listing

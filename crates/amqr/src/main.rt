@@ -1,6 +1,7 @@
 //! A message router for AMQP 1.0: the program.
 #![tactic(auto)]
 
+pub mod listing;
 pub mod script;
 pub mod step;
 
