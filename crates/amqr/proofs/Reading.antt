@@ -6,7 +6,7 @@ use Rattle.std.proofs.lemmas.List.Sums.{count_by-le-length}
 use Rattle.amqr.specs.Words.{Text, cut_at}
 use Rattle.amqr.specs.Lines.{Saying, nothing, step, wrong, saying_of}
 use Rattle.amqr.specs.Script.{AllSay, steps_of, steps_in, IsFirstWrong}
-use Rattle.amqr.specs.declared.step.Step.{Step}
+use Rattle.router_core.specs.declared.play.player.Step.{Step}
 
 -- of these lines so many were read, which say these steps, and these are left
 abbrev pub ReadSoFar : List Text → List Text → ℕ → List Step → Type 0

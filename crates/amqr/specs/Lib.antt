@@ -1,5 +1,6 @@
 pub mod Words
 pub mod Lines
 pub mod Cut
+pub mod Print
 pub mod Script
 pub mod Listing

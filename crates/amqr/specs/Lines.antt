@@ -3,9 +3,9 @@ use Rattle.std.specs.Prelude.{◌≡◌, ℕ, ◌==◌, ◌||◌, if◌then◌el
 use Rattle.std.specs.List.{list_all}
 use Rattle.std.specs.Str.{bytes_eq}
 use Rattle.amqr.specs.Words.{Text, cut_at, number_of, bytes_of}
-use Rattle.amqr.specs.declared.step.Step.{Step}
-use Rattle.amqr.specs.declared.step.Step.TheVariants.{Up, In, Down, Tick}
-use Rattle.amqr.specs.declared.step.PeerRole.TheVariants.{Normal}
+use Rattle.router_core.specs.declared.play.player.Step.{Step}
+use Rattle.router_core.specs.declared.play.player.Step.TheVariants.{Up, In, Down, Tick}
+use Rattle.router_core.specs.declared.state.event.PeerRole.TheVariants.{Normal}
 use Rattle.amqr.specs.declared.script.line.LineFault.{LineFault}
 use Rattle.amqr.specs.declared.script.line.LineFault.TheVariants.{Wrong, Memory}
 

@@ -4,7 +4,7 @@ use Rattle.std.specs.List.{All, count_by}
 use Rattle.std.specs.Str.{IsUtf8, IsValidUpTo}
 use Rattle.amqr.specs.Words.{Text, cut_at}
 use Rattle.amqr.specs.Lines.{Saying, nothing, step, wrong, saying_of}
-use Rattle.amqr.specs.declared.step.Step.{Step}
+use Rattle.router_core.specs.declared.play.player.Step.{Step}
 use Rattle.amqr.specs.declared.script.ScriptFault.{ScriptFault}
 use Rattle.amqr.specs.declared.script.ScriptFault.TheVariants.{Line, Memory}
 

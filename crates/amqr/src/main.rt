@@ -1,9 +1,10 @@
 //! A message router for AMQP 1.0: the program.
 #![tactic(auto)]
 
+pub mod input;
 pub mod listing;
+pub mod print;
 pub mod script;
-pub mod step;
 
 use std::io;
 

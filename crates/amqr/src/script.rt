@@ -7,7 +7,7 @@ ghost use Rattle.amqr.specs.Script.{HasSteps, IsFaulty, line_of};
 
 use crate::script::line::{LineFault, read_line};
 use crate::script::word::cut;
-use crate::step::Step;
+use router_core::Step;
 use std::alloc::Global;
 use std::str;
 use thiserror::Error;

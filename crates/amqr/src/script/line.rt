@@ -4,7 +4,7 @@ ghost use Rattle.amqr.specs.Lines.{Says, saying_of, is_blank, is_comment, step_b
 ghost use Rattle.amqr.specs.Words.{cut_at, number_of, bytes_of};
 
 use crate::script::word::{bytes, cut, number};
-use crate::step::{ConnectionId, PeerRole, Step};
+use router_core::{ConnectionId, PeerRole, Step};
 use std::alloc::{AllocError, Global};
 
 /// Why a line gives no step.
