@@ -3,4 +3,5 @@ pub mod Lines
 pub mod Cut
 pub mod Print
 pub mod Script
+pub mod Status
 pub mod Listing

@@ -16,10 +16,10 @@ const PIECE: usize = 16_384;
 #[derive(Clone, Copy, Debug, PartialEq, Eq, Error)]
 pub enum InputFault {
     /// It can't be read, or not within the most bytes and reads.
-    #[error("file")]
+    #[error("the file can't be read")]
     Unread,
     /// Memory was refused.
-    #[error("memory")]
+    #[error("out of memory")]
     Memory,
 }
 

@@ -16,13 +16,13 @@ use thiserror::Error;
 #[derive(Clone, Copy, Debug, PartialEq, Eq, Error)]
 pub enum ScriptFault {
     /// This line, counted from 1, says nothing that a script may say, or has the first byte that is no UTF-8.
-    #[error("script {line}")]
+    #[error("line {line} of the script is at fault")]
     Line {
         /// The line, counted from 1.
         line: u64,
     },
     /// Memory was refused.
-    #[error("memory")]
+    #[error("out of memory")]
     Memory,
 }
 
