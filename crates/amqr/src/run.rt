@@ -1,4 +1,9 @@
 //! The program, over any files, reader and writers.
+ghost use Rattle.std.specs.Prelude.{◌≡◌, ◌<◌, length, IfOk};
+ghost use Rattle.std.specs.List.{list_any};
+ghost use Rattle.amqr.specs.Running.{Lists, Plays, PlaysInput, Refuses, MayPlay, is_bad};
+ghost use Rattle.amqr.specs.Status.{status_of};
+
 use crate::input::{InputFault, read_whole};
 use crate::listing::{ListingLine, list_stream};
 use crate::print::print_lines;
@@ -60,7 +65,10 @@ fn explain<O: Write, E: Write>(
 }
 
 /// Writes why nothing is done.
-fn refuse<O: Write>(output: &mut O, refusal: Refusal) -> io::Result<Status> {
+fn refuse<O: Write>(output: &mut O, refusal: Refusal) -> io::Result<Status>
+    ensures status { IfOk result (λ status. status ≡ status_of refusal) }
+    ensures told { IfOk result (λ status. Refuses refusal (O.contents output.old) (O.contents output.new)) }
+{
     print_lines(output, &[refusal])?;
     Ok(refusal.status())
 }
@@ -75,7 +83,9 @@ fn frames<I: Read, O: Write>(alloc: Global, input: &mut I, output: &mut O) -> io
 }
 
 /// Writes the listing of a stream.
-pub fn list<O: Write>(alloc: Global, stream: &[u8], output: &mut O) -> io::Result<Status> {
+pub fn list<O: Write>(alloc: Global, stream: &[u8], output: &mut O) -> io::Result<Status>
+    ensures { IfOk result (λ status. Lists stream.now status (O.contents output.old) (O.contents output.new)) }
+{
     let Ok(lines) = list_stream(alloc, stream) else {
         return refuse(output, Refusal::Memory);
     };
@@ -87,14 +97,18 @@ pub fn list<O: Write>(alloc: Global, stream: &[u8], output: &mut O) -> io::Resul
 }
 
 /// Whether a listing tells bytes that begin no item.
-fn has_bad(lines: &[ListingLine]) -> bool {
+fn has_bad(lines: &[ListingLine]) -> bool
+    ensures { result ≡ list_any is_bad lines.now }
+{
     lines
         .iter()
         .any(|line| matches!(line, ListingLine::Bad { .. }))
 }
 
 /// Plays the script that an input is.
-fn play<I: Read, O: Write>(alloc: Global, input: &mut I, output: &mut O) -> io::Result<Status> {
+fn play<I: Read, O: Write>(alloc: Global, input: &mut I, output: &mut O) -> io::Result<Status>
+    ensures { IfOk result (λ status. PlaysInput (I.remaining input.old) status (O.contents output.old) (O.contents output.new)) }
+{
     match read_whole(alloc, input) {
         Ok(text) => play_text(alloc, text.as_slice(), output),
         Err(InputFault::Unread) => refuse(output, Refusal::File),
@@ -103,7 +117,9 @@ fn play<I: Read, O: Write>(alloc: Global, input: &mut I, output: &mut O) -> io::
 }
 
 /// Plays a script. The whole of it is judged before anything is played.
-pub fn play_text<O: Write>(alloc: Global, text: &[u8], output: &mut O) -> io::Result<Status> {
+pub fn play_text<O: Write>(alloc: Global, text: &[u8], output: &mut O) -> io::Result<Status>
+    ensures { IfOk result (λ status. Plays text.now status (O.contents output.old) (O.contents output.new)) }
+{
     match read_script(alloc, text) {
         Ok(steps) => play_steps(alloc, steps, output),
         Err(ScriptFault::Line { line }) => refuse(output, Refusal::Script { line }),
@@ -112,7 +128,9 @@ pub fn play_text<O: Write>(alloc: Global, text: &[u8], output: &mut O) -> io::Re
 }
 
 /// Plays the steps of a script.
-fn play_steps<O: Write>(alloc: Global, steps: Vec<Step>, output: &mut O) -> io::Result<Status> {
+fn play_steps<O: Write>(alloc: Global, steps: Vec<Step>, output: &mut O) -> io::Result<Status>
+    ensures { IfOk result MayPlay }
+{
     let Ok(config) = Config::standard(alloc) else {
         return refuse(output, Refusal::Memory);
     };
@@ -122,7 +140,9 @@ fn play_steps<O: Write>(alloc: Global, steps: Vec<Step>, output: &mut O) -> io::
 }
 
 /// Writes the lines of a report.
-fn print_report<O: Write>(report: &Report, output: &mut O) -> io::Result<Status> {
+fn print_report<O: Write>(report: &Report, output: &mut O) -> io::Result<Status>
+    ensures { IfOk result MayPlay }
+{
     print_lines(output, report.lines.as_slice())?;
     if report.out_of_memory {
         return refuse(output, Refusal::Memory);
