@@ -29,7 +29,16 @@ fn run_over(rt: &HostRuntime) -> io::Result<Status> {
     let words: Vec<String> = env::args(rt)?.collect(alloc)?;
     let mut output = BufWriter::new(alloc, rt.stdout())?;
     let mut errors = rt.stderr();
-    let status = run(rt, words.as_slice(), &mut rt.stdin(), &mut output, &mut errors)?;
+    let status = run(
+        rt,
+        words.as_slice(),
+        &mut rt.stdin(),
+        &mut output,
+        &mut errors,
+    )?;
     output.flush()?;
     Ok(status)
 }
+
+#[cfg(test)]
+mod tests;

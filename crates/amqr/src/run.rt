@@ -15,9 +15,9 @@ use clap::error::ErrorKind;
 use router_core::{Config, CoreFault, Line, Report, Run, Step, play_runs};
 use std::alloc::Global;
 use std::convert::AsStr;
+use std::fs;
 use std::io::{self, Read, Write};
 use std::rt::Files;
-use std::fs;
 
 /// Does what the words ask for, the first of which is the program's name. Lines go to the output, faults of the words to
 /// the errors.
@@ -31,7 +31,9 @@ pub fn run<R: Files + AllocGlobal, S: AsStr, I: Read, O: Write, E: Write>(
     input: &mut I,
     output: &mut O,
     errors: &mut E,
-) -> io::Result<Status> {
+) -> io::Result<Status>
+    ensures input { length words.now < 2 → IfOk result (λ status. PlaysInput (I.remaining input.old) status (O.contents output.old) (O.contents output.new)) }
+{
     let alloc = rt.alloc();
     match read_words(alloc, words) {
         Ok(Task::PlayInput) => play(alloc, input, output),

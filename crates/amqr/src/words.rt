@@ -1,4 +1,6 @@
 //! The words that the program is called with.
+ghost use Rattle.std.specs.Prelude.{◌≡◌, ◌<◌, length, IfOk};
+
 use clap::error::ErrorKind;
 use clap::{Arg, ArgAction, Command, Error};
 use std::alloc::{AllocError, Global};
@@ -26,7 +28,10 @@ pub enum Task<'a> {
 /// # Errors
 ///
 /// A text for the user: what is wrong with the words, or the help that they ask for.
-pub fn read_words<'a, S: AsStr>(alloc: Global, words: &'a [S]) -> Result<Task<'a>, Error> {
+pub fn read_words<'a, S: AsStr>(alloc: Global, words: &'a [S]) -> Result<Task<'a>, Error>
+    ensures none { length words.entry.now < 2 → result ≡ Ok Task.PlayInput }
+    ensures some { IfOk result (λ task. task ≡ Task.PlayInput → length words.entry.now < 2) }
+{
     if words.len() < 2 {
         return Ok(Task::PlayInput);
     }
@@ -50,7 +55,9 @@ pub fn read_words<'a, S: AsStr>(alloc: Global, words: &'a [S]) -> Result<Task<'a
 /// The program and its commands, as the help tells them.
 fn program<'a>(alloc: Global) -> Result<Command<'a>, AllocError> {
     Command::new(alloc, "amqr")
-        .about("A message router for AMQP 1.0. Without a word it plays the script on standard input.")
+        .about(
+            "A message router for AMQP 1.0. Without a word it plays the script on standard input.",
+        )
         .subcommand_required(true)
         .subcommand(play(alloc)?)?
         .subcommand(frames(alloc)?)
