@@ -1,0 +1,5 @@
+pub mod Cuts
+pub mod Numbers
+pub mod Streaming
+pub mod Listings
+pub mod Reading

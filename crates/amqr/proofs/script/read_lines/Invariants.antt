@@ -1,0 +1,11 @@
+use Rattle.std.proofs.Common.{◌≡◌, ℕ, length}
+use Rattle.amqr.specs.Cut.{behind}
+use Rattle.amqr.specs.Script.{lines_of}
+use Rattle.amqr.proofs.Reading.{ReadSoFar}
+use Rattle.amqr.proofs.script.read_lines.Given as goal
+
+abbrev pub invariant-loop-rest : goal.invariant-loop-rest
+invariant-loop-rest l = ReadSoFar (lines_of l.text) (behind 10 l.rest) l.line l.steps.items
+
+abbrev pub decreases-loop-rest : goal.decreases-loop-rest
+decreases-loop-rest l = length (behind 10 l.rest)

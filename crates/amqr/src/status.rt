@@ -1,0 +1,73 @@
+//! How the program ends.
+ghost use Rattle.std.specs.Prelude.{◌≡◌, Some};
+ghost use Rattle.amqr.specs.Status.{code_of, status_of};
+
+use std::fmt::{self, Display, Formatter, Write};
+
+/// How the program ended.
+#[derive(Clone, Copy, Debug, PartialEq, Eq)]
+pub enum Status {
+    /// It is done.
+    Done,
+    /// Its input was bad.
+    BadInput,
+    /// Its words were bad.
+    BadWords,
+    /// The journal or memory failed, or the output could not be written.
+    Failed,
+}
+
+impl Status {
+    /// The number that the process ends with: 0 to 3, in the order above.
+    pub fn code(self) -> u8
+        ensures { result ≡ code_of self }
+    {
+        match self {
+            Status::Done => 0,
+            Status::BadInput => 1,
+            Status::BadWords => 2,
+            Status::Failed => 3,
+        }
+    }
+}
+
+/// Why nothing is done, as a line of output.
+#[derive(Clone, Copy, Debug, PartialEq, Eq)]
+pub enum Refusal {
+    /// A line of the script is at fault: `script LINE`.
+    Script {
+        /// The line, counted from 1.
+        line: u64,
+    },
+    /// A file or the input can't be read: `file`.
+    File,
+    /// Memory was refused: `memory`.
+    Memory,
+}
+
+impl Display for Refusal {
+    ghost use Rattle.std.specs.Prelude.{Some};
+    ghost use Rattle.amqr.specs.Status.{refusal_text};
+
+    ghost output = { λ refusal. Some (refusal_text refusal) };
+
+    fn fmt<W: Write>(&self, f: &mut Formatter<W>) -> fmt::Result {
+        match self {
+            Refusal::Script { line } => write!(f, "script {line}"),
+            Refusal::File => write!(f, "file"),
+            Refusal::Memory => write!(f, "memory"),
+        }
+    }
+}
+
+impl Refusal {
+    /// How the program ends with it.
+    pub fn status(self) -> Status
+        ensures { result ≡ status_of self }
+    {
+        match self {
+            Refusal::Script { .. } | Refusal::File => Status::BadInput,
+            Refusal::Memory => Status::Failed,
+        }
+    }
+}

@@ -1,0 +1,86 @@
+//! The words that the program is called with.
+ghost use Rattle.std.specs.Prelude.{◌≡◌, ◌<◌, length, IfOk};
+
+use clap::error::ErrorKind;
+use clap::{Arg, ArgAction, Command, Error};
+use std::alloc::{AllocError, Global};
+use std::convert::AsStr;
+
+/// What the words ask for.
+#[derive(Clone, Copy, Debug)]
+pub enum Task<'a> {
+    /// To play the script that comes on standard input.
+    PlayInput,
+    /// To play the script in a file.
+    Play {
+        /// The file.
+        script: &'a str,
+    },
+    /// To list the frames in a file.
+    Frames {
+        /// The file.
+        file: &'a str,
+    },
+}
+
+/// What these words ask for; the first is the program's name. With no word behind it the script comes on standard input.
+///
+/// # Errors
+///
+/// A text for the user: what is wrong with the words, or the help that they ask for.
+pub fn read_words<'a, S: AsStr>(alloc: Global, words: &'a [S]) -> Result<Task<'a>, Error>
+    ensures none { length words.entry.now < 2 → result ≡ Ok Task.PlayInput }
+    ensures some { IfOk result (λ task. task ≡ Task.PlayInput → length words.entry.now < 2) }
+{
+    if words.len() < 2 {
+        return Ok(Task::PlayInput);
+    }
+    let matches = program(alloc)?.try_get_matches_from(words)?;
+    match matches.subcommand() {
+        Some(("play", rest)) => {
+            if let Some(script) = rest.get_str("SCRIPT") {
+                return Ok(Task::Play { script });
+            }
+        }
+        Some(("frames", rest)) => {
+            if let Some(file) = rest.get_str("FILE") {
+                return Ok(Task::Frames { file });
+            }
+        }
+        _ => {}
+    }
+    Err(program(alloc)?.error(ErrorKind::MissingSubcommand, "a command is missing")?)
+}
+
+/// The program and its commands, as the help tells them.
+fn program<'a>(alloc: Global) -> Result<Command<'a>, AllocError> {
+    Command::new(alloc, "amqr")
+        .about(
+            "A message router for AMQP 1.0. Without a word it plays the script on standard input.",
+        )
+        .subcommand_required(true)
+        .subcommand(play(alloc)?)?
+        .subcommand(frames(alloc)?)
+}
+
+/// The command that plays a script.
+fn play<'a>(alloc: Global) -> Result<Command<'a>, AllocError> {
+    let script = Arg::new(alloc, "SCRIPT")
+        .required(true)
+        .action(ArgAction::Set)
+        .help("A file of lines: up N, in N HEX, down N, tick MS, blank lines and # comments");
+    Command::new(alloc, "play")
+        .about("Plays a script against a router in memory, and prints what the router sends")
+        .arg(script)
+}
+
+/// The command that lists frames.
+fn frames<'a>(alloc: Global) -> Result<Command<'a>, AllocError> {
+    let file = Arg::new(alloc, "FILE")
+        .required(true)
+        .action(ArgAction::Set)
+        .help("A file of the bytes that one side of a connection sent");
+    Command::new(alloc, "frames")
+        .about("Lists the headers and frames that the bytes of a file are")
+        .arg(file)
+}
