@@ -39,6 +39,7 @@ impl<'a> Fields<'a> {
     }
 
     /// A field that holds no other values.
+    #[inline(always)]
     #[tactic(auto, unfolding(crate::specs::Fields::plain))]
     pub fn plain(&mut self) -> Result<Option<Plain<'a>>, PerfFault>
         ensures { Took (option_map plain_view) result (at_of self.new) (fields.plain (at_of self.old)) }
@@ -58,6 +59,7 @@ impl<'a> Fields<'a> {
     }
 
     /// A boolean that is false where it is absent.
+    #[inline(never)]
     #[tactic(auto, unfolding(crate::specs::Fields::flag))]
     pub fn flag(&mut self) -> Result<bool, PerfFault>
         ensures { Took (λ b. b) result (at_of self.new) (fields.flag (at_of self.old)) }
@@ -70,6 +72,7 @@ impl<'a> Fields<'a> {
     }
 
     /// A boolean that must stand there.
+    #[inline(never)]
     #[tactic(auto, unfolding(crate::specs::Fields::required_flag))]
     pub fn required_flag(&mut self) -> Result<bool, PerfFault>
         ensures { Took (λ b. b) result (at_of self.new) (fields.required_flag (at_of self.old)) }
@@ -82,6 +85,7 @@ impl<'a> Fields<'a> {
     }
 
     /// A ubyte.
+    #[inline(never)]
     #[tactic(auto, unfolding(crate::specs::Fields::ubyte))]
     pub fn ubyte(&mut self) -> Result<Option<u8>, PerfFault>
         ensures { Took (λ n. n) result (at_of self.new) (fields.ubyte (at_of self.old)) }
@@ -106,6 +110,7 @@ impl<'a> Fields<'a> {
     }
 
     /// A ushort.
+    #[inline(never)]
     #[tactic(auto, unfolding(crate::specs::Fields::ushort))]
     pub fn ushort(&mut self) -> Result<Option<u16>, PerfFault>
         ensures { Took (λ n. n) result (at_of self.new) (fields.ushort (at_of self.old)) }
@@ -118,6 +123,7 @@ impl<'a> Fields<'a> {
     }
 
     /// A uint.
+    #[inline(never)]
     #[tactic(auto, unfolding(crate::specs::Fields::uint))]
     pub fn uint(&mut self) -> Result<Option<u32>, PerfFault>
         ensures { Took (λ n. n) result (at_of self.new) (fields.uint (at_of self.old)) }
@@ -130,6 +136,7 @@ impl<'a> Fields<'a> {
     }
 
     /// A uint that must stand there.
+    #[inline(never)]
     #[tactic(auto, unfolding(crate::specs::Fields::required_uint))]
     pub fn required_uint(&mut self) -> Result<u32, PerfFault>
         ensures { Took (λ n. n) result (at_of self.new) (fields.required_uint (at_of self.old)) }
@@ -142,6 +149,7 @@ impl<'a> Fields<'a> {
     }
 
     /// A ulong.
+    #[inline(never)]
     #[tactic(auto, unfolding(crate::specs::Fields::ulong))]
     pub fn ulong(&mut self) -> Result<Option<u64>, PerfFault>
         ensures { Took (λ n. n) result (at_of self.new) (fields.ulong (at_of self.old)) }
@@ -256,6 +264,7 @@ impl<'a> Fields<'a> {
     }
 
     /// A delivery tag: a binary of 32 bytes at most.
+    #[inline(never)]
     #[tactic(auto, unfolding(crate::specs::Fields::tag))]
     pub fn tag(&mut self) -> Result<Option<DeliveryTag>, PerfFault>
         ensures { Took (λ x. x) result (at_of self.new) (fields.tag (at_of self.old)) }

@@ -56,6 +56,7 @@ pub fn read_state(alloc: Global, bytes: &[u8]) -> Result<(DeliveryState, usize),
 }
 
 /// The performative at the front, and the bytes behind it.
+#[inline(always)]
 #[tactic(auto, unfolding(crate::specs::Performative::performative_at))]
 fn performative_of(alloc: Global, bytes: &[u8]) -> Result<(Perf, &[u8]), PerfFault>
     ensures { GivesAs (λ x. (x.0, x.1.now)) result (performative_at bytes.now) }
@@ -106,6 +107,7 @@ fn limit_of(descriptor: Descriptor) -> Option<u32>
 }
 
 /// The fields behind a descriptor.
+#[inline(always)]
 fn body_of(
     alloc: Global,
     descriptor: Descriptor,

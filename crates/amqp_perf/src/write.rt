@@ -22,6 +22,13 @@ pub fn write_perf(alloc: Global, perf: &Perf, out: &mut Vec<u8>) -> Result<(), A
     ensures ok { OnOk result (out.new.items ≡ out.old.items ++ spelling perf.now) }
     ensures err { OnErr result (out.new.items ≡ out.old.items) }
 {
+    if out.is_empty() {
+        let written = put_perf(alloc, out, perf);
+        if written.is_err() {
+            out.clear();
+        }
+        return written;
+    }
     let mut text = Vec::new(alloc);
     put_perf(alloc, &mut text, perf)?;
     out.extend_from_slice(&text)
@@ -40,6 +47,13 @@ pub fn write_state(
     ensures ok { OnOk result (out.new.items ≡ out.old.items ++ state_spelling state.now) }
     ensures err { OnErr result (out.new.items ≡ out.old.items) }
 {
+    if out.is_empty() {
+        let written = put_state(alloc, out, state);
+        if written.is_err() {
+            out.clear();
+        }
+        return written;
+    }
     let mut text = Vec::new(alloc);
     put_state(alloc, &mut text, state)?;
     out.extend_from_slice(&text)

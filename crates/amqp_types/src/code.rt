@@ -93,6 +93,7 @@ pub enum Kind {
 }
 
 /// The constructor that a byte is.
+#[inline(always)]
 #[tactic(auto, unfolding(crate::specs::Codes::code_of))]
 pub(crate) fn constructor(byte: u8) -> Option<Code>
     ensures { result ≡ code_of byte }
@@ -173,6 +174,7 @@ impl Leaf {
     }
 
     /// Where the bytes behind the constructor are.
+    #[inline(always)]
     pub(crate) fn layout(self) -> Layout
         ensures { result ≡ layout_of self }
     {
@@ -226,6 +228,7 @@ impl Code {
 
 impl Kind {
     /// The byte of the shorter constructor of this type that has bytes behind it.
+    #[inline(always)]
     pub(crate) fn narrow_code(self) -> u8
         ensures { result ≡ narrow_code self }
     {
@@ -258,6 +261,7 @@ impl Kind {
     }
 
     /// The byte of the longer constructor of this type.
+    #[inline(always)]
     pub(crate) fn wide_code(self) -> u8
         ensures { result ≡ wide_code self }
     {

@@ -224,6 +224,7 @@ pub(crate) fn kind_of_elements(count: u32, element: Code) -> Result<Kind, TypeFa
 }
 
 /// What was read inside a list, a map or an array, where that is all of it.
+#[inline(always)]
 #[tactic(auto, unfolding(crate::specs::Reading::whole))]
 fn finished(read: Result<(Value, &[u8]), TypeFault>) -> Result<Value, TypeFault>
     ensures { (all : Result (Data × List ℕ) TypeFault)

@@ -12,6 +12,9 @@ use crate::plain::Plain;
 use crate::value::Value;
 use std::alloc::{AllocError, Global};
 
+/// Bytes for which room is made before what a compound holds is written.
+const FIRST_ROOM: usize = 64;
+
 /// Appends the shortest spelling of the value.
 ///
 /// A text or a compound of 2^32 bytes or more has no spelling, and is answered as if memory ran
@@ -21,6 +24,13 @@ pub fn encode(alloc: Global, value: &Value, out: &mut Vec<u8>) -> Result<(), All
     ensures ok { OnOk result (out.new.items ≡ out.old.items ++ spelling (view value.now)) }
     ensures err { OnErr result (out.new.items ≡ out.old.items) }
 {
+    if out.is_empty() {
+        let written = put_value(alloc, out, value);
+        if written.is_err() {
+            out.clear();
+        }
+        return written;
+    }
     let mut text = Vec::new(alloc);
     put_value(alloc, &mut text, value)?;
     out.extend_from_slice(&text)
@@ -54,13 +64,13 @@ fn put_value(alloc: Global, out: &mut Vec<u8>, value: &Value) -> Result<(), Allo
         Value::String(text) => put_plain(out, Plain::String(text.as_str())),
         Value::Symbol(name) => put_plain(out, Plain::Symbol(name.as_str())),
         Value::List(items) => {
-            let mut inside = Vec::new(alloc);
+            let mut inside = Vec::with_capacity(alloc, FIRST_ROOM)?;
             let items = items.as_slice();
             put_items(alloc, &mut inside, items)?;
             put_list(out, items.len(), &inside)
         }
         Value::Map(pairs) => {
-            let mut inside = Vec::new(alloc);
+            let mut inside = Vec::with_capacity(alloc, FIRST_ROOM)?;
             let pairs = pairs.as_slice();
             put_pairs(alloc, &mut inside, pairs)?;
             put_map(out, pairs.len(), &inside)
@@ -162,6 +172,7 @@ fn put_piece(alloc: Global, all: &mut Pieces, value: &Value) -> Result<(), Alloc
 }
 
 /// Appends the shortest spelling of a value that holds no others.
+#[inline(always)]
 #[tactic(auto, unfolding(crate::specs::Spelling::spelling))]
 pub fn put_plain(out: &mut Vec<u8>, plain: Plain<'_>) -> Result<(), AllocError>
     ensures { OnOk result (out.new.items ≡ out.old.items ++ spelling (plain_view plain.entry)) }
@@ -192,6 +203,7 @@ pub fn put_plain(out: &mut Vec<u8>, plain: Plain<'_>) -> Result<(), AllocError>
     }
 }
 
+#[inline(always)]
 fn put_code(out: &mut Vec<u8>, code: u8) -> Result<(), AllocError>
     ensures { OnOk result (out.new.items ≡ out.old.items ++ code ∷ []) }
 {
@@ -199,6 +211,7 @@ fn put_code(out: &mut Vec<u8>, code: u8) -> Result<(), AllocError>
     Ok(())
 }
 
+#[inline(always)]
 fn put_bytes(out: &mut Vec<u8>, code: u8, bytes: &[u8]) -> Result<(), AllocError>
     ensures { OnOk result (out.new.items ≡ out.old.items ++ code ∷ bytes.now) }
 {
@@ -206,6 +219,7 @@ fn put_bytes(out: &mut Vec<u8>, code: u8, bytes: &[u8]) -> Result<(), AllocError
     out.extend_from_slice(bytes)
 }
 
+#[inline(always)]
 #[tactic(auto, unfolding(crate::specs::Spelling::spelling))]
 fn put_uint(out: &mut Vec<u8>, number: u32) -> Result<(), AllocError>
     ensures { OnOk result (out.new.items ≡ out.old.items ++ spelling (d.uint number)) }
@@ -219,6 +233,7 @@ fn put_uint(out: &mut Vec<u8>, number: u32) -> Result<(), AllocError>
     }
 }
 
+#[inline(always)]
 #[tactic(auto, unfolding(crate::specs::Spelling::spelling))]
 fn put_ulong(out: &mut Vec<u8>, number: u64) -> Result<(), AllocError>
     ensures { OnOk result (out.new.items ≡ out.old.items ++ spelling (d.ulong number)) }
@@ -232,6 +247,7 @@ fn put_ulong(out: &mut Vec<u8>, number: u64) -> Result<(), AllocError>
     }
 }
 
+#[inline(always)]
 #[tactic(auto, unfolding(crate::specs::Spelling::spelling))]
 fn put_int(out: &mut Vec<u8>, number: i32) -> Result<(), AllocError>
     ensures { OnOk result (out.new.items ≡ out.old.items ++ spelling (d.int number)) }
@@ -243,6 +259,7 @@ fn put_int(out: &mut Vec<u8>, number: i32) -> Result<(), AllocError>
     }
 }
 
+#[inline(always)]
 #[tactic(auto, unfolding(crate::specs::Spelling::spelling))]
 fn put_long(out: &mut Vec<u8>, number: i64) -> Result<(), AllocError>
     ensures { OnOk result (out.new.items ≡ out.old.items ++ spelling (d.long number)) }
@@ -254,6 +271,7 @@ fn put_long(out: &mut Vec<u8>, number: i64) -> Result<(), AllocError>
     }
 }
 
+#[inline(always)]
 fn put_sized(out: &mut Vec<u8>, kind: Kind, bytes: &[u8]) -> Result<(), AllocError>
     ensures { OnOk result (out.new.items ≡ out.old.items ++ constructed kind (sized_piece bytes.now)) }
 {

@@ -111,6 +111,7 @@ fn open_array<'a>(size: Size, inside: &'a [u8], behind: &'a [u8]) -> Result<Open
 
 /// The value at the front, where it holds no others, and the bytes behind it. A value that holds
 /// others is passed over, all of it.
+#[inline(always)]
 #[tactic(auto, using(crate::proofs::Openings::to_value_at), unfolding(crate::specs::Reading::value_at))]
 pub fn front_of(depth: u32, bytes: &[u8]) -> Result<(Option<Plain<'_>>, &[u8]), TypeFault>
     ensures { Same (λ x. (option_map plain_view x.0, x.1.now)) result (to plain_part (value_at depth bytes.now)) }
@@ -120,6 +121,7 @@ pub fn front_of(depth: u32, bytes: &[u8]) -> Result<(Option<Plain<'_>>, &[u8]), 
 }
 
 /// The same for a value behind a constructor, as the elements of an array are.
+#[inline(always)]
 #[tactic(auto, using(crate::proofs::Openings::to_leaf, crate::proofs::Openings::to_others), unfolding(crate::specs::Reading::body_at))]
 pub fn element_of(
     depth: u32,

@@ -36,6 +36,7 @@ pub enum Plain<'a> {
 
 impl Plain<'_> {
     /// The same value with texts of its own.
+    #[inline(always)]
     pub fn to_value(self, alloc: Global) -> Result<Value, AllocError>
         ensures { IfOk result (λ v. view v ≡ plain_view self.entry) }
     {

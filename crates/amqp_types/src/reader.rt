@@ -10,6 +10,7 @@ use crate::fault::TypeFault;
 use crate::plain::Plain;
 
 /// The first so many bytes.
+#[inline(always)]
 pub(crate) fn bytes_of(count: usize, bytes: &[u8]) -> Result<(&[u8], &[u8]), TypeFault>
     ensures { Same (λ x. (x.0.now, x.1.now)) result (bytes_at count bytes.now) }
 {
@@ -20,6 +21,7 @@ pub(crate) fn bytes_of(count: usize, bytes: &[u8]) -> Result<(&[u8], &[u8]), Typ
 }
 
 /// A size or a count.
+#[inline(always)]
 pub fn size_of(size: Size, bytes: &[u8]) -> Result<(u32, &[u8]), TypeFault>
     ensures { Same (λ x. (x.0, x.1.now)) result (size_at size bytes.now) }
 {
@@ -36,6 +38,7 @@ pub fn size_of(size: Size, bytes: &[u8]) -> Result<(u32, &[u8]), TypeFault>
 }
 
 /// A size and as many bytes.
+#[inline(always)]
 #[tactic(auto, unfolding(crate::specs::Reading::sized_at))]
 pub fn sized_of(size: Size, bytes: &[u8]) -> Result<(&[u8], &[u8]), TypeFault>
     ensures { Same (λ x. (x.0.now, x.1.now)) result (sized_at size bytes.now) }
@@ -45,6 +48,7 @@ pub fn sized_of(size: Size, bytes: &[u8]) -> Result<(&[u8], &[u8]), TypeFault>
 }
 
 /// A constructor.
+#[inline(always)]
 pub fn code_of(bytes: &[u8]) -> Result<(Code, &[u8]), TypeFault>
     ensures { Same (λ x. (x.0, x.1.now)) result (code_at bytes.now) }
 {
@@ -57,6 +61,7 @@ pub fn code_of(bytes: &[u8]) -> Result<(Code, &[u8]), TypeFault>
     }
 }
 
+#[inline(always)]
 fn chunk_of(layout: Layout, bytes: &[u8]) -> Result<(&[u8], &[u8]), TypeFault>
     ensures same { Same (λ x. (x.0.now, x.1.now)) result (chunk_at layout bytes.now) }
     ensures laid { IfOk result (λ x. IsLaid layout x.0.now) }
@@ -68,6 +73,7 @@ fn chunk_of(layout: Layout, bytes: &[u8]) -> Result<(&[u8], &[u8]), TypeFault>
 }
 
 /// A value without others, behind its constructor.
+#[inline(always)]
 #[tactic(auto, unfolding(crate::specs::Reading::leaf_at))]
 pub(crate) fn leaf_of(leaf: Leaf, bytes: &[u8]) -> Result<(Plain<'_>, &[u8]), TypeFault>
     ensures { Same (λ x. (plain_view x.0, x.1.now)) result (leaf_at leaf bytes.now) }
@@ -77,6 +83,7 @@ pub(crate) fn leaf_of(leaf: Leaf, bytes: &[u8]) -> Result<(Plain<'_>, &[u8]), Ty
 }
 
 /// All of the bytes, of which there are as many as the type says.
+#[inline(always)]
 fn array<const N: usize>(bytes: &[u8]) -> [u8; N]
     requires { length bytes.now ≡ N }
     ensures { result ≡ bytes.now }
@@ -87,6 +94,7 @@ fn array<const N: usize>(bytes: &[u8]) -> [u8; N]
     }
 }
 
+#[inline(always)]
 fn content(leaf: Leaf, bytes: &[u8]) -> Result<Plain<'_>, TypeFault>
     requires { IsLaid (layout_of leaf) bytes.now }
     ensures { Same plain_view result (content_of leaf bytes.now) }
