@@ -18,3 +18,6 @@ pub use fault::CoreFault;
 pub use play::{Line, Report, Run, Step, play_runs};
 pub use router::{Batch, Core, Done};
 pub use state::{ConnectionId, Event, Peer, PeerRole};
+
+#[cfg(test)]
+mod tests;
