@@ -17,3 +17,6 @@ pub use play::{Line, Report, Run, Step, play_runs};
 pub use route_table::Config;
 pub use router::{Batch, Core, Done};
 pub use state::{ConnectionId, Event, Peer, PeerRole};
+
+#[cfg(test)]
+mod tests;
