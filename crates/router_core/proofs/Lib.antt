@@ -1,3 +1,7 @@
+pub mod Asks
+pub mod Bytes
 pub mod Lists
 pub mod RunLemmas
+pub mod Scenes
 pub mod Turns
+pub mod Order

@@ -176,7 +176,7 @@ apart c k (Some l) up at = by_test (c == k) (λ e. absurd (below c k l (ltb-true
     below : (c k l : ℕ) → l < c → k ≤ l → c ≡ k → ⊥
     below c k l h i e = omega arith
 
-reach_up : (c k : ℕ) (last : Option ℕ) → rises c last ≡ true → reaches k last ≡ true → reaches k (Some c) ≡ true
+pub reach_up : (c k : ℕ) (last : Option ℕ) → rises c last ≡ true → reaches k last ≡ true → reaches k (Some c) ≡ true
 reach_up c k None up at = absurd cc
 reach_up c k (Some l) up at = le-leb k c (below c k l (ltb-true l c up) (leb-true k l at))
   where
@@ -269,7 +269,7 @@ stays_perf : (body : Perf) (p : Conn) → (behind_perf body p).closed ≡ false 
 stays_perf (perf.Close x) p h = absurd cc
 stays_perf _ p h = h
 
-stays : (i : Item) (p : Conn) → (behind i p).closed ≡ false → p.closed ≡ false
+pub stays : (i : Item) (p : Conn) → (behind i p).closed ≡ false → p.closed ≡ false
 stays (item.Frame sasl channel body payload) p h = stays_perf body p h
 stays _ p h = h
 

@@ -9,3 +9,7 @@ pub mod Faults
 pub mod Handling
 pub mod Runs
 pub mod Door
+pub mod Script
+pub mod Playing
+pub mod Asking
+pub mod Laws

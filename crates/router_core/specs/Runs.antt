@@ -1,5 +1,5 @@
 -- A list of events, one after the other, each outbox emptied behind each.
-use Rattle.std.specs.Prelude.{◌≡◌, ◌⊎◌, ℕ, suc, ◌+◌, Bool, true, false, List, [], ◌∷◌, ◌++◌, map, take, length, Option, Some, None}
+use Rattle.std.specs.Prelude.{◌≡◌, ◌⊎◌, ℕ, ◌+◌, true, false, List, [], ◌∷◌, ◌++◌, map, take, length, Option, Some, None}
 use Rattle.amqp_frames.specs.declared.item.Item.{Item}
 use Rattle.router_core.specs.declared.state.event.Event.{Event}
 use Rattle.router_core.specs.declared.state.event.ConnectionId.{ConnectionId}

@@ -5,6 +5,7 @@ pub mod config;
 pub mod door;
 pub mod driving;
 pub mod fault;
+pub mod laws;
 pub mod play;
 pub mod reply;
 pub mod router;

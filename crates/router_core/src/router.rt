@@ -42,10 +42,10 @@ pub struct Core {
 
 impl Core {
     /// A router to which nothing happened.
-    pub fn open(alloc: Global, config: Config) -> Result<Core, AllocError>
+    pub fn open(alloc: Global, config: &Config) -> Result<Core, AllocError>
         ensures fits { IfOk result (λ core. Fits core []) }
         ensures works { IfOk result (λ core. is_failed core ≡ false) }
-        ensures named { IfOk result (λ core. id_of core ≡ config) }
+        ensures named { IfOk result (λ core. id_of core ≡ config.now) }
     {
         Ok(Core {
             id: RouterId::new(alloc, config.router_id())?,
@@ -67,6 +67,7 @@ impl Core {
     pub fn handle(&mut self, event: Event) -> Result<Done, CoreFault>
         // The trace goes on with the event and its replies.
         ensures fits { OnOk result ((t : List Entry) → Fits self.old t → (u : List Entry) × Replies (id_of self.old) t event u × Fits self.new u) }
+        ensures taken { OnOk result ((t : List Entry) → Fits self.old t → refuses t event ≡ false) }
         ensures works { OnOk result (is_failed self.new ≡ false) }
         ensures named { id_of self.new ≡ id_of self.old }
 

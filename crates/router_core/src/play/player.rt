@@ -1,10 +1,23 @@
 //! Plays a script.
+ghost use Rattle.std.specs.Prelude.{◌≡◌, ◌==◌, ◌∷◌, ◌++◌, ℕ, List, [], None, Some, map, option_map, true, false, if◌then◌else◌, OnOk, IfOk};
+ghost use Rattle.std.specs.Ordering.{nat_cmp};
+ghost use Rattle.std.specs.BTreeMap.{get};
+ghost use Rattle.router_core.specs.Handling.{is_failed};
+ghost use Rattle.router_core.specs.Script.{Scene, opening, PlaysAll, book, refused, out_line, say_all, hand, enter, enter_all, BytesCome, make, lose, Takes, take_one, close_if, Flushes, Plays};
+ghost use Rattle.router_core.specs.Connection.{conn as known, is_ready};
+ghost use Rattle.router_core.specs.Runs.{taking};
+ghost use Rattle.router_core.specs.Asking.{AsksAt, ReadsAt, ReadsOne, follow};
+ghost use Rattle.router_core.specs.declared.state.event.Event.TheVariants as event;
+ghost use Rattle.router_core.specs.declared.play.line.Line.TheVariants as line;
+ghost use Rattle.router_core.specs.declared.play.line.Line.{Line as ALine};
+ghost use Rattle.router_core.specs.Playing.{Follows, Said, IsRead, PartsAt, part_by};
+
 use crate::config::Config;
 use crate::fault::CoreFault;
 use crate::play::line::Line;
 use crate::play::socket::{Asked, Socket};
-use crate::router::Core;
-use crate::state::{ConnectionId, Event, PeerRole};
+use crate::router::{Batch, Core};
+use crate::state::{ConnectionId, Event, Peer, PeerRole};
 use amqp_frames::{FrameFault, Item, write_item};
 use amqp_perf::Binary;
 use std::alloc::{AllocError, Global};
@@ -70,165 +83,255 @@ struct Player {
     lines: Vec<Line>,
 }
 
-/// Plays runs, one after the other, each against a router to which nothing happened. After each step all outboxes are
-/// taken, by connection.
-pub fn play_runs(alloc: Global, config: Config, runs: &[Run]) -> Report {
-    let core = match Core::open(alloc, config) {
-        Ok(core) => core,
-        Err(AllocError) => {
-            return Report {
-                lines: Vec::new(alloc),
-                out_of_memory: true,
-                failed: false,
-            };
+/// Plays runs, one after the other, each against a router to which nothing happened: after each step all outboxes are
+/// taken, by connection. The last line tells of the book. Where memory is refused to the play itself the lines end there.
+pub fn play_runs(alloc: Global, config: Config, runs: &[Run]) -> Report
+    ensures plays { result.out_of_memory ≡ false → result.failed ≡ false → (lines : List ALine) × PlaysAll config (map (λ r. r.steps.items) runs.now) lines × (result.lines.items ≡ lines ++ book ∷ []) }
+{
+    let mut lines = Vec::new(alloc);
+    let mut failed = false;
+    for run in runs {
+        match play_run(alloc, &config, run, &mut lines) {
+            Ok(works) => failed = either(failed, !works),
+            Err(AllocError) => {
+                return Report {
+                    lines,
+                    out_of_memory: true,
+                    failed,
+                };
+            }
         }
-    };
-    let mut player = Player {
-        alloc,
-        core,
-        sockets: BTreeMap::new(alloc),
-        newest: None,
-        lines: Vec::new(alloc),
-    };
-    let played = player.play(runs);
-    Report {
-        failed: player.core.is_failed(),
-        lines: player.lines,
-        out_of_memory: played.is_err(),
+    }
+    match say_book(&mut lines) {
+        Ok(()) => Report {
+            lines,
+            out_of_memory: false,
+            failed,
+        },
+        Err(AllocError) => Report {
+            lines,
+            out_of_memory: true,
+            failed,
+        },
+    }
+}
+
+/// Whether one of two things holds.
+fn either(one: bool, other: bool) -> bool
+    ensures { result ≡ (if one then true else other) }
+{
+    one || other
+}
+
+/// Plays a run, and puts its lines behind the others. Gives whether the router works at its end.
+fn play_run(
+    alloc: Global,
+    config: &Config,
+    run: &Run,
+    lines: &mut Vec<Line>,
+) -> Result<bool, AllocError>
+    ensures { IfOk result (λ works. works ≡ true → (u : Scene) × Plays run.now.steps.items (opening config.now) u × (lines.new.items ≡ lines.old.items ++ u.lines)) }
+{
+    let mut player = Player::new(alloc, config)?;
+    let played = player.play(&run.steps);
+    let works = !player.core.is_failed();
+    let Player { lines: told, .. } = player;
+    append(lines, told)?;
+    played?;
+    Ok(works)
+}
+
+/// Puts lines behind others.
+fn append(lines: &mut Vec<Line>, told: Vec<Line>) -> Result<(), AllocError>
+    ensures { OnOk result (lines.new.items ≡ lines.old.items ++ told.items) }
+{
+    for line in told {
+        match lines.push(line) {
+            Ok(()) => {}
+            Err(_) => return Err(AllocError),
+        }
+    }
+    Ok(())
+}
+
+/// The line of the book at the end.
+fn say_book(lines: &mut Vec<Line>) -> Result<(), AllocError>
+    ensures { OnOk result (lines.new.items ≡ lines.old.items ++ book ∷ []) }
+{
+    match lines.push(Line::Book {
+        rows: 0,
+        termini: 0,
+        batches: 0,
+    }) {
+        Ok(()) => Ok(()),
+        Err(_) => Err(AllocError),
     }
 }
 
 impl Player {
-    fn play(&mut self, runs: &[Run]) -> Result<(), AllocError> {
-        for run in runs {
-            for step in &run.steps {
-                self.step(step)?;
-                self.flush()?;
-            }
-        }
-        self.say(Line::Book {
-            rows: 0,
-            termini: 0,
-            batches: 0,
+    /// A player before the first step.
+    fn new(alloc: Global, config: &Config) -> Result<Player, AllocError>
+        ensures follows { IfOk result (λ p. Follows p (opening config.now)) }
+    {
+        Ok(Player {
+            alloc,
+            core: Core::open(alloc, config)?,
+            sockets: BTreeMap::new(alloc),
+            newest: None,
+            lines: Vec::new(alloc),
         })
     }
 
-    fn say(&mut self, line: Line) -> Result<(), AllocError> {
+    /// One line more.
+    fn say(&mut self, line: Line) -> Result<(), AllocError>
+        ensures said { OnOk result (Said self.old self.new (line ∷ [])) }
+        ensures core { self.new.core ≡ self.old.core }
+    {
         match self.lines.push(line) {
             Ok(()) => Ok(()),
             Err(_) => Err(AllocError),
         }
     }
 
-    fn say_out(&mut self, conn: u64, item: &Item) -> Result<(), AllocError> {
+    /// The line of an item that goes out.
+    fn say_out(&mut self, conn: ConnectionId, item: &Item) -> Result<(), AllocError>
+        ensures said { OnOk result (Said self.old self.new (out_line conn item.now ∷ [])) }
+        ensures core { self.new.core ≡ self.old.core }
+    {
         let mut bytes = Vec::new(self.alloc);
         write_item(self.alloc, item, &mut bytes)?;
         self.say(Line::Out {
-            conn: ConnectionId(conn),
+            conn,
             bytes: Binary::new(bytes),
         })
     }
 
-    fn step(&mut self, step: &Step) -> Result<(), AllocError> {
-        match step {
-            Step::Up { conn, role } => self.up(conn.0, *role),
-            Step::In { conn, bytes } => self.bytes(conn.0, bytes.as_slice()),
-            Step::Down { conn } => self.down(conn.0),
-            Step::Tick { ms } => self.hand(Event::Tick(*ms)),
-        }
-    }
-
-    fn up(&mut self, conn: u64, role: PeerRole) -> Result<(), AllocError> {
-        let rises = match self.newest {
-            None => true,
-            Some(newest) => newest < conn,
-        };
-        if !rises {
-            return self.say(Line::Failed(CoreFault::NoConnection));
-        }
-        self.newest = Some(conn);
-        match self.sockets.insert(conn, Socket::new(self.alloc, role)) {
-            Ok(_) => Ok(()),
-            Err(_) => Err(AllocError),
-        }
-    }
-
-    fn hand(&mut self, event: Event) -> Result<(), AllocError> {
-        match self.core.handle(event) {
-            Ok(_) => Ok(()),
-            Err(fault) => self.say(Line::Failed(fault)),
-        }
-    }
-
-    fn down(&mut self, conn: u64) -> Result<(), AllocError> {
-        match self.sockets.remove(&conn) {
-            None => self.say(Line::Failed(CoreFault::NoConnection)),
-            Some(socket) => {
-                if socket.door.is_none() {
-                    self.hand(Event::Down(ConnectionId(conn)))?;
-                }
-                Ok(())
-            }
-        }
-    }
-
-    fn bytes(&mut self, conn: u64, bytes: &[u8]) -> Result<(), AllocError> {
-        let fed = match self.sockets.get_mut(&conn) {
-            None => return self.say(Line::Failed(CoreFault::NoConnection)),
-            Some(socket) => socket.reader.feed(bytes),
-        };
-        match fed {
-            Ok(items) => self.items(conn, items),
-            Err(FrameFault::Memory) => Err(AllocError),
-            Err(_) => self.say(Line::Failed(CoreFault::NoConnection)),
-        }
-    }
-
-    fn items(&mut self, conn: u64, items: Vec<Item>) -> Result<(), AllocError> {
-        for item in items {
-            self.item(conn, item)?;
-        }
-        Ok(())
-    }
-
-    fn item(&mut self, conn: u64, item: Item) -> Result<(), AllocError> {
-        match self.ask(conn, &item)? {
-            Asked::Nobody => Ok(()),
-            Asked::Router => self.hand(Event::Item(ConnectionId(conn), item)),
-            Asked::Say(items) => self.say_all(conn, &items),
-            Asked::Pass(peer) => {
-                self.hand(Event::Up(ConnectionId(conn), peer))?;
-                self.hand(Event::Item(ConnectionId(conn), item))
-            }
-            Asked::End(items) => {
-                self.say_all(conn, &items)?;
-                self.end(conn)
-            }
-        }
-    }
-
-    fn ask(&mut self, conn: u64, item: &Item) -> Result<Asked, AllocError> {
-        match self.sockets.get_mut(&conn) {
-            None => Ok(Asked::Nobody),
-            Some(socket) => socket.ask(self.alloc, item),
-        }
-    }
-
-    fn end(&mut self, conn: u64) -> Result<(), AllocError> {
-        let _ = self.sockets.remove(&conn);
-        self.say(Line::End {
-            conn: ConnectionId(conn),
-        })
-    }
-
-    fn say_all(&mut self, conn: u64, items: &[Item]) -> Result<(), AllocError> {
+    /// The lines of items that go out.
+    fn say_all(&mut self, conn: ConnectionId, items: &[Item]) -> Result<(), AllocError>
+        ensures said { OnOk result (Said self.old self.new (map (out_line conn) items.now)) }
+        ensures core { self.new.core ≡ self.old.core }
+    {
         for item in items {
             self.say_out(conn, item)?;
         }
         Ok(())
     }
 
-    fn flush(&mut self) -> Result<(), AllocError> {
+    /// Hands an event to the router.
+    fn hand(&mut self, event: Event) -> Result<(), AllocError>
+        ensures follows { OnOk result (is_failed self.new.core ≡ false → (s : Scene) → Follows self.old s → Follows self.new (hand event s)) }
+        ensures stays { is_failed self.old.core ≡ true → is_failed self.new.core ≡ true }
+    {
+        match self.core.handle(event) {
+            Ok(_) => Ok(()),
+            Err(fault) => self.say(Line::Failed(fault)),
+        }
+    }
+
+    /// An item comes on a connection: at the door, or to the router.
+    fn enter(&mut self, conn: ConnectionId, item: Item) -> Result<(), AllocError>
+        ensures follows { OnOk result (is_failed self.new.core ≡ false → (s : Scene) → Follows self.old s → Follows self.new (enter conn item s)) }
+        ensures stays { is_failed self.old.core ≡ true → is_failed self.new.core ≡ true }
+    {
+        let asked = self.ask(conn, &item)?;
+        self.follow(conn, item, asked)
+    }
+
+    /// Items come on a connection, one after the other.
+    fn enter_all(&mut self, conn: ConnectionId, items: Vec<Item>) -> Result<(), AllocError>
+        ensures follows { OnOk result (is_failed self.new.core ≡ false → (s : Scene) → Follows self.old s → Follows self.new (enter_all conn items.items s)) }
+        ensures stays { is_failed self.old.core ≡ true → is_failed self.new.core ≡ true }
+    {
+        for item in items {
+            self.enter(conn, item)?;
+        }
+        Ok(())
+    }
+
+    /// Bytes come on a connection.
+    fn bytes(&mut self, conn: ConnectionId, bytes: &[u8]) -> Result<(), AllocError>
+        ensures follows { OnOk result (is_failed self.new.core ≡ false → (s : Scene) → Follows self.old s → (u : Scene) × BytesCome conn bytes.now s (s.sockets conn.0) u × Follows self.new u) }
+        ensures stays { is_failed self.old.core ≡ true → is_failed self.new.core ≡ true }
+    {
+        match self.read(conn, bytes)? {
+            None => self.refuse(),
+            Some(items) => self.enter_all(conn, items),
+        }
+    }
+
+    /// Cuts bytes into items, where they are taken.
+    fn read(&mut self, conn: ConnectionId, bytes: &[u8]) -> Result<Option<Vec<Item>>, AllocError>
+        ensures reads { IfOk result (λ read. (s : Scene) → Follows self.old s → IsRead conn bytes.now s (s.sockets conn.0) self.new (option_map (λ v. v.items) read)) }
+        ensures core { self.new.core ≡ self.old.core }
+    {
+        read_in(&mut self.sockets, conn.0, bytes)
+    }
+
+    /// The line of what is refused.
+    fn refuse(&mut self) -> Result<(), AllocError>
+        ensures said { OnOk result (Said self.old self.new (refused ∷ [])) }
+        ensures core { self.new.core ≡ self.old.core }
+    {
+        self.say(Line::Failed(CoreFault::NoConnection))
+    }
+
+    /// A connection is made.
+    fn up(&mut self, conn: ConnectionId, role: PeerRole) -> Result<(), AllocError>
+        ensures follows { OnOk result ((s : Scene) → Follows self.old s → Follows self.new (make conn role s)) }
+        ensures core { self.new.core ≡ self.old.core }
+    {
+        let rises = match self.newest {
+            None => true,
+            Some(newest) => newest < conn.0,
+        };
+        if !rises {
+            self.refuse()?;
+            return Ok(());
+        }
+        self.newest = Some(conn.0);
+        add(&mut self.sockets, conn.0, Socket::new(self.alloc, role))?;
+        Ok(())
+    }
+
+    /// A connection is lost.
+    fn down(&mut self, conn: ConnectionId) -> Result<(), AllocError>
+        ensures follows { OnOk result (is_failed self.new.core ≡ false → (s : Scene) → Follows self.old s → Follows self.new (lose conn s)) }
+        ensures stays { is_failed self.old.core ≡ true → is_failed self.new.core ≡ true }
+    {
+        match self.part(conn) {
+            Parted::Closed => self.refuse(),
+            Parted::Passed => self.hand(Event::Down(conn)),
+            Parted::AtDoor => Ok(()),
+        }
+    }
+
+    /// Closes a connection, and tells where it stood.
+    fn part(&mut self, conn: ConnectionId) -> Parted
+        ensures parted { (s : Scene) → Follows self.old s → (after : Scene) × Follows self.new after × (part_by conn result after ≡ lose conn s) }
+        ensures core { self.new.core ≡ self.old.core }
+    {
+        part_in(&mut self.sockets, conn.0)
+    }
+
+    /// A step.
+    fn step(&mut self, step: &Step) -> Result<(), AllocError>
+        ensures follows { OnOk result (is_failed self.new.core ≡ false → (s : Scene) → Follows self.old s → (u : Scene) × Takes step.now s u × Follows self.new u) }
+        ensures stays { is_failed self.old.core ≡ true → is_failed self.new.core ≡ true }
+    {
+        match step {
+            Step::Up { conn, role } => self.up(*conn, *role)?,
+            Step::In { conn, bytes } => self.bytes(*conn, bytes.as_slice())?,
+            Step::Down { conn } => self.down(*conn)?,
+            Step::Tick { ms } => self.hand(Event::Tick(*ms))?,
+        }
+        Ok(())
+    }
+
+    /// Empties all outboxes, by connection, unless the router failed.
+    fn flush(&mut self) -> Result<(), AllocError>
+        ensures follows { OnOk result (is_failed self.new.core ≡ false → (s : Scene) → Follows self.old s → (u : Scene) × Flushes s u × Follows self.new u) }
+        ensures stays { is_failed self.old.core ≡ true → is_failed self.new.core ≡ true }
+    {
         for _turn in 0..u64::MAX {
             if self.core.is_failed() {
                 return Ok(());
@@ -241,16 +344,189 @@ impl Player {
         Err(AllocError)
     }
 
-    fn take(&mut self, conn: ConnectionId) -> Result<(), AllocError> {
+    /// Takes items of an outbox that has some, or of a connection that is over.
+    fn take(&mut self, conn: ConnectionId) -> Result<(), AllocError>
+        ensures follows { OnOk result (is_failed self.new.core ≡ false → (s : Scene) → Follows self.old s → is_ready (known s.trace conn.0) ≡ true → Follows self.new (take_one (taking conn) s)) }
+        ensures stays { is_failed self.old.core ≡ true → is_failed self.new.core ≡ true }
+    {
         match self.core.take(conn, MOST) {
-            Ok(batch) => {
-                self.say_all(conn.0, &batch.items)?;
-                if batch.ended {
-                    self.end(conn.0)?;
-                }
-                Ok(())
-            }
+            Ok(batch) => self.send(conn, batch),
             Err(fault) => self.say(Line::Failed(fault)),
         }
     }
+
+    /// The lines of a batch; a connection that is over is closed with its last.
+    fn send(&mut self, conn: ConnectionId, batch: Batch) -> Result<(), AllocError>
+        ensures follows { OnOk result ((s : Scene) → Follows self.old s → Follows self.new (close_if batch.ended conn (say_all (map (out_line conn) batch.items.items) s))) }
+        ensures core { self.new.core ≡ self.old.core }
+    {
+        self.say_all(conn, &batch.items)?;
+        self.close_if(conn, batch.ended)?;
+        Ok(())
+    }
+
+    /// Closes a connection, where it is over.
+    fn close_if(&mut self, conn: ConnectionId, ended: bool) -> Result<(), AllocError>
+        ensures follows { OnOk result ((s : Scene) → Follows self.old s → Follows self.new (close_if ended conn s)) }
+        ensures core { self.new.core ≡ self.old.core }
+    {
+        if ended {
+            close(&mut self.sockets, conn.0);
+            self.say(Line::End { conn })?;
+        }
+        Ok(())
+    }
+
+    /// Steps, one after the other.
+    fn play(&mut self, steps: &[Step]) -> Result<(), AllocError>
+        ensures follows { OnOk result (is_failed self.new.core ≡ false → (s : Scene) → Follows self.old s → (u : Scene) × Plays steps.now s u × Follows self.new u) }
+        ensures stays { is_failed self.old.core ≡ true → is_failed self.new.core ≡ true }
+    {
+        for step in steps {
+            self.step(step)?;
+            self.flush()?;
+        }
+        Ok(())
+    }
+
+    /// Asks who takes an item.
+    fn ask(&mut self, conn: ConnectionId, item: &Item) -> Result<Asked, AllocError>
+        ensures asks { IfOk result (λ asked. (s : Scene) → Follows self.old s → (after : Scene) × Follows self.new after × (follow conn item.now asked after ≡ enter conn item.now s)) }
+        ensures core { self.new.core ≡ self.old.core }
+    {
+        ask_in(&mut self.sockets, self.alloc, conn.0, item)
+    }
+
+    /// Gives an item to who takes it.
+    fn follow(&mut self, conn: ConnectionId, item: Item, asked: Asked) -> Result<(), AllocError>
+        ensures follows { OnOk result (is_failed self.new.core ≡ false → (s : Scene) → Follows self.old s → Follows self.new (follow conn item asked s)) }
+        ensures stays { is_failed self.old.core ≡ true → is_failed self.new.core ≡ true }
+    {
+        match asked {
+            Asked::Nobody => {
+                discard(item);
+                Ok(())
+            }
+            Asked::Router => self.hand(Event::Item(conn, item)),
+            Asked::Say(items) => {
+                discard(item);
+                self.say_all(conn, &items)
+            }
+            Asked::Pass(peer) => self.pass(conn, peer, item),
+            Asked::End(items) => {
+                discard(item);
+                self.say_end(conn, &items)
+            }
+        }
+    }
+
+    /// A connection comes up, and its first item goes to the router.
+    fn pass(&mut self, conn: ConnectionId, peer: Peer, item: Item) -> Result<(), AllocError>
+        ensures follows { OnOk result (is_failed self.new.core ≡ false → (s : Scene) → Follows self.old s → Follows self.new (hand (event.Item conn item) (hand (event.Up conn peer) s))) }
+        ensures stays { is_failed self.old.core ≡ true → is_failed self.new.core ≡ true }
+    {
+        self.hand(Event::Up(conn, peer))?;
+        self.hand(Event::Item(conn, item))
+    }
+
+    /// The last lines of a connection.
+    fn say_end(&mut self, conn: ConnectionId, items: &[Item]) -> Result<(), AllocError>
+        ensures said { OnOk result (Said self.old self.new (map (out_line conn) items.now ++ line.End conn ∷ [])) }
+        ensures core { self.new.core ≡ self.old.core }
+    {
+        self.say_all(conn, items)?;
+        self.say(Line::End { conn })
+    }
+}
+
+/// Lets go of an item.
+fn discard(_item: Item) {}
+
+/// Asks who takes an item of a connection, which is closed where the door ends it.
+fn ask_in(
+    sockets: &mut BTreeMap<u64, Socket>,
+    alloc: Global,
+    conn: u64,
+    item: &Item,
+) -> Result<Asked, AllocError>
+    ensures { IfOk result (λ asked. AsksAt conn item.now (get nat_cmp sockets.old) (get nat_cmp sockets.old conn) (get nat_cmp sockets.new) asked) }
+{
+    let asked = match sockets.get_mut(&conn) {
+        None => return Ok(Asked::Nobody),
+        Some(socket) => socket.ask(alloc, item)?,
+    };
+    if let Asked::End(_) = &asked {
+        close(sockets, conn);
+    }
+    Ok(asked)
+}
+
+/// Cuts the bytes that come on a connection into items; none where it is closed, or its stream ended.
+fn read_in(
+    sockets: &mut BTreeMap<u64, Socket>,
+    conn: u64,
+    bytes: &[u8],
+) -> Result<Option<Vec<Item>>, AllocError>
+    ensures { IfOk result (λ read. ReadsAt conn bytes.now (get nat_cmp sockets.old) (get nat_cmp sockets.old conn) (get nat_cmp sockets.new) (option_map (λ v. v.items) read)) }
+{
+    match sockets.get_mut(&conn) {
+        None => Ok(None),
+        Some(socket) => read_one(socket, bytes),
+    }
+}
+
+/// Cuts the bytes that come into items; none where the stream ended.
+fn read_one(socket: &mut Socket, bytes: &[u8]) -> Result<Option<Vec<Item>>, AllocError>
+    ensures { IfOk result (λ read. ReadsOne bytes.now socket.old socket.old.reader.failed socket.new (option_map (λ v. v.items) read)) }
+{
+    match socket.reader.feed(bytes) {
+        Ok(items) => Ok(Some(items)),
+        Err(FrameFault::Failed) => Ok(None),
+        Err(_) => Err(AllocError),
+    }
+}
+
+/// Where a connection stood that was closed.
+#[derive(Clone, Copy)]
+enum Parted {
+    /// Nowhere: it was closed before.
+    Closed,
+    /// Behind the door.
+    Passed,
+    /// At the door.
+    AtDoor,
+}
+
+/// Closes a connection, and tells where it stood.
+fn part_in(sockets: &mut BTreeMap<u64, Socket>, conn: u64) -> Parted
+    ensures parted { PartsAt (get nat_cmp sockets.old conn) result }
+    ensures rows { (n : ℕ) → get nat_cmp sockets.new n ≡ (if conn == n then None else get nat_cmp sockets.old n) }
+{
+    match sockets.remove(&conn) {
+        None => Parted::Closed,
+        Some(socket) => {
+            if socket.door.is_some() {
+                Parted::AtDoor
+            } else {
+                Parted::Passed
+            }
+        }
+    }
+}
+
+/// Opens a connection.
+fn add(sockets: &mut BTreeMap<u64, Socket>, conn: u64, socket: Socket) -> Result<(), AllocError>
+    ensures { OnOk result ((n : ℕ) → get nat_cmp sockets.new n ≡ (if conn == n then Some socket else get nat_cmp sockets.old n)) }
+{
+    match sockets.insert(conn, socket) {
+        Ok(_) => Ok(()),
+        Err(_) => Err(AllocError),
+    }
+}
+
+/// Closes a connection.
+fn close(sockets: &mut BTreeMap<u64, Socket>, conn: u64)
+    ensures { (n : ℕ) → get nat_cmp sockets.new n ≡ (if conn == n then None else get nat_cmp sockets.old n) }
+{
+    let _ = sockets.remove(&conn);
 }

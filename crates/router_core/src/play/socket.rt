@@ -1,4 +1,8 @@
 //! A connection of a script: its door, and the reader of its bytes.
+ghost use Rattle.std.specs.Prelude.{◌≡◌, IfOk};
+ghost use Rattle.router_core.specs.Script.{new_socket};
+ghost use Rattle.router_core.specs.Asking.{IsAsked};
+
 use crate::door::{Door, DoorAnswer};
 use crate::state::{Peer, PeerRole};
 use amqp_frames::{FrameReader, Item};
@@ -15,7 +19,9 @@ pub struct Socket {
 
 impl Socket {
     /// A connection of which nothing has come.
-    pub fn new(alloc: Global, role: PeerRole) -> Socket {
+    pub fn new(alloc: Global, role: PeerRole) -> Socket
+        ensures { result ≡ new_socket role }
+    {
         Socket {
             door: Some(Door::new(role)),
             reader: FrameReader::new(alloc),
@@ -23,7 +29,9 @@ impl Socket {
     }
 
     /// Asks the door, while the connection stands at it.
-    pub fn ask(&mut self, alloc: Global, item: &Item) -> Result<Asked, AllocError> {
+    pub fn ask(&mut self, alloc: Global, item: &Item) -> Result<Asked, AllocError>
+        ensures { IfOk result (λ asked. IsAsked item.now self.old self.new asked) }
+    {
         let Some(mut door) = self.door else {
             return Ok(Asked::Router);
         };

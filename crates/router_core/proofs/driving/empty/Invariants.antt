@@ -1,5 +1,4 @@
 use Rattle.std.proofs.Common.{◌≡◌, ◌++◌, List}
-use Rattle.router_core.specs.declared.driving.Sent.{Sent}
 use Rattle.router_core.specs.Trace.{Entry}
 use Rattle.router_core.specs.Handling.{Fits, id_of}
 use Rattle.router_core.specs.Runs.{Taking, took_all, sent}
