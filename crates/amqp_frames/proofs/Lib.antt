@@ -4,6 +4,7 @@ pub mod Gathers
 pub mod Items
 pub mod Sound
 pub mod Sizes
+pub mod SomeBytes
 pub mod Steps
 pub mod Streams
 pub mod Written

@@ -5,6 +5,7 @@ use Rattle.std.proofs.lemmas.Nat.{from_be_bytes-to_be_bytes_2, from_be_bytes-to_
 use Rattle.std.proofs.Math.Seq.{drop-append_seam}
 use Rattle.std.specs.Int.{w16, w32, from_be_bytes, to_be_bytes}
 use Rattle.amqp_perf.specs.Spelling.{spelling}
+use Rattle.amqp_perf.proofs.WrittenPerformatives.{performative_again}
 use Rattle.amqp_frames.specs.declared.item.Item.{Item}
 use Rattle.amqp_frames.specs.declared.item.Item.TheVariants as item
 use Rattle.amqp_frames.specs.Cuts.{Leads}
@@ -13,6 +14,7 @@ use Rattle.amqp_frames.specs.ItemSpelling.{head_spelling, frame_spelling, item_s
 use Rattle.amqp_frames.specs.SpellsItem.{IsFrame, SpellsItem, IsSpelt}
 use Rattle.amqp_frames.specs.Within.{IsWithin}
 use Rattle.amqp_frames.proofs.Complete.{limit, limit_within, spells_item, item_front}
+use Rattle.amqp_frames.proofs.SomeBytes.{spelling_some}
 use Rattle.amqp_frames.proofs.Sound.{found_sound}
 
 written_channel : (sasl : Bool) (channel : ℕ) → channel < 2 ^ 16 → (sasl ≡ true → channel ≡ 0)
@@ -44,11 +46,11 @@ pub written_spelt : (x : Item) → IsWithin x → SpellsItem (item_spelling x) x
 unfolding item_spelling
 written_spelt (item.Header id major minor revision) is = refl
 written_spelt (item.Frame sasl channel p payload) is =
-    let some : 0 < length (spelling p ++ payload) = (let first : 0 < length (spelling p) = is.some in grind (arith, common_steps)) in (
+    let some : 0 < length (spelling p ++ payload) = (let first : 0 < length (spelling p) = spelling_some p in grind (arith, common_steps)) in (
       spelling p ++ payload,
       length (spelling p),
       written_frame sasl channel (spelling p ++ payload) is.channel_field is.sasl_channel is.size,
-      is.again,
+      performative_again p payload is.fits,
       sym (drop-append_seam (spelling p) payload),
       inr some,
       is.carried,

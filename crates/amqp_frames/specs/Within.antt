@@ -1,7 +1,7 @@
 -- The items that a reader finds again once they are written.
-use Rattle.std.specs.Prelude.{◌≡◌, ℕ, ◌+◌, ◌^◌, ◌<◌, ◌≤◌, ◌⊎◌, Bool, true, if◌then◌else◌, List, [], ◌++◌, length, Ok}
+use Rattle.std.specs.Prelude.{◌≡◌, ℕ, ◌+◌, ◌^◌, ◌<◌, ◌≤◌, ◌⊎◌, Bool, true, if◌then◌else◌, List, [], ◌++◌, length}
 use Rattle.amqp_perf.specs.declared.perf.Perf.{Perf}
-use Rattle.amqp_perf.specs.Performative.{performative}
+use Rattle.amqp_perf.specs.Fitting.{Fits}
 use Rattle.amqp_perf.specs.Spelling.{spelling}
 use Rattle.amqp_frames.specs.declared.item.Item.{Item}
 use Rattle.amqp_frames.specs.declared.item.Item.TheVariants as item
@@ -9,9 +9,8 @@ use Rattle.amqp_frames.specs.Frames.{may_carry}
 
 -- a frame that can be written so that it is read again
 pub record IsFrameWithin (sasl : Bool) (channel : ℕ) (p : Perf) (payload : List ℕ) : Type 0 where
-  -- its performative is written as at least a byte, and is read again with this payload behind it
-  pub some : 0 < length (spelling p)
-  pub again : performative (spelling p ++ payload) ≡ Ok (p, length (spelling p))
+  -- its numbers, texts and sizes are within the limits of their types
+  pub fits : Fits p
   -- only a transfer has a payload
   pub carried : (may_carry p ≡ true) ⊎ (payload ≡ [])
   -- a channel has two bytes, and a SASL frame none

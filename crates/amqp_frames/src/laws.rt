@@ -27,8 +27,7 @@ pub fn items_are_found_where_spelt()
     ensures more { (bytes : List ℕ) → front bytes ≡ more → length bytes < 16384 }
 {}
 
-/// What is written within the limits is spelt rightly, and so is found again, whatever stands behind it. For a frame
-/// this rests on its performative being read as it was written.
+/// What is written within the limits is spelt rightly, and so is found again, whatever stands behind it.
 pub fn written_items_are_found()
     ensures spelt { (x : AnItem) → IsWithin x → SpellsItem (item_spelling x) x }
     ensures found { (x : AnItem) (behind : List ℕ) → IsWithin x → front (item_spelling x ++ behind) ≡ found x behind }

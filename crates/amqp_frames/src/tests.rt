@@ -5,7 +5,7 @@ use std::fmt::Write;
 
 /// Why a test could not run.
 #[derive(Debug, Drop)]
-enum Fail {
+pub(crate) enum Fail {
     Reader(FrameFault),
     Memory,
 }
@@ -29,7 +29,7 @@ impl From<std::fmt::Error> for Fail {
 }
 
 /// A line for each item.
-fn put_lines(lines: &mut String, items: &[Item]) -> Result<(), Fail> {
+pub(crate) fn put_lines(lines: &mut String, items: &[Item]) -> Result<(), Fail> {
     for item in items {
         match item {
             Item::Header {

@@ -1,3 +1,11 @@
 pub mod Loops
 pub mod FieldTexts
 pub mod Lists
+pub mod WrittenPlaces
+pub mod WrittenFields
+pub mod WrittenLists
+pub mod WrittenStates
+pub mod WrittenPerformatives
+pub mod WrittenTermini
+pub mod WrittenValues
+pub mod WrittenUnsettled

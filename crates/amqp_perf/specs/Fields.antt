@@ -1,6 +1,6 @@
 -- Fields: values that stand one after the other in a list. A field that is absent at the end, or null, has none (AMQP 1.0
 -- part 1, section 1.4). A reader answers what it read, and the place behind it.
-use Rattle.std.specs.Prelude.{◌≡◌, ℕ, zero, suc, ◌-◌, Bool, true, false, List, [], ◌∷◌, ◌++◌, length, Option, Some, None, Result, Ok, Err, nat_lt, ◌==◌, if◌then◌else◌, unwrap_or}
+use Rattle.std.specs.Prelude.{ℕ, ◌-◌, Bool, false, List, [], ◌∷◌, length, Option, Some, None, Result, Ok, Err, nat_lt, ◌==◌, if◌then◌else◌, unwrap_or}
 use Rattle.arrayvec.specs.ArrayVec.{ArrayVec}
 use Rattle.amqp_types.specs.declared.fault.TypeFault.TheVariants as type_fault
 use Rattle.amqp_types.specs.declared.code.Leaf.TheVariants as leaf

@@ -11,3 +11,4 @@ pub mod Texts
 pub mod TextViews
 pub mod NestedViews
 pub mod Spelling
+pub mod Fitting

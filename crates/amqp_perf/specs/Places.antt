@@ -1,5 +1,5 @@
 -- A reader's place, and how its answer stands to the definition.
-use Rattle.std.specs.Prelude.{◌≡◌, ℕ, Result, Ok, Err}
+use Rattle.std.specs.Prelude.{◌≡◌, Result, Ok, Err}
 use Rattle.amqp_perf.specs.declared.fault.PerfFault.{PerfFault}
 use Rattle.amqp_perf.specs.declared.fault.PerfFault.TheVariants as fault
 use Rattle.amqp_perf.specs.declared.fields.Fields.{Fields}

@@ -1,7 +1,7 @@
 -- The one spelling that is written of each performative, delivery state, error and terminus: each field by its shortest
 -- spelling, null where it has its default (AMQP 1.0 part 2, section 2.7; part 3, sections 3.4 and 3.5; part 5, section
 -- 5.3.3).
-use Rattle.std.specs.Prelude.{ℕ, ◌*◌, Bool, true, false, List, [], ◌∷◌, ◌++◌, length, Option, Some, None, if◌then◌else◌}
+use Rattle.std.specs.Prelude.{ℕ, ◌*◌, true, false, List, [], ◌∷◌, ◌++◌, length, Option, Some, None, if◌then◌else◌}
 use Rattle.std.specs.Cmp.Lexicographic.{pointwise}
 use Rattle.std.specs.Prelude.{nat_eq}
 use Rattle.amqp_types.specs.declared.code.Kind.TheVariants as kind

@@ -1,6 +1,6 @@
 -- Errors, delivery states and unsettled maps, field by field (AMQP 1.0 part 2, section 2.8.14; part 3, section 3.4; part
 -- 2, section 2.7.3).
-use Rattle.std.specs.Prelude.{◌≡◌, ℕ, nat_eq, zero, suc, ◌-◌, ◌/◌, Bool, true, false, List, [], ◌∷◌, ◌++◌, Option, Some, None, Result, Ok, Err, ◌==◌, if◌then◌else◌}
+use Rattle.std.specs.Prelude.{ℕ, nat_eq, zero, suc, ◌-◌, ◌/◌, Bool, List, [], ◌∷◌, ◌++◌, Option, Some, None, Result, Ok, Err, if◌then◌else◌}
 use Rattle.std.specs.List.{list_any}
 use Rattle.std.specs.Cmp.Lexicographic.{pointwise}
 use Rattle.arrayvec.specs.ArrayVec.{ArrayVec}
@@ -21,7 +21,7 @@ use Rattle.amqp_perf.specs.declared.state.DeliveryState.{DeliveryState}
 use Rattle.amqp_perf.specs.declared.state.DeliveryState.TheVariants as state
 use Rattle.amqp_perf.specs.declared.state.UnsettledDelivery.{UnsettledDelivery}
 use Rattle.amqp_perf.specs.Faults.{outer, inner, by_fault, ◌>>=◌}
-use Rattle.amqp_perf.specs.Fields.{At, Takes, ended, absent, in_place, refused, carried, opening_at, listed, tag, flag, required_uint, required_ulong, text, required_symbol, map}
+use Rattle.amqp_perf.specs.Fields.{At, Takes, ended, in_place, refused, carried, opening_at, listed, tag, flag, required_uint, required_ulong, text, required_symbol, map}
 
 -- error (part 2, section 2.8.14)
 unfoldable pub error_fields : At → Result Fault PerfFault

@@ -1,5 +1,5 @@
 -- Sources and targets, field by field (AMQP 1.0 part 3, sections 3.5.3 and 3.5.4).
-use Rattle.std.specs.Prelude.{ℕ, ◌-◌, List, Option, Some, None, Result, Ok, Err, codes}
+use Rattle.std.specs.Prelude.{ℕ, ◌-◌, List, Option, Some, None, Result, Ok, codes}
 use Rattle.std.specs.Option.{unwrap_or}
 use Rattle.amqp_perf.specs.declared.fault.PerfFault.{PerfFault}
 use Rattle.amqp_perf.specs.declared.fault.PerfFault.TheVariants as fault

@@ -1,5 +1,5 @@
 -- What a writer's field stands for.
-use Rattle.std.specs.Prelude.{ℕ, List, [], ◌∷◌, map, Option, Some, None}
+use Rattle.std.specs.Prelude.{List, map, Some, None}
 use Rattle.amqp_types.specs.View.{plain_view}
 use Rattle.amqp_types.specs.Spelling.{spelling}
 use Rattle.amqp_perf.specs.declared.text.Field.{Field}

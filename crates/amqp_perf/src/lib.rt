@@ -4,6 +4,7 @@
 pub mod descriptor;
 pub mod fault;
 mod fields;
+mod laws;
 pub mod leaf;
 mod opening;
 pub mod perf;
@@ -21,6 +22,7 @@ mod write_termini;
 
 pub use descriptor::Descriptor;
 pub use fault::PerfFault;
+pub use laws::written_is_read_again;
 pub use leaf::{AnyValue, Binary, Map, Symbol, Symbols, Text};
 pub use opening::Opening;
 pub use perf::{

@@ -1,7 +1,6 @@
 -- For the crates above: how what was written begins, whatever follows.
-use Rattle.std.proofs.Common.{◌≡◌, ℕ, zero, suc, ◌+◌, ◌*◌, ◌^◌, ◌<◌, ◌≤◌, Bool, true, false, cond, ◌&&◌, nat_lt, ◌==◌, List, [], ◌∷◌, ◌++◌, length, Option, Some, None, Result, Ok, Err, refl, sym, ap, subst, ◌∙◌, append_assoc, arith}
+use Rattle.std.proofs.Common.{◌≡◌, ℕ, suc, ◌+◌, ◌^◌, ◌<◌, ◌≤◌, Bool, true, false, cond, ◌&&◌, nat_lt, List, [], ◌∷◌, ◌++◌, length, Some, Ok, refl, sym, ap, subst, ◌∙◌}
 use Rattle.std.proofs.Math.Dec.{eqb-suc-zero}
-use Rattle.amqp_types.specs.declared.fault.TypeFault.{TypeFault}
 use Rattle.amqp_types.specs.declared.code.Size.{Size}
 use Rattle.amqp_types.specs.declared.code.Size.TheVariants as size
 use Rattle.amqp_types.specs.declared.code.Code.{Code}
@@ -11,12 +10,12 @@ use Rattle.amqp_types.specs.declared.code.Kind.TheVariants as kind
 use Rattle.amqp_types.specs.Codes.{code_of, kind_of, is_without_bytes}
 use Rattle.amqp_types.specs.Data as d
 use Rattle.amqp_types.specs.Data.{Data, Items, no_items, item}
-use Rattle.amqp_types.specs.Reading.{◌>>=◌, Reads, body_at, items_at, code_at, size_at, sized_at, element_kind, within}
-use Rattle.amqp_types.specs.Opening.{Opened, opened_list, opened_array, opened_described, list_opening, array_opening, opening_by, opening_at}
-use Rattle.amqp_types.specs.Spells.{Spelling, count, IsNumber, IsSized, Fills, Behind, AreItems}
-use Rattle.amqp_types.specs.Spelling.{narrow_code, wide_code, Piece, constructed, wide_sizes, compound_piece, list_text, spelling, spellings, pieces}
+use Rattle.amqp_types.specs.Reading.{◌>>=◌, code_at, element_kind, within}
+use Rattle.amqp_types.specs.Opening.{opened_list, opened_array, opened_described, list_opening, array_opening, opening_by, opening_at}
+use Rattle.amqp_types.specs.Spells.{Spelling, count, IsNumber, Fills}
+use Rattle.amqp_types.specs.Spelling.{constructed, wide_sizes, compound_piece, list_text, spellings}
 use Rattle.amqp_types.proofs.Tools.{done}
-use Rattle.amqp_types.proofs.Complete.{size_complete, sized_complete, code_complete, element_complete, items_complete, behind_complete}
+use Rattle.amqp_types.proofs.Complete.{size_complete, sized_complete, code_complete, element_complete}
 use Rattle.amqp_types.proofs.RoundTrip.{compound_wide, compound_narrow}
 
 -- what stands behind a size: a count, and then these bytes

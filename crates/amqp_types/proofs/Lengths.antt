@@ -1,13 +1,12 @@
 -- How many bytes spell a value.
-use Rattle.std.proofs.Common.{◌≡◌, ℕ, ◌+◌, ◌-◌, ◌≤◌, List, ◌++◌, length, take, Result, Ok, Err, IfOk, refl, sym, ap, subst, ◌∙◌, arith}
+use Rattle.std.proofs.Common.{◌≡◌, ℕ, ◌-◌, ◌≤◌, List, ◌++◌, length, take, Result, Ok, Err, IfOk, refl, sym, ap, subst, ◌∙◌, arith}
 use Rattle.std.proofs.lemmas.List.{length-append}
 use Rattle.std.proofs.Math.Seq.{take-append_seam}
 use Rattle.amqp_types.specs.declared.fault.TypeFault.{TypeFault}
-use Rattle.amqp_types.specs.declared.fault.TypeFault.TheVariants as fault
 use Rattle.amqp_types.specs.Data.{Data}
 use Rattle.amqp_types.specs.View.{view}
 use Rattle.amqp_types.specs.declared.value.Value.{Value}
-use Rattle.amqp_types.specs.Reading.{◌>>=◌, Gives, Same, after, measured, length_of, value_at}
+use Rattle.amqp_types.specs.Reading.{Gives, Same, after, measured, length_of, value_at}
 use Rattle.amqp_types.specs.Spells.{Spells}
 use Rattle.amqp_types.proofs.Tools.{done, bind_ok, ok_is}
 use Rattle.amqp_types.proofs.Sound.{Spells-value_at}

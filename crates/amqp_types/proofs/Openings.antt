@@ -1,5 +1,5 @@
 -- Values that hold others, told apart by their constructors.
-use Rattle.std.proofs.Common.{◌≡◌, ℕ, zero, suc, ◌-◌, ◌+◌, ◌/◌, ◌%◌, ◌<◌, cond, List, [], ◌∷◌, Result, Ok, Err, Option, Some, None, option_map, refl, sym, ap, subst, ◌∙◌, arith, ◌==◌}
+use Rattle.std.proofs.Common.{◌≡◌, ℕ, zero, suc, ◌-◌, ◌/◌, ◌%◌, ◌<◌, cond, List, [], Result, Ok, Err, Option, Some, None, refl, sym, ap, subst, ◌∙◌, arith, ◌==◌}
 use Rattle.amqp_types.specs.declared.fault.TypeFault.{TypeFault}
 use Rattle.amqp_types.specs.declared.fault.TypeFault.TheVariants as fault
 use Rattle.amqp_types.specs.declared.code.Code.{Code}
@@ -11,9 +11,9 @@ use Rattle.amqp_types.specs.declared.plain.Plain.TheVariants as plain
 use Rattle.amqp_types.specs.Data as d
 use Rattle.amqp_types.specs.Data.{Data, Items, no_items, Pairs}
 use Rattle.amqp_types.specs.View.{plain_view, plain_part}
-use Rattle.amqp_types.specs.Reading.{◌>>=◌, Reads, to, made, after, size_at, sized_at, code_at, element_kind, leaf_at, whole, value_by, one_by, items_at, pairs_at, list_in, map_in, array_in, described_at, body_by, body_at}
-use Rattle.amqp_types.specs.Opening.{Opened, opened_list, opened_other, opened_described, list_opening, array_opening, opening_by}
-use Rattle.amqp_types.proofs.Tools.{done, bind_ok, ok_is, to_ok, made_ok, whole_ok, guard_ok}
+use Rattle.amqp_types.specs.Reading.{◌>>=◌, Reads, to, after, size_at, sized_at, code_at, element_kind, leaf_at, whole, value_by, one_by, items_at, pairs_at, list_in, map_in, array_in, described_at, body_by, body_at}
+use Rattle.amqp_types.specs.Opening.{opening_by}
+use Rattle.amqp_types.proofs.Tools.{bind_ok, ok_is, to_ok, made_ok, whole_ok, guard_ok}
 use Rattle.amqp_types.proofs.Loops.{body_at_deeper}
 
 plain_part-plain_view : (p : Plain) → plain_part (plain_view p) ≡ Some (plain_view p)

@@ -1,5 +1,5 @@
 -- What is behind a value, told without the value.
-use Rattle.std.proofs.Common.{◌≡◌, ℕ, zero, suc, ◌-◌, ◌+◌, ◌/◌, ◌%◌, ◌≤◌, ◌<◌, cond, List, [], ◌∷◌, ◌++◌, Result, Ok, Err, Option, Some, None, refl, sym, ap, ◌∙◌, arith, ◌==◌, true, false, Bool}
+use Rattle.std.proofs.Common.{◌≡◌, ℕ, suc, ◌-◌, ◌+◌, ◌/◌, ◌%◌, ◌≤◌, ◌<◌, cond, List, Result, Ok, Err, Some, None, refl, sym, ap, ◌∙◌, arith, ◌==◌, true, false, Bool}
 use Rattle.amqp_types.specs.declared.fault.TypeFault.{TypeFault}
 use Rattle.amqp_types.specs.declared.fault.TypeFault.TheVariants as fault
 use Rattle.amqp_types.specs.declared.code.Code.{Code}

@@ -1,5 +1,5 @@
 -- What is written is spelled so, and so it is read again.
-use Rattle.std.proofs.Common.{◌≡◌, ℕ, zero, suc, ◌+◌, ◌*◌, ◌^◌, ◌<◌, ◌≤◌, ℤ, pos, negsuc, int_le, ◌≤ℤ◌, Bool, true, false, cond, ◌&&◌, nat_lt, ◌==◌, List, [], ◌∷◌, ◌++◌, length, Option, Some, None, Result, Ok, Err, refl, sym, ap, subst, ◌∙◌, append_assoc, arith, FitsSigned}
+use Rattle.std.proofs.Common.{◌≡◌, ℕ, zero, suc, ◌+◌, ◌*◌, ◌^◌, ◌<◌, ◌≤◌, ℤ, pos, negsuc, int_le, Bool, true, false, cond, ◌&&◌, nat_lt, ◌==◌, List, [], ◌∷◌, ◌++◌, length, Option, Some, None, Ok, Err, refl, sym, ap, subst, ◌∙◌, append_assoc, arith, FitsSigned}
 use Rattle.std.specs.Int.{Width, w8, w16, w32, w64, to_be_bytes, from_be_bytes, cast_signed, cast_unsigned}
 use Rattle.std.proofs.lemmas.Bool.{eqb-true}
 use Rattle.std.proofs.Math.Dec.{eqb-suc-zero}
@@ -13,16 +13,15 @@ use Rattle.amqp_types.specs.declared.code.Leaf.{Leaf}
 use Rattle.amqp_types.specs.declared.code.Leaf.TheVariants as leaf
 use Rattle.amqp_types.specs.declared.code.Code.{Code}
 use Rattle.amqp_types.specs.declared.code.Code.TheVariants as code
-use Rattle.amqp_types.specs.declared.code.Layout.TheVariants as layout
 use Rattle.amqp_types.specs.declared.code.Kind.{Kind}
 use Rattle.amqp_types.specs.declared.code.Kind.TheVariants as kind
-use Rattle.amqp_types.specs.Codes.{code_of, width, layout_of, kind_of, is_without_bytes}
+use Rattle.amqp_types.specs.Codes.{code_of, layout_of, kind_of, is_without_bytes}
 use Rattle.amqp_types.specs.Data as d
 use Rattle.amqp_types.specs.Data.{Data, Items, no_items, item, Pairs, no_pairs, pair}
 use Rattle.amqp_types.specs.Reading.{char_of, content_of, value_at}
 use Rattle.amqp_types.specs.declared.fault.TypeFault.TheVariants as fault
-use Rattle.amqp_types.specs.Spells.{Spelling, count, pair_count, IsNumber, IsSized, IsChunk, IsLeaf, Constructed, AreItems, ArePairs, IsListInside, IsMapInside, IsArrayInside, IsDescribed, Fills, BodyBy, Behind, Spells}
-use Rattle.amqp_types.specs.Spelling.{narrow_code, wide_code, Piece, no_piece, join, constructed, single, piece_by, number_piece, signed_piece, is_small, sized_piece, wide_sizes, compound_piece, list_text, boolean_byte, spelling, spellings, pair_spellings, piece, pieces}
+use Rattle.amqp_types.specs.Spells.{Spelling, count, pair_count, IsNumber, IsSized, IsChunk, IsLeaf, Constructed, AreItems, ArePairs, IsListInside, IsMapInside, IsArrayInside, Fills, BodyBy, Behind, Spells}
+use Rattle.amqp_types.specs.Spelling.{narrow_code, wide_code, Piece, constructed, single, piece_by, number_piece, signed_piece, is_small, sized_piece, wide_sizes, compound_piece, list_text, boolean_byte, spelling, spellings, pair_spellings, piece, pieces}
 use Rattle.amqp_types.specs.Fitting.{value_kind, AllItems, AllPairs, AreOf, FitsBy, FitsIn}
 use Rattle.amqp_types.proofs.Tools.{done}
 use Rattle.amqp_types.proofs.Complete.{value_at-Spells}

@@ -1,9 +1,8 @@
 -- What reading gives is spelled by the bytes that it took.
-use Rattle.std.proofs.Common.{◌≡◌, ℕ, zero, suc, ◌+◌, ◌-◌, ◌*◌, ◌/◌, ◌%◌, ◌<◌, ◌≤◌, Bool, true, false, cond, ◌&&◌, nat_lt, ◌==◌, List, [], ◌∷◌, ◌++◌, length, take, drop, Option, Some, None, Result, Ok, Err, refl, sym, ap, subst, ◌∙◌, append_assoc, arith}
+use Rattle.std.proofs.Common.{◌≡◌, ℕ, zero, suc, ◌*◌, ◌/◌, ◌%◌, ◌≤◌, Bool, true, false, cond, ◌&&◌, nat_lt, ◌==◌, List, [], ◌∷◌, ◌++◌, length, take, drop, Option, Some, None, Ok, Err, refl, sym, ap, subst, ◌∙◌, append_assoc, arith}
 use Rattle.std.specs.Int.{byte_len, from_be_bytes}
 use Rattle.std.proofs.lemmas.Bool.{ltb-false, eqb-false}
-use Rattle.std.proofs.lemmas.List.{take-append-drop, length-take, length-take-le, append-nil}
-use Rattle.amqp_types.specs.declared.fault.TypeFault.{TypeFault}
+use Rattle.std.proofs.lemmas.List.{take-append-drop, length-take-le, append-nil}
 use Rattle.amqp_types.specs.declared.fault.TypeFault.TheVariants as fault
 use Rattle.amqp_types.specs.declared.code.Size.{Size}
 use Rattle.amqp_types.specs.declared.code.Leaf.{Leaf}

@@ -1,8 +1,8 @@
 -- Texts: what the tests of a string and of a symbol say.
-use Rattle.std.proofs.Common.{◌≡◌, ℕ, zero, suc, ◌<◌, Bool, true, false, cond, List, [], ◌∷◌, nat_lt, ◌&&◌, slice_index, Ok, Err, Result, IsUtf8, IsAscii, refl, sym, subst, arith, lit<}
+use Rattle.std.proofs.Common.{◌≡◌, ℕ, zero, suc, ◌<◌, Bool, true, false, cond, List, [], ◌∷◌, nat_lt, ◌&&◌, Ok, Err, IsUtf8, IsAscii, refl, lit<}
 use Rattle.std.specs.List.{list_all}
 use Rattle.std.specs.Str.{is_utf8}
-use Rattle.std.proofs.lemmas.Bool.{cases_Bool, ltb-true}
+use Rattle.std.proofs.lemmas.Bool.{ltb-true}
 use Rattle.std.proofs.lemmas.Str.{IsUtf8-from_is_utf8, is_utf8-from_IsUtf8, IsUtf8-from_ascii}
 use Rattle.amqp_types.specs.declared.fault.TypeFault.TheVariants as fault
 use Rattle.amqp_types.specs.Data as d

@@ -1,8 +1,7 @@
 -- What is spelled has arrays whose elements are of their type.
-use Rattle.std.proofs.Common.{◌≡◌, ℕ, zero, suc, Bool, true, false, cond, ◌==◌, List, [], ◌∷◌, ◌++◌, Option, Some, None, Result, Ok, Err, refl, sym, ap, subst, ◌∙◌}
+use Rattle.std.proofs.Common.{◌≡◌, ℕ, zero, suc, Bool, true, false, cond, ◌==◌, List, Some, Ok, Err, refl, sym, ap, subst, ◌∙◌}
 use Rattle.std.specs.Int.{w8, w16, w32, w64, from_be_bytes, cast_signed}
 use Rattle.std.specs.Str.{is_utf8}
-use Rattle.amqp_types.specs.declared.fault.TypeFault.{TypeFault}
 use Rattle.amqp_types.specs.declared.fault.TypeFault.TheVariants as fault
 use Rattle.amqp_types.specs.declared.code.Leaf.{Leaf}
 use Rattle.amqp_types.specs.declared.code.Leaf.TheVariants as leaf
@@ -14,8 +13,8 @@ use Rattle.amqp_types.specs.Codes.{leaf_kind, kind_of}
 use Rattle.amqp_types.specs.Data as d
 use Rattle.amqp_types.specs.Data.{Data, Items, no_items, item, Pairs, no_pairs, pair}
 use Rattle.amqp_types.specs.Reading.{is_scalar, all_ascii, boolean_of, content_of}
-use Rattle.amqp_types.specs.Spells.{Spelling, Constructed, AreItems, ArePairs, IsLeaf, IsListInside, IsMapInside, IsArrayInside, IsDescribed, Fills, BodyBy, Behind, Spells}
-use Rattle.amqp_types.specs.Fitting.{value_kind, AllItems, AllPairs, AreOf, TypedBy, IsTyped}
+use Rattle.amqp_types.specs.Spells.{Spelling, Constructed, AreItems, ArePairs, BodyBy, Behind, Spells}
+use Rattle.amqp_types.specs.Fitting.{value_kind, AllItems, AllPairs, TypedBy, IsTyped}
 use Rattle.amqp_types.proofs.Tools.{done, ok_is, choice_ok}
 
 boolean_meant : (n : ℕ) (v : Data) → boolean_of n ≡ Ok v → value_kind v ≡ Some kind.Boolean

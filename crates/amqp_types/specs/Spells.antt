@@ -1,5 +1,5 @@
 -- Which bytes spell which value: one case for each constructor (AMQP 1.0 part 1, sections 1.2 and 1.6).
-use Rattle.std.specs.Prelude.{◌≡◌, ℕ, zero, suc, ◌+◌, ◌*◌, ◌≤◌, Bool, true, List, [], ◌∷◌, ◌++◌, length, Option, Some, Result, Ok}
+use Rattle.std.specs.Prelude.{◌≡◌, ℕ, zero, suc, ◌*◌, ◌≤◌, true, List, [], ◌∷◌, ◌++◌, length, Some, Ok}
 use Rattle.std.specs.Int.{byte_len, from_be_bytes}
 use Rattle.amqp_types.specs.declared.code.Size.{Size}
 use Rattle.amqp_types.specs.declared.code.Leaf.{Leaf}
@@ -25,7 +25,7 @@ abbrev pub pair_count : Pairs → ℕ
 pair_count no_pairs = 0
 pair_count (pair k v ps) = suc (pair_count ps)
 
--- a size or a count: a number of its width, the highest byte first
+-- a size or a count (section 1.6): a number of its width, the highest byte first
 pub record IsNumber (s : Size) (field : List ℕ) (n : ℕ) : Type 0 where
   pub wide : length field ≡ byte_len (width s)
   pub number : from_be_bytes (width s) field ≡ n
@@ -64,7 +64,7 @@ abbrev pub ArePairs : Spelling → List ℕ → Pairs → Type 0
 ArePairs One bytes no_pairs = bytes ≡ []
 ArePairs One bytes (pair k v ps) = (first : List ℕ) × (second : List ℕ) × (more : List ℕ) × (bytes ≡ first ++ (second ++ more)) × One first k × One second v × ArePairs One more ps
 
--- the inside of a list: how many values, and the values
+-- the inside of a list (section 1.6.22): how many values, and the values
 pub record IsListInside (Body : Code → Spelling) (s : Size) (inside : List ℕ) (v : Data) : Type 0 where
   pub field : List ℕ
   pub bytes : List ℕ
@@ -74,7 +74,7 @@ pub record IsListInside (Body : Code → Spelling) (s : Size) (inside : List ℕ
   pub counted : IsNumber s field (count values)
   pub spelled : AreItems (Constructed Body) bytes values
 
--- the inside of a map: how many keys and values, and the keys with their values
+-- the inside of a map (section 1.6.23): how many keys and values, and the keys with their values
 pub record IsMapInside (Body : Code → Spelling) (s : Size) (inside : List ℕ) (v : Data) : Type 0 where
   pub field : List ℕ
   pub bytes : List ℕ
@@ -84,7 +84,7 @@ pub record IsMapInside (Body : Code → Spelling) (s : Size) (inside : List ℕ)
   pub counted : IsNumber s field (2 * pair_count pairs)
   pub spelled : ArePairs (Constructed Body) bytes pairs
 
--- The inside of an array: how many elements, their one constructor, and the elements without it.
+-- The inside of an array (section 1.6.24): how many elements, their one constructor, and the elements without it.
 -- Described elements have no spelling here, and 1,024 elements without bytes are the most.
 pub record IsArrayInside (Body : Code → Spelling) (s : Size) (inside : List ℕ) (v : Data) : Type 0 where
   pub field : List ℕ
@@ -101,7 +101,7 @@ pub record IsArrayInside (Body : Code → Spelling) (s : Size) (inside : List �
   pub few : is_without_bytes constructor ≡ true → count values ≤ 1024
   pub spelled : AreItems (Body constructor) bytes values
 
--- a descriptor, and what it describes
+-- a descriptor, and what it describes (section 1.2)
 pub record IsDescribed (Body : Code → Spelling) (bytes : List ℕ) (v : Data) : Type 0 where
   pub first : List ℕ
   pub second : List ℕ

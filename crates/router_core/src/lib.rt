@@ -1,7 +1,6 @@
 //! The router's core: events in, items out.
 #![tactic(auto)]
 
-pub mod config;
 pub mod door;
 pub mod driving;
 pub mod fault;
@@ -11,10 +10,10 @@ pub mod reply;
 pub mod router;
 pub mod state;
 
-pub use config::Config;
 pub use door::{Door, DoorAnswer};
 pub use driving::{Driven, Sent, drive};
 pub use fault::CoreFault;
 pub use play::{Line, Report, Run, Step, play_runs};
+pub use route_table::Config;
 pub use router::{Batch, Core, Done};
 pub use state::{ConnectionId, Event, Peer, PeerRole};

@@ -7,12 +7,12 @@ ghost use Rattle.router_core.specs.Replies.{Replies};
 ghost use Rattle.router_core.specs.Handling.{Fits, is_failed, id_of, IsBatchOf};
 ghost use Rattle.router_core.specs.declared.fault.CoreFault.TheVariants.{Disk, Memory, Failed, NoConnection};
 
-use crate::config::Config;
 use crate::fault::CoreFault;
 use crate::reply::RouterId;
 use crate::reply::events::reply;
 use crate::state::{ConnectionId, Event, State};
 use amqp_frames::Item;
+use route_table::Config;
 use std::alloc::{AllocError, Global};
 
 /// An event was handled.
@@ -45,7 +45,7 @@ impl Core {
     pub fn open(alloc: Global, config: &Config) -> Result<Core, AllocError>
         ensures fits { IfOk result (λ core. Fits core []) }
         ensures works { IfOk result (λ core. is_failed core ≡ false) }
-        ensures named { IfOk result (λ core. id_of core ≡ config.now) }
+        ensures named { IfOk result (λ core. id_of core ≡ config.now.router_id) }
     {
         Ok(Core {
             id: RouterId::new(alloc, config.router_id())?,

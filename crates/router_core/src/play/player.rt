@@ -12,7 +12,6 @@ ghost use Rattle.router_core.specs.declared.play.line.Line.TheVariants as line;
 ghost use Rattle.router_core.specs.declared.play.line.Line.{Line as ALine};
 ghost use Rattle.router_core.specs.Playing.{Follows, Said, IsRead, PartsAt, part_by};
 
-use crate::config::Config;
 use crate::fault::CoreFault;
 use crate::play::line::Line;
 use crate::play::socket::{Asked, Socket};
@@ -20,6 +19,7 @@ use crate::router::{Batch, Core};
 use crate::state::{ConnectionId, Event, Peer, PeerRole};
 use amqp_frames::{FrameFault, Item, write_item};
 use amqp_perf::Binary;
+use route_table::Config;
 use std::alloc::{AllocError, Global};
 use std::collections::BTreeMap;
 
@@ -86,7 +86,7 @@ struct Player {
 /// Plays runs, one after the other, each against a router to which nothing happened: after each step all outboxes are
 /// taken, by connection. The last line tells of the book. Where memory is refused to the play itself the lines end there.
 pub fn play_runs(alloc: Global, config: Config, runs: &[Run]) -> Report
-    ensures plays { result.out_of_memory ≡ false → result.failed ≡ false → (lines : List ALine) × PlaysAll config (map (λ r. r.steps.items) runs.now) lines × (result.lines.items ≡ lines ++ book ∷ []) }
+    ensures plays { result.out_of_memory ≡ false → result.failed ≡ false → (lines : List ALine) × PlaysAll config.router_id (map (λ r. r.steps.items) runs.now) lines × (result.lines.items ≡ lines ++ book ∷ []) }
 {
     let mut lines = Vec::new(alloc);
     let mut failed = false;
@@ -130,7 +130,7 @@ fn play_run(
     run: &Run,
     lines: &mut Vec<Line>,
 ) -> Result<bool, AllocError>
-    ensures { IfOk result (λ works. works ≡ true → (u : Scene) × Plays run.now.steps.items (opening config.now) u × (lines.new.items ≡ lines.old.items ++ u.lines)) }
+    ensures { IfOk result (λ works. works ≡ true → (u : Scene) × Plays run.now.steps.items (opening config.now.router_id) u × (lines.new.items ≡ lines.old.items ++ u.lines)) }
 {
     let mut player = Player::new(alloc, config)?;
     let played = player.play(&run.steps);
@@ -171,7 +171,7 @@ fn say_book(lines: &mut Vec<Line>) -> Result<(), AllocError>
 impl Player {
     /// A player before the first step.
     fn new(alloc: Global, config: &Config) -> Result<Player, AllocError>
-        ensures follows { IfOk result (λ p. Follows p (opening config.now)) }
+        ensures follows { IfOk result (λ p. Follows p (opening config.now.router_id)) }
     {
         Ok(Player {
             alloc,

@@ -97,7 +97,7 @@ impl RouterId {
         ensures { IfOk result (λ error. error ≡ error_of condition) }
     {
         Ok(Fault {
-            condition: Symbol::new(Vec::from_slice(self.alloc, condition.text().as_bytes())?),
+            condition: Symbol::new(String::from_str(self.alloc, condition.text())?),
             description: None,
             info: None,
         })

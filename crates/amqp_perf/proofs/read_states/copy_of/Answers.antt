@@ -1,4 +1,4 @@
-use Rattle.std.proofs.Common.{◌≡◌, ℕ, List, ap}
+use Rattle.std.proofs.Common.{ℕ, List, ap}
 use Rattle.std.specs.List.{each_same}
 use Rattle.arrayvec.specs.ArrayVec.{ArrayVec}
 use Rattle.amqp_perf.proofs.read_states.copy_of.Goals as goal

@@ -1,4 +1,4 @@
-use Rattle.std.proofs.Common.{◌≡◌, refl, sym, ap, ◌∙◌}
+use Rattle.std.proofs.Common.{sym, ◌∙◌}
 use Rattle.amqp_perf.proofs.Loops.{has_more, among_from_contains}
 use Rattle.amqp_perf.proofs.read_states.note_tag.Goals as goal
 

@@ -6,14 +6,14 @@ pub loop-run-preserved : goal.loop-run-preserved
 loop-run-preserved c = λ works others rest.
     let both = or_false c.loop-run.failed (not c.in-Ok.works) (sym c.either-failed.ensures ∙ works)
     in let played = c.in-Ok.ensures (not_false c.in-Ok.works both.1)
-    in runs_more c.args.config c.args.runs.now c.loop-run.run-index c.run-item.result played.0 c.loop-run.lines.items c.play_run.new.lines.items others
+    in runs_more c.args.config.router_id c.args.runs.now c.loop-run.run-index c.run-item.result played.0 c.loop-run.lines.items c.play_run.new.lines.items others
     c.run-item.is c.loop-run-test.true played.1 played.2 (c.loop-run.invariant both.0) rest
 
 pub returns-in-Ok-say_book : goal.returns-in-Ok-say_book
 returns-in-Ok-say_book c = record {
   plays = λ done works. (
     c.loop-run.lines.items,
-    runs_done c.args.config c.args.runs.now c.loop-run.run-index c.loop-run.lines.items c.loop-run-test.false (c.loop-run.invariant works),
+    runs_done c.args.config.router_id c.args.runs.now c.loop-run.run-index c.loop-run.lines.items c.loop-run-test.false (c.loop-run.invariant works),
     c.in-Ok-say_book.ensures,
   );
 }

@@ -1,0 +1,6 @@
+pub mod Before
+pub mod Places
+pub mod Shown
+pub mod Looked
+pub mod Steps
+pub mod Runs

@@ -1,0 +1,58 @@
+-- How the tables of a book stand to what it shows.
+use Rattle.std.specs.Prelude.{◌≡◌, ℕ, List, Some, None, Result, Ok, Err}
+use Rattle.book_core.specs.declared.fault.BookFault.{BookFault}
+use Rattle.book_core.specs.declared.fault.BookFault.TheVariants.{Memory}
+use Rattle.book_core.specs.declared.slot.RowSlot.{RowSlot}
+use Rattle.book_core.specs.declared.slot.TerminusSlot.{TerminusSlot}
+use Rattle.book_core.specs.declared.tables.Tables.{Tables}
+use Rattle.book_core.specs.Book.{BookView, refusal, effect, first_fault, effects}
+use Rattle.book_core.specs.declared.act.Act.{Act}
+use Rattle.book_core.specs.Rising.{Rises, AllBelow}
+use Rattle.book_core.specs.Slots.{rows_in, termini_in}
+use Rattle.book_core.specs.Table.{before}
+
+abbrev pub row_number : RowSlot → ℕ
+row_number s = s.number
+
+abbrev pub terminus_number : TerminusSlot → ℕ
+terminus_number s = s.number
+
+-- the tables show this book
+pub record Shows (t : Tables) (b : BookView) : Type 0 where
+  pub termini : termini_in t.termini.slots.items ≡ b.termini
+  pub rows : rows_in t.rows.slots.items ≡ b.rows
+  pub next_terminus : t.next_terminus ≡ b.next_terminus
+  pub next_row : t.next_row ≡ b.next_row
+  pub termini_rise : Rises terminus_number t.termini.slots.items
+  pub rows_rise : Rises row_number t.rows.slots.items
+  pub termini_below : AllBelow terminus_number t.next_terminus t.termini.slots.items
+  pub rows_below : AllBelow row_number t.next_row t.rows.slots.items
+
+-- what stood before the changes since the last commit is what stands
+pub record IsSettled (t : Tables) : Type 0 where
+  pub termini : before t.termini.log.items t.termini.slots.items ≡ t.termini.slots.items
+  pub rows : before t.rows.log.items t.rows.slots.items ≡ t.rows.slots.items
+
+-- what stood before is what stood before
+pub record SameBefore (old new : Tables) : Type 0 where
+  pub termini : before new.termini.log.items new.termini.slots.items ≡ before old.termini.log.items old.termini.slots.items
+  pub rows : before new.rows.log.items new.rows.slots.items ≡ before old.rows.log.items old.rows.slots.items
+
+-- what a step of one act answers, and what the tables then show
+abbrev pub Stepped : Result (Unit {0}) BookFault → Tables → BookView → Act → Type 0
+Stepped (Ok done) new b act = (refusal b act ≡ None) × Shows new (effect b act)
+Stepped (Err fault) new b act = (fault ≡ Memory → ⊥) → refusal b act ≡ Some fault
+
+-- the same of a list of acts
+abbrev pub Ran : Result (Unit {0}) BookFault → Tables → BookView → List Act → Type 0
+Ran (Ok done) new b acts = (first_fault b acts ≡ None) × Shows new (effects b acts)
+Ran (Err fault) new b acts = (fault ≡ Memory → ⊥) → first_fault b acts ≡ Some fault
+
+-- the book that tables show
+abbrev pub shown_by : Tables → BookView
+shown_by t = record { termini = termini_in t.termini.slots.items; rows = rows_in t.rows.slots.items; next_terminus = t.next_terminus; next_row = t.next_row }
+
+-- tables between two lists of acts
+pub record IsWhole (t : Tables) : Type 0 where
+  pub shows : Shows t (shown_by t)
+  pub settled : IsSettled t

@@ -1,0 +1,145 @@
+//! The book.
+ghost use Rattle.std.specs.Prelude.{◌≡◌, None, Some, OnOk, OnErr, IfErr, filter, length};
+ghost use Rattle.std.specs.Option.{option_copied};
+ghost use Rattle.book_core.specs.Book.{empty_book, first_fault, effects, is_of, row_at, row_named, terminus_at, terminus_of};
+ghost use Rattle.book_core.specs.Rows.{rows_left};
+ghost use Rattle.book_core.specs.declared.fault.BookFault.TheVariants as fault;
+
+use crate::act::Act;
+use crate::fault::BookFault;
+use crate::look;
+use crate::row::{Row, RowNumber};
+use crate::rows::Rows;
+use crate::tables::Tables;
+use crate::terminus::{LinkKey, Terminus, TerminusNumber};
+use amqp_perf::DeliveryTag;
+use std::alloc::Global;
+use std::marker::Model;
+
+/// The book of a router: the termini of its durable links and the deliveries that it has admitted.
+#[derive(Drop)]
+pub struct Book {
+    tables: Tables,
+}
+
+impl Model for Book {
+    ghost use Rattle.book_core.specs.Book.{BookView};
+
+    ghost Value = { BookView };
+
+    ghost use Rattle.book_core.specs.Tables.{shown_by, IsWhole};
+
+    ghost view = { λ b. shown_by b.tables };
+
+    ghost invariant = { λ b. IsWhole b.tables };
+}
+
+impl Book {
+    /// A book of nothing.
+    pub fn empty(alloc: Global) -> Book
+        ensures { result ≡ empty_book }
+    {
+        Book {
+            tables: Tables::new(alloc),
+        }
+    }
+
+    /// Applies acts in turn, each to the book that those before it leave: all of them, or none.
+    pub fn apply(&mut self, acts: &[Act]) -> Result<(), BookFault>
+        ensures applies { OnOk result (first_fault self.old acts.now ≡ None) }
+        ensures applied { OnOk result (self.new ≡ effects self.old acts.now) }
+        ensures first { IfErr result (λ f. (f ≡ fault.Memory → ⊥) → first_fault self.old acts.now ≡ Some f) }
+        ensures unchanged { OnErr result (self.new ≡ self.old) }
+    {
+        let next_terminus = self.tables.next_terminus;
+        let next_row = self.tables.next_row;
+        match self.tables.run(acts) {
+            Ok(()) => {
+                self.tables.commit();
+                Ok(())
+            }
+            Err(fault) => {
+                self.tables.rollback(next_terminus, next_row);
+                Err(fault)
+            }
+        }
+    }
+
+    /// The rows that came on the link of a terminus or are bound to it, forgotten ones too, by number. It takes no
+    /// memory.
+    pub fn rows_of(&self, terminus: TerminusNumber) -> Rows<'_>
+        ensures { rows_left result ≡ filter (is_of terminus.0) self.now.rows }
+    {
+        Rows {
+            slots: &self.tables.rows.slots,
+            terminus: Some(terminus),
+        }
+    }
+
+    /// All rows, by number. It takes no memory.
+    #[tactic(auto, using(crate::proofs::Looked::all_wanted))]
+    pub fn rows(&self) -> Rows<'_>
+        ensures { rows_left result ≡ self.now.rows }
+    {
+        Rows {
+            slots: &self.tables.rows.slots,
+            terminus: None,
+        }
+    }
+
+    /// The row of a number.
+    pub fn row(&self, number: RowNumber) -> Option<&Row>
+        ensures { option_copied result ≡ row_at number.0 self.now.rows }
+    {
+        look::row(&self.tables.rows.slots, number.0)
+    }
+
+    /// The unforgotten row of a producer's terminus with this tag.
+    pub fn row_named(&self, producer: TerminusNumber, tag: &DeliveryTag) -> Option<&Row>
+        ensures { option_copied result ≡ row_named producer.0 tag.now.items self.now.rows }
+    {
+        look::row_named(&self.tables.rows.slots, producer, tag)
+    }
+
+    /// The terminus of a number.
+    pub fn terminus(&self, number: TerminusNumber) -> Option<&Terminus>
+        ensures { option_copied result ≡ terminus_at number.0 self.now.termini }
+    {
+        look::terminus(&self.tables.termini.slots, number)
+    }
+
+    /// The terminus of the link with this key.
+    pub fn terminus_of(&self, key: &LinkKey) -> Option<&Terminus>
+        ensures { option_copied result ≡ terminus_of key.now self.now.termini }
+    {
+        look::terminus_with(&self.tables.termini.slots, key)
+    }
+
+    /// How many rows there are.
+    pub fn row_count(&self) -> usize
+        ensures { result ≡ length self.now.rows }
+    {
+        look::count_rows(&self.tables.rows.slots)
+    }
+
+    /// How many termini there are.
+    pub fn terminus_count(&self) -> usize
+        ensures { result ≡ length self.now.termini }
+    {
+        look::count_termini(&self.tables.termini.slots)
+    }
+
+    /// The number of the next terminus.
+    pub fn next_terminus(&self) -> TerminusNumber
+        ensures { result.0 ≡ self.now.next_terminus }
+    {
+        TerminusNumber(self.tables.next_terminus)
+    }
+
+    /// The number of the next row.
+    pub fn next_row(&self) -> RowNumber
+        ensures { result.0 ≡ self.now.next_row }
+    {
+        RowNumber(self.tables.next_row)
+    }
+}

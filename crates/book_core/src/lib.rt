@@ -1,0 +1,27 @@
+//! The book of a router: which links have a terminus, which deliveries are admitted, and what became of them.
+//!
+//! A book changes by acts alone. A list of acts applies whole or not at all.
+#![tactic(auto)]
+
+pub mod act;
+pub mod book;
+mod copy;
+pub mod fault;
+mod look;
+mod place;
+pub mod row;
+pub mod rows;
+mod slot;
+mod table;
+mod tables;
+pub mod terminus;
+
+pub use act::{Act, ActKind, Admission, Decision};
+pub use book::Book;
+pub use fault::BookFault;
+pub use row::{Row, RowNumber};
+pub use rows::Rows;
+pub use terminus::{LinkKey, LinkRole, Terminus, TerminusNumber};
+
+#[cfg(test)]
+mod tests;

@@ -1,0 +1,16 @@
+pub mod Fronts
+pub mod Outcomes
+pub mod Joins
+pub mod Spelled
+pub mod Ordered
+pub mod Reserves
+pub mod Nexts
+pub mod Texts
+pub mod Tools
+pub mod Back
+pub mod Forth
+pub mod Unique
+pub mod Scans
+pub mod Walks
+pub mod Releases
+pub mod Lists

@@ -1,0 +1,6 @@
+use Rattle.std.proofs.Common.{◌∙◌}
+use Rattle.gate_journal.proofs.Fronts.{fresh_file, fresh_holds}
+use Rattle.gate_journal.proofs.fresh.format.Goals as goal
+
+pub returns-clause-empty : goal.returns-clause-empty
+returns-clause-empty g c = fresh_holds _ (c.in_ok-sync.ensures.seen ∙ c.in_ok-write_at.ensures.written ∙ fresh_file _ c.in_ok-cut.ensures.cut)

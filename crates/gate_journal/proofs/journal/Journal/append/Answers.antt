@@ -1,0 +1,15 @@
+use Rattle.std.proofs.Common.{◌≡◌, None, ◌∷◌, [], sym, subst, arith, length-append}
+use Rattle.book_core.specs.Book.{BookView, first_fault}
+use Rattle.gate_journal.specs.Batches.{IsNext}
+use Rattle.gate_journal.proofs.Nexts.{next_reserve}
+use Rattle.gate_journal.proofs.journal.Journal.append.Goals as goal
+
+pub returns-in-Ok-clause-done : goal.returns-in-Ok-clause-done
+returns-in-Ok-clause-done g c bs keeps is_book =
+    let P : BookView → Type 0 = λ b. first_fault b c.args.acts.now ≡ None in
+    let next : IsNext bs c.args.acts.now = record { some = c.requires.some; small = c.requires.small; outcomes = c.requires.outcomes; applies = subst P (sym is_book) c.requires.applies } in
+    record {
+      at = c.in-Ok.ensures.done bs keeps.at next;
+      kept = next_reserve bs c.args.acts.now _ _ keeps.at.file.valid next keeps.kept c.in-Ok.ensures.reserve;
+      count = omega (arith, c.in-Ok.ensures.count, keeps.count, length-append bs (c.args.acts.now ∷ []));
+    }

@@ -1,0 +1,16 @@
+-- What a list of a journal has.
+use Rattle.std.specs.Prelude.{◌≡◌, ℕ, List, length}
+use Rattle.book_core.specs.declared.act.Act.{Act}
+use Rattle.book_core.specs.Book.{BookView, empty_book}
+use Rattle.gate_journal.specs.declared.listing.Entry.{Entry}
+use Rattle.gate_journal.specs.Format.{front}
+use Rattle.gate_journal.specs.Batches.{Holds, book_after}
+use Rattle.gate_journal.specs.Listing.{entries_of}
+
+-- the acts of the batches of a file with their places, the place of the gate that ends them, and the book that they leave
+pub record IsListed (file : List ℕ) (entries : List Entry) (place : ℕ) (book : BookView) : Type 0 where
+  pub batches : List (List Act)
+  pub holds : Holds file batches
+  pub entries_are : entries ≡ entries_of batches
+  pub is_place : place ≡ length (front batches)
+  pub book_is : book ≡ book_after empty_book batches

@@ -1,0 +1,39 @@
+-- What a scan of a file finds on its way.
+use Rattle.std.specs.Prelude.{◌≡◌, ◌≢◌, ℕ, List, [], ◌∷◌, ◌++◌, length}
+use Rattle.book_core.specs.declared.act.Act.{Act}
+use Rattle.book_core.specs.declared.fault.BookFault.{BookFault}
+use Rattle.book_core.specs.declared.fault.BookFault.TheVariants as books
+use Rattle.gate_journal.specs.declared.fault.OpenFault.{OpenFault}
+use Rattle.gate_journal.specs.declared.fault.OpenFault.TheVariants as opening
+use Rattle.book_core.specs.Book.{BookView, empty_book}
+use Rattle.gate_journal.specs.Format.{acts_bytes, batch, front}
+use Rattle.gate_journal.specs.Opening.{NoBatch}
+use Rattle.gate_journal.specs.Batches.{AreWritable, IsBatch, AllApply, book_after}
+
+-- these bytes are those of no acts
+abbrev pub NoActs : List ℕ → Type 0
+NoActs bytes = (acts : List Act) → AreWritable acts → bytes ≡ acts_bytes acts → ⊥
+
+-- no batch stands at the front with a gate behind it
+abbrev pub NoneBegins : List ℕ → Type 0
+NoneBegins bytes = (acts : List Act) (gate : ℕ) (rest : List ℕ) → IsBatch acts → bytes ≡ batch acts ++ gate ∷ rest → ⊥
+
+-- Good batches stand before what is left, and leave this book.
+pub record Walked (bytes rest : List ℕ) (book : BookView) (count : ℕ) : Type 0 where
+  pub batches : List (List Act)
+  pub is : bytes ≡ front batches ++ rest
+  pub some : rest ≢ []
+  pub valid : AllApply empty_book batches
+  pub book_is : book ≡ book_after empty_book batches
+  pub count_is : count ≡ length batches
+
+-- the fault of a file whose book refuses a batch
+abbrev pub refused_as : BookFault → ℕ → OpenFault
+refused_as books.Memory at = opening.Memory
+refused_as _ at = opening.Damaged at
+
+-- why no batch behind an open gate at this place is applied to this book
+abbrev pub IsNoNext : BookView → List ℕ → ℕ → OpenFault → Type 0
+IsNoNext book inside at opening.Memory = Unit {0}
+IsNoNext book inside at (opening.Damaged place) = (place ≡ at) × NoBatch book inside
+IsNoNext book inside at _ = ⊥

@@ -1,0 +1,22 @@
+//! A new journal.
+ghost use Rattle.std.specs.Prelude.{◌≡◌, ◌<◌, ◌++◌, [], ◌∷◌, OnOk, IsErrOf};
+ghost use Rattle.disk_core.specs.Disk.{Only};
+ghost use Rattle.gate_journal.specs.Format.{magic};
+ghost use Rattle.gate_journal.specs.Batches.{Holds};
+ghost use Rattle.gate_journal.specs.Stands.{IsAt};
+
+use disk_core::{Disk, DiskFault};
+
+/// Makes the journal of no batches on a disk, whatever stood there: nine bytes, on the disk at `Ok`. A crash within it may
+/// leave no journal.
+pub fn format<D: Disk>(disk: &mut D) -> Result<(), DiskFault>
+    ensures formatted { OnOk result (D.seen disk.new ≡ magic ++ 0 ∷ []) }
+    ensures durable { OnOk result (Only (D.seen disk.new) (D.may_leave disk.new)) }
+    ensures empty { OnOk result (Holds (D.seen disk.new) []) }
+    ensures cause { IsErrOf result DiskFault.Failed → D.failures disk.old < D.failures disk.new }
+{
+    disk.cut(0)?;
+    disk.write_at(0, &[65, 77, 81, 82, 74, 48, 48, 49, 0])?;
+    disk.sync()?;
+    Ok(())
+}

@@ -1,0 +1,205 @@
+//! The journal.
+ghost use Rattle.std.specs.Prelude.{◌≡◌, ◌≢◌, ◌⊎◌, pos, ◌-ℤ◌, ◌+◌, ◌-◌, ◌<◌, ◌≤◌, sum_by, ◌++◌, [], ◌∷◌, ℕ, List, true, false, None, OnOk, IfOk, IfErr, IfSome, IsTrue, ◌↔◌, IsErrOf, length};
+ghost use Rattle.disk_core.specs.Disk.{LeavesOnly, NoMore, Elapses};
+ghost use Rattle.book_core.specs.declared.act.Act.{Act};
+ghost use Rattle.book_core.specs.Book.{empty_book, first_fault, effects};
+ghost use Rattle.gate_journal.specs.Format.{acts_bytes};
+ghost use Rattle.gate_journal.specs.Batches.{Holds, HaveOutcomes, IsNext, book_after};
+ghost use Rattle.gate_journal.specs.Reserve.{growth, release, IsFull};
+ghost use Rattle.gate_journal.specs.Journal.{Keeps, disk_of, batch_count, used_bytes, kept_bytes, has_failed};
+ghost use Rattle.gate_journal.specs.Opening.{Explains};
+ghost use Rattle.gate_journal.specs.Stands.{IsAt};
+
+use crate::fault::{JournalFault, OpenFault};
+use crate::figures::{Figures, growth_by, release_by, reserve_of, total};
+use crate::scan::{Found, scan};
+use crate::spell::block_of;
+use crate::store::store;
+use crate::whole::read_all;
+use book_core::{Act, Book};
+use disk_core::{Crash, Disk};
+use std::alloc::Global;
+
+/// The most bytes of a journal, what it keeps free among them.
+const JOURNAL_LIMIT: u64 = 67_108_864;
+
+/// A journal on a disk.
+#[derive(Drop)]
+pub struct Journal<D: Disk> {
+    alloc: Global,
+    disk: D,
+    figures: Figures,
+    failed: bool,
+}
+
+/// Whether a batch of acts with so many bytes costs more than there is room.
+fn is_full(figures: Figures, bytes: u64, growth: u64, release: u64) -> Option<bool>
+    ensures { IfSome result (λ b. IsTrue b ↔ ((release < 5 + bytes + growth) × (67108864 + release < 5 + bytes + growth + (figures.place + 1) + figures.reserve))) }
+{
+    let gain = total(&[5, bytes, growth])?;
+    let all = total(&[gain, figures.place as u64, 1, figures.reserve])?;
+    let limit = JOURNAL_LIMIT.checked_add(release)?;
+    Some(release < gain && limit < all)
+}
+
+/// Adds a batch on the disk, and gives the figures with it.
+fn added<D: Disk>(
+    alloc: Global,
+    disk: &mut D,
+    figures: Figures,
+    acts: &[Act],
+) -> Result<Figures, JournalFault>
+    ensures done { IfOk result (λ new. (bs : List (List Act)) → IsAt (D.seen disk.old) (D.may_leave disk.old) figures.place bs → IsNext bs acts.now
+        → IsAt (D.seen disk.new) (D.may_leave disk.new) new.place (bs ++ acts.now ∷ [])) }
+    ensures reserve { IfOk result (λ new. new.reserve ≡ figures.reserve + sum_by growth acts.now - sum_by release acts.now) }
+    ensures count { IfOk result (λ new. new.count ≡ figures.count + 1) }
+    ensures any_moment { (bs : List (List Act)) → IsAt (D.seen disk.old) (D.may_leave disk.old) figures.place bs → IsNext bs acts.now
+        → LeavesOnly D.moment D.left_since disk.old disk.new (λ c. Holds c bs ⊎ Holds c (bs ++ acts.now ∷ [])) }
+    ensures full { IsErrOf result JournalFault.Full → IsFull (figures.place + 1) figures.reserve acts.now }
+    ensures full_same { IsErrOf result JournalFault.Full → disk.new ≡ disk.old }
+    ensures room { OnOk result (IsFull (figures.place + 1) figures.reserve acts.now → ⊥) }
+    ensures room_at_fault { IsErrOf result JournalFault.Disk → IsFull (figures.place + 1) figures.reserve acts.now → ⊥ }
+    ensures disk { IsErrOf result JournalFault.Disk → D.failures disk.old < D.failures disk.new }
+    ensures not_failed { IsErrOf result JournalFault.Failed → ⊥ }
+{
+    let block = block_of(alloc, acts)?;
+    let Some(growth) = growth_by(acts) else {
+        return Err(JournalFault::Memory);
+    };
+    let Some(release) = release_by(acts) else {
+        return Err(JournalFault::Memory);
+    };
+    let Some(full) = is_full(figures, block.len() as u64 - 5, growth, release) else {
+        return Err(JournalFault::Memory);
+    };
+    if full {
+        return Err(JournalFault::Full);
+    }
+    let Some(next) = figures.after(block.len(), growth, release) else {
+        return Err(JournalFault::Memory);
+    };
+    store(disk, figures.place, block.as_slice())?;
+    Ok(next)
+}
+
+impl<D: Disk> Journal<D> {
+    /// Appends a batch to the journal of this book, and gives its number, from 1 on. The acts apply to the book; each outcome
+    /// that they decide is a terminal state that its spelling gives back.
+    ///
+    /// At `Ok` the batch stands: a crash leaves it. At `Full` nothing is changed. At `Disk` and `Memory` the journal
+    /// answers `Failed` from then on, and is to be opened again.
+    pub fn append(&mut self, book: &Book, acts: &[Act]) -> Result<u64, JournalFault>
+        requires some { acts.now ≢ [] }
+        requires small { length (acts_bytes acts.now) ≤ 4194304 }
+        requires outcomes { HaveOutcomes acts.now }
+        requires applies { first_fault book.now acts.now ≡ None }
+
+        ensures done { OnOk result ((bs : List (List Act)) → Keeps D.seen D.may_leave self.old bs → book_after empty_book bs ≡ book.now
+            → Keeps D.seen D.may_leave self.new (bs ++ acts.now ∷ [])) }
+        ensures number { IfOk result (λ n. n ≡ batch_count self.old + 1) }
+        ensures count { OnOk result (batch_count self.new ≡ batch_count self.old + 1) }
+
+        // A crash at any moment of the call leaves the batches before it, or this one too.
+        ensures any_moment { (bs : List (List Act)) → Keeps D.seen D.may_leave self.old bs → book_after empty_book bs ≡ book.now
+            → LeavesOnly D.moment D.left_since (disk_of self.old) (disk_of self.new)
+            (λ c. Holds c bs ⊎ Holds c (bs ++ acts.now ∷ [])) }
+
+        ensures full { IsErrOf result JournalFault.Full → IsFull (used_bytes self.old) (kept_bytes self.old) acts.now }
+        ensures room { OnOk result (IsFull (used_bytes self.old) (kept_bytes self.old) acts.now → ⊥) }
+        ensures room_at_fault { IsErrOf result JournalFault.Disk → IsFull (used_bytes self.old) (kept_bytes self.old) acts.now → ⊥ }
+        ensures unchanged { IsErrOf result JournalFault.Full → self.new ≡ self.old }
+
+        ensures disk { IsErrOf result JournalFault.Disk → D.failures (disk_of self.old) < D.failures (disk_of self.new) }
+        ensures failed { IsErrOf result JournalFault.Failed ↔ (has_failed self.old ≡ true) }
+        ensures fails_at_disk { IsErrOf result JournalFault.Disk → has_failed self.new ≡ true }
+        ensures fails_at_memory { IsErrOf result JournalFault.Memory → has_failed self.new ≡ true }
+        ensures works { OnOk result (has_failed self.new ≡ false) }
+    {
+        let _book = book;
+        if self.failed {
+            return Err(JournalFault::Failed);
+        }
+        match added(self.alloc, &mut self.disk, self.figures, acts) {
+            Ok(figures) => {
+                self.figures = figures;
+                Ok(figures.count)
+            }
+            Err(JournalFault::Full) => Err(JournalFault::Full),
+            Err(fault) => {
+                self.failed = true;
+                Err(fault)
+            }
+        }
+    }
+
+    /// Opens the journal on a disk, and gives the book that its batches leave. It begins with a sync, so that a crash leaves
+    /// what was read. At an `Err` the disk is dropped: `Disk` comes where it failed, `Memory` where memory was refused.
+    pub fn open(alloc: Global, disk: D) -> Result<(Journal<D>, Book), OpenFault>
+        ensures opened { IfOk result (λ r. (bs : List (List Act)) × Keeps D.seen D.may_leave r.0 bs × (r.1 ≡ book_after empty_book bs)) }
+        ensures works { IfOk result (λ r. has_failed r.0 ≡ false) }
+        ensures seen { IfOk result (λ r. D.seen (disk_of r.0) ≡ D.seen disk) }
+        ensures crash { IfOk result (λ r. NoMore (D.may_leave disk) (D.may_leave (disk_of r.0))) }
+        ensures fault { IfErr result (Explains (D.seen disk)) }
+    {
+        let mut disk = disk;
+        let bytes = read_all(alloc, &mut disk)?;
+        let found = scan(alloc, bytes.as_slice())?;
+        let Some(reserve) = reserve_of(&found.book) else {
+            return Err(OpenFault::Memory);
+        };
+        let figures = Figures {
+            place: found.place,
+            reserve,
+            count: found.count,
+        };
+        let failed = false;
+        let Found { book, .. } = found;
+        Ok((
+            Journal {
+                alloc,
+                disk,
+                figures,
+                failed,
+            },
+            book,
+        ))
+    }
+
+    /// The bytes that are left: the limit less the journal's length and what it keeps free. Below 0 only in a file that
+    /// `format` and `append` didn't make.
+    pub fn room(&self) -> i128
+        ensures { result ≡ pos 67108864 -ℤ pos (used_bytes self.now + kept_bytes self.now) }
+    {
+        let used = i128::from(self.figures.place as u64) + 1;
+        i128::from(JOURNAL_LIMIT) - (used + i128::from(self.figures.reserve))
+    }
+
+    /// How many batches the file has that no longer stand in it: none in this format.
+    pub fn base(&self) -> u64
+        ensures { result ≡ 0 }
+    {
+        0
+    }
+
+    /// The disk, which the journal lets go.
+    pub fn into_disk(self) -> D
+        ensures { result ≡ disk_of self }
+    {
+        self.disk
+    }
+}
+
+impl<D: Crash> Journal<D> {
+    /// After so many calls of the disk more every call fails, on a disk that has a fuse.
+    pub fn fuse(&mut self, calls: u64)
+        ensures seen { D.Disk.seen (disk_of self.new) ≡ D.Disk.seen (disk_of self.old) }
+        ensures crash { NoMore (D.Disk.may_leave (disk_of self.old)) (D.Disk.may_leave (disk_of self.new)) }
+        ensures time { Elapses (D.Disk.moment (disk_of self.old)) (D.Disk.moment (disk_of self.new))
+            (D.Disk.left_since (disk_of self.old)) (D.Disk.left_since (disk_of self.new))
+            (D.Disk.may_leave (disk_of self.new)) }
+        ensures failures { D.Disk.failures (disk_of self.new) ≡ D.Disk.failures (disk_of self.old) }
+        ensures figures { self.new ≡ record self.old { disk = disk_of self.new } }
+    {
+        self.disk.fuse(calls);
+    }
+}

@@ -1,0 +1,24 @@
+//! The journal of a book: batches of acts in a file, each behind a gate that is opened once the batch is on the disk. So a
+//! crash at any moment leaves the book before a batch or after it. `docs/journal.md` tells the format.
+#![tactic(auto)]
+
+mod device;
+mod fault;
+mod figures;
+mod fresh;
+mod journal;
+pub mod laws;
+mod listing;
+mod read;
+mod scan;
+mod spell;
+mod store;
+mod whole;
+
+pub use fault::{JournalFault, OpenFault};
+pub use fresh::format;
+pub use journal::Journal;
+pub use listing::{Entry, Listing, list};
+
+#[cfg(test)]
+mod tests;

@@ -1,0 +1,152 @@
+//! The batches of a file, one behind the other.
+ghost use Rattle.std.specs.Prelude.{◌≡◌, ◌≢◌, ◌++◌, [], ◌∷◌, List, ℕ, ◌<◌, ◌⊎◌, length, take, None, IfNone, IfSome, IfOk, IfErr, IsErrOf};
+ghost use Rattle.book_core.specs.declared.act.Act.{Act};
+ghost use Rattle.book_core.specs.Book.{first_fault, effects};
+ghost use Rattle.gate_journal.specs.Format.{magic, acts_bytes, batch};
+ghost use Rattle.gate_journal.specs.Batches.{AreWritable, IsBatch};
+ghost use Rattle.gate_journal.specs.Opening.{Explains, IsFound};
+ghost use Rattle.gate_journal.specs.Scanning.{NoActs, NoneBegins, IsNoNext, refused_as};
+
+use crate::fault::OpenFault;
+use crate::read::{ReadFault, act, inside};
+use book_core::{Act, Book, BookFault};
+use std::alloc::Global;
+
+/// What begins each journal of this format.
+pub(crate) const MAGIC: [u8; 8] = *b"AMQRJ001";
+
+/// The acts that all of these bytes are.
+fn read_acts(alloc: Global, bytes: &[u8]) -> Result<Vec<Act>, ReadFault>
+    ensures spelled { IfOk result (λ v. bytes.now ≡ acts_bytes v.items) }
+    ensures writable { IfOk result (λ v. AreWritable v.items) }
+    ensures none { IsErrOf result ReadFault.Misspelt → NoActs bytes.now }
+{
+    let mut acts = Vec::new(alloc);
+    let mut rest = bytes;
+    while !rest.is_empty() {
+        match act(alloc, rest) {
+            Err(fault) => return Err(fault),
+            Ok((read, behind)) => {
+                acts.push(read)?;
+                rest = behind;
+            }
+        }
+    }
+    Ok(acts)
+}
+
+/// The batch at the front, and what stands behind it, which is something.
+fn read_batch(alloc: Global, bytes: &[u8]) -> Result<(Vec<Act>, &[u8]), ReadFault>
+    ensures spelled { IfOk result (λ x. bytes.now ≡ batch x.0.items ++ x.1.now) }
+    ensures is_batch { IfOk result (λ x. IsBatch x.0.items) }
+    ensures behind { IfOk result (λ x. x.1.now ≢ []) }
+    ensures none { IsErrOf result ReadFault.Misspelt → NoneBegins bytes.now }
+{
+    match inside(bytes) {
+        Err(fault) => Err(fault),
+        Ok((inside, behind)) => match read_acts(alloc, inside) {
+            Err(fault) => Err(fault),
+            Ok(acts) => Ok((acts, behind)),
+        },
+    }
+}
+
+/// What stands behind an open gate.
+pub(crate) fn behind_gate(rest: &[u8]) -> Option<&[u8]>
+    ensures open_gate { IfSome result (λ inside. rest.now ≡ 1 ∷ inside.now) }
+    ensures shut_gate { IfNone result ((gate : ℕ) (behind : List ℕ) → rest.now ≡ gate ∷ behind → gate ≢ 1) }
+{
+    match rest {
+        [1, inside @ ..] => Some(inside),
+        _ => None,
+    }
+}
+
+/// Why a file isn't opened whose book refuses a batch.
+fn refused(fault: BookFault, at: usize) -> OpenFault
+    ensures { result ≡ refused_as fault at }
+{
+    match fault {
+        BookFault::Memory => OpenFault::Memory,
+        _ => OpenFault::Damaged { at },
+    }
+}
+
+/// Applies the batch behind an open gate at a place, and gives it with what stands behind it.
+pub(crate) fn next_batch<'a>(
+    alloc: Global,
+    book: &mut Book,
+    inside: &'a [u8],
+    at: usize,
+) -> Result<(Vec<Act>, &'a [u8]), OpenFault>
+    ensures spelled { IfOk result (λ x. inside.now ≡ batch x.0.items ++ x.1.now) }
+    ensures is_batch { IfOk result (λ x. IsBatch x.0.items) }
+    ensures behind { IfOk result (λ x. x.1.now ≢ []) }
+    ensures applies { IfOk result (λ x. first_fault book.old x.0.items ≡ None) }
+    ensures applied { IfOk result (λ x. book.new ≡ effects book.old x.0.items) }
+    ensures fault { IfErr result (IsNoNext book.old inside.now at) }
+{
+    match read_batch(alloc, inside) {
+        Err(ReadFault::Memory) => Err(OpenFault::Memory),
+        Err(ReadFault::Misspelt) => Err(OpenFault::Damaged { at }),
+        Ok((acts, behind)) => match book.apply(acts.as_slice()) {
+            Err(fault) => Err(refused(fault, at)),
+            Ok(()) => Ok((acts, behind)),
+        },
+    }
+}
+
+/// What stands behind the head of a file.
+pub(crate) fn behind_head(bytes: &[u8]) -> Option<&[u8]>
+    ensures head { IfSome result (λ rest. bytes.now ≡ magic ++ rest.now) }
+    ensures behind { IfSome result (λ rest. rest.now ≢ []) }
+    ensures none { IfNone result ((length bytes.now < 9) ⊎ (take 8 bytes.now ≢ magic)) }
+{
+    if bytes.len() < 9 {
+        return None;
+    }
+    let (head, behind) = bytes.split_at(8);
+    if head != MAGIC.as_slice() {
+        return None;
+    }
+    Some(behind)
+}
+
+/// What was found in a file.
+#[derive(Drop)]
+pub(crate) struct Found {
+    /// The book that the batches leave.
+    pub(crate) book: Book,
+    /// The place of the gate that ends them.
+    pub(crate) place: usize,
+    /// Their number.
+    pub(crate) count: u64,
+}
+
+/// The batches of a file: up to the first gate that isn't open.
+pub(crate) fn scan(alloc: Global, bytes: &[u8]) -> Result<Found, OpenFault>
+    ensures found { IfOk result (λ f. IsFound bytes.now f.book f.place f.count) }
+    ensures fault { IfErr result (Explains bytes.now) }
+    ensures never_disk { IsErrOf result OpenFault.Disk → ⊥ }
+{
+    let Some(mut rest) = behind_head(bytes) else {
+        return Err(OpenFault::NotAJournal);
+    };
+    let mut book = Book::empty(alloc);
+    let mut count = 0u64;
+    while let Some(inside) = behind_gate(rest) {
+        let at = bytes.len() - rest.len();
+        match next_batch(alloc, &mut book, inside, at) {
+            Err(fault) => return Err(fault),
+            Ok((_acts, behind)) => {
+                let Some(next) = count.checked_add(1) else {
+                    return Err(OpenFault::Memory);
+                };
+                count = next;
+                rest = behind;
+            }
+        }
+    }
+    let place = bytes.len() - rest.len();
+    Ok(Found { book, place, count })
+}

@@ -1,0 +1,11 @@
+pub mod FaultNumbers
+pub mod File
+pub mod Laws
+pub mod Lines
+pub mod Places
+pub mod Prefixes
+pub mod Said
+pub mod Seen
+pub mod Sections
+pub mod Settings
+pub mod Values
