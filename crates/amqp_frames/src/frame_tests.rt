@@ -159,3 +159,45 @@ fn worked_frames_both_ways(rt: HostRuntime) -> Result<(), Fail> {
     }
     Ok(())
 }
+
+/// An open without a container-id, one whose container-id is a number, an end of two fields, a transfer with a tag of 33
+/// bytes, an attach with a tag twice, and an error where a performative is wanted.
+const FAULTY: [(PerfFault, &[u8]); 6] = [
+    (
+        PerfFault::MissingField,
+        b"\x00\x00\x00\x0c\x02\x00\x00\x00\x00\x53\x10\x45",
+    ),
+    (
+        PerfFault::WrongKind,
+        b"\x00\x00\x00\x10\x02\x00\x00\x00\x00\x53\x10\xc0\x03\x01\x52\x05",
+    ),
+    (
+        PerfFault::TooManyFields,
+        b"\x00\x00\x00\x10\x02\x00\x00\x00\x00\x53\x17\xc0\x03\x02\x40\x40",
+    ),
+    (
+        PerfFault::TagTooLong,
+        b"\x00\x00\x00\x33\x02\x00\x00\x00\x00\x53\x14\xc0\x26\x03\x43\x43\xa0\x21\x07\x07\x07\x07\x07\x07\x07\x07\x07\x07\x07\x07\x07\x07\x07\x07\x07\x07\x07\x07\x07\x07\x07\x07\x07\x07\x07\x07\x07\x07\x07\x07\x07",
+    ),
+    (
+        PerfFault::DuplicateTag,
+        b"\x00\x00\x00\x22\x02\x00\x00\x00\x00\x53\x12\xc0\x15\x08\xa1\x01\x6c\x43\x41\x40\x40\x40\x40\xc1\x09\x04\xa0\x01\x01\x40\xa0\x01\x01\x40",
+    ),
+    (
+        PerfFault::NotPerformative,
+        b"\x00\x00\x00\x10\x02\x00\x00\x00\x00\x53\x1d\xc0\x03\x01\xa3\x00",
+    ),
+];
+
+#[test]
+fn faults_of_performatives(rt: HostRuntime) -> Result<(), Fail> {
+    for (wanted, frame) in &FAULTY {
+        let mut reader = FrameReader::new(rt.alloc());
+        let items = reader.feed(frame)?;
+        assert_eq!(rt; items.len(), 1);
+        for item in &items {
+            assert!(rt; matches!(item, Item::Bad(FrameFault::Perf(fault)) if *fault == *wanted));
+        }
+    }
+    Ok(())
+}
