@@ -1,6 +1,6 @@
 //! Each public call once, with the numbers that the limits give.
 use crate::{
-    Act, ActKind, Admission, Book, BookFault, LinkKey, LinkRole, RowNumber, Terminus,
+    Act, ActKind, Admission, Book, BookFault, LinkKey, LinkRole, RowNumber, Rows, Terminus,
     TerminusNumber,
 };
 use amqp_perf::{DeliveryTag, Text};
@@ -47,6 +47,15 @@ fn book(alloc: Global) -> Result<Book, BookFault> {
     Ok(book)
 }
 
+/// How many rows a walk gives.
+fn count_of(rows: Rows<'_>) -> usize {
+    let mut count = 0usize;
+    for _row in rows {
+        count = count.wrapping_add(1);
+    }
+    count
+}
+
 #[test]
 fn admits_and_forgets(rt: HostRuntime) -> Result<(), Fail> {
     let mut book = book(rt.alloc())?;
@@ -58,10 +67,10 @@ fn admits_and_forgets(rt: HostRuntime) -> Result<(), Fail> {
     let tag = admission(rt.alloc(), 1, 1)?.tag;
     let found = book.row_named(TerminusNumber(2), &tag).ok_or("no row")?;
     assert_eq!(rt; found.number, RowNumber(1));
-    assert_eq!(rt; book.rows_of(TerminusNumber(1)).count(), 1);
-    assert_eq!(rt; book.rows_of(TerminusNumber(2)).count(), 1);
-    assert_eq!(rt; book.rows_of(TerminusNumber(3)).count(), 0);
-    assert_eq!(rt; book.rows().count(), 1);
+    assert_eq!(rt; count_of(book.rows_of(TerminusNumber(1))), 1);
+    assert_eq!(rt; count_of(book.rows_of(TerminusNumber(2))), 1);
+    assert_eq!(rt; count_of(book.rows_of(TerminusNumber(3))), 0);
+    assert_eq!(rt; count_of(book.rows()), 1);
 
     // An undecided row stays once it is forgotten, and its tag is free.
     book.apply(&[Act::Forget(RowNumber(1))])?;
