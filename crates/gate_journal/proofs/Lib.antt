@@ -14,3 +14,4 @@ pub mod Scans
 pub mod Walks
 pub mod Releases
 pub mod Lists
+pub mod Terminal

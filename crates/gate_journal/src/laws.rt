@@ -1,7 +1,9 @@
 //! Laws of the journal's definitions. Each is the clause of a function that does nothing.
 ghost use Rattle.std.specs.Prelude.{◌≡◌, ◌≢◌, [], List, ℕ};
+ghost use Rattle.amqp_perf.specs.declared.state.DeliveryState.{DeliveryState};
+ghost use Rattle.amqp_perf.specs.Fitting.{FitsState};
 ghost use Rattle.book_core.specs.declared.act.Act.{Act};
-ghost use Rattle.gate_journal.specs.Batches.{Holds};
+ghost use Rattle.gate_journal.specs.Batches.{Holds, IsTerminal, IsOutcome};
 ghost use Rattle.gate_journal.specs.Reserve.{OnlyRelease, Costs};
 
 /// A file holds one list of batches only.
@@ -13,4 +15,10 @@ pub fn one_list()
 /// want of room.
 pub fn releases_fit()
     ensures { (acts : List Act) → acts ≢ [] → OnlyRelease acts → Costs acts → ⊥ }
+{}
+
+/// A terminal state whose numbers, texts and sizes are within the limits of their types is an outcome, as `append` wants
+/// it: its canonical spelling gives it back.
+pub fn terminal_states_are_outcomes()
+    ensures { (state : DeliveryState) → IsTerminal state → FitsState 32 state → IsOutcome state }
 {}

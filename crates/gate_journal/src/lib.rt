@@ -19,6 +19,7 @@ pub use fault::{JournalFault, OpenFault};
 pub use fresh::format;
 pub use journal::Journal;
 pub use listing::{Entry, Listing, list};
+pub use spell::acts_len;
 
 #[cfg(test)]
 mod tests;

@@ -180,3 +180,16 @@ pub(crate) fn block_of(alloc: Global, acts: &[Act]) -> Result<Vec<u8>, AllocErro
     put_byte(&mut block, 0)?;
     Ok(block)
 }
+
+/// How many bytes the acts of a batch take in the file. A batch that can be appended has at most 4,194,304.
+///
+/// # Errors
+///
+/// `AllocError` where memory is refused, or an act can't be spelt.
+pub fn acts_len(alloc: Global, acts: &[Act]) -> Result<usize, AllocError>
+    ensures { IfOk result (λ len. len ≡ length (acts_bytes acts.now)) }
+{
+    let mut bytes = Vec::new(alloc);
+    put_acts(alloc, &mut bytes, acts)?;
+    Ok(bytes.len())
+}

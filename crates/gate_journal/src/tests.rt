@@ -1,12 +1,13 @@
-//! The file of three batches, byte by byte and call by call; the places are those of a worked example of the format.
+//! Small journals, byte by byte and call by call; the places are those of a worked example of the format.
+mod limits;
+
 ghost use Rattle.std.specs.Prelude.{◌≡◌, ◌≢◌, [], IfOk, OnOk};
 ghost use Rattle.gate_journal.specs.Batches.{HasOutcome, HaveOutcomes};
 
-use crate::spell::block_of;
-use crate::{Journal, JournalFault, OpenFault, format, list};
-use amqp_perf::{DeliveryTag, Text};
+use crate::{Journal, JournalFault, OpenFault, acts_len, format, list};
+use amqp_perf::{DeliveryState, DeliveryTag, Text};
 use book_core::{
-    Act, ActKind, Admission, Book, LinkKey, LinkRole, RowNumber, Terminus, TerminusNumber,
+    Act, ActKind, Admission, Book, Decision, LinkKey, LinkRole, RowNumber, Terminus, TerminusNumber,
 };
 use bytes::Bytes;
 use disk_core::{Crash, Disk, FuseDisk, MemDisk};
@@ -81,35 +82,39 @@ fn store<D: Disk>(
     ensures { OnOk result (book.new ≡ trial.new) }
 {
     trial.apply(acts)?;
-    assert!(rt; block_of(alloc, acts)?.len() <= 4_194_309);
+    assert!(rt; acts_len(alloc, acts)? <= 4_194_304);
     let stored = journal.append(book, acts);
     book.apply(acts)?;
     Ok(stored)
 }
 
-/// Three batches of one act each, behind what was just formatted.
-fn three<D: Disk>(rt: &impl Abort, alloc: Global, journal: &mut Journal<D>) -> Result<(), Fail> {
-    let mut book = Book::empty(alloc);
-    let mut trial = Book::empty(alloc);
-    let first = store(
-        rt,
-        alloc,
-        journal,
-        &mut book,
-        &mut trial,
-        &[consumer(alloc)?],
-    )?;
+/// The row is accepted.
+#[tactic(auto, using(crate::proofs::Terminal::accepted))]
+fn accept() -> Act
+    ensures { HasOutcome result }
+{
+    Act::Decide(Decision {
+        row: RowNumber(1),
+        outcome: DeliveryState::Accepted,
+    })
+}
+
+/// Three batches of one act each, behind what was just formatted. Both books are those that they leave.
+fn three<D: Disk>(
+    rt: &impl Abort,
+    alloc: Global,
+    journal: &mut Journal<D>,
+    book: &mut Book,
+    trial: &mut Book,
+) -> Result<(), Fail>
+    requires { book.old ≡ trial.old }
+    ensures { OnOk result (book.new ≡ trial.new) }
+{
+    let first = store(rt, alloc, journal, book, trial, &[consumer(alloc)?])?;
     assert_eq!(rt; first, Ok(1));
-    let second = store(
-        rt,
-        alloc,
-        journal,
-        &mut book,
-        &mut trial,
-        &[producer(alloc)?],
-    )?;
+    let second = store(rt, alloc, journal, book, trial, &[producer(alloc)?])?;
     assert_eq!(rt; second, Ok(2));
-    let third = store(rt, alloc, journal, &mut book, &mut trial, &[admit(alloc)?])?;
+    let third = store(rt, alloc, journal, book, trial, &[admit(alloc)?])?;
     assert_eq!(rt; third, Ok(3));
     Ok(())
 }
@@ -123,7 +128,13 @@ fn three_batches_have_their_places(rt: HostRuntime) -> Result<(), Fail> {
     let (mut journal, book) = Journal::open(alloc, disk)?;
     assert_eq!(rt; book.terminus_count(), 0);
     assert_eq!(rt; journal.room(), 67_108_864 - 9);
-    three(&rt, alloc, &mut journal)?;
+    three(
+        &rt,
+        alloc,
+        &mut journal,
+        &mut Book::empty(alloc),
+        &mut Book::empty(alloc),
+    )?;
 
     // Two termini, and a row that is neither decided nor forgotten.
     assert_eq!(rt; journal.room(), 67_108_864 - 131 - 2 * 14 - 430);
@@ -146,6 +157,45 @@ fn three_batches_have_their_places(rt: HostRuntime) -> Result<(), Fail> {
     assert_eq!(rt; book.row_count(), 1);
     assert_eq!(rt; book.terminus_count(), 2);
     assert_eq!(rt; journal.room(), 67_108_864 - 131 - 2 * 14 - 430);
+    Ok(())
+}
+
+/// A durable delivery, from its link's termini to its end: the batches of the exchange `durable_transfer`.
+#[test]
+fn durable_journal(rt: HostRuntime) -> Result<(), Fail> {
+    let alloc = rt.alloc();
+    let mut disk = MemDisk::new(alloc);
+    format(&mut disk)?;
+    let (mut journal, _) = Journal::open(alloc, disk)?;
+    let mut book = Book::empty(alloc);
+    let mut trial = Book::empty(alloc);
+    three(&rt, alloc, &mut journal, &mut book, &mut trial)?;
+    let decided = [accept()];
+    let stored = store(&rt, alloc, &mut journal, &mut book, &mut trial, &decided)?;
+    assert_eq!(rt; stored, Ok(4));
+    let forgotten = [Act::Forget(RowNumber(1))];
+    let stored = store(&rt, alloc, &mut journal, &mut book, &mut trial, &forgotten)?;
+    assert_eq!(rt; stored, Ok(5));
+
+    let mut disk = journal.into_disk();
+    assert_eq!(rt; disk.bytes().len(), 165);
+    let listing = list(alloc, &mut disk)?;
+    let wanted = [
+        (8, ActKind::Make, 1),
+        (46, ActKind::Make, 2),
+        (84, ActKind::Admit, 1),
+        (130, ActKind::Decide, 1),
+        (150, ActKind::Forget, 1),
+    ];
+    assert_eq!(rt; listing.entries.len(), 5);
+    for (entry, (place, kind, number)) in listing.entries.iter().zip(wanted.iter()) {
+        assert_eq!(rt; entry.place, *place);
+        assert_eq!(rt; entry.act.kind(), *kind);
+        assert_eq!(rt; entry.act.number(), *number);
+    }
+    assert_eq!(rt; listing.place, 164);
+    assert_eq!(rt; listing.book.row_count(), 0);
+    assert_eq!(rt; listing.book.terminus_count(), 2);
     Ok(())
 }
 
@@ -203,7 +253,13 @@ fn flipped_bytes_are_told(rt: HostRuntime) -> Result<(), Fail> {
     let mut disk = MemDisk::new(alloc);
     format(&mut disk)?;
     let (mut journal, _) = Journal::open(alloc, disk)?;
-    three(&rt, alloc, &mut journal)?;
+    three(
+        &rt,
+        alloc,
+        &mut journal,
+        &mut Book::empty(alloc),
+        &mut Book::empty(alloc),
+    )?;
     let disk = journal.into_disk();
     for at in 0..disk.bytes().len() {
         let mut bytes = disk.bytes().to_vec(alloc)?;
