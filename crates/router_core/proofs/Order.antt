@@ -23,7 +23,8 @@ use Rattle.router_core.specs.Frames.{closing}
 use Rattle.router_core.specs.Rows.{header_reply, condition_of, open_by, open_in_turn, open_reply, in_turn, turn_by, perf_reply, item_reply}
 use Rattle.router_core.specs.Replies.{closing_of, ends, heard, answer, answered}
 use Rattle.router_core.specs.Runs.{Taking, took_all, took_one, MayStep, Run}
-use Rattle.router_core.specs.Laws.{outs, unwritten, has_turn, have_turns, IsOrderly}
+use Rattle.router_core.specs.Moves.{outs}
+use Rattle.router_core.specs.Laws.{unwritten, has_turn, have_turns, IsOrderly}
 use Rattle.router_core.proofs.Lists.{by_test, has_push, from_push}
 use Rattle.router_core.proofs.Turns.{stays, known, reach_up}
 

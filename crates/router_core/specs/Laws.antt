@@ -1,5 +1,5 @@
 -- What holds of every trace of the router.
-use Rattle.std.specs.Prelude.{◌≡◌, ℕ, Bool, true, false, not, ◌==◌, if◌then◌else◌, List, [], ◌∷◌, ◌++◌}
+use Rattle.std.specs.Prelude.{◌≡◌, ℕ, Bool, true, false, not, if◌then◌else◌, List, [], ◌∷◌}
 use Rattle.amqp_perf.specs.declared.perf.Perf.{Perf}
 use Rattle.amqp_perf.specs.declared.perf.Perf.TheVariants as perf
 use Rattle.amqp_frames.specs.declared.item.Item.{Item}
@@ -7,16 +7,10 @@ use Rattle.amqp_frames.specs.declared.item.Item.TheVariants as item
 use Rattle.amqp_conn.specs.declared.conn.Conn.{Conn}
 use Rattle.router_core.specs.declared.state.event.Event.{Event}
 use Rattle.router_core.specs.declared.driving.Sent.{Sent}
-use Rattle.router_core.specs.Trace.{Trace, Did, Out, Took}
+use Rattle.router_core.specs.Trace.{Trace}
 use Rattle.router_core.specs.Connection.{behind}
 use Rattle.router_core.specs.Runs.{Run}
-
--- the items put out for a connection, the first of them first
-abbrev pub outs : Trace → ℕ → List Item
-outs [] c = []
-outs (Did s ∷ t) c = outs t c
-outs (Out d i ∷ t) c = if d == c then outs t c ++ i ∷ [] else outs t c
-outs (Took d n ∷ t) c = outs t c
+use Rattle.router_core.specs.Moves.{outs}
 
 -- nothing is written yet
 abbrev pub unwritten : Conn
