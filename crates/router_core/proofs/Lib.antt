@@ -6,3 +6,5 @@ pub mod Scenes
 pub mod Turns
 pub mod Moves
 pub mod Order
+pub mod Headed
+pub mod AtDoor
