@@ -4,4 +4,7 @@ pub mod Lists
 pub mod RunLemmas
 pub mod Scenes
 pub mod Turns
+pub mod Moves
 pub mod Order
+pub mod Headed
+pub mod AtDoor

@@ -12,4 +12,5 @@ pub mod Door
 pub mod Script
 pub mod Playing
 pub mod Asking
+pub mod Moves
 pub mod Laws

@@ -1,0 +1,43 @@
+-- What a trace of the router is made of: events that were handled, with their replies, and takes; and what came and went
+-- on a connection.
+use Rattle.std.specs.Prelude.{◌≡◌, ◌==◌, ℕ, false, if◌then◌else◌, List, [], ◌∷◌, ◌++◌}
+use Rattle.amqp_frames.specs.declared.item.Item.{Item}
+use Rattle.router_core.specs.declared.state.event.Event.{Event}
+use Rattle.router_core.specs.declared.state.event.Event.TheVariants as event
+use Rattle.router_core.specs.Trace.{Trace, Did, Out, Took}
+use Rattle.router_core.specs.Fits.{refuses}
+use Rattle.router_core.specs.Replies.{answered}
+use Rattle.router_core.specs.Runs.{Taking, took_one}
+
+-- the router handles an event, or items are taken of an outbox
+pub data Move : Type 0 where
+  handles : Event → Move
+  takes : Taking → Move
+
+-- u is t with these moves, one after the other: no event is refused, and its replies stand behind it
+abbrev pub Goes : List ℕ → List Move → Trace → Trace → Type 0
+Goes id [] t u = u ≡ t
+Goes id (handles e ∷ ms) t u = (refuses t e ≡ false) × Goes id ms (answered id t e) u
+Goes id (takes x ∷ ms) t u = Goes id ms (took_one x t) u
+
+-- a trace of the router of this id
+abbrev pub IsTrace : List ℕ → Trace → Type 0
+IsTrace id u = (moves : List Move) × Goes id moves [] u
+
+-- the items of the events that came on a connection, the first of them first
+abbrev pub with_came : Event → ℕ → List Item → List Item
+with_came (event.Item d i) c is = if d.0 == c then is ++ i ∷ [] else is
+with_came _ c is = is
+
+abbrev pub ins : Trace → ℕ → List Item
+ins [] c = []
+ins (Did s ∷ t) c = with_came s.event c (ins t c)
+ins (Out d i ∷ t) c = ins t c
+ins (Took d n ∷ t) c = ins t c
+
+-- the items put out for a connection, the first of them first
+abbrev pub outs : Trace → ℕ → List Item
+outs [] c = []
+outs (Did s ∷ t) c = outs t c
+outs (Out d i ∷ t) c = if d == c then outs t c ++ i ∷ [] else outs t c
+outs (Took d n ∷ t) c = outs t c
