@@ -6,3 +6,7 @@ pub mod Scenes
 pub mod Turns
 pub mod Moves
 pub mod Order
+pub mod Levels
+pub mod Entering
+pub mod Passing
+pub mod Carried
