@@ -8,3 +8,7 @@ pub mod Moves
 pub mod Order
 pub mod Headed
 pub mod AtDoor
+pub mod Levels
+pub mod Entering
+pub mod Passing
+pub mod Carried

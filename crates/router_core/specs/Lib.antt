@@ -14,3 +14,4 @@ pub mod Playing
 pub mod Asking
 pub mod Moves
 pub mod Laws
+pub mod Carrying

@@ -4,6 +4,7 @@ ghost use Rattle.std.specs.Ordering.{nat_cmp};
 ghost use Rattle.std.specs.BTreeMap.{get};
 ghost use Rattle.router_core.specs.Handling.{is_failed};
 ghost use Rattle.router_core.specs.Script.{Scene, opening, PlaysAll, book, refused, out_line, say_all, hand, enter, enter_all, BytesCome, make, lose, Takes, take_one, close_if, Flushes, Plays};
+ghost use Rattle.router_core.specs.Carrying.{RunsCarry};
 ghost use Rattle.router_core.specs.Connection.{conn as known, is_ready};
 ghost use Rattle.router_core.specs.Runs.{taking};
 ghost use Rattle.router_core.specs.Asking.{AsksAt, ReadsAt, ReadsOne, follow};
@@ -87,6 +88,7 @@ struct Player {
 /// taken, by connection. The last line tells of the book. Where memory is refused to the play itself the lines end there.
 pub fn play_runs(alloc: Global, config: Config, runs: &[Run]) -> Report
     ensures plays { result.out_of_memory ≡ false → result.failed ≡ false → (lines : List ALine) × PlaysAll config.router_id (map (λ r. r.steps.items) runs.now) lines × (result.lines.items ≡ lines ++ book ∷ []) }
+    ensures carries { result.out_of_memory ≡ false → result.failed ≡ false → (lines : List ALine) × RunsCarry config.router_id (map (λ r. r.steps.items) runs.now) lines × (result.lines.items ≡ lines ++ book ∷ []) }
 {
     let mut lines = Vec::new(alloc);
     let mut failed = false;
