@@ -6,3 +6,4 @@ pub mod Script
 pub mod Running
 pub mod Status
 pub mod Listing
+pub mod Journals

@@ -2,6 +2,7 @@
 #![tactic(auto)]
 
 pub mod input;
+pub mod journal;
 pub mod listing;
 pub mod print;
 pub mod run;

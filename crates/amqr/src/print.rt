@@ -1,8 +1,11 @@
 //! Lines of output.
-ghost use Rattle.std.specs.Prelude.{◌≡◌, OnOk, IfSome};
+ghost use Rattle.std.specs.Prelude.{◌≡◌, OnOk, IfOk, IfSome};
 ghost use Rattle.std.specs.Io.KnownBytes.{Appends};
 ghost use Rattle.amqr.specs.Print.{printed};
+ghost use Rattle.amqr.specs.Running.{Refuses};
+ghost use Rattle.amqr.specs.Status.{status_of};
 
+use crate::status::{Refusal, Status};
 use std::fmt::Display;
 use std::io::{self, Write};
 
@@ -14,4 +17,13 @@ pub fn print_lines<W: Write, L: Display>(output: &mut W, lines: &[L]) -> io::Res
         output.writeln(line)?;
     }
     Ok(())
+}
+
+/// Writes why nothing is done.
+pub(crate) fn refuse<O: Write>(output: &mut O, refusal: Refusal) -> io::Result<Status>
+    ensures status { IfOk result (λ status. status ≡ status_of refusal) }
+    ensures told { IfOk result (λ status. Refuses refusal (O.contents output.old) (O.contents output.new)) }
+{
+    print_lines(output, &[refusal])?;
+    Ok(refusal.status())
 }

@@ -1,21 +1,22 @@
 //! The program, over any files, reader and writers.
 ghost use Rattle.std.specs.Prelude.{◌≡◌, ◌<◌, length, IfOk};
 ghost use Rattle.std.specs.List.{list_any};
-ghost use Rattle.amqr.specs.Running.{Lists, Plays, PlaysInput, Refuses, MayPlay, is_bad};
-ghost use Rattle.amqr.specs.Status.{status_of};
+ghost use Rattle.amqr.specs.Running.{Lists, Plays, PlaysInput, MayPlay, is_bad};
 
 use crate::input::{InputFault, read_whole};
+use crate::journal::{format_disk, list_journal};
 use crate::listing::{ListingLine, list_stream};
-use crate::print::print_lines;
+use crate::print::{print_lines, refuse};
 use crate::script::{ScriptFault, read_script};
 use crate::status::{Refusal, Status};
 use crate::words::{Task, read_words};
 use clap::Error;
 use clap::error::ErrorKind;
+use disk_core::{DiskFault, FileDisk};
 use router_core::{Config, CoreFault, Line, Report, Run, Step, play_runs};
 use std::alloc::Global;
 use std::convert::AsStr;
-use std::fs;
+use std::fs::{self, File};
 use std::io::{self, Read, Write};
 use std::rt::Files;
 
@@ -25,7 +26,7 @@ use std::rt::Files;
 /// # Errors
 ///
 /// An error of the output or of the errors, which could not be written.
-pub fn run<R: Files + AllocGlobal, S: AsStr, I: Read, O: Write, E: Write>(
+pub fn run<R: Files<File = File> + AllocGlobal, S: AsStr, I: Read, O: Write, E: Write>(
     rt: &R,
     words: &[S],
     input: &mut I,
@@ -43,6 +44,11 @@ pub fn run<R: Files + AllocGlobal, S: AsStr, I: Read, O: Write, E: Write>(
         },
         Ok(Task::Frames { file }) => match fs::open(rt, file) {
             Ok(mut file) => frames(alloc, &mut file, output),
+            Err(_) => refuse(output, Refusal::File),
+        },
+        Ok(Task::Format { file }) => make(FileDisk::create(rt, alloc, file), output),
+        Ok(Task::Journal { file }) => match fs::open(rt, file) {
+            Ok(file) => show(alloc, FileDisk::over(alloc, file), output),
             Err(_) => refuse(output, Refusal::File),
         },
         Err(fault) => explain(&fault, output, errors),
@@ -64,15 +70,6 @@ fn explain<O: Write, E: Write>(
     }
     write!(output, "{fault}")?;
     Ok(Status::Done)
-}
-
-/// Writes why nothing is done.
-fn refuse<O: Write>(output: &mut O, refusal: Refusal) -> io::Result<Status>
-    ensures status { IfOk result (λ status. status ≡ status_of refusal) }
-    ensures told { IfOk result (λ status. Refuses refusal (O.contents output.old) (O.contents output.new)) }
-{
-    print_lines(output, &[refusal])?;
-    Ok(refusal.status())
 }
 
 /// Lists the frames of an input.
@@ -105,6 +102,26 @@ fn has_bad(lines: &[ListingLine]) -> bool
     lines
         .iter()
         .any(|line| matches!(line, ListingLine::Bad { .. }))
+}
+
+/// Makes a journal on the disk over a file.
+fn make<O: Write>(disk: Result<FileDisk, DiskFault>, output: &mut O) -> io::Result<Status> {
+    match disk {
+        Ok(mut disk) => format_disk(&mut disk, output),
+        Err(fault) => refuse(output, Refusal::from(fault)),
+    }
+}
+
+/// Lists the journal on the disk over a file.
+fn show<O: Write>(
+    alloc: Global,
+    disk: Result<FileDisk, DiskFault>,
+    output: &mut O,
+) -> io::Result<Status> {
+    match disk {
+        Ok(mut disk) => list_journal(alloc, &mut disk, output),
+        Err(fault) => refuse(output, Refusal::from(fault)),
+    }
 }
 
 /// Plays the script that an input is.

@@ -1,7 +1,8 @@
 //! How the program ends.
 ghost use Rattle.std.specs.Prelude.{◌≡◌, Some};
-ghost use Rattle.amqr.specs.Status.{code_of, status_of};
+ghost use Rattle.amqr.specs.Status.{code_of, status_of, refusal_of};
 
+use disk_core::DiskFault;
 use std::fmt::{self, Display, Formatter, Write};
 
 /// How the program ended.
@@ -41,6 +42,17 @@ pub enum Refusal {
     },
     /// A file or the input can't be read: `file`.
     File,
+    /// A file in which a journal is to be made isn't empty: `exists`.
+    Exists,
+    /// A file is no journal: `no journal`.
+    NoJournal,
+    /// An open gate of a journal has no batch behind it: `damaged PLACE`.
+    Damaged {
+        /// The place of the gate, in bytes from the file's beginning.
+        place: usize,
+    },
+    /// The disk failed: `disk`.
+    Disk,
     /// Memory was refused: `memory`.
     Memory,
 }
@@ -55,7 +67,22 @@ impl Display for Refusal {
         match self {
             Refusal::Script { line } => write!(f, "script {line}"),
             Refusal::File => write!(f, "file"),
+            Refusal::Exists => write!(f, "exists"),
+            Refusal::NoJournal => write!(f, "no journal"),
+            Refusal::Damaged { place } => write!(f, "damaged {place}"),
+            Refusal::Disk => write!(f, "disk"),
             Refusal::Memory => write!(f, "memory"),
+        }
+    }
+}
+
+impl From<DiskFault> for Refusal {
+    ghost from_gives = { λ fault refusal. refusal ≡ refusal_of fault };
+
+    fn from(fault: DiskFault) -> Refusal {
+        match fault {
+            DiskFault::Failed => Refusal::Disk,
+            DiskFault::Memory => Refusal::Memory,
         }
     }
 }
@@ -67,7 +94,8 @@ impl Refusal {
     {
         match self {
             Refusal::Script { .. } | Refusal::File => Status::BadInput,
-            Refusal::Memory => Status::Failed,
+            Refusal::Exists | Refusal::NoJournal | Refusal::Damaged { .. } => Status::BadInput,
+            Refusal::Disk | Refusal::Memory => Status::Failed,
         }
     }
 }

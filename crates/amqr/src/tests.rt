@@ -1,5 +1,6 @@
 //! The program on scripts and streams whose answers are known from worked examples, from the standard and from other
 //! implementations.
+mod journals;
 mod streams;
 
 use crate::run::{list, play_text, run};
@@ -298,6 +299,42 @@ fn words_and_files(rt: HostRuntime) -> Result<(), Fail> {
             "file\n",
             false,
         ),
+        (
+            ["amqr", "format", "new.journal"].as_slice(),
+            0,
+            "formatted\n",
+            false,
+        ),
+        (
+            ["amqr", "format", "new.journal"].as_slice(),
+            1,
+            "exists\n",
+            false,
+        ),
+        (
+            ["amqr", "journal", "new.journal"].as_slice(),
+            0,
+            "end 8 rows 0 termini 0\n",
+            false,
+        ),
+        (
+            ["amqr", "format", "close.amqr"].as_slice(),
+            1,
+            "exists\n",
+            false,
+        ),
+        (
+            ["amqr", "journal", "close.amqr"].as_slice(),
+            1,
+            "no journal\n",
+            false,
+        ),
+        (
+            ["amqr", "journal", "missing.journal"].as_slice(),
+            1,
+            "file\n",
+            false,
+        ),
         (["amqr", "play"].as_slice(), 2, "", true),
         (
             ["amqr", "play", "--config", "a", "b"].as_slice(),
@@ -306,6 +343,8 @@ fn words_and_files(rt: HostRuntime) -> Result<(), Fail> {
             true,
         ),
         (["amqr", "frames"].as_slice(), 2, "", true),
+        (["amqr", "format"].as_slice(), 2, "", true),
+        (["amqr", "journal"].as_slice(), 2, "", true),
         (["amqr", "route"].as_slice(), 2, "", true),
     ] {
         let mut printed = Vec::new(alloc);
@@ -327,7 +366,7 @@ fn words_and_files(rt: HostRuntime) -> Result<(), Fail> {
     let status = run(&rt, words.as_slice(), &mut input, &mut printed, &mut errors)?;
     assert_eq!(rt; status, Status::Done);
     let help = str::from_utf8(printed.as_slice())?;
-    for word in ["Usage: amqr", "play", "frames"] {
+    for word in ["Usage: amqr", "play", "frames", "format", "journal"] {
         assert!(rt; help.contains(word), "{word} in {help}");
     }
     Ok(())

@@ -21,6 +21,16 @@ pub enum Task<'a> {
         /// The file.
         file: &'a str,
     },
+    /// To make a journal in a file.
+    Format {
+        /// The file.
+        file: &'a str,
+    },
+    /// To list the journal in a file.
+    Journal {
+        /// The file.
+        file: &'a str,
+    },
 }
 
 /// What these words ask for; the first is the program's name. With no word behind it the script comes on standard input.
@@ -47,6 +57,16 @@ pub fn read_words<'a, S: AsStr>(alloc: Global, words: &'a [S]) -> Result<Task<'a
                 return Ok(Task::Frames { file });
             }
         }
+        Some(("format", rest)) => {
+            if let Some(file) = rest.get_str("FILE") {
+                return Ok(Task::Format { file });
+            }
+        }
+        Some(("journal", rest)) => {
+            if let Some(file) = rest.get_str("FILE") {
+                return Ok(Task::Journal { file });
+            }
+        }
         _ => {}
     }
     Err(program(alloc)?.error(ErrorKind::MissingSubcommand, "a command is missing")?)
@@ -60,7 +80,9 @@ fn program<'a>(alloc: Global) -> Result<Command<'a>, AllocError> {
         )
         .subcommand_required(true)
         .subcommand(play(alloc)?)?
-        .subcommand(frames(alloc)?)
+        .subcommand(frames(alloc)?)?
+        .subcommand(format(alloc)?)?
+        .subcommand(journal(alloc)?)
 }
 
 /// The command that plays a script.
@@ -76,11 +98,37 @@ fn play<'a>(alloc: Global) -> Result<Command<'a>, AllocError> {
 
 /// The command that lists frames.
 fn frames<'a>(alloc: Global) -> Result<Command<'a>, AllocError> {
-    let file = Arg::new(alloc, "FILE")
-        .required(true)
-        .action(ArgAction::Set)
-        .help("A file of the bytes that one side of a connection sent");
+    let file = file(
+        alloc,
+        "A file of the bytes that one side of a connection sent",
+    );
     Command::new(alloc, "frames")
         .about("Lists the headers and frames that the bytes of a file are")
         .arg(file)
+}
+
+/// The command that makes a journal.
+fn format<'a>(alloc: Global) -> Result<Command<'a>, AllocError> {
+    let file = file(alloc, "A file that is empty, or that is made");
+    Command::new(alloc, "format")
+        .about("Makes a journal of durable deliveries in a file")
+        .arg(file)
+}
+
+/// The command that lists a journal.
+fn journal<'a>(alloc: Global) -> Result<Command<'a>, AllocError> {
+    let file = file(alloc, "A file that a journal was made in");
+    Command::new(alloc, "journal")
+        .about(
+            "Lists the acts of a journal, each with the place of its batch, and what its book has",
+        )
+        .arg(file)
+}
+
+/// The word that names a file.
+fn file<'a>(alloc: Global, help: &'a str) -> Arg<'a> {
+    Arg::new(alloc, "FILE")
+        .required(true)
+        .action(ArgAction::Set)
+        .help(help)
 }
