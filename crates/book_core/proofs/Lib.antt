@@ -1,4 +1,6 @@
 pub mod Before
+pub mod Changes
+pub mod Named
 pub mod Places
 pub mod Shown
 pub mod Looked

@@ -11,7 +11,7 @@ by_test : {P : Type 0} (b : Bool) → ((b ≡ true) → P) → ((b ≡ false) �
 by_test true f g = f refl
 by_test false f g = g refl
 
-same_number : (a n : ℕ) → a ≡ n → (a == n) ≡ true
+pub same_number : (a n : ℕ) → a ≡ n → (a == n) ≡ true
 same_number a n e = grind (arith, nat_tests)
 
 other_number : (a n : ℕ) → (a ≡ n → ⊥) → (a == n) ≡ false

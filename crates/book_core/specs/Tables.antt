@@ -7,6 +7,9 @@ use Rattle.book_core.specs.declared.slot.TerminusSlot.{TerminusSlot}
 use Rattle.book_core.specs.declared.tables.Tables.{Tables}
 use Rattle.book_core.specs.Book.{BookView, refusal, effect, first_fault, effects}
 use Rattle.book_core.specs.declared.act.Act.{Act}
+use Rattle.std.specs.BTreeMap.{get}
+use Rattle.book_core.specs.Named.{name_cmp, AllNamed}
+use Rattle.book_core.specs.Numbers.{earlier}
 use Rattle.book_core.specs.Rising.{Rises, AllBelow}
 use Rattle.book_core.specs.Slots.{rows_in, termini_in}
 use Rattle.book_core.specs.Table.{before}
@@ -27,16 +30,19 @@ pub record Shows (t : Tables) (b : BookView) : Type 0 where
   pub rows_rise : Rises row_number t.rows.slots.items
   pub termini_below : AllBelow terminus_number t.next_terminus t.termini.slots.items
   pub rows_below : AllBelow row_number t.next_row t.rows.slots.items
+  pub named : AllNamed t.names (rows_in t.rows.slots.items)
 
 -- what stood before the changes since the last commit is what stands
 pub record IsSettled (t : Tables) : Type 0 where
   pub termini : before t.termini.log.items t.termini.slots.items ≡ t.termini.slots.items
   pub rows : before t.rows.log.items t.rows.slots.items ≡ t.rows.slots.items
+  pub names : earlier name_cmp t.names.log.items (get name_cmp t.names.numbers) ≡ get name_cmp t.names.numbers
 
 -- what stood before is what stood before
 pub record SameBefore (old new : Tables) : Type 0 where
   pub termini : before new.termini.log.items new.termini.slots.items ≡ before old.termini.log.items old.termini.slots.items
   pub rows : before new.rows.log.items new.rows.slots.items ≡ before old.rows.log.items old.rows.slots.items
+  pub names : earlier name_cmp new.names.log.items (get name_cmp new.names.numbers) ≡ earlier name_cmp old.names.log.items (get name_cmp old.names.numbers)
 
 -- what a step of one act answers, and what the tables then show
 abbrev pub Stepped : Result (Unit {0}) BookFault → Tables → BookView → Act → Type 0

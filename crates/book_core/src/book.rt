@@ -98,7 +98,7 @@ impl Book {
     pub fn row_named(&self, producer: TerminusNumber, tag: &DeliveryTag) -> Option<&Row>
         ensures { option_copied result ≡ row_named producer.0 tag.now.items self.now.rows }
     {
-        look::row_named(&self.tables.rows.slots, producer, tag)
+        look::row_named(&self.tables.rows.slots, &self.tables.names, producer, tag)
     }
 
     /// The terminus of a number.

@@ -8,8 +8,10 @@ pub mod book;
 mod copy;
 pub mod fault;
 mod look;
+mod numbers;
 mod place;
 pub mod row;
+mod row_name;
 pub mod rows;
 mod slot;
 mod table;
@@ -23,5 +25,7 @@ pub use row::{Row, RowNumber};
 pub use rows::Rows;
 pub use terminus::{LinkKey, LinkRole, Terminus, TerminusNumber};
 
+#[cfg(test)]
+mod limit_tests;
 #[cfg(test)]
 mod tests;

@@ -3,11 +3,14 @@ ghost use Rattle.std.specs.Prelude.{◌≡◌, ◌&&◌, not, false, is_some, co
 ghost use Rattle.std.specs.Option.{option_copied, option_map_or};
 ghost use Rattle.std.specs.List.{list_any};
 ghost use Rattle.book_core.specs.Book.{terminus_at, terminus_of, row_at, row_named, same_role, same_key, is_from, is_for, is_undecided, has_tag, has_role, may_bind, undecided_for, keeps, is_wanted};
+ghost use Rattle.book_core.specs.Named.{AllNamed};
 ghost use Rattle.book_core.specs.Rising.{Rises};
 ghost use Rattle.book_core.specs.Slots.{rows_in, termini_in};
 
+use crate::numbers::Numbers;
 use crate::place::{row_place, terminus_place};
 use crate::row::Row;
+use crate::row_name::RowName;
 use crate::slot::{RowSlot, TerminusSlot};
 use crate::terminus::{LinkKey, LinkRole, Terminus, TerminusNumber};
 use amqp_perf::DeliveryTag;
@@ -30,6 +33,40 @@ pub(crate) fn row(slots: &[RowSlot], number: u64) -> Option<&Row>
         None => None,
         Some(at) => slots[at].row.as_ref(),
     }
+}
+
+/// The unforgotten row of this producer with this tag.
+pub(crate) fn row_named<'a>(
+    slots: &'a [RowSlot],
+    names: &Numbers<RowName>,
+    producer: TerminusNumber,
+    tag: &DeliveryTag,
+) -> Option<&'a Row>
+    ensures { Rises (λ (s : RowSlot). s.number) slots.now → AllNamed names.now (rows_in slots.now) → option_copied result ≡ row_named producer.0 tag.now.items (rows_in slots.now) }
+{
+    let name = RowName::new(producer, tag);
+    match row(slots, names.at(&name)) {
+        None => None,
+        Some(row) => {
+            if is_named(row, producer, tag) {
+                Some(row)
+            } else {
+                None
+            }
+        }
+    }
+}
+
+/// Whether an unforgotten row of this producer has this tag.
+pub(crate) fn has_named(
+    slots: &[RowSlot],
+    names: &Numbers<RowName>,
+    producer: TerminusNumber,
+    tag: &DeliveryTag,
+) -> bool
+    ensures { Rises (λ (s : RowSlot). s.number) slots.now → AllNamed names.now (rows_in slots.now) → result ≡ list_any (has_tag producer.0 tag.now.items) (rows_in slots.now) }
+{
+    row_named(slots, names, producer, tag).is_some()
 }
 
 pub(crate) fn is_role(role: LinkRole, other: LinkRole) -> bool
@@ -110,15 +147,6 @@ fn place_has_key(slot: &TerminusSlot, key: &LinkKey) -> bool
     }
 }
 
-fn place_is_named(slot: &RowSlot, producer: TerminusNumber, tag: &DeliveryTag) -> bool
-    ensures { result ≡ option_map_or (has_tag producer.0 tag.now.items) slot.now.row false }
-{
-    match &slot.row {
-        None => false,
-        Some(row) => is_named(row, producer, tag),
-    }
-}
-
 fn place_holds(slot: &RowSlot, role: LinkRole, terminus: TerminusNumber) -> bool
     ensures { result ≡ option_map_or (keeps role terminus.0) slot.now.row false }
 {
@@ -153,13 +181,6 @@ pub(crate) fn has_key(slots: &[TerminusSlot], key: &LinkKey) -> bool
     ensures { result ≡ list_any (λ t. same_key t.key key.now) (termini_in slots.now) }
 {
     slots.iter().any(|slot| place_has_key(slot, key))
-}
-
-/// Whether an unforgotten row of this producer has this tag.
-pub(crate) fn has_named(slots: &[RowSlot], producer: TerminusNumber, tag: &DeliveryTag) -> bool
-    ensures { result ≡ list_any (has_tag producer.0 tag.now.items) (rows_in slots.now) }
-{
-    slots.iter().any(|slot| place_is_named(slot, producer, tag))
 }
 
 /// Whether a row keeps this terminus.
@@ -216,23 +237,6 @@ pub(crate) fn terminus_with<'a>(slots: &'a [TerminusSlot], key: &LinkKey) -> Opt
     for slot in slots {
         match &slot.terminus {
             Some(terminus) if is_key(&terminus.key, key) => return Some(terminus),
-            _ => {}
-        }
-    }
-    None
-}
-
-/// The unforgotten row of this producer with this tag.
-pub(crate) fn row_named<'a>(
-    slots: &'a [RowSlot],
-    producer: TerminusNumber,
-    tag: &DeliveryTag,
-) -> Option<&'a Row>
-    ensures { option_copied result ≡ row_named producer.0 tag.now.items (rows_in slots.now) }
-{
-    for slot in slots {
-        match &slot.row {
-            Some(row) if is_named(row, producer, tag) => return Some(row),
             _ => {}
         }
     }

@@ -2,6 +2,9 @@
 ghost use Rattle.std.specs.Prelude.{◌≡◌, ◌+◌, ◌∷◌, ◌++◌, [], None, OnOk, OnErr, IfOk, IfErr, filter, not, ◌==◌, length, nat_le, is_some};
 ghost use Rattle.amqp_perf.specs.Spelling.{state_spelling};
 ghost use Rattle.book_core.specs.Book.{BookView, empty_book, refusal, effect, make_refusal, admit_refusal, decide_refusal, forget_refusal, drop_refusal, decided, forgotten, admitted, with_row, has_short_texts, has_role, may_bind, terminus_at, row_at};
+ghost use Rattle.std.specs.BTreeMap.{get};
+ghost use Rattle.book_core.specs.Named.{name_cmp};
+ghost use Rattle.book_core.specs.Numbers.{earlier};
 ghost use Rattle.book_core.specs.Table.{before};
 ghost use Rattle.book_core.specs.Tables.{Shows, SameBefore, IsSettled, Stepped, Ran};
 ghost use Rattle.book_core.specs.declared.act.Act.TheVariants as act;
@@ -9,13 +12,15 @@ ghost use Rattle.book_core.specs.declared.terminus.LinkRole.TheVariants as role;
 
 use crate::act::{Act, Admission, Decision};
 use crate::fault::BookFault;
+use crate::numbers::Numbers;
 use crate::place::{row_place, terminus_place};
 use crate::row::RowNumber;
+use crate::row_name::{RowName, set_name};
 use crate::slot::{RowSlot, TerminusSlot};
 use crate::table::Table;
 use crate::terminus::{LinkRole, Terminus, TerminusNumber};
 use crate::{copy, look};
-use amqp_perf::{DeliveryState, write_state};
+use amqp_perf::{DeliveryState, DeliveryTag, write_state};
 use std::alloc::{AllocError, Global};
 
 /// The most termini of a book.
@@ -37,6 +42,7 @@ pub(crate) struct Tables {
     pub(crate) alloc: Global,
     pub(crate) termini: Table<TerminusSlot>,
     pub(crate) rows: Table<RowSlot>,
+    pub(crate) names: Numbers<RowName>,
     pub(crate) next_terminus: u64,
     pub(crate) next_row: u64,
 }
@@ -74,6 +80,7 @@ impl Tables {
             alloc,
             termini: Table::new(alloc),
             rows: Table::new(alloc),
+            names: Numbers::new(alloc),
             next_terminus: 1,
             next_row: 1,
         }
@@ -129,7 +136,7 @@ impl Tables {
         if admission.row.0 != self.next_row {
             return Some(BookFault::NoRow);
         }
-        if look::has_named(rows, producer, &admission.tag) {
+        if look::has_named(rows, &self.names, producer, &admission.tag) {
             return Some(BookFault::TagInUse);
         }
         if look::count_rows(rows) >= MAX_ROWS {
@@ -224,15 +231,21 @@ impl Tables {
         Ok(())
     }
 
-    /// Admits a row, whose number is the next.
+    /// Admits a row that applies.
     fn admit(&mut self, admission: &Admission) -> Result<(), AllocError>
-        ensures shows { (b : BookView) → Shows self.old b → admission.now.row.0 ≡ b.next_row → OnOk result (Shows self.new (effect b (act.Admit admission.now))) }
+        ensures shows { (b : BookView) → Shows self.old b → admit_refusal b admission.now ≡ None → OnOk result (Shows self.new (effect b (act.Admit admission.now))) }
         ensures before { SameBefore self.old self.new }
     {
         let Some(next) = self.next_row.checked_add(1) else {
             return Err(AllocError);
         };
         let row = copy::admitted_row(admission)?;
+        set_name(
+            &mut self.names,
+            admission.producer,
+            &admission.tag,
+            admission.row.0,
+        )?;
         self.rows.add(RowSlot {
             number: admission.row.0,
             row: Some(row),
@@ -260,9 +273,9 @@ impl Tables {
         }
     }
 
-    /// Forgets a row, where it is there.
+    /// Forgets a row that applies.
     fn forget(&mut self, number: RowNumber) -> Result<(), AllocError>
-        ensures shows { (b : BookView) → Shows self.old b → OnOk result (Shows self.new (effect b (act.Forget number))) }
+        ensures shows { (b : BookView) → Shows self.old b → forget_refusal (row_at number.0 b.rows) ≡ None → OnOk result (Shows self.new (effect b (act.Forget number))) }
         ensures before { SameBefore self.old self.new }
     {
         let number = number.0;
@@ -271,8 +284,9 @@ impl Tables {
             Some(at) => match &self.rows.slots[at].row {
                 None => Ok(()),
                 Some(row) => {
-                    let row = copy::forgotten_row(row)?;
-                    self.rows.replace(at, RowSlot { number, row })?;
+                    let after = copy::forgotten_row(row)?;
+                    set_name(&mut self.names, row.producer, &row.tag, 0)?;
+                    self.rows.replace(at, RowSlot { number, row: after })?;
                     Ok(())
                 }
             },
@@ -344,12 +358,14 @@ impl Tables {
     pub(crate) fn rollback(&mut self, next_terminus: u64, next_row: u64)
         ensures termini { self.new.termini.slots.items ≡ before self.old.termini.log.items self.old.termini.slots.items }
         ensures rows { self.new.rows.slots.items ≡ before self.old.rows.log.items self.old.rows.slots.items }
+        ensures names { get name_cmp self.new.names.numbers ≡ earlier name_cmp self.old.names.log.items (get name_cmp self.old.names.numbers) }
         ensures next_terminus { self.new.next_terminus ≡ next_terminus }
         ensures next_row { self.new.next_row ≡ next_row }
         ensures settled { IsSettled self.new }
     {
         self.termini.rollback();
         self.rows.rollback();
+        self.names.rollback();
         self.next_terminus = next_terminus;
         self.next_row = next_row;
     }
@@ -363,6 +379,7 @@ impl Tables {
         self.termini.commit();
         sweep_rows(&mut self.rows.slots);
         self.rows.commit();
+        self.names.commit();
     }
 }
 

@@ -1,7 +1,7 @@
 use Rattle.std.proofs.Common.{refl}
 use Rattle.book_core.specs.Book.{decided}
 use Rattle.book_core.proofs.Looked.{row_missing}
-use Rattle.book_core.proofs.Steps.{row_stays, row_gone, row_changes}
+use Rattle.book_core.proofs.Steps.{row_stays, row_gone, row_decided}
 use Rattle.book_core.proofs.tables.Tables.decide.Goals as goal
 
 pub returns-in-None-clause-shows : goal.returns-in-None-clause-shows
@@ -17,4 +17,4 @@ returns-in-None-row-clause-shows c b s =
 pub returns-in_ok-replace-in-Some-row-clause-shows : goal.returns-in_ok-replace-in-Some-row-clause-shows
 returns-in_ok-replace-in-Some-row-clause-shows c b s =
     let found = rw c.deref.ensures.value at c.in-Some.ensures.found in
-    row_changes c.args.self.now c.replace.new.self b c.args.decision.now.row.0 c.in-Some.at _ _ c.in-Some-row.row (decided c.args.decision.now.outcome) s found c.index.ensures c.in-Some-row.is c.in_ok-row-in-Some-row.ensures.row refl c.in_ok-replace-in-Some-row.ensures.ok
+    row_decided c.args.self.now c.replace.new.self b c.args.decision.now.row.0 c.in-Some.at _ _ c.in-Some-row.row c.args.decision.now.outcome s found c.index.ensures c.in-Some-row.is c.in_ok-row-in-Some-row.ensures.row refl c.in_ok-replace-in-Some-row.ensures.ok

@@ -14,6 +14,7 @@ loop-act-preserved c = record {
   same = record {
     termini = c.step.ensures.before.termini ∙ c.loop-act.invariant.same.termini;
     rows = c.step.ensures.before.rows ∙ c.loop-act.invariant.same.rows;
+    names = c.step.ensures.before.names ∙ c.loop-act.invariant.same.names;
   };
   so_far = λ b s.
       let m = c.loop-act.invariant.so_far b s in
