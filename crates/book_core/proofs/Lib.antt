@@ -1,6 +1,7 @@
 pub mod Before
 pub mod Changes
 pub mod Named
+pub mod Counted
 pub mod Places
 pub mod Shown
 pub mod Looked

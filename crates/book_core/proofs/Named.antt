@@ -1,15 +1,13 @@
 -- Rows that are found by name, through look-ups and changes.
-use Rattle.std.proofs.Common.{◌≡◌, ℕ, ◌<◌, ◌≤◌, ◌+◌, Bool, true, false, cond, not, ◌&&◌, ◌||◌, List, [], ◌∷◌, ◌++◌, Option, Some, None, refl, arith, ap, ◌∙◌, sym, subst, Bor}
-use Rattle.std.specs.Prelude.{find, filter_map, ◌==◌, is_some}
-use Rattle.std.specs.List.{list_any, cons_option, AllByRecursion}
-use Rattle.std.specs.Option.{ForSome, unwrap_or, option_copied}
+use Rattle.std.proofs.Common.{◌≡◌, ℕ, ◌<◌, ◌≤◌, Bool, true, false, cond, not, ◌&&◌, ◌||◌, List, [], ◌∷◌, ◌++◌, Option, Some, None, refl, arith, ap, ◌∙◌, sym, Bor}
+use Rattle.std.specs.Prelude.{find, ◌==◌, is_some}
+use Rattle.std.specs.List.{list_any, cons_option}
+use Rattle.std.specs.Option.{unwrap_or, option_copied}
 use Rattle.std.specs.Cmp.{IsTotalOrder}
 use Rattle.std.proofs.lemmas.Cmp.{then_total, on_total, nat_cmp_total, nat_list_cmp_total, tied_itself}
 use Rattle.amqp_perf.specs.declared.state.DeliveryState.{DeliveryState}
 use Rattle.std.specs.Cmp.Lexicographic.{slice_cmp}
 use Rattle.std.specs.Ordering.{nat_cmp, is_eq}
-use Rattle.std.specs.declared.cmp.Ordering.{Ordering}
-use Rattle.std.specs.declared.cmp.Ordering.TheVariants.{Equal}
 use Rattle.std.proofs.lemmas.Bool.Decides.{nat_tests}
 use Rattle.std.proofs.lemmas.Map.Lookups.{exact_pairs, exact_unsigned, exact_bytes}
 use Rattle.std.proofs.lemmas.Slice.Eq.{bytes_eq-Decides}
@@ -25,6 +23,7 @@ use Rattle.book_core.specs.Slots.{rows_in}
 use Rattle.book_core.specs.Tables.{row_number}
 use Rattle.book_core.proofs.Changes.{by_test, equal}
 use Rattle.book_core.proofs.Shown.{same_number}
+use Rattle.book_core.proofs.Shown as shown
 
 names_total : IsTotalOrder name_cmp
 names_total = then_total (on_total (λ (a : RowName). a.producer) nat_cmp_total) (on_total (λ (a : RowName). a.tag.items) nat_list_cmp_total)
@@ -75,22 +74,9 @@ has_it k r e f = all_of (r.producer.0 == k.producer) r.forgotten (same_bytes r.t
     (same_number r.producer.0 k.producer (sym (ap (λ (a : RowName). a.producer) e))) f
     ((bytes_eq-Decides r.tag.items k.tag.items).1 (sym (ap (λ (a : RowName). a.tag.items) e)))
 
--- rows in the order of their places
-above_shown : (m : ℕ) (xs : List RowSlot) → AllAbove row_number m xs → AllAbove (λ (r : Row). r.number.0) m (rows_in xs)
-above_shown m [] h = tt
-above_shown m (x ∷ xs) h = by_value x.row refl (above_shown m xs h.1)
-  where
-    by_value : (o : Option Row) → x.row ≡ o → AllAbove (λ (r : Row). r.number.0) m (rows_in xs) → AllAbove (λ (r : Row). r.number.0) m (cons_option o (rows_in xs))
-    by_value None e rest = rest
-    by_value (Some r) e rest = (let same : r.number.0 ≡ x.number = x.same r e in let above : m < x.number = h.0 in omega arith, rest)
-
-pub rises_shown : (xs : List RowSlot) → Rises row_number xs → Rises (λ (r : Row). r.number.0) (rows_in xs)
-rises_shown [] up = tt
-rises_shown (x ∷ xs) up = by_value x.row refl (rises_shown xs up.1)
-  where
-    by_value : (o : Option Row) → x.row ≡ o → Rises (λ (r : Row). r.number.0) (rows_in xs) → Rises (λ (r : Row). r.number.0) (cons_option o (rows_in xs))
-    by_value None e rest = rest
-    by_value (Some r) e rest = (let P : ℕ → Type 0 = λ m. AllAbove (λ (r : Row). r.number.0) m (rows_in xs) in subst P (sym (x.same r e)) (above_shown x.number xs up.0), rest)
+-- rows are in the order of their places
+pub rises_rows : (xs : List RowSlot) → Rises row_number xs → Rises (λ (r : Row). r.number.0) (rows_in xs)
+rises_rows xs up = shown.rises_shown row_number (λ s. s.row) (λ (r : Row). r.number.0) (λ s. s.same) xs up
 
 -- the row, where it passes
 abbrev pub passing : (Row → Bool) → Option Row → Option Row
@@ -210,4 +196,4 @@ fails p r h = rw h refl
 pub looked : (names : Numbers RowName) (k : RowName) (p : ℕ) (tag : List ℕ) (xs : List RowSlot) (o : Option Row) (n : ℕ) → k.producer ≡ p → k.tag.items ≡ tag → n ≡ number_at name_cmp names k
     → (Rises row_number xs → o ≡ row_at n (rows_in xs)) → Rises row_number xs → AllNamed names (rows_in xs) → row_named p tag (rows_in xs) ≡ passing (has_tag p tag) o
 looked names k p tag xs o n producer same stands found up named =
-    rw (← producer, ← same, found up, stands) (found_by_name names k (rows_in xs) (rises_shown xs up) named)
+    rw (← producer, ← same, found up, stands) (found_by_name names k (rows_in xs) (rises_rows xs up) named)

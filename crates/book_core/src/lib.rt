@@ -11,6 +11,7 @@ mod look;
 mod numbers;
 mod place;
 pub mod row;
+mod row_index;
 mod row_name;
 pub mod rows;
 mod slot;

@@ -156,24 +156,6 @@ fn place_holds(slot: &RowSlot, role: LinkRole, terminus: TerminusNumber) -> bool
     }
 }
 
-fn place_came_from(slot: &RowSlot, terminus: TerminusNumber) -> bool
-    ensures { result ≡ option_map_or (is_from terminus.0) slot.now.row false }
-{
-    match &slot.row {
-        None => false,
-        Some(row) => came_from(row, terminus),
-    }
-}
-
-fn place_waits_for(slot: &RowSlot, terminus: TerminusNumber) -> bool
-    ensures { result ≡ option_map_or (λ r. is_for terminus.0 r && is_undecided r) slot.now.row false }
-{
-    match &slot.row {
-        None => false,
-        Some(row) => waits_for(row, terminus),
-    }
-}
-
 // The same of all places.
 
 /// Whether a terminus stands for the link with this key.
@@ -188,46 +170,6 @@ pub(crate) fn is_kept(slots: &[RowSlot], role: LinkRole, terminus: TerminusNumbe
     ensures { result ≡ list_any (keeps role terminus.0) (rows_in slots.now) }
 {
     slots.iter().any(|slot| place_holds(slot, role, terminus))
-}
-
-/// How many rows came on the link of this terminus.
-#[tactic(auto, using(crate::proofs::Looked::count_row))]
-pub(crate) fn count_from(slots: &[RowSlot], terminus: TerminusNumber) -> usize
-    ensures { result ≡ count_by (is_from terminus.0) (rows_in slots.now) }
-{
-    slots
-        .iter()
-        .filter(|slot| place_came_from(slot, terminus))
-        .count()
-}
-
-/// How many undecided rows are bound to this terminus.
-#[tactic(auto, using(crate::proofs::Looked::count_row))]
-pub(crate) fn count_waiting(slots: &[RowSlot], terminus: Option<TerminusNumber>) -> usize
-    ensures { result ≡ undecided_for terminus (rows_in slots.now) }
-{
-    match terminus {
-        None => 0,
-        Some(terminus) => slots
-            .iter()
-            .filter(|slot| place_waits_for(slot, terminus))
-            .count(),
-    }
-}
-
-/// How many rows there are.
-pub(crate) fn count_rows(slots: &[RowSlot]) -> usize
-    ensures { result ≡ length (rows_in slots.now) }
-{
-    slots.iter().filter(|slot| slot.row.is_some()).count()
-}
-
-/// How many termini there are.
-#[tactic(auto, using(crate::proofs::Looked::length_termini))]
-pub(crate) fn count_termini(slots: &[TerminusSlot]) -> usize
-    ensures { result ≡ length (termini_in slots.now) }
-{
-    slots.iter().filter(|slot| slot.terminus.is_some()).count()
 }
 
 /// The terminus of the link with this key.

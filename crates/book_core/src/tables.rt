@@ -1,26 +1,23 @@
 //! The tables of a book, one act at a time.
-ghost use Rattle.std.specs.Prelude.{◌≡◌, ◌+◌, ◌∷◌, ◌++◌, [], None, OnOk, OnErr, IfOk, IfErr, filter, not, ◌==◌, length, nat_le, is_some};
+ghost use Rattle.std.specs.Prelude.{◌≡◌, ◌+◌, ◌-◌, if◌then◌else◌, ◌∷◌, ◌++◌, [], None, OnOk, OnErr, IfOk, IfErr, filter, not, ◌==◌, length, nat_le, is_some};
 ghost use Rattle.amqp_perf.specs.Spelling.{state_spelling};
 ghost use Rattle.book_core.specs.Book.{BookView, empty_book, refusal, effect, make_refusal, admit_refusal, decide_refusal, forget_refusal, drop_refusal, decided, forgotten, admitted, with_row, has_short_texts, has_role, may_bind, terminus_at, row_at};
-ghost use Rattle.std.specs.BTreeMap.{get};
-ghost use Rattle.book_core.specs.Named.{name_cmp};
-ghost use Rattle.book_core.specs.Numbers.{earlier};
+ghost use Rattle.book_core.specs.Indexed.{IsIndexBack};
 ghost use Rattle.book_core.specs.Table.{before};
-ghost use Rattle.book_core.specs.Tables.{Shows, SameBefore, IsSettled, Stepped, Ran};
+ghost use Rattle.book_core.specs.Tables.{Shows, SameBefore, IsSettled, IsSwept, Stepped, Ran, row_number, terminus_number};
 ghost use Rattle.book_core.specs.declared.act.Act.TheVariants as act;
 ghost use Rattle.book_core.specs.declared.terminus.LinkRole.TheVariants as role;
 
 use crate::act::{Act, Admission, Decision};
 use crate::fault::BookFault;
-use crate::numbers::Numbers;
 use crate::place::{row_place, terminus_place};
-use crate::row::RowNumber;
-use crate::row_name::{RowName, set_name};
+use crate::row::{Row, RowNumber};
+use crate::row_index::RowIndex;
 use crate::slot::{RowSlot, TerminusSlot};
 use crate::table::Table;
 use crate::terminus::{LinkRole, Terminus, TerminusNumber};
 use crate::{copy, look};
-use amqp_perf::{DeliveryState, DeliveryTag, write_state};
+use amqp_perf::{DeliveryState, write_state};
 use std::alloc::{AllocError, Global};
 
 /// The most termini of a book.
@@ -28,7 +25,7 @@ const MAX_TERMINI: usize = 1024;
 /// The most rows of a book.
 const MAX_ROWS: usize = 4096;
 /// The most rows of one producer's terminus, and the most undecided ones of one consumer's.
-const MAX_ROWS_OF_TERMINUS: usize = 64;
+const MAX_ROWS_OF_TERMINUS: u64 = 64;
 /// The most bytes of a text of a terminus.
 const MAX_TEXT: usize = 1024;
 /// The most bytes of a payload.
@@ -42,9 +39,21 @@ pub(crate) struct Tables {
     pub(crate) alloc: Global,
     pub(crate) termini: Table<TerminusSlot>,
     pub(crate) rows: Table<RowSlot>,
-    pub(crate) names: Numbers<RowName>,
+    pub(crate) index: RowIndex,
+    pub(crate) counters: Counters,
+}
+
+/// What a book counts.
+#[derive(Clone, Copy)]
+pub(crate) struct Counters {
+    /// The number of the next terminus.
     pub(crate) next_terminus: u64,
+    /// The number of the next row.
     pub(crate) next_row: u64,
+    /// How many termini there are.
+    pub(crate) termini: usize,
+    /// How many rows there are.
+    pub(crate) rows: usize,
 }
 
 fn is_short(text: &str) -> bool
@@ -80,9 +89,13 @@ impl Tables {
             alloc,
             termini: Table::new(alloc),
             rows: Table::new(alloc),
-            names: Numbers::new(alloc),
-            next_terminus: 1,
-            next_row: 1,
+            index: RowIndex::new(alloc),
+            counters: Counters {
+                next_terminus: 1,
+                next_row: 1,
+                termini: 0,
+                rows: 0,
+            },
         }
     }
 
@@ -107,13 +120,13 @@ impl Tables {
     fn why_not_make(&self, terminus: &Terminus) -> Option<BookFault>
         ensures { (b : BookView) → Shows self.now b → result ≡ make_refusal b terminus.now }
     {
-        if terminus.number.0 != self.next_terminus {
+        if terminus.number.0 != self.counters.next_terminus {
             return Some(BookFault::NoTerminus);
         }
         if look::has_key(&self.termini.slots, &terminus.key) {
             return Some(BookFault::NoTerminus);
         }
-        if look::count_termini(&self.termini.slots) >= MAX_TERMINI {
+        if self.counters.termini >= MAX_TERMINI {
             return Some(BookFault::Limit);
         }
         if !has_short(terminus) {
@@ -133,19 +146,19 @@ impl Tables {
         if !self.may_bind(admission.consumer) {
             return Some(BookFault::NoTerminus);
         }
-        if admission.row.0 != self.next_row {
+        if admission.row.0 != self.counters.next_row {
             return Some(BookFault::NoRow);
         }
-        if look::has_named(rows, &self.names, producer, &admission.tag) {
+        if look::has_named(rows, &self.index.names, producer, &admission.tag) {
             return Some(BookFault::TagInUse);
         }
-        if look::count_rows(rows) >= MAX_ROWS {
+        if self.counters.rows >= MAX_ROWS {
             return Some(BookFault::Limit);
         }
-        if look::count_from(rows, producer) >= MAX_ROWS_OF_TERMINUS {
+        if self.index.count_from(producer) >= MAX_ROWS_OF_TERMINUS {
             return Some(BookFault::Limit);
         }
-        if look::count_waiting(rows, admission.consumer) >= MAX_ROWS_OF_TERMINUS {
+        if self.index.count_waiting(admission.consumer) >= MAX_ROWS_OF_TERMINUS {
             return Some(BookFault::Limit);
         }
         if admission.payload.len() > MAX_PAYLOAD {
@@ -219,7 +232,10 @@ impl Tables {
         ensures shows { (b : BookView) → Shows self.old b → terminus.now.number.0 ≡ b.next_terminus → OnOk result (Shows self.new (effect b (act.Make terminus.now))) }
         ensures before { SameBefore self.old self.new }
     {
-        let Some(next) = self.next_terminus.checked_add(1) else {
+        let Some(next) = self.counters.next_terminus.checked_add(1) else {
+            return Err(AllocError);
+        };
+        let Some(termini) = self.counters.termini.checked_add(1) else {
             return Err(AllocError);
         };
         let made = copy::terminus(terminus)?;
@@ -227,7 +243,8 @@ impl Tables {
             number: terminus.number.0,
             terminus: Some(made),
         })?;
-        self.next_terminus = next;
+        self.counters.next_terminus = next;
+        self.counters.termini = termini;
         Ok(())
     }
 
@@ -236,27 +253,26 @@ impl Tables {
         ensures shows { (b : BookView) → Shows self.old b → admit_refusal b admission.now ≡ None → OnOk result (Shows self.new (effect b (act.Admit admission.now))) }
         ensures before { SameBefore self.old self.new }
     {
-        let Some(next) = self.next_row.checked_add(1) else {
+        let Some(next) = self.counters.next_row.checked_add(1) else {
+            return Err(AllocError);
+        };
+        let Some(rows) = self.counters.rows.checked_add(1) else {
             return Err(AllocError);
         };
         let row = copy::admitted_row(admission)?;
-        set_name(
-            &mut self.names,
-            admission.producer,
-            &admission.tag,
-            admission.row.0,
-        )?;
+        self.index.admit(admission)?;
         self.rows.add(RowSlot {
             number: admission.row.0,
             row: Some(row),
         })?;
-        self.next_row = next;
+        self.counters.next_row = next;
+        self.counters.rows = rows;
         Ok(())
     }
 
-    /// Decides a row, where it is there.
+    /// Decides a row that is there and undecided.
     fn decide(&mut self, decision: &Decision) -> Result<(), AllocError>
-        ensures shows { (b : BookView) → Shows self.old b → OnOk result (Shows self.new (effect b (act.Decide decision.now))) }
+        ensures shows { (b : BookView) → Shows self.old b → decide_refusal (row_at decision.now.row.0 b.rows) decision.now.outcome ≡ None → OnOk result (Shows self.new (effect b (act.Decide decision.now))) }
         ensures before { SameBefore self.old self.new }
     {
         let number = decision.row.0;
@@ -265,8 +281,11 @@ impl Tables {
             Some(at) => match &self.rows.slots[at].row {
                 None => Ok(()),
                 Some(row) => {
-                    let row = copy::decided_row(row, &decision.outcome)?;
-                    self.rows.replace(at, RowSlot { number, row })?;
+                    let after = copy::decided_row(row, &decision.outcome)?;
+                    let rows = rows_after(self.counters.rows, &after);
+                    self.index.decide(row)?;
+                    self.rows.replace(at, RowSlot { number, row: after })?;
+                    self.counters.rows = rows;
                     Ok(())
                 }
             },
@@ -285,8 +304,10 @@ impl Tables {
                 None => Ok(()),
                 Some(row) => {
                     let after = copy::forgotten_row(row)?;
-                    set_name(&mut self.names, row.producer, &row.tag, 0)?;
+                    let rows = rows_after(self.counters.rows, &after);
+                    self.index.forget(row)?;
                     self.rows.replace(at, RowSlot { number, row: after })?;
+                    self.counters.rows = rows;
                     Ok(())
                 }
             },
@@ -306,6 +327,7 @@ impl Tables {
                 Some(_) => {
                     let terminus = None;
                     self.termini.replace(at, TerminusSlot { number, terminus })?;
+                    self.counters.termini = self.counters.termini.saturating_sub(1);
                     Ok(())
                 }
             },
@@ -354,42 +376,69 @@ impl Tables {
         Ok(())
     }
 
-    /// Undoes each act since the last commit, before which these were the next numbers.
-    pub(crate) fn rollback(&mut self, next_terminus: u64, next_row: u64)
+    /// Undoes each act since the last commit, before which the counters stood so.
+    pub(crate) fn rollback(&mut self, counters: Counters)
         ensures termini { self.new.termini.slots.items ≡ before self.old.termini.log.items self.old.termini.slots.items }
         ensures rows { self.new.rows.slots.items ≡ before self.old.rows.log.items self.old.rows.slots.items }
-        ensures names { get name_cmp self.new.names.numbers ≡ earlier name_cmp self.old.names.log.items (get name_cmp self.old.names.numbers) }
-        ensures next_terminus { self.new.next_terminus ≡ next_terminus }
-        ensures next_row { self.new.next_row ≡ next_row }
+        ensures index { IsIndexBack self.old.index self.new.index }
+        ensures counters { self.new.counters ≡ counters }
         ensures settled { IsSettled self.new }
     {
         self.termini.rollback();
         self.rows.rollback();
-        self.names.rollback();
-        self.next_terminus = next_terminus;
-        self.next_row = next_row;
+        self.index.rollback();
+        self.counters = counters;
     }
 
-    /// Makes each act since the last commit last, and sweeps empty places out.
+    /// Makes each act since the last commit last, and sweeps empty places out once they are more than the others.
     pub(crate) fn commit(&mut self)
         ensures shows { (b : BookView) → Shows self.old b → Shows self.new b }
         ensures settled { IsSettled self.new }
     {
-        sweep_termini(&mut self.termini.slots);
+        sweep_termini(&mut self.termini.slots, self.counters.termini);
         self.termini.commit();
-        sweep_rows(&mut self.rows.slots);
+        sweep_rows(&mut self.rows.slots, self.counters.rows);
         self.rows.commit();
-        self.names.commit();
+        self.index.commit();
     }
 }
 
-fn sweep_termini(slots: &mut Vec<TerminusSlot>)
+/// How many rows there are behind a change that leaves this of a row.
+fn rows_after(rows: usize, after: &Option<Row>) -> usize
+    ensures { result ≡ (if is_some after.now then rows else rows - 1) }
+{
+    if after.is_some() {
+        rows
+    } else {
+        rows.saturating_sub(1)
+    }
+}
+
+/// Takes empty places out, where fewer than half of all are taken.
+fn sweep_termini(slots: &mut Vec<TerminusSlot>, taken: usize)
+    ensures { IsSwept terminus_number (λ s. s.terminus) slots.old.items slots.new.items }
+{
+    if taken < slots.len() / 2 {
+        drop_empty_termini(slots);
+    }
+}
+
+/// The same of places for rows.
+fn sweep_rows(slots: &mut Vec<RowSlot>, taken: usize)
+    ensures { IsSwept row_number (λ s. s.row) slots.old.items slots.new.items }
+{
+    if taken < slots.len() / 2 {
+        drop_empty_rows(slots);
+    }
+}
+
+fn drop_empty_termini(slots: &mut Vec<TerminusSlot>)
     ensures { slots.new.items ≡ filter (λ s. is_some s.terminus) slots.old.items }
 {
     slots.retain(|slot| slot.terminus.is_some());
 }
 
-fn sweep_rows(slots: &mut Vec<RowSlot>)
+fn drop_empty_rows(slots: &mut Vec<RowSlot>)
     ensures { slots.new.items ≡ filter (λ s. is_some s.row) slots.old.items }
 {
     slots.retain(|slot| slot.row.is_some());

@@ -17,4 +17,4 @@ returns-in-None-row-clause-shows c b s applies =
 pub returns-in_ok-replace-in-Some-row-clause-shows : goal.returns-in_ok-replace-in-Some-row-clause-shows
 returns-in_ok-replace-in-Some-row-clause-shows c b s applies =
     let found = rw c.deref.ensures.value at c.in-Some.ensures.found in
-    row_forgotten c.args.self.now c.set_name.new.names c.replace.new.self b c.args.number.0 c.in-Some.at _ _ c.in-Some-row.row s found c.index.ensures c.in-Some-row.is c.in_ok-after-in-Some-row.ensures.row refl c.in_ok-replace-in-Some-row.ensures.ok applies c.in_ok-set_name-in-Some-row.ensures.set
+    row_forgotten c.args.self.now c.forget.new.self c.replace.new.self c.rows_after-rows.result b c.args.number.0 c.in-Some.at _ _ c.in-Some-row.row s found c.index.ensures c.in-Some-row.is c.in_ok-after-in-Some-row.ensures.row refl c.in_ok-replace-in-Some-row.ensures.ok applies c.in_ok-forget-in-Some-row.ensures.indexed c.rows_after-rows.ensures

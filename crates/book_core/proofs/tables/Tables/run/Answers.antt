@@ -14,7 +14,11 @@ loop-act-preserved c = record {
   same = record {
     termini = c.step.ensures.before.termini ∙ c.loop-act.invariant.same.termini;
     rows = c.step.ensures.before.rows ∙ c.loop-act.invariant.same.rows;
-    names = c.step.ensures.before.names ∙ c.loop-act.invariant.same.names;
+    index = record {
+      names = c.step.ensures.before.index.names ∙ c.loop-act.invariant.same.index.names;
+      from = c.step.ensures.before.index.from ∙ c.loop-act.invariant.same.index.from;
+      waiting = c.step.ensures.before.index.waiting ∙ c.loop-act.invariant.same.index.waiting;
+    };
   };
   so_far = λ b s.
       let m = c.loop-act.invariant.so_far b s in
