@@ -1,5 +1,7 @@
 pub mod Before
 pub mod Changes
+pub mod Found
+pub mod Keyed
 pub mod Named
 pub mod Counted
 pub mod Places

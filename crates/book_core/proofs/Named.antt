@@ -1,14 +1,13 @@
 -- Rows that are found by name, through look-ups and changes.
-use Rattle.std.proofs.Common.{◌≡◌, ℕ, ◌<◌, ◌≤◌, Bool, true, false, cond, not, ◌&&◌, ◌||◌, List, [], ◌∷◌, ◌++◌, Option, Some, None, refl, arith, ap, ◌∙◌, sym, Bor}
-use Rattle.std.specs.Prelude.{find, ◌==◌, is_some}
+use Rattle.std.proofs.Common.{◌≡◌, ℕ, Bool, true, false, cond, not, ◌&&◌, List, [], ◌∷◌, ◌++◌, Option, Some, None, refl, ap, ◌∙◌, sym}
+use Rattle.std.specs.Prelude.{◌==◌, is_some}
 use Rattle.std.specs.List.{list_any, cons_option}
-use Rattle.std.specs.Option.{unwrap_or, option_copied}
+use Rattle.std.specs.Option.{unwrap_or}
 use Rattle.std.specs.Cmp.{IsTotalOrder}
 use Rattle.std.proofs.lemmas.Cmp.{then_total, on_total, nat_cmp_total, nat_list_cmp_total, tied_itself}
 use Rattle.amqp_perf.specs.declared.state.DeliveryState.{DeliveryState}
 use Rattle.std.specs.Cmp.Lexicographic.{slice_cmp}
 use Rattle.std.specs.Ordering.{nat_cmp, is_eq}
-use Rattle.std.proofs.lemmas.Bool.Decides.{nat_tests}
 use Rattle.std.proofs.lemmas.Map.Lookups.{exact_pairs, exact_unsigned, exact_bytes}
 use Rattle.std.proofs.lemmas.Slice.Eq.{bytes_eq-Decides}
 use Rattle.book_core.specs.declared.numbers.Numbers.{Numbers}
@@ -18,10 +17,11 @@ use Rattle.book_core.specs.declared.slot.RowSlot.{RowSlot}
 use Rattle.book_core.specs.Book.{has_tag, row_at, row_named, with_row, decided, forgotten, same_bytes}
 use Rattle.book_core.specs.Named.{name_cmp, name_of, IsNamed, AllNamed}
 use Rattle.book_core.specs.Numbers.{number_at}
-use Rattle.book_core.specs.Rising.{Rises, AllAbove}
+use Rattle.book_core.specs.Rising.{Rises}
 use Rattle.book_core.specs.Slots.{rows_in}
 use Rattle.book_core.specs.Tables.{row_number}
 use Rattle.book_core.proofs.Changes.{by_test, equal}
+use Rattle.book_core.proofs.Found.{number_of, not_number, none_of, none_behind, passing, found_by, AllHaveIt}
 use Rattle.book_core.proofs.Shown.{same_number}
 use Rattle.book_core.proofs.Shown as shown
 
@@ -36,12 +36,6 @@ exact : (a b : RowName) → is_eq (name_cmp a b) ≡ true → a ≡ b
 exact a b h =
     ap (λ (p : ℕ × List ℕ). record { producer = p.0; tag = record { items = p.1 } })
     (exact_pairs nat_cmp (slice_cmp nat_cmp) exact_unsigned exact_bytes (a.producer, a.tag.items) (b.producer, b.tag.items) (equal (name_cmp a b) h))
-
-number_of : (a n : ℕ) → (a == n) ≡ true → a ≡ n
-number_of a n h = grind (arith, nat_tests)
-
-not_number : (a n : ℕ) → (a == n) ≡ false → a ≡ n → ⊥
-not_number a n h e = grind (arith, nat_tests)
 
 first_of : (a b c : Bool) → (a && b && c) ≡ true → a ≡ true
 first_of true b c h = refl
@@ -78,48 +72,9 @@ has_it k r e f = all_of (r.producer.0 == k.producer) r.forgotten (same_bytes r.t
 pub rises_rows : (xs : List RowSlot) → Rises row_number xs → Rises (λ (r : Row). r.number.0) (rows_in xs)
 rises_rows xs up = shown.rises_shown row_number (λ s. s.row) (λ (r : Row). r.number.0) (λ s. s.same) xs up
 
--- the row, where it passes
-abbrev pub passing : (Row → Bool) → Option Row → Option Row
-passing p None = None
-passing p (Some r) = cond (p r) (Some r) None
-
-behind : (names : Numbers RowName) (k : RowName) (m : ℕ) (rs : List Row) → number_at name_cmp names k ≤ m → AllAbove (λ (r : Row). r.number.0) m rs → AllNamed names rs → find (has_tag k.producer k.tag.items) rs ≡ None
-behind names k m [] le above named = refl
-behind names k m (r ∷ rs) le above named =
-    by_test (has_tag k.producer k.tag.items r)
-    (λ t. let e = number_of r.number.0 (number_at name_cmp names k) (tagged names k r named.0 t) in let above' : m < r.number.0 = above.0 in absurd (omega (arith, e, le, above')))
-    (λ t. rw t (behind names k m rs le above.1 named.1))
-
--- the row of a name is the one whose number stands there, if it has that name
-pub found_by_name : (names : Numbers RowName) (k : RowName) (rs : List Row) → Rises (λ (r : Row). r.number.0) rs → AllNamed names rs
-    → find (has_tag k.producer k.tag.items) rs ≡ passing (has_tag k.producer k.tag.items) (row_at (number_at name_cmp names k) rs)
-found_by_name names k [] up named = refl
-found_by_name names k (r ∷ rs) up named =
-    by_test (has_tag k.producer k.tag.items r)
-    (λ t. rw (tagged names k r named.0 t, t) refl)
-    (λ t. by_test (r.number.0 == number_at name_cmp names k)
-    (λ e. let same = number_of r.number.0 (number_at name_cmp names k) e in rw (e, t) (behind names k r.number.0 rs (omega (arith, same)) up.0 named.1))
-    (λ e. rw (e, t) (found_by_name names k rs up.1 named.1)))
-
-pub any_found : (p : Row → Bool) (rs : List Row) → list_any p rs ≡ is_some (find p rs)
-any_found p [] = refl
-any_found p (r ∷ rs) = by_bool (p r) (any_found p rs)
-  where
-    by_bool : (b : Bool) → list_any p rs ≡ is_some (find p rs) → (b || list_any p rs) ≡ is_some (cond b (Some r) (find p rs))
-    by_bool true rest = refl
-    by_bool false rest = rest
-
-pub is_copied : (o : Option (Bor Row)) → is_some (option_copied o) ≡ is_some o
-is_copied None = refl
-is_copied (Some r) = refl
-
-none_of : (a b : Bool) → (a || b) ≡ false → a ≡ false
-none_of false b h = refl
-none_of true b h = absurd cc
-
-none_behind : (a b : Bool) → (a || b) ≡ false → b ≡ false
-none_behind false b h = h
-none_behind true b h = absurd cc
+all_tagged : (names : Numbers RowName) (k : RowName) (rs : List Row) → AllNamed names rs → AllHaveIt (λ (r : Row). r.number.0) (has_tag k.producer k.tag.items) (number_at name_cmp names k) rs
+all_tagged names k [] named = tt
+all_tagged names k (r ∷ rs) named = (tagged names k r named.0, all_tagged names k rs named.1)
 
 module _ (old new : Numbers RowName) (k : RowName) (n : ℕ) (set : (q : RowName) → number_at name_cmp new q ≡ cond (is_eq (name_cmp k q)) n (number_at name_cmp old q)) where
   -- a name that no row has takes a number
@@ -186,14 +141,8 @@ pub named_same : (old new : Numbers RowName) → ((q : RowName) → number_at na
 named_same old new same [] named = tt
 named_same old new same (r ∷ rs) named = (λ f. same (name_of r) ∙ named.0 f, named_same old new same rs named.1)
 
-pub passes : (p : Row → Bool) (r : Row) → p r ≡ true → passing p (Some r) ≡ Some r
-passes p r h = rw h refl
-
-pub fails : (p : Row → Bool) (r : Row) → p r ≡ false → passing p (Some r) ≡ None
-fails p r h = rw h refl
-
 -- a look-up by name: the row of the number that stands there, if it has that name
 pub looked : (names : Numbers RowName) (k : RowName) (p : ℕ) (tag : List ℕ) (xs : List RowSlot) (o : Option Row) (n : ℕ) → k.producer ≡ p → k.tag.items ≡ tag → n ≡ number_at name_cmp names k
     → (Rises row_number xs → o ≡ row_at n (rows_in xs)) → Rises row_number xs → AllNamed names (rows_in xs) → row_named p tag (rows_in xs) ≡ passing (has_tag p tag) o
 looked names k p tag xs o n producer same stands found up named =
-    rw (← producer, ← same, found up, stands) (found_by_name names k (rows_in xs) (rises_rows xs up) named)
+    rw (← producer, ← same, found up, stands) (found_by (λ (r : Row). r.number.0) (has_tag k.producer k.tag.items) (number_at name_cmp names k) (rows_in xs) (rises_rows xs up) (all_tagged names k (rows_in xs) named))

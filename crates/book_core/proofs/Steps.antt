@@ -7,7 +7,13 @@ use Rattle.book_core.specs.declared.act.Act.TheVariants.{Admit}
 use Rattle.book_core.specs.declared.fault.BookFault.TheVariants.{NoTerminus, NoRow, TagInUse, Limit}
 use Rattle.book_core.specs.declared.terminus.LinkRole.TheVariants.{Producer}
 use Rattle.book_core.specs.declared.row_name.RowName.{RowName}
-use Rattle.book_core.specs.Numbers.{or_zero}
+use Rattle.std.specs.BTreeMap.{get}
+use Rattle.book_core.specs.declared.numbers.Numbers.{Numbers}
+use Rattle.book_core.specs.declared.terminus.LinkKey.{LinkKey}
+use Rattle.book_core.specs.Keys.{key_cmp, AllKeyed}
+use Rattle.book_core.specs.Numbers.{or_zero, number_at, earlier}
+use Rattle.std.specs.Ordering.{is_eq}
+use Rattle.book_core.proofs.Keyed.{keyed_same, keyed_left, keyed_more, keyed_at}
 use Rattle.book_core.specs.Indexed.{IsIndexed, IsIndexSettled, SameIndexBefore, IsIndexBack}
 use Rattle.book_core.specs.declared.row_index.RowIndex.{RowIndex}
 use Rattle.book_core.specs.declared.tables.Counters.{Counters}
@@ -21,7 +27,7 @@ use Rattle.book_core.specs.declared.fault.BookFault.{BookFault}
 use Rattle.book_core.specs.declared.act.Admission.{Admission}
 use Rattle.book_core.specs.declared.table.Table.{Table}
 use Rattle.book_core.specs.declared.tables.Tables.{Tables}
-use Rattle.book_core.specs.Book.{BookView, row_at, terminus_at, with_row, unless, make_refusal, admit_refusal, forget_refusal, decide_refusal, is_undecided, admitted, decided, forgotten, has_tag, effect, is_from, undecided_for, may_bind, has_role}
+use Rattle.book_core.specs.Book.{BookView, row_at, terminus_at, with_row, unless, make_refusal, admit_refusal, forget_refusal, decide_refusal, is_undecided, same_key, has_short_texts, admitted, decided, forgotten, has_tag, effect, is_from, undecided_for, may_bind, has_role}
 use Rattle.book_core.specs.Rising.{Rises, IsAt}
 use Rattle.book_core.specs.Slots.{rows_in, termini_in}
 use Rattle.book_core.specs.Table.{before}
@@ -95,6 +101,13 @@ forgets_known r h = not_true r.forgotten (first_holds (not r.forgotten) _ _ h)
 decides_open : (r : Row) (outcome : DeliveryState) → decide_refusal (Some r) outcome ≡ None → r.outcome ≡ None
 decides_open r outcome h = is_open r.outcome (first_holds (is_undecided r) _ _ h)
 
+-- a terminus that may be made has a key of its own
+makes_new : (b : BookView) (t : Terminus) → make_refusal b t ≡ None → list_any (λ u. same_key u.key t.key) b.termini ≡ false
+makes_new b t h =
+    let short = unless (nat_lt (length b.termini) 1024) Limit (unless (has_short_texts t) Limit None) in
+    let new = unless (not (list_any (λ (u : Terminus). same_key u.key t.key) b.termini)) NoTerminus short in
+    not_true _ (first_holds _ NoTerminus short (then_holds (t.number.0 == b.next_terminus) NoTerminus new h))
+
 pub admits_next : (b : BookView) (a : Admission) → admit_refusal b a ≡ None → a.row.0 ≡ b.next_row
 admits_next b a h = equal _ _ (first_holds (a.row.0 == b.next_row) _ _ (then_holds _ _ _ (then_holds _ _ _ h)))
 
@@ -113,6 +126,7 @@ row_stays t b n change s none = record {
   rows_rise = s.rows_rise;
   termini_below = s.termini_below;
   rows_below = s.rows_below;
+  keyed = s.keyed;
   indexed = s.indexed;
   terminus_count = s.terminus_count;
   row_count = s.row_count;
@@ -143,6 +157,7 @@ row_changes t index rows count b n at slot x old change s h read was now number 
       rows_rise = rw e (shown.rises_set row_number t.rows.slots.items at slot same s.rows_rise);
       termini_below = s.termini_below;
       rows_below = rw e (shown.below_set row_number t.counters.next_row t.rows.slots.items at slot same s.rows_below);
+      keyed = s.keyed;
       indexed = let P : List Row → Type 0 = λ rs. IsIndexed index rs in subst P (sym seen) (indexed up here);
       terminus_count = s.terminus_count;
       row_count = counted ∙ ap (λ o. cond (is_some o) t.counters.rows (t.counters.rows - 1)) now
@@ -161,6 +176,7 @@ terminus_stays t b n s none = record {
   rows_rise = s.rows_rise;
   termini_below = s.termini_below;
   rows_below = s.rows_below;
+  keyed = s.keyed;
   indexed = s.indexed;
   terminus_count = s.terminus_count;
   row_count = s.row_count;
@@ -169,11 +185,12 @@ terminus_stays t b n s none = record {
 pub terminus_gone : (xs : List TerminusSlot) (n at : ℕ) (x : TerminusSlot) → Rises terminus_number xs → IsAt terminus_number n xs at → x ≡ get_or xs at x → x.terminus ≡ None → terminus_at n (termini_in xs) ≡ None
 terminus_gone xs n at x up h e none = terminus_found n xs at x up h ∙ ap (λ (s : TerminusSlot). s.terminus) (sym e) ∙ none
 
-pub terminus_leaves : (t : Tables) (termini : Table TerminusSlot) (count : ℕ) (b : BookView) (n at : ℕ) (slot x : TerminusSlot) (old : Terminus)
+pub terminus_leaves : (t : Tables) (keys : Numbers LinkKey) (termini : Table TerminusSlot) (count : ℕ) (b : BookView) (n at : ℕ) (slot x : TerminusSlot) (old : Terminus)
     → Shows t b → IsAt terminus_number n t.termini.slots.items at → x ≡ get_or t.termini.slots.items at x → x.terminus ≡ Some old
     → slot.terminus ≡ None → slot.number ≡ n → termini.slots.items ≡ set t.termini.slots.items at slot → count ≡ t.counters.termini - 1
-    → Shows (record t { termini = termini; counters = record t.counters { termini = count } }) (record b { termini = filter (λ t. not (t.number.0 == n)) b.termini })
-terminus_leaves t termini count b n at slot x old s h read was now number e counted =
+    → ((q : LinkKey) → number_at key_cmp keys q ≡ cond (is_eq (key_cmp old.key q)) 0 (number_at key_cmp t.keys q))
+    → Shows (record t { termini = termini; keys = keys; counters = record t.counters { termini = count } }) (record b { termini = filter (λ t. not (t.number.0 == n)) b.termini })
+terminus_leaves t keys termini count b n at slot x old s h read was now number e counted set =
     let same : (d : TerminusSlot) → terminus_number (get_or t.termini.slots.items at d) ≡ terminus_number slot = λ d. h.is d ∙ sym number in
     let ts = termini_in t.termini.slots.items in
     let seen : termini_in termini.slots.items ≡ filter (λ (t : Terminus). not (t.number.0 == n)) (termini_in t.termini.slots.items) =
@@ -188,6 +205,7 @@ terminus_leaves t termini count b n at slot x old s h read was now number e coun
       rows_rise = s.rows_rise;
       termini_below = rw e (shown.below_set terminus_number t.counters.next_terminus t.termini.slots.items at slot same s.termini_below);
       rows_below = s.rows_below;
+      keyed = let P : List Terminus → Type 0 = λ us. AllKeyed keys us in subst P (sym seen) (keyed_left t.keys keys old.key 0 n set (keyed_at t.keys n ts old s.keyed here) ts s.keyed);
       indexed = s.indexed;
       terminus_count = counted ∙ ap (λ m. m - 1) s.terminus_count
           ∙ length_changed (λ (t : Terminus). t.number.0) n (λ _. None) ts old (shown.rises_shown terminus_number (λ s. s.terminus) (λ (t : Terminus). t.number.0) (λ s. s.same) t.termini.slots.items s.termini_rise) here
@@ -195,11 +213,13 @@ terminus_leaves t termini count b n at slot x old s h read was now number e coun
       row_count = s.row_count;
     }
 
-pub terminus_comes : (t : Tables) (termini : Table TerminusSlot) (next count : ℕ) (b : BookView) (slot : TerminusSlot) (made : Terminus)
-    → Shows t b → slot.terminus ≡ Some made → slot.number ≡ b.next_terminus → next ≡ t.counters.next_terminus + 1 → count ≡ t.counters.termini + 1 → termini.slots.items ≡ t.termini.slots.items ++ slot ∷ []
-    → Shows (record t { termini = termini; counters = record t.counters { next_terminus = next; termini = count } }) (record b { termini = b.termini ++ made ∷ []; next_terminus = b.next_terminus + 1 })
-terminus_comes t termini next count b slot made s is number more counted e =
-    let same : terminus_number slot ≡ t.counters.next_terminus = number ∙ sym s.next_terminus in
+pub terminus_comes : (t : Tables) (keys : Numbers LinkKey) (termini : Table TerminusSlot) (next count : ℕ) (b : BookView) (slot : TerminusSlot) (made : Terminus)
+    → Shows t b → slot.terminus ≡ Some made → slot.number ≡ made.number.0 → make_refusal b made ≡ None → next ≡ t.counters.next_terminus + 1 → count ≡ t.counters.termini + 1 → termini.slots.items ≡ t.termini.slots.items ++ slot ∷ []
+    → ((q : LinkKey) → number_at key_cmp keys q ≡ cond (is_eq (key_cmp made.key q)) made.number.0 (number_at key_cmp t.keys q))
+    → Shows (record t { termini = termini; keys = keys; counters = record t.counters { next_terminus = next; termini = count } }) (record b { termini = b.termini ++ made ∷ []; next_terminus = b.next_terminus + 1 })
+terminus_comes t keys termini next count b slot made s is number applies more counted e set =
+    let same : terminus_number slot ≡ t.counters.next_terminus = number ∙ makes_next b made applies ∙ sym s.next_terminus in
+    let free : list_any (λ u. same_key u.key made.key) (termini_in t.termini.slots.items) ≡ false = ap (list_any (λ (u : Terminus). same_key u.key made.key)) s.termini ∙ makes_new b made applies in
     let seen : termini_in termini.slots.items ≡ termini_in t.termini.slots.items ++ made ∷ [] = ap termini_in e ∙ shown.shown_more (λ (s : TerminusSlot). s.terminus) t.termini.slots.items slot made is in
     record {
       termini = seen ∙ ap (λ ts. ts ++ made ∷ []) s.termini;
@@ -210,6 +230,7 @@ terminus_comes t termini next count b slot made s is number more counted e =
       rows_rise = s.rows_rise;
       termini_below = rw (e, more) (shown.below_more_number terminus_number t.counters.next_terminus t.termini.slots.items slot s.termini_below same);
       rows_below = s.rows_below;
+      keyed = let P : List Terminus → Type 0 = λ us. AllKeyed keys us in subst P (sym seen) (keyed_more t.keys keys made.key made.number.0 set (termini_in t.termini.slots.items) made refl refl free s.keyed);
       indexed = s.indexed;
       terminus_count = counted ∙ ap (λ n. n + 1) s.terminus_count ∙ sym (length_more (λ (t : Terminus). t.number.0) (termini_in t.termini.slots.items) made) ∙ sym (ap length seen);
       row_count = s.row_count;
@@ -234,6 +255,7 @@ row_admitted t index rows next count b slot a s is number more counted e applies
       rows_rise = rw e (shown.rises_more row_number t.counters.next_row t.rows.slots.items slot s.rows_rise s.rows_below same);
       termini_below = s.termini_below;
       rows_below = rw (e, more) (shown.below_more_number row_number t.counters.next_row t.rows.slots.items slot s.rows_below same);
+      keyed = s.keyed;
       indexed = let P : List Row → Type 0 = λ rs. IsIndexed index rs in subst P (sym seen) (indexed (rows_in t.rows.slots.items) s.indexed free);
       terminus_count = s.terminus_count;
       row_count = counted ∙ ap (λ n. n + 1) s.row_count ∙ sym (length_more (λ (r : Row). r.number.0) (rows_in t.rows.slots.items) (admitted a)) ∙ sym (ap length seen);
@@ -263,11 +285,11 @@ row_forgotten t index rows count b n at slot x old s h read was now number e app
     row_changes t index rows count b n at slot x old forgotten s h read was now number e
     (λ up here. indexed (rows_in t.rows.slots.items) n up s.indexed here (forgets_known old (rw (← s.rows, here) at applies))) counted
 
-pub swept : (t : Tables) (termini : Table TerminusSlot) (rows : Table RowSlot) (index : RowIndex) (b : BookView) → Shows t b
+pub swept : (t : Tables) (termini : Table TerminusSlot) (rows : Table RowSlot) (keys : Numbers LinkKey) (index : RowIndex) (b : BookView) → Shows t b
     → IsSwept terminus_number (λ s. s.terminus) t.termini.slots.items termini.slots.items → IsSwept row_number (λ s. s.row) t.rows.slots.items rows.slots.items
-    → ((rs : List Row) → IsIndexed t.index rs → IsIndexed index rs)
-    → Shows (record t { termini = termini; rows = rows; index = index }) b
-swept t termini rows index b s e f same = record {
+    → ((q : LinkKey) → number_at key_cmp keys q ≡ number_at key_cmp t.keys q) → ((rs : List Row) → IsIndexed t.index rs → IsIndexed index rs)
+    → Shows (record t { termini = termini; rows = rows; keys = keys; index = index }) b
+swept t termini rows keys index b s e f alike same = record {
   termini = e.shown ∙ s.termini;
   rows = f.shown ∙ s.rows;
   next_terminus = s.next_terminus;
@@ -276,6 +298,7 @@ swept t termini rows index b s e f same = record {
   rows_rise = f.rise s.rows_rise;
   termini_below = e.below t.counters.next_terminus s.termini_below;
   rows_below = f.below t.counters.next_row s.rows_below;
+  keyed = let P : List Terminus → Type 0 = λ ts. AllKeyed keys ts in subst P (sym e.shown) (keyed_same t.keys keys alike (termini_in t.termini.slots.items) s.keyed);
   indexed = let P : List Row → Type 0 = λ rs. IsIndexed index rs in subst P (sym f.shown) (same (rows_in t.rows.slots.items) s.indexed);
   terminus_count = s.terminus_count ∙ sym (ap length e.shown);
   row_count = s.row_count ∙ sym (ap length f.shown);
@@ -310,6 +333,7 @@ whole t b s settled = record {
     rows_rise = s.rows_rise;
     termini_below = s.termini_below;
     rows_below = s.rows_below;
+    keyed = s.keyed;
     indexed = s.indexed;
     terminus_count = s.terminus_count;
     row_count = s.row_count;
@@ -331,8 +355,9 @@ index_back i ran u rs settled same back indexed =
 -- tables whose changes since they were whole are undone
 pub undone_whole : (t ran u : Tables) → IsWhole t → SameBefore t ran
     → u.termini.slots.items ≡ before ran.termini.log.items ran.termini.slots.items → u.rows.slots.items ≡ before ran.rows.log.items ran.rows.slots.items
+    → get key_cmp u.keys.numbers ≡ earlier key_cmp ran.keys.log.items (get key_cmp ran.keys.numbers)
     → IsIndexBack ran.index u.index → u.counters ≡ t.counters → IsSettled u → IsWhole u
-undone_whole t ran u w same termini rows index counters settled =
+undone_whole t ran u w same termini rows keys index counters settled =
     let e = termini ∙ same.termini ∙ w.settled.termini in
     let f = rows ∙ same.rows ∙ w.settled.rows in
     let s = w.shows in
@@ -345,6 +370,7 @@ undone_whole t ran u w same termini rows index counters settled =
       rows_rise = rw f s.rows_rise;
       termini_below = rw (e, counters) s.termini_below;
       rows_below = rw (f, counters) s.rows_below;
+      keyed = rw e (keyed_same t.keys u.keys (λ q. ap (λ (h : LinkKey → Option ℕ). or_zero (h q)) (keys ∙ same.keys ∙ w.settled.keys)) (termini_in t.termini.slots.items) s.keyed);
       indexed = rw f (index_back t.index ran.index u.index (rows_in t.rows.slots.items) w.settled.index same.index index s.indexed);
       terminus_count = rw (e, counters) s.terminus_count;
       row_count = rw (f, counters) s.row_count;

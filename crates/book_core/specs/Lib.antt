@@ -2,6 +2,7 @@ pub mod Act
 pub mod Book
 pub mod Fault
 pub mod Indexed
+pub mod Keys
 pub mod Named
 pub mod Numbers
 pub mod Rising

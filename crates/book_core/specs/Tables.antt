@@ -7,6 +7,9 @@ use Rattle.book_core.specs.declared.slot.TerminusSlot.{TerminusSlot}
 use Rattle.book_core.specs.declared.tables.Tables.{Tables}
 use Rattle.book_core.specs.Book.{BookView, refusal, effect, first_fault, effects}
 use Rattle.book_core.specs.declared.act.Act.{Act}
+use Rattle.std.specs.BTreeMap.{get}
+use Rattle.book_core.specs.Keys.{key_cmp, AllKeyed}
+use Rattle.book_core.specs.Numbers.{earlier}
 use Rattle.book_core.specs.Indexed.{IsIndexed, IsIndexSettled, SameIndexBefore}
 use Rattle.book_core.specs.Rising.{Rises, AllBelow}
 use Rattle.book_core.specs.Slots.{rows_in, termini_in}
@@ -28,6 +31,7 @@ pub record Shows (t : Tables) (b : BookView) : Type 0 where
   pub rows_rise : Rises row_number t.rows.slots.items
   pub termini_below : AllBelow terminus_number t.counters.next_terminus t.termini.slots.items
   pub rows_below : AllBelow row_number t.counters.next_row t.rows.slots.items
+  pub keyed : AllKeyed t.keys (termini_in t.termini.slots.items)
   pub indexed : IsIndexed t.index (rows_in t.rows.slots.items)
   pub terminus_count : t.counters.termini ≡ length (termini_in t.termini.slots.items)
   pub row_count : t.counters.rows ≡ length (rows_in t.rows.slots.items)
@@ -36,12 +40,14 @@ pub record Shows (t : Tables) (b : BookView) : Type 0 where
 pub record IsSettled (t : Tables) : Type 0 where
   pub termini : before t.termini.log.items t.termini.slots.items ≡ t.termini.slots.items
   pub rows : before t.rows.log.items t.rows.slots.items ≡ t.rows.slots.items
+  pub keys : earlier key_cmp t.keys.log.items (get key_cmp t.keys.numbers) ≡ get key_cmp t.keys.numbers
   pub index : IsIndexSettled t.index
 
 -- what stood before is what stood before
 pub record SameBefore (old new : Tables) : Type 0 where
   pub termini : before new.termini.log.items new.termini.slots.items ≡ before old.termini.log.items old.termini.slots.items
   pub rows : before new.rows.log.items new.rows.slots.items ≡ before old.rows.log.items old.rows.slots.items
+  pub keys : earlier key_cmp new.keys.log.items (get key_cmp new.keys.numbers) ≡ earlier key_cmp old.keys.log.items (get key_cmp old.keys.numbers)
   pub index : SameIndexBefore old.index new.index
 
 -- what a step of one act answers, and what the tables then show

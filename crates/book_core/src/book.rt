@@ -116,7 +116,7 @@ impl Book {
     pub fn terminus_of(&self, key: &LinkKey) -> Option<&Terminus>
         ensures { option_copied result ≡ terminus_of key.now self.now.termini }
     {
-        look::terminus_with(&self.tables.termini.slots, key)
+        look::terminus_with(&self.tables.termini.slots, &self.tables.keys, key)
     }
 
     /// How many rows there are.

@@ -7,6 +7,7 @@ pub mod act;
 pub mod book;
 mod copy;
 pub mod fault;
+mod key_order;
 mod look;
 mod numbers;
 mod place;

@@ -3,6 +3,7 @@ ghost use Rattle.std.specs.Prelude.{◌≡◌, ◌&&◌, not, false, is_some, co
 ghost use Rattle.std.specs.Option.{option_copied, option_map_or};
 ghost use Rattle.std.specs.List.{list_any};
 ghost use Rattle.book_core.specs.Book.{terminus_at, terminus_of, row_at, row_named, same_role, same_key, is_from, is_for, is_undecided, has_tag, has_role, may_bind, undecided_for, keeps, is_wanted};
+ghost use Rattle.book_core.specs.Keys.{AllKeyed};
 ghost use Rattle.book_core.specs.Named.{AllNamed};
 ghost use Rattle.book_core.specs.Rising.{Rises};
 ghost use Rattle.book_core.specs.Slots.{rows_in, termini_in};
@@ -67,6 +68,34 @@ pub(crate) fn has_named(
     ensures { Rises (λ (s : RowSlot). s.number) slots.now → AllNamed names.now (rows_in slots.now) → result ≡ list_any (has_tag producer.0 tag.now.items) (rows_in slots.now) }
 {
     row_named(slots, names, producer, tag).is_some()
+}
+
+/// The terminus of the link with this key.
+pub(crate) fn terminus_with<'a>(
+    slots: &'a [TerminusSlot],
+    keys: &Numbers<LinkKey>,
+    key: &LinkKey,
+) -> Option<&'a Terminus>
+    ensures { Rises (λ (s : TerminusSlot). s.number) slots.now → AllKeyed keys.now (termini_in slots.now) → option_copied result ≡ terminus_of key.now (termini_in slots.now) }
+{
+    let number = TerminusNumber(keys.at(key));
+    match terminus(slots, number) {
+        None => None,
+        Some(terminus) => {
+            if is_key(&terminus.key, key) {
+                Some(terminus)
+            } else {
+                None
+            }
+        }
+    }
+}
+
+/// Whether a terminus stands for the link with this key.
+pub(crate) fn has_key(slots: &[TerminusSlot], keys: &Numbers<LinkKey>, key: &LinkKey) -> bool
+    ensures { Rises (λ (s : TerminusSlot). s.number) slots.now → AllKeyed keys.now (termini_in slots.now) → result ≡ list_any (λ t. same_key t.key key.now) (termini_in slots.now) }
+{
+    terminus_with(slots, keys, key).is_some()
 }
 
 pub(crate) fn is_role(role: LinkRole, other: LinkRole) -> bool
@@ -138,15 +167,6 @@ pub(crate) fn is_wanted_row(row: &Row, terminus: Option<TerminusNumber>) -> bool
 
 // The same of a place.
 
-fn place_has_key(slot: &TerminusSlot, key: &LinkKey) -> bool
-    ensures { result ≡ option_map_or (λ t. same_key t.key key.now) slot.now.terminus false }
-{
-    match &slot.terminus {
-        None => false,
-        Some(terminus) => is_key(&terminus.key, key),
-    }
-}
-
 fn place_holds(slot: &RowSlot, role: LinkRole, terminus: TerminusNumber) -> bool
     ensures { result ≡ option_map_or (keeps role terminus.0) slot.now.row false }
 {
@@ -158,29 +178,9 @@ fn place_holds(slot: &RowSlot, role: LinkRole, terminus: TerminusNumber) -> bool
 
 // The same of all places.
 
-/// Whether a terminus stands for the link with this key.
-pub(crate) fn has_key(slots: &[TerminusSlot], key: &LinkKey) -> bool
-    ensures { result ≡ list_any (λ t. same_key t.key key.now) (termini_in slots.now) }
-{
-    slots.iter().any(|slot| place_has_key(slot, key))
-}
-
 /// Whether a row keeps this terminus.
 pub(crate) fn is_kept(slots: &[RowSlot], role: LinkRole, terminus: TerminusNumber) -> bool
     ensures { result ≡ list_any (keeps role terminus.0) (rows_in slots.now) }
 {
     slots.iter().any(|slot| place_holds(slot, role, terminus))
-}
-
-/// The terminus of the link with this key.
-pub(crate) fn terminus_with<'a>(slots: &'a [TerminusSlot], key: &LinkKey) -> Option<&'a Terminus>
-    ensures { option_copied result ≡ terminus_of key.now (termini_in slots.now) }
-{
-    for slot in slots {
-        match &slot.terminus {
-            Some(terminus) if is_key(&terminus.key, key) => return Some(terminus),
-            _ => {}
-        }
-    }
-    None
 }

@@ -2,7 +2,10 @@
 ghost use Rattle.std.specs.Prelude.{◌≡◌, ◌+◌, ◌-◌, if◌then◌else◌, ◌∷◌, ◌++◌, [], None, OnOk, OnErr, IfOk, IfErr, filter, not, ◌==◌, length, nat_le, is_some};
 ghost use Rattle.amqp_perf.specs.Spelling.{state_spelling};
 ghost use Rattle.book_core.specs.Book.{BookView, empty_book, refusal, effect, make_refusal, admit_refusal, decide_refusal, forget_refusal, drop_refusal, decided, forgotten, admitted, with_row, has_short_texts, has_role, may_bind, terminus_at, row_at};
+ghost use Rattle.std.specs.BTreeMap.{get};
 ghost use Rattle.book_core.specs.Indexed.{IsIndexBack};
+ghost use Rattle.book_core.specs.Keys.{key_cmp};
+ghost use Rattle.book_core.specs.Numbers.{earlier};
 ghost use Rattle.book_core.specs.Table.{before};
 ghost use Rattle.book_core.specs.Tables.{Shows, SameBefore, IsSettled, IsSwept, Stepped, Ran, row_number, terminus_number};
 ghost use Rattle.book_core.specs.declared.act.Act.TheVariants as act;
@@ -10,12 +13,14 @@ ghost use Rattle.book_core.specs.declared.terminus.LinkRole.TheVariants as role;
 
 use crate::act::{Act, Admission, Decision};
 use crate::fault::BookFault;
+use crate::key_order::set_key;
+use crate::numbers::Numbers;
 use crate::place::{row_place, terminus_place};
 use crate::row::{Row, RowNumber};
 use crate::row_index::RowIndex;
 use crate::slot::{RowSlot, TerminusSlot};
 use crate::table::Table;
-use crate::terminus::{LinkRole, Terminus, TerminusNumber};
+use crate::terminus::{LinkKey, LinkRole, Terminus, TerminusNumber};
 use crate::{copy, look};
 use amqp_perf::{DeliveryState, write_state};
 use std::alloc::{AllocError, Global};
@@ -39,6 +44,7 @@ pub(crate) struct Tables {
     pub(crate) alloc: Global,
     pub(crate) termini: Table<TerminusSlot>,
     pub(crate) rows: Table<RowSlot>,
+    pub(crate) keys: Numbers<LinkKey>,
     pub(crate) index: RowIndex,
     pub(crate) counters: Counters,
 }
@@ -89,6 +95,7 @@ impl Tables {
             alloc,
             termini: Table::new(alloc),
             rows: Table::new(alloc),
+            keys: Numbers::new(alloc),
             index: RowIndex::new(alloc),
             counters: Counters {
                 next_terminus: 1,
@@ -123,7 +130,7 @@ impl Tables {
         if terminus.number.0 != self.counters.next_terminus {
             return Some(BookFault::NoTerminus);
         }
-        if look::has_key(&self.termini.slots, &terminus.key) {
+        if look::has_key(&self.termini.slots, &self.keys, &terminus.key) {
             return Some(BookFault::NoTerminus);
         }
         if self.counters.termini >= MAX_TERMINI {
@@ -227,9 +234,9 @@ impl Tables {
         }
     }
 
-    /// Makes a terminus, whose number is the next.
+    /// Makes a terminus that applies.
     fn make(&mut self, terminus: &Terminus) -> Result<(), AllocError>
-        ensures shows { (b : BookView) → Shows self.old b → terminus.now.number.0 ≡ b.next_terminus → OnOk result (Shows self.new (effect b (act.Make terminus.now))) }
+        ensures shows { (b : BookView) → Shows self.old b → make_refusal b terminus.now ≡ None → OnOk result (Shows self.new (effect b (act.Make terminus.now))) }
         ensures before { SameBefore self.old self.new }
     {
         let Some(next) = self.counters.next_terminus.checked_add(1) else {
@@ -239,6 +246,7 @@ impl Tables {
             return Err(AllocError);
         };
         let made = copy::terminus(terminus)?;
+        set_key(&mut self.keys, &terminus.key, terminus.number.0)?;
         self.termini.add(TerminusSlot {
             number: terminus.number.0,
             terminus: Some(made),
@@ -324,7 +332,8 @@ impl Tables {
             None => Ok(()),
             Some(at) => match &self.termini.slots[at].terminus {
                 None => Ok(()),
-                Some(_) => {
+                Some(terminus) => {
+                    set_key(&mut self.keys, &terminus.key, 0)?;
                     let terminus = None;
                     self.termini.replace(at, TerminusSlot { number, terminus })?;
                     self.counters.termini = self.counters.termini.saturating_sub(1);
@@ -380,12 +389,14 @@ impl Tables {
     pub(crate) fn rollback(&mut self, counters: Counters)
         ensures termini { self.new.termini.slots.items ≡ before self.old.termini.log.items self.old.termini.slots.items }
         ensures rows { self.new.rows.slots.items ≡ before self.old.rows.log.items self.old.rows.slots.items }
+        ensures keys { get key_cmp self.new.keys.numbers ≡ earlier key_cmp self.old.keys.log.items (get key_cmp self.old.keys.numbers) }
         ensures index { IsIndexBack self.old.index self.new.index }
         ensures counters { self.new.counters ≡ counters }
         ensures settled { IsSettled self.new }
     {
         self.termini.rollback();
         self.rows.rollback();
+        self.keys.rollback();
         self.index.rollback();
         self.counters = counters;
     }
@@ -399,6 +410,7 @@ impl Tables {
         self.termini.commit();
         sweep_rows(&mut self.rows.slots, self.counters.rows);
         self.rows.commit();
+        self.keys.commit();
         self.index.commit();
     }
 }

@@ -14,4 +14,4 @@ returns-in-Ok-clause-applied c =
 pub invariant_of-self-in-Err : goal.invariant_of-self-in-Err
 invariant_of-self-in-Err c =
     let back = c.rollback.ensures in
-    undone_whole c.self.inside.tables c.run.new.self c.rollback.new.self c.self.invariant c.in-Err.ensures.before back.termini back.rows back.index back.counters back.settled
+    undone_whole c.self.inside.tables c.run.new.self c.rollback.new.self c.self.invariant c.in-Err.ensures.before back.termini back.rows back.keys back.index back.counters back.settled

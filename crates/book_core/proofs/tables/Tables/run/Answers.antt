@@ -14,6 +14,7 @@ loop-act-preserved c = record {
   same = record {
     termini = c.step.ensures.before.termini ∙ c.loop-act.invariant.same.termini;
     rows = c.step.ensures.before.rows ∙ c.loop-act.invariant.same.rows;
+    keys = c.step.ensures.before.keys ∙ c.loop-act.invariant.same.keys;
     index = record {
       names = c.step.ensures.before.index.names ∙ c.loop-act.invariant.same.index.names;
       from = c.step.ensures.before.index.from ∙ c.loop-act.invariant.same.index.from;
