@@ -1,6 +1,6 @@
 -- Counts of a table's values, through changes.
-use Rattle.std.proofs.Common.{◌≡◌, ℕ, ◌<◌, ◌≤◌, ◌+◌, ◌-◌, Bool, true, false, cond, ◌&&◌, List, [], ◌∷◌, ◌++◌, length, Option, Some, None, refl, arith, ap, ◌∙◌, sym}
-use Rattle.std.specs.Prelude.{find, filter_map, count_by, is_some, is_none, ◌==◌}
+use Rattle.std.proofs.Common.{◌≡◌, ℕ, ◌<◌, ◌≤◌, ◌+◌, ◌-◌, Bool, true, false, cond, not, ◌&&◌, ◌||◌, List, [], ◌∷◌, ◌++◌, length, Option, Some, None, refl, arith, ap, ◌∙◌, sym}
+use Rattle.std.specs.Prelude.{find, filter_map, count_by, is_some, is_none, nat_lt, ◌==◌}
 use Rattle.std.specs.List.{cons_option}
 use Rattle.std.specs.Option.{unwrap_or}
 use Rattle.std.specs.Ordering.{nat_cmp, is_eq}
@@ -8,13 +8,14 @@ use Rattle.std.proofs.lemmas.Bool.Decides.{nat_tests}
 use Rattle.std.proofs.lemmas.List.Sums.{sum_by-cons, sum_by_push}
 use Rattle.amqp_perf.specs.declared.state.DeliveryState.{DeliveryState}
 use Rattle.book_core.specs.declared.row.Row.{Row}
+use Rattle.book_core.specs.declared.terminus.LinkRole.TheVariants.{Producer, Consumer}
 use Rattle.book_core.specs.declared.terminus.TerminusNumber.{TerminusNumber}
-use Rattle.book_core.specs.Book.{is_from, is_for, is_for_by, decided, forgotten, admitted, has_tag, row_at, with_row}
+use Rattle.book_core.specs.Book.{is_from, is_for, is_for_by, keeps, decided, forgotten, admitted, has_tag, row_at, with_row}
 use Rattle.std.specs.List.{list_any}
 use Rattle.book_core.specs.declared.act.Admission.{Admission}
 use Rattle.book_core.specs.declared.row_index.RowIndex.{RowIndex}
 use Rattle.book_core.specs.declared.row_name.RowName.{RowName}
-use Rattle.book_core.specs.Indexed.{one_for, waits_for, left_by, IsIndexed}
+use Rattle.book_core.specs.Indexed.{one_for, left_by, IsIndexed}
 use Rattle.book_core.specs.Named.{name_cmp, name_of}
 use Rattle.book_core.specs.Numbers.{number_at}
 use Rattle.book_core.proofs.Named.{named_more, named_set, named_here, named_decided, named_same, named_at, named_forgotten}
@@ -123,6 +124,18 @@ module _ {V : Type 0} (name : V → ℕ) where
   length_more [] v = refl
   length_more (w ∷ vs) v = let more = length_more vs v in omega (arith, more)
 
+zero_more : (n : ℕ) → n ≡ 0 + n
+zero_more n = omega arith
+
+-- whether any passes, by how many do
+pub any_counted : {V : Type 0} (p : V → Bool) (vs : List V) → list_any p vs ≡ nat_lt 0 (count_by p vs)
+any_counted p [] = refl
+any_counted p (v ∷ vs) = by_bool (p v) (any_counted p vs) ∙ ap (nat_lt 0) (sym (sum_by-cons (λ w. cond (p w) 1 0) v vs))
+  where
+    by_bool : (b : Bool) → list_any p vs ≡ nat_lt 0 (count_by p vs) → (b || list_any p vs) ≡ nat_lt 0 (cond b 1 0 + count_by p vs)
+    by_bool true rest = grind (arith, nat_tests)
+    by_bool false rest = rest ∙ ap (nat_lt 0) (zero_more (count_by p vs))
+
 abbrev pub number_of_row : Row → ℕ
 number_of_row r = r.number.0
 
@@ -143,13 +156,21 @@ from_left : (n : ℕ) (r s : Row) (b : Bool) (m k : ℕ) → s.producer.0 ≡ r.
 from_left n r s true m k same h = omega (arith, h)
 from_left n r s false m k same h = let now : m + cond (r.producer.0 == n) 1 0 ≡ k + cond (r.producer.0 == n) 1 0 = rw same at h in omega (arith, now)
 
-waits_decided : (n : ℕ) (outcome : DeliveryState) (r : Row) (b : Bool) → one number_of_row (waits_for n) (cond b None (Some (record r { outcome = Some outcome }))) ≡ 0
+waits_decided : (n : ℕ) (outcome : DeliveryState) (r : Row) (b : Bool) → one number_of_row (keeps Consumer n) (cond b None (Some (record r { outcome = Some outcome }))) ≡ 0
 waits_decided n outcome r true = refl
 waits_decided n outcome r false = ap (λ t. cond t 1 0) (not_both (is_for n r))
 
-waits_forgotten : (n : ℕ) (r : Row) (o : Option DeliveryState) → r.outcome ≡ o → one number_of_row (waits_for n) (cond (is_some o) None (Some (record r { forgotten = true }))) ≡ cond (waits_for n r) 1 0
+waits_forgotten : (n : ℕ) (r : Row) (o : Option DeliveryState) → r.outcome ≡ o → one number_of_row (keeps Consumer n) (cond (is_some o) None (Some (record r { forgotten = true }))) ≡ cond (keeps Consumer n r) 1 0
 waits_forgotten n r None e = refl
 waits_forgotten n r (Some outcome) e = sym (ap (λ (x : Option DeliveryState). cond (is_for n r && is_none x) 1 0) e ∙ ap (λ t. cond t 1 0) (not_both (is_for n r)))
+
+open_decided : (n : ℕ) (outcome : DeliveryState) (r : Row) (b : Bool) → r.forgotten ≡ b → one number_of_row (keeps Producer n) (cond b None (Some (record r { outcome = Some outcome }))) ≡ cond (keeps Producer n r) 1 0
+open_decided n outcome r true e = sym (ap (λ b. cond (is_from n r && not b) 1 0) e ∙ ap (λ t. cond t 1 0) (not_both (is_from n r)))
+open_decided n outcome r false e = refl
+
+open_forgotten : (n : ℕ) (r : Row) (b : Bool) → one number_of_row (keeps Producer n) (cond b None (Some (record r { forgotten = true }))) ≡ 0
+open_forgotten n r true = refl
+open_forgotten n r false = ap (λ t. cond t 1 0) (not_both (is_from n r))
 
 down : (m k a z one : ℕ) → m + a ≡ k + z → z ≡ 0 → a ≡ one → m ≡ k - one
 down m k a z one h e f = omega (arith, h, e, f)
@@ -161,55 +182,64 @@ module _ (old new : RowIndex) (rs : List Row) (s : IsIndexed old rs) where
   pub indexed_admitted : (a : Admission) → list_any (has_tag a.producer.0 a.tag.items) rs ≡ false
       → ((q : RowName) → number_at name_cmp new.names q ≡ cond (is_eq (name_cmp (record { producer = a.producer.0; tag = a.tag }) q)) a.row.0 (number_at name_cmp old.names q))
       → ((n : ℕ) → number_at nat_cmp new.from n ≡ number_at nat_cmp old.from n + one_for (Some a.producer) n)
+      → ((n : ℕ) → number_at nat_cmp new.unforgotten n ≡ number_at nat_cmp old.unforgotten n + one_for (Some a.producer) n)
       → ((n : ℕ) → number_at nat_cmp new.waiting n ≡ number_at nat_cmp old.waiting n + one_for a.consumer n)
       → IsIndexed new (rs ++ admitted a ∷ [])
-  indexed_admitted a free set from waiting = record {
+  indexed_admitted a free set from unforgotten waiting = record {
     named = named_more new.names rs (admitted a)
         (named_set old.names new.names (record { producer = a.producer.0; tag = a.tag }) a.row.0 set rs free s.named)
         (named_here old.names new.names (record { producer = a.producer.0; tag = a.tag }) a.row.0 set (admitted a) refl refl);
     from = λ n. from n ∙ ap (λ m. m + one_for (Some a.producer) n) (s.from n) ∙ sym (count_more number_of_row (is_from n) rs (admitted a));
-    waiting = λ n. waiting n ∙ ap (λ m. m + one_for a.consumer n) (s.waiting n) ∙ ap (λ m. count_by (waits_for n) rs + m) (sym (waits_one a.consumer n)) ∙ sym (count_more number_of_row (waits_for n) rs (admitted a));
+    unforgotten = λ n. unforgotten n ∙ ap (λ m. m + one_for (Some a.producer) n) (s.unforgotten n) ∙ ap (λ m. count_by (keeps Producer n) rs + m) (sym (waits_one (Some a.producer) n)) ∙ sym (count_more number_of_row (keeps Producer n) rs (admitted a));
+    waiting = λ n. waiting n ∙ ap (λ m. m + one_for a.consumer n) (s.waiting n) ∙ ap (λ m. count_by (keeps Consumer n) rs + m) (sym (waits_one a.consumer n)) ∙ sym (count_more number_of_row (keeps Consumer n) rs (admitted a));
   }
 
   module _ (up : Rises (λ (r : Row). r.number.0) rs) (n : ℕ) (r : Row) (found : row_at n rs ≡ Some r) where
     pub indexed_decided : (outcome : DeliveryState) → r.outcome ≡ None → ((q : RowName) → number_at name_cmp new.names q ≡ number_at name_cmp old.names q)
         → ((m : ℕ) → number_at nat_cmp new.from m ≡ number_at nat_cmp old.from m - one_for (left_by r.forgotten r) m)
+        → ((m : ℕ) → number_at nat_cmp new.unforgotten m ≡ number_at nat_cmp old.unforgotten m)
         → ((m : ℕ) → number_at nat_cmp new.waiting m ≡ number_at nat_cmp old.waiting m - one_for r.consumer m)
         → IsIndexed new (with_row n (decided outcome) rs)
-    indexed_decided outcome undecided same from waiting = record {
+    indexed_decided outcome undecided same from unforgotten waiting = record {
       named = named_decided new.names outcome n rs (named_same old.names new.names same rs s.named);
       from = λ m. from m ∙ ap (λ k. k - one_for (left_by r.forgotten r) m) (s.from m)
           ∙ sym (from_left m r (record r { outcome = Some outcome }) r.forgotten (count_by (is_from m) (with_row n (decided outcome) rs)) (count_by (is_from m) rs) refl (count_changed number_of_row (is_from m) n (decided outcome) rs r up found));
+      unforgotten = λ m. unforgotten m ∙ s.unforgotten m
+          ∙ level (count_by (keeps Producer m) (with_row n (decided outcome) rs)) (count_by (keeps Producer m) rs) (cond (keeps Producer m r) 1 0) (one number_of_row (keeps Producer m) (decided outcome r))
+          (count_changed number_of_row (keeps Producer m) n (decided outcome) rs r up found) (open_decided m outcome r r.forgotten refl);
       waiting = λ m. waiting m ∙ ap (λ k. k - one_for r.consumer m) (s.waiting m)
-          ∙ sym (down (count_by (waits_for m) (with_row n (decided outcome) rs)) (count_by (waits_for m) rs) (cond (waits_for m r) 1 0) (one number_of_row (waits_for m) (decided outcome r)) (one_for r.consumer m)
-          (count_changed number_of_row (waits_for m) n (decided outcome) rs r up found) (waits_decided m outcome r r.forgotten)
+          ∙ sym (down (count_by (keeps Consumer m) (with_row n (decided outcome) rs)) (count_by (keeps Consumer m) rs) (cond (keeps Consumer m r) 1 0) (one number_of_row (keeps Consumer m) (decided outcome r)) (one_for r.consumer m)
+          (count_changed number_of_row (keeps Consumer m) n (decided outcome) rs r up found) (waits_decided m outcome r r.forgotten)
           (ap (λ (o : Option DeliveryState). cond (is_for m r && is_none o) 1 0) undecided ∙ waits_one r.consumer m));
     }
 
     pub indexed_forgotten : r.forgotten ≡ false
         → ((q : RowName) → number_at name_cmp new.names q ≡ cond (is_eq (name_cmp (name_of r) q)) 0 (number_at name_cmp old.names q))
         → ((m : ℕ) → number_at nat_cmp new.from m ≡ number_at nat_cmp old.from m - one_for (left_by (is_some r.outcome) r) m)
+        → ((m : ℕ) → number_at nat_cmp new.unforgotten m ≡ number_at nat_cmp old.unforgotten m - one_for (Some r.producer) m)
         → ((m : ℕ) → number_at nat_cmp new.waiting m ≡ number_at nat_cmp old.waiting m)
         → IsIndexed new (with_row n forgotten rs)
-    indexed_forgotten free set from waiting = record {
+    indexed_forgotten free set from unforgotten waiting = record {
       named = (let named = named_at old.names n rs r s.named found in named_forgotten old.names new.names (name_of r) 0 n set (named.0 free ∙ named.1) rs s.named);
       from = λ m. from m ∙ ap (λ k. k - one_for (left_by (is_some r.outcome) r) m) (s.from m)
           ∙ sym (from_left m r (record r { forgotten = true }) (is_some r.outcome) (count_by (is_from m) (with_row n forgotten rs)) (count_by (is_from m) rs) refl (count_changed number_of_row (is_from m) n forgotten rs r up found));
+      unforgotten = λ m. unforgotten m ∙ ap (λ k. k - one_for (Some r.producer) m) (s.unforgotten m)
+          ∙ sym (down (count_by (keeps Producer m) (with_row n forgotten rs)) (count_by (keeps Producer m) rs) (cond (keeps Producer m r) 1 0) (one number_of_row (keeps Producer m) (forgotten r)) (one_for (Some r.producer) m)
+          (count_changed number_of_row (keeps Producer m) n forgotten rs r up found) (open_forgotten m r (is_some r.outcome))
+          (ap (λ b. cond (is_from m r && not b) 1 0) free ∙ waits_one (Some r.producer) m));
       waiting = λ m. waiting m ∙ s.waiting m
-          ∙ level (count_by (waits_for m) (with_row n forgotten rs)) (count_by (waits_for m) rs) (cond (waits_for m r) 1 0) (one number_of_row (waits_for m) (forgotten r))
-          (count_changed number_of_row (waits_for m) n forgotten rs r up found) (waits_forgotten m r r.outcome refl);
+          ∙ level (count_by (keeps Consumer m) (with_row n forgotten rs)) (count_by (keeps Consumer m) rs) (cond (keeps Consumer m r) 1 0) (one number_of_row (keeps Consumer m) (forgotten r))
+          (count_changed number_of_row (keeps Consumer m) n forgotten rs r up found) (waits_forgotten m r r.outcome refl);
     }
 
   -- where the same numbers stand
   pub indexed_same : ((q : RowName) → number_at name_cmp new.names q ≡ number_at name_cmp old.names q)
       → ((n : ℕ) → number_at nat_cmp new.from n ≡ number_at nat_cmp old.from n)
+      → ((n : ℕ) → number_at nat_cmp new.unforgotten n ≡ number_at nat_cmp old.unforgotten n)
       → ((n : ℕ) → number_at nat_cmp new.waiting n ≡ number_at nat_cmp old.waiting n) → IsIndexed new rs
-  indexed_same names from waiting = record {
+  indexed_same names from unforgotten waiting = record {
     named = named_same old.names new.names names rs s.named;
     from = λ n. from n ∙ s.from n;
+    unforgotten = λ n. unforgotten n ∙ s.unforgotten n;
     waiting = λ n. waiting n ∙ s.waiting n;
   }
-
--- the index of no rows
-pub indexed_none : (index : RowIndex) → ((n : ℕ) → number_at nat_cmp index.from n ≡ 0) → ((n : ℕ) → number_at nat_cmp index.waiting n ≡ 0) → IsIndexed index []
-indexed_none index from waiting = record { named = tt; from = from; waiting = waiting }

@@ -1,8 +1,8 @@
 -- What the places of a table show, through look-ups and changes.
-use Rattle.std.proofs.Common.{◌≡◌, ℕ, ◌<◌, ◌≤◌, ◌+◌, suc, zero, Bool, true, false, cond, not, ◌||◌, List, [], ◌∷◌, ◌++◌, length, get_or, set, Option, Some, None, refl, arith, ap, ◌∙◌, sym, subst}
+use Rattle.std.proofs.Common.{◌≡◌, ℕ, ◌<◌, ◌≤◌, ◌+◌, suc, zero, Bool, true, false, cond, not, List, [], ◌∷◌, ◌++◌, length, get_or, set, Option, Some, None, refl, arith, ap, ◌∙◌, sym, subst}
 use Rattle.std.specs.Prelude.{find, filter, filter_map, is_some, ◌==◌}
-use Rattle.std.specs.List.{list_any, cons_option}
-use Rattle.std.specs.Option.{ForSome, option_map_or}
+use Rattle.std.specs.List.{cons_option}
+use Rattle.std.specs.Option.{ForSome}
 use Rattle.book_core.specs.Rising.{Rises, AllAbove, AllBelow, Lacks, IsAt}
 use Rattle.std.proofs.lemmas.Bool.Decides.{nat_tests}
 
@@ -125,18 +125,6 @@ module _ {S V : Type 0} (value : S → Option V) where
       by_value : (o : Option V) → value x ≡ o → filter_map value (filter (λ s. is_some (value s)) xs) ≡ filter_map value xs → filter_map value (cond (is_some o) (x ∷ filter (λ s. is_some (value s)) xs) (filter (λ s. is_some (value s)) xs)) ≡ cons_option o (filter_map value xs)
       by_value None e rest = rest
       by_value (Some v) e rest = rw e (ap (λ vs. v ∷ vs) rest)
-
-  -- whether a place shows something that passes a test
-  abbrev pub shows : (V → Bool) → S → Bool
-  shows p s = option_map_or p (value s) false
-
-  pub any_shown : (p : V → Bool) (xs : List S) → list_any (shows p) xs ≡ list_any p (filter_map value xs)
-  any_shown p [] = refl
-  any_shown p (x ∷ xs) = by_value (value x) (any_shown p xs)
-    where
-      by_value : (o : Option V) → list_any (shows p) xs ≡ list_any p (filter_map value xs) → (option_map_or p o false || list_any (shows p) xs) ≡ list_any p (cons_option o (filter_map value xs))
-      by_value None rest = rest
-      by_value (Some v) rest = ap (λ b. p v || b) rest
 
 -- taking out by a test
 pub filter_as_change : {V : Type 0} (name : V → ℕ) (n : ℕ) (vs : List V) → filter_map (λ v. cond (name v == n) None (Some v)) vs ≡ filter (λ v. not (name v == n)) vs

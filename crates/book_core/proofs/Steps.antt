@@ -346,10 +346,12 @@ index_back : (i ran u : RowIndex) (rs : List Row) → IsIndexSettled i → SameI
 index_back i ran u rs settled same back indexed =
     let names = back.names ∙ same.names ∙ settled.names in
     let from = back.from ∙ same.from ∙ settled.from in
+    let unforgotten = back.unforgotten ∙ same.unforgotten ∙ settled.unforgotten in
     let waiting = back.waiting ∙ same.waiting ∙ settled.waiting in
     indexed_same i u rs indexed
     (λ q. ap (λ (h : RowName → Option ℕ). or_zero (h q)) names)
     (λ n. ap (λ (h : ℕ → Option ℕ). or_zero (h n)) from)
+    (λ n. ap (λ (h : ℕ → Option ℕ). or_zero (h n)) unforgotten)
     (λ n. ap (λ (h : ℕ → Option ℕ). or_zero (h n)) waiting)
 
 -- tables whose changes since they were whole are undone

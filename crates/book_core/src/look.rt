@@ -1,8 +1,8 @@
 //! Looking up in the places of a book's tables.
-ghost use Rattle.std.specs.Prelude.{◌≡◌, ◌&&◌, not, false, is_some, count_by, length};
-ghost use Rattle.std.specs.Option.{option_copied, option_map_or};
+ghost use Rattle.std.specs.Prelude.{◌≡◌};
+ghost use Rattle.std.specs.Option.{option_copied};
 ghost use Rattle.std.specs.List.{list_any};
-ghost use Rattle.book_core.specs.Book.{terminus_at, terminus_of, row_at, row_named, same_role, same_key, is_from, is_for, is_undecided, has_tag, has_role, may_bind, undecided_for, keeps, is_wanted};
+ghost use Rattle.book_core.specs.Book.{terminus_at, terminus_of, row_at, row_named, same_role, same_key, is_from, is_for, has_tag, is_wanted};
 ghost use Rattle.book_core.specs.Keys.{AllKeyed};
 ghost use Rattle.book_core.specs.Named.{AllNamed};
 ghost use Rattle.book_core.specs.Rising.{Rises};
@@ -134,25 +134,10 @@ pub(crate) fn is_bound_to(row: &Row, terminus: TerminusNumber) -> bool
     }
 }
 
-fn waits_for(row: &Row, terminus: TerminusNumber) -> bool
-    ensures { result ≡ (is_for terminus.0 row.now && is_undecided row.now) }
-{
-    is_bound_to(row, terminus) && row.outcome.is_none()
-}
-
 pub(crate) fn is_named(row: &Row, producer: TerminusNumber, tag: &DeliveryTag) -> bool
     ensures { result ≡ has_tag producer.0 tag.now.items row.now }
 {
     came_from(row, producer) && !row.forgotten && row.tag == *tag
-}
-
-fn holds(row: &Row, role: LinkRole, terminus: TerminusNumber) -> bool
-    ensures { result ≡ keeps role terminus.0 row.now }
-{
-    match role {
-        LinkRole::Producer => came_from(row, terminus) && !row.forgotten,
-        LinkRole::Consumer => waits_for(row, terminus),
-    }
 }
 
 /// Whether a row came on the link of this terminus or is bound to it; any row where none is named.
@@ -163,24 +148,4 @@ pub(crate) fn is_wanted_row(row: &Row, terminus: Option<TerminusNumber>) -> bool
         None => true,
         Some(terminus) => came_from(row, terminus) || is_bound_to(row, terminus),
     }
-}
-
-// The same of a place.
-
-fn place_holds(slot: &RowSlot, role: LinkRole, terminus: TerminusNumber) -> bool
-    ensures { result ≡ option_map_or (keeps role terminus.0) slot.now.row false }
-{
-    match &slot.row {
-        None => false,
-        Some(row) => holds(row, role, terminus),
-    }
-}
-
-// The same of all places.
-
-/// Whether a row keeps this terminus.
-pub(crate) fn is_kept(slots: &[RowSlot], role: LinkRole, terminus: TerminusNumber) -> bool
-    ensures { result ≡ list_any (keeps role terminus.0) (rows_in slots.now) }
-{
-    slots.iter().any(|slot| place_holds(slot, role, terminus))
 }

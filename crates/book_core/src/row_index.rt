@@ -4,7 +4,7 @@ ghost use Rattle.std.specs.BTreeMap.{get};
 ghost use Rattle.std.specs.List.{list_any};
 ghost use Rattle.std.specs.Ordering.{nat_cmp};
 ghost use Rattle.amqp_perf.specs.declared.state.DeliveryState.{DeliveryState};
-ghost use Rattle.book_core.specs.Book.{admitted, decided, forgotten, has_tag, is_from, row_at, undecided_for, with_row};
+ghost use Rattle.book_core.specs.Book.{admitted, decided, forgotten, has_tag, is_from, keeps, row_at, undecided_for, with_row};
 ghost use Rattle.book_core.specs.Indexed.{IsIndexed, SameIndexBefore, IsIndexSettled, IsIndexBack, one_for, left_by};
 ghost use Rattle.book_core.specs.Numbers.{number_at, earlier};
 ghost use Rattle.book_core.specs.Rising.{Rises};
@@ -14,7 +14,7 @@ use crate::act::Admission;
 use crate::numbers::Numbers;
 use crate::row::Row;
 use crate::row_name::{RowName, set_name};
-use crate::terminus::TerminusNumber;
+use crate::terminus::{LinkRole, TerminusNumber};
 use std::alloc::{AllocError, Global};
 
 /// The numbers of rows by name, and how many rows a terminus has.
@@ -24,6 +24,8 @@ pub(crate) struct RowIndex {
     pub(crate) names: Numbers<RowName>,
     /// How many rows came on the link of a terminus.
     pub(crate) from: Numbers<u64>,
+    /// How many of them aren't forgotten.
+    pub(crate) unforgotten: Numbers<u64>,
     /// How many undecided rows are bound to the link of a terminus.
     pub(crate) waiting: Numbers<u64>,
 }
@@ -36,6 +38,7 @@ impl RowIndex {
         RowIndex {
             names: Numbers::new(alloc),
             from: Numbers::new(alloc),
+            unforgotten: Numbers::new(alloc),
             waiting: Numbers::new(alloc),
         }
     }
@@ -57,6 +60,17 @@ impl RowIndex {
         }
     }
 
+    /// Whether a row keeps a terminus of this role.
+    #[tactic(auto, using(crate::proofs::Counted::any_counted))]
+    pub(crate) fn keeps(&self, role: LinkRole, terminus: TerminusNumber) -> bool
+        ensures { (rs : List Row) → IsIndexed self.now rs → result ≡ list_any (keeps role terminus.0) rs }
+    {
+        match role {
+            LinkRole::Producer => self.unforgotten.at(&terminus.0) > 0,
+            LinkRole::Consumer => self.waiting.at(&terminus.0) > 0,
+        }
+    }
+
     /// A row is admitted, whose name no row has.
     pub(crate) fn admit(&mut self, admission: &Admission) -> Result<(), AllocError>
         ensures indexed { (rs : List Row) → IsIndexed self.old rs → list_any (has_tag admission.now.producer.0 admission.now.tag.items) rs ≡ false → OnOk result (IsIndexed self.new (rs ++ admitted admission.now ∷ [])) }
@@ -69,6 +83,7 @@ impl RowIndex {
             admission.row.0,
         )?;
         add_one(&mut self.from, Some(admission.producer))?;
+        add_one(&mut self.unforgotten, Some(admission.producer))?;
         add_one(&mut self.waiting, admission.consumer)?;
         Ok(())
     }
@@ -89,6 +104,7 @@ impl RowIndex {
         ensures before { SameIndexBefore self.old self.new }
     {
         take_one(&mut self.from, left_by(row.outcome.is_some(), row))?;
+        take_one(&mut self.unforgotten, Some(row.producer))?;
         set_name(&mut self.names, row.producer, &row.tag, 0)?;
         Ok(())
     }
@@ -100,6 +116,7 @@ impl RowIndex {
     {
         self.names.rollback();
         self.from.rollback();
+        self.unforgotten.rollback();
         self.waiting.rollback();
     }
 
@@ -110,6 +127,7 @@ impl RowIndex {
     {
         self.names.commit();
         self.from.commit();
+        self.unforgotten.commit();
         self.waiting.commit();
     }
 }

@@ -212,7 +212,7 @@ impl Tables {
         match look::terminus(&self.termini.slots, number) {
             None => Some(BookFault::NoTerminus),
             Some(terminus) => {
-                if look::is_kept(&self.rows.slots, terminus.key.role, terminus.number) {
+                if self.index.keeps(terminus.key.role, terminus.number) {
                     Some(BookFault::NoTerminus)
                 } else {
                     None

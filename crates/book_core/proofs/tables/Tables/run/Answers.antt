@@ -18,6 +18,7 @@ loop-act-preserved c = record {
     index = record {
       names = c.step.ensures.before.index.names ∙ c.loop-act.invariant.same.index.names;
       from = c.step.ensures.before.index.from ∙ c.loop-act.invariant.same.index.from;
+      unforgotten = c.step.ensures.before.index.unforgotten ∙ c.loop-act.invariant.same.index.unforgotten;
       waiting = c.step.ensures.before.index.waiting ∙ c.loop-act.invariant.same.index.waiting;
     };
   };
