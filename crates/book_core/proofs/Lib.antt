@@ -1,4 +1,9 @@
 pub mod Before
+pub mod Changes
+pub mod Found
+pub mod Keyed
+pub mod Named
+pub mod Counted
 pub mod Places
 pub mod Shown
 pub mod Looked

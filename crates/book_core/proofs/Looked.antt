@@ -1,8 +1,6 @@
 -- The lemmas of `Shown` at termini and at rows.
-use Rattle.std.proofs.Common.{[], ◌∷◌, refl, ap, ◌≡◌, ℕ, Bool, List, length, get_or, None, false, sym}
-use Rattle.std.specs.Prelude.{filter, count_by, is_some}
-use Rattle.std.specs.List.{list_any}
-use Rattle.std.specs.Option.{option_map_or}
+use Rattle.std.proofs.Common.{[], ◌∷◌, refl, ap, ◌≡◌, ℕ, List, get_or, None}
+use Rattle.std.specs.Prelude.{filter}
 use Rattle.book_core.specs.declared.row.Row.{Row}
 use Rattle.book_core.specs.declared.slot.RowSlot.{RowSlot}
 use Rattle.book_core.specs.declared.slot.TerminusSlot.{TerminusSlot}
@@ -23,21 +21,6 @@ terminus_found n xs at d up h = shown.find_at (λ (s : TerminusSlot). s.number) 
 
 pub terminus_missing : (n : ℕ) (xs : List TerminusSlot) → Lacks (λ (s : TerminusSlot). s.number) n xs → terminus_at n (termini_in xs) ≡ None
 terminus_missing n xs h = shown.find_lacking (λ (s : TerminusSlot). s.number) (λ s. s.terminus) (λ (t : Terminus). t.number.0) (λ s. s.same) n xs h
-
-pub any_terminus : (p : Terminus → Bool) (xs : List TerminusSlot) → list_any p (termini_in xs) ≡ list_any (λ s. option_map_or p s.terminus false) xs
-any_terminus p xs = sym (shown.any_shown (λ (s : TerminusSlot). s.terminus) p xs)
-
-pub any_row : (p : Row → Bool) (xs : List RowSlot) → list_any p (rows_in xs) ≡ list_any (λ s. option_map_or p s.row false) xs
-any_row p xs = sym (shown.any_shown (λ (s : RowSlot). s.row) p xs)
-
-pub count_row : (p : Row → Bool) (xs : List RowSlot) → count_by p (rows_in xs) ≡ count_by (λ s. option_map_or p s.row false) xs
-count_row p xs = sym (shown.count_shown (λ (s : RowSlot). s.row) p xs)
-
-pub length_rows : (xs : List RowSlot) → length (rows_in xs) ≡ count_by (λ s. is_some s.row) xs
-length_rows xs = sym (shown.length_shown (λ (s : RowSlot). s.row) xs)
-
-pub length_termini : (xs : List TerminusSlot) → length (termini_in xs) ≡ count_by (λ s. is_some s.terminus) xs
-length_termini xs = sym (shown.length_shown (λ (s : TerminusSlot). s.terminus) xs)
 
 pub all_wanted : (rs : List Row) → filter (is_wanted None) rs ≡ rs
 all_wanted [] = refl

@@ -1,17 +1,16 @@
 -- What the places of a table show, through look-ups and changes.
-use Rattle.std.proofs.Common.{◌≡◌, ℕ, ◌<◌, ◌≤◌, ◌+◌, suc, zero, Bool, true, false, cond, not, ◌||◌, List, [], ◌∷◌, ◌++◌, length, get_or, set, Option, Some, None, refl, arith, ap, ◌∙◌, sym, subst}
-use Rattle.std.specs.Prelude.{find, filter, filter_map, count_by, is_some, ◌==◌}
-use Rattle.std.specs.List.{list_any, cons_option}
-use Rattle.std.specs.Option.{ForSome, option_map_or}
+use Rattle.std.proofs.Common.{◌≡◌, ℕ, ◌<◌, ◌≤◌, ◌+◌, suc, zero, Bool, true, false, cond, not, List, [], ◌∷◌, ◌++◌, length, get_or, set, Option, Some, None, refl, arith, ap, ◌∙◌, sym, subst}
+use Rattle.std.specs.Prelude.{find, filter, filter_map, is_some, ◌==◌}
+use Rattle.std.specs.List.{cons_option}
+use Rattle.std.specs.Option.{ForSome}
 use Rattle.book_core.specs.Rising.{Rises, AllAbove, AllBelow, Lacks, IsAt}
 use Rattle.std.proofs.lemmas.Bool.Decides.{nat_tests}
-use Rattle.std.proofs.lemmas.List.Sums.{sum_by-cons}
 
 by_test : {P : Type 0} (b : Bool) → ((b ≡ true) → P) → ((b ≡ false) → P) → P
 by_test true f g = f refl
 by_test false f g = g refl
 
-same_number : (a n : ℕ) → a ≡ n → (a == n) ≡ true
+pub same_number : (a n : ℕ) → a ≡ n → (a == n) ≡ true
 same_number a n e = grind (arith, nat_tests)
 
 other_number : (a n : ℕ) → (a ≡ n → ⊥) → (a == n) ≡ false
@@ -70,6 +69,23 @@ module _ {S V : Type 0} (number : S → ℕ) (value : S → Option V) (name : V 
       lies (y ∷ ys) zero a l = a.0
       lies (y ∷ ys) (suc i) a l = lies ys i a.1 (omega arith)
 
+  above_shown : (m : ℕ) (xs : List S) → AllAbove number m xs → AllAbove name m (filter_map value xs)
+  above_shown m [] h = tt
+  above_shown m (x ∷ xs) h = by_value (value x) refl (above_shown m xs h.1)
+    where
+      by_value : (o : Option V) → value x ≡ o → AllAbove name m (filter_map value xs) → AllAbove name m (cons_option o (filter_map value xs))
+      by_value None e rest = rest
+      by_value (Some v) e rest = (let is : name v ≡ number x = same x v e in let above : m < number x = h.0 in omega arith, rest)
+
+  -- what is shown is in the order of its places
+  pub rises_shown : (xs : List S) → Rises number xs → Rises name (filter_map value xs)
+  rises_shown [] up = tt
+  rises_shown (x ∷ xs) up = by_value (value x) refl (rises_shown xs up.1)
+    where
+      by_value : (o : Option V) → value x ≡ o → Rises name (filter_map value xs) → Rises name (cons_option o (filter_map value xs))
+      by_value None e rest = rest
+      by_value (Some v) e rest = (let P : ℕ → Type 0 = λ m. AllAbove name m (filter_map value xs) in subst P (sym (same x v e)) (above_shown (number x) xs up.0), rest)
+
   -- a place of another number stays what it was
   pub change_at : (n : ℕ) (change : V → Option V) (xs : List S) (at : ℕ) (s : S) (old : V) → Rises number xs → IsAt number n xs at
       → ((d : S) → value (get_or xs at d) ≡ Some old) → value s ≡ change old
@@ -109,34 +125,6 @@ module _ {S V : Type 0} (value : S → Option V) where
       by_value : (o : Option V) → value x ≡ o → filter_map value (filter (λ s. is_some (value s)) xs) ≡ filter_map value xs → filter_map value (cond (is_some o) (x ∷ filter (λ s. is_some (value s)) xs) (filter (λ s. is_some (value s)) xs)) ≡ cons_option o (filter_map value xs)
       by_value None e rest = rest
       by_value (Some v) e rest = rw e (ap (λ vs. v ∷ vs) rest)
-
-  -- whether a place shows something that passes a test
-  abbrev pub shows : (V → Bool) → S → Bool
-  shows p s = option_map_or p (value s) false
-
-  pub any_shown : (p : V → Bool) (xs : List S) → list_any (shows p) xs ≡ list_any p (filter_map value xs)
-  any_shown p [] = refl
-  any_shown p (x ∷ xs) = by_value (value x) (any_shown p xs)
-    where
-      by_value : (o : Option V) → list_any (shows p) xs ≡ list_any p (filter_map value xs) → (option_map_or p o false || list_any (shows p) xs) ≡ list_any p (cons_option o (filter_map value xs))
-      by_value None rest = rest
-      by_value (Some v) rest = ap (λ b. p v || b) rest
-
-  pub count_shown : (p : V → Bool) (xs : List S) → count_by (shows p) xs ≡ count_by p (filter_map value xs)
-  count_shown p [] = refl
-  count_shown p (x ∷ xs) = rw (sum_by-cons (λ s. cond (shows p s) 1 0) x xs) (by_value (value x) (count_shown p xs))
-    where
-      by_value : (o : Option V) → count_by (shows p) xs ≡ count_by p (filter_map value xs) → cond (option_map_or p o false) 1 0 + count_by (shows p) xs ≡ count_by p (cons_option o (filter_map value xs))
-      by_value None rest = omega arith
-      by_value (Some v) rest = rw (sum_by-cons (λ w. cond (p w) 1 0) v (filter_map value xs)) (ap (λ n. cond (p v) 1 0 + n) rest)
-
-  pub length_shown : (xs : List S) → count_by (λ s. is_some (value s)) xs ≡ length (filter_map value xs)
-  length_shown [] = refl
-  length_shown (x ∷ xs) = rw (sum_by-cons (λ s. cond (is_some (value s)) 1 0) x xs) (by_value (value x) (length_shown xs))
-    where
-      by_value : (o : Option V) → count_by (λ s. is_some (value s)) xs ≡ length (filter_map value xs) → cond (is_some o) 1 0 + count_by (λ s. is_some (value s)) xs ≡ length (cons_option o (filter_map value xs))
-      by_value None rest = omega arith
-      by_value (Some v) rest = omega arith
 
 -- taking out by a test
 pub filter_as_change : {V : Type 0} (name : V → ℕ) (n : ℕ) (vs : List V) → filter_map (λ v. cond (name v == n) None (Some v)) vs ≡ filter (λ v. not (name v == n)) vs

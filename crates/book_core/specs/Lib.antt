@@ -1,6 +1,10 @@
 pub mod Act
 pub mod Book
 pub mod Fault
+pub mod Indexed
+pub mod Keys
+pub mod Named
+pub mod Numbers
 pub mod Rising
 pub mod Rows
 pub mod Slots

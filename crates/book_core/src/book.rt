@@ -51,15 +51,14 @@ impl Book {
         ensures first { IfErr result (λ f. (f ≡ fault.Memory → ⊥) → first_fault self.old acts.now ≡ Some f) }
         ensures unchanged { OnErr result (self.new ≡ self.old) }
     {
-        let next_terminus = self.tables.next_terminus;
-        let next_row = self.tables.next_row;
+        let counters = self.tables.counters;
         match self.tables.run(acts) {
             Ok(()) => {
                 self.tables.commit();
                 Ok(())
             }
             Err(fault) => {
-                self.tables.rollback(next_terminus, next_row);
+                self.tables.rollback(counters);
                 Err(fault)
             }
         }
@@ -98,7 +97,12 @@ impl Book {
     pub fn row_named(&self, producer: TerminusNumber, tag: &DeliveryTag) -> Option<&Row>
         ensures { option_copied result ≡ row_named producer.0 tag.now.items self.now.rows }
     {
-        look::row_named(&self.tables.rows.slots, producer, tag)
+        look::row_named(
+            &self.tables.rows.slots,
+            &self.tables.index.names,
+            producer,
+            tag,
+        )
     }
 
     /// The terminus of a number.
@@ -112,34 +116,34 @@ impl Book {
     pub fn terminus_of(&self, key: &LinkKey) -> Option<&Terminus>
         ensures { option_copied result ≡ terminus_of key.now self.now.termini }
     {
-        look::terminus_with(&self.tables.termini.slots, key)
+        look::terminus_with(&self.tables.termini.slots, &self.tables.keys, key)
     }
 
     /// How many rows there are.
     pub fn row_count(&self) -> usize
         ensures { result ≡ length self.now.rows }
     {
-        look::count_rows(&self.tables.rows.slots)
+        self.tables.counters.rows
     }
 
     /// How many termini there are.
     pub fn terminus_count(&self) -> usize
         ensures { result ≡ length self.now.termini }
     {
-        look::count_termini(&self.tables.termini.slots)
+        self.tables.counters.termini
     }
 
     /// The number of the next terminus.
     pub fn next_terminus(&self) -> TerminusNumber
         ensures { result.0 ≡ self.now.next_terminus }
     {
-        TerminusNumber(self.tables.next_terminus)
+        TerminusNumber(self.tables.counters.next_terminus)
     }
 
     /// The number of the next row.
     pub fn next_row(&self) -> RowNumber
         ensures { result.0 ≡ self.now.next_row }
     {
-        RowNumber(self.tables.next_row)
+        RowNumber(self.tables.counters.next_row)
     }
 }

@@ -76,7 +76,7 @@ fn tag(tag: &DeliveryTag) -> Result<DeliveryTag, AllocError>
     tag.clone()
 }
 
-fn key(key: &LinkKey) -> Result<LinkKey, AllocError>
+pub(crate) fn key(key: &LinkKey) -> Result<LinkKey, AllocError>
     ensures { IfOk result (λ k. k ≡ key.now) }
 {
     Ok(LinkKey {

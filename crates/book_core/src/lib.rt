@@ -7,9 +7,13 @@ pub mod act;
 pub mod book;
 mod copy;
 pub mod fault;
+mod key_order;
 mod look;
+mod numbers;
 mod place;
 pub mod row;
+mod row_index;
+mod row_name;
 pub mod rows;
 mod slot;
 mod table;
@@ -23,5 +27,7 @@ pub use row::{Row, RowNumber};
 pub use rows::Rows;
 pub use terminus::{LinkKey, LinkRole, Terminus, TerminusNumber};
 
+#[cfg(test)]
+mod limit_tests;
 #[cfg(test)]
 mod tests;

@@ -1,13 +1,17 @@
 //! Looking up in the places of a book's tables.
-ghost use Rattle.std.specs.Prelude.{◌≡◌, ◌&&◌, not, false, is_some, count_by, length};
-ghost use Rattle.std.specs.Option.{option_copied, option_map_or};
+ghost use Rattle.std.specs.Prelude.{◌≡◌};
+ghost use Rattle.std.specs.Option.{option_copied};
 ghost use Rattle.std.specs.List.{list_any};
-ghost use Rattle.book_core.specs.Book.{terminus_at, terminus_of, row_at, row_named, same_role, same_key, is_from, is_for, is_undecided, has_tag, has_role, may_bind, undecided_for, keeps, is_wanted};
+ghost use Rattle.book_core.specs.Book.{terminus_at, terminus_of, row_at, row_named, same_role, same_key, is_from, is_for, has_tag, is_wanted};
+ghost use Rattle.book_core.specs.Keys.{AllKeyed};
+ghost use Rattle.book_core.specs.Named.{AllNamed};
 ghost use Rattle.book_core.specs.Rising.{Rises};
 ghost use Rattle.book_core.specs.Slots.{rows_in, termini_in};
 
+use crate::numbers::Numbers;
 use crate::place::{row_place, terminus_place};
 use crate::row::Row;
+use crate::row_name::RowName;
 use crate::slot::{RowSlot, TerminusSlot};
 use crate::terminus::{LinkKey, LinkRole, Terminus, TerminusNumber};
 use amqp_perf::DeliveryTag;
@@ -30,6 +34,68 @@ pub(crate) fn row(slots: &[RowSlot], number: u64) -> Option<&Row>
         None => None,
         Some(at) => slots[at].row.as_ref(),
     }
+}
+
+/// The unforgotten row of this producer with this tag.
+pub(crate) fn row_named<'a>(
+    slots: &'a [RowSlot],
+    names: &Numbers<RowName>,
+    producer: TerminusNumber,
+    tag: &DeliveryTag,
+) -> Option<&'a Row>
+    ensures { Rises (λ (s : RowSlot). s.number) slots.now → AllNamed names.now (rows_in slots.now) → option_copied result ≡ row_named producer.0 tag.now.items (rows_in slots.now) }
+{
+    let name = RowName::new(producer, tag);
+    match row(slots, names.at(&name)) {
+        None => None,
+        Some(row) => {
+            if is_named(row, producer, tag) {
+                Some(row)
+            } else {
+                None
+            }
+        }
+    }
+}
+
+/// Whether an unforgotten row of this producer has this tag.
+pub(crate) fn has_named(
+    slots: &[RowSlot],
+    names: &Numbers<RowName>,
+    producer: TerminusNumber,
+    tag: &DeliveryTag,
+) -> bool
+    ensures { Rises (λ (s : RowSlot). s.number) slots.now → AllNamed names.now (rows_in slots.now) → result ≡ list_any (has_tag producer.0 tag.now.items) (rows_in slots.now) }
+{
+    row_named(slots, names, producer, tag).is_some()
+}
+
+/// The terminus of the link with this key.
+pub(crate) fn terminus_with<'a>(
+    slots: &'a [TerminusSlot],
+    keys: &Numbers<LinkKey>,
+    key: &LinkKey,
+) -> Option<&'a Terminus>
+    ensures { Rises (λ (s : TerminusSlot). s.number) slots.now → AllKeyed keys.now (termini_in slots.now) → option_copied result ≡ terminus_of key.now (termini_in slots.now) }
+{
+    let number = TerminusNumber(keys.at(key));
+    match terminus(slots, number) {
+        None => None,
+        Some(terminus) => {
+            if is_key(&terminus.key, key) {
+                Some(terminus)
+            } else {
+                None
+            }
+        }
+    }
+}
+
+/// Whether a terminus stands for the link with this key.
+pub(crate) fn has_key(slots: &[TerminusSlot], keys: &Numbers<LinkKey>, key: &LinkKey) -> bool
+    ensures { Rises (λ (s : TerminusSlot). s.number) slots.now → AllKeyed keys.now (termini_in slots.now) → result ≡ list_any (λ t. same_key t.key key.now) (termini_in slots.now) }
+{
+    terminus_with(slots, keys, key).is_some()
 }
 
 pub(crate) fn is_role(role: LinkRole, other: LinkRole) -> bool
@@ -68,25 +134,10 @@ pub(crate) fn is_bound_to(row: &Row, terminus: TerminusNumber) -> bool
     }
 }
 
-fn waits_for(row: &Row, terminus: TerminusNumber) -> bool
-    ensures { result ≡ (is_for terminus.0 row.now && is_undecided row.now) }
-{
-    is_bound_to(row, terminus) && row.outcome.is_none()
-}
-
 pub(crate) fn is_named(row: &Row, producer: TerminusNumber, tag: &DeliveryTag) -> bool
     ensures { result ≡ has_tag producer.0 tag.now.items row.now }
 {
     came_from(row, producer) && !row.forgotten && row.tag == *tag
-}
-
-fn holds(row: &Row, role: LinkRole, terminus: TerminusNumber) -> bool
-    ensures { result ≡ keeps role terminus.0 row.now }
-{
-    match role {
-        LinkRole::Producer => came_from(row, terminus) && !row.forgotten,
-        LinkRole::Consumer => waits_for(row, terminus),
-    }
 }
 
 /// Whether a row came on the link of this terminus or is bound to it; any row where none is named.
@@ -97,144 +148,4 @@ pub(crate) fn is_wanted_row(row: &Row, terminus: Option<TerminusNumber>) -> bool
         None => true,
         Some(terminus) => came_from(row, terminus) || is_bound_to(row, terminus),
     }
-}
-
-// The same of a place.
-
-fn place_has_key(slot: &TerminusSlot, key: &LinkKey) -> bool
-    ensures { result ≡ option_map_or (λ t. same_key t.key key.now) slot.now.terminus false }
-{
-    match &slot.terminus {
-        None => false,
-        Some(terminus) => is_key(&terminus.key, key),
-    }
-}
-
-fn place_is_named(slot: &RowSlot, producer: TerminusNumber, tag: &DeliveryTag) -> bool
-    ensures { result ≡ option_map_or (has_tag producer.0 tag.now.items) slot.now.row false }
-{
-    match &slot.row {
-        None => false,
-        Some(row) => is_named(row, producer, tag),
-    }
-}
-
-fn place_holds(slot: &RowSlot, role: LinkRole, terminus: TerminusNumber) -> bool
-    ensures { result ≡ option_map_or (keeps role terminus.0) slot.now.row false }
-{
-    match &slot.row {
-        None => false,
-        Some(row) => holds(row, role, terminus),
-    }
-}
-
-fn place_came_from(slot: &RowSlot, terminus: TerminusNumber) -> bool
-    ensures { result ≡ option_map_or (is_from terminus.0) slot.now.row false }
-{
-    match &slot.row {
-        None => false,
-        Some(row) => came_from(row, terminus),
-    }
-}
-
-fn place_waits_for(slot: &RowSlot, terminus: TerminusNumber) -> bool
-    ensures { result ≡ option_map_or (λ r. is_for terminus.0 r && is_undecided r) slot.now.row false }
-{
-    match &slot.row {
-        None => false,
-        Some(row) => waits_for(row, terminus),
-    }
-}
-
-// The same of all places.
-
-/// Whether a terminus stands for the link with this key.
-pub(crate) fn has_key(slots: &[TerminusSlot], key: &LinkKey) -> bool
-    ensures { result ≡ list_any (λ t. same_key t.key key.now) (termini_in slots.now) }
-{
-    slots.iter().any(|slot| place_has_key(slot, key))
-}
-
-/// Whether an unforgotten row of this producer has this tag.
-pub(crate) fn has_named(slots: &[RowSlot], producer: TerminusNumber, tag: &DeliveryTag) -> bool
-    ensures { result ≡ list_any (has_tag producer.0 tag.now.items) (rows_in slots.now) }
-{
-    slots.iter().any(|slot| place_is_named(slot, producer, tag))
-}
-
-/// Whether a row keeps this terminus.
-pub(crate) fn is_kept(slots: &[RowSlot], role: LinkRole, terminus: TerminusNumber) -> bool
-    ensures { result ≡ list_any (keeps role terminus.0) (rows_in slots.now) }
-{
-    slots.iter().any(|slot| place_holds(slot, role, terminus))
-}
-
-/// How many rows came on the link of this terminus.
-#[tactic(auto, using(crate::proofs::Looked::count_row))]
-pub(crate) fn count_from(slots: &[RowSlot], terminus: TerminusNumber) -> usize
-    ensures { result ≡ count_by (is_from terminus.0) (rows_in slots.now) }
-{
-    slots
-        .iter()
-        .filter(|slot| place_came_from(slot, terminus))
-        .count()
-}
-
-/// How many undecided rows are bound to this terminus.
-#[tactic(auto, using(crate::proofs::Looked::count_row))]
-pub(crate) fn count_waiting(slots: &[RowSlot], terminus: Option<TerminusNumber>) -> usize
-    ensures { result ≡ undecided_for terminus (rows_in slots.now) }
-{
-    match terminus {
-        None => 0,
-        Some(terminus) => slots
-            .iter()
-            .filter(|slot| place_waits_for(slot, terminus))
-            .count(),
-    }
-}
-
-/// How many rows there are.
-pub(crate) fn count_rows(slots: &[RowSlot]) -> usize
-    ensures { result ≡ length (rows_in slots.now) }
-{
-    slots.iter().filter(|slot| slot.row.is_some()).count()
-}
-
-/// How many termini there are.
-#[tactic(auto, using(crate::proofs::Looked::length_termini))]
-pub(crate) fn count_termini(slots: &[TerminusSlot]) -> usize
-    ensures { result ≡ length (termini_in slots.now) }
-{
-    slots.iter().filter(|slot| slot.terminus.is_some()).count()
-}
-
-/// The terminus of the link with this key.
-pub(crate) fn terminus_with<'a>(slots: &'a [TerminusSlot], key: &LinkKey) -> Option<&'a Terminus>
-    ensures { option_copied result ≡ terminus_of key.now (termini_in slots.now) }
-{
-    for slot in slots {
-        match &slot.terminus {
-            Some(terminus) if is_key(&terminus.key, key) => return Some(terminus),
-            _ => {}
-        }
-    }
-    None
-}
-
-/// The unforgotten row of this producer with this tag.
-pub(crate) fn row_named<'a>(
-    slots: &'a [RowSlot],
-    producer: TerminusNumber,
-    tag: &DeliveryTag,
-) -> Option<&'a Row>
-    ensures { option_copied result ≡ row_named producer.0 tag.now.items (rows_in slots.now) }
-{
-    for slot in slots {
-        match &slot.row {
-            Some(row) if is_named(row, producer, tag) => return Some(row),
-            _ => {}
-        }
-    }
-    None
 }

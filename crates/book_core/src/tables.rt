@@ -1,19 +1,26 @@
 //! The tables of a book, one act at a time.
-ghost use Rattle.std.specs.Prelude.{◌≡◌, ◌+◌, ◌∷◌, ◌++◌, [], None, OnOk, OnErr, IfOk, IfErr, filter, not, ◌==◌, length, nat_le, is_some};
+ghost use Rattle.std.specs.Prelude.{◌≡◌, ◌+◌, ◌-◌, if◌then◌else◌, ◌∷◌, ◌++◌, [], None, OnOk, OnErr, IfOk, IfErr, filter, not, ◌==◌, length, nat_le, is_some};
 ghost use Rattle.amqp_perf.specs.Spelling.{state_spelling};
 ghost use Rattle.book_core.specs.Book.{BookView, empty_book, refusal, effect, make_refusal, admit_refusal, decide_refusal, forget_refusal, drop_refusal, decided, forgotten, admitted, with_row, has_short_texts, has_role, may_bind, terminus_at, row_at};
+ghost use Rattle.std.specs.BTreeMap.{get};
+ghost use Rattle.book_core.specs.Indexed.{IsIndexBack};
+ghost use Rattle.book_core.specs.Keys.{key_cmp};
+ghost use Rattle.book_core.specs.Numbers.{earlier};
 ghost use Rattle.book_core.specs.Table.{before};
-ghost use Rattle.book_core.specs.Tables.{Shows, SameBefore, IsSettled, Stepped, Ran};
+ghost use Rattle.book_core.specs.Tables.{Shows, SameBefore, IsSettled, IsSwept, Stepped, Ran, row_number, terminus_number};
 ghost use Rattle.book_core.specs.declared.act.Act.TheVariants as act;
 ghost use Rattle.book_core.specs.declared.terminus.LinkRole.TheVariants as role;
 
 use crate::act::{Act, Admission, Decision};
 use crate::fault::BookFault;
+use crate::key_order::set_key;
+use crate::numbers::Numbers;
 use crate::place::{row_place, terminus_place};
-use crate::row::RowNumber;
+use crate::row::{Row, RowNumber};
+use crate::row_index::RowIndex;
 use crate::slot::{RowSlot, TerminusSlot};
 use crate::table::Table;
-use crate::terminus::{LinkRole, Terminus, TerminusNumber};
+use crate::terminus::{LinkKey, LinkRole, Terminus, TerminusNumber};
 use crate::{copy, look};
 use amqp_perf::{DeliveryState, write_state};
 use std::alloc::{AllocError, Global};
@@ -23,7 +30,7 @@ const MAX_TERMINI: usize = 1024;
 /// The most rows of a book.
 const MAX_ROWS: usize = 4096;
 /// The most rows of one producer's terminus, and the most undecided ones of one consumer's.
-const MAX_ROWS_OF_TERMINUS: usize = 64;
+const MAX_ROWS_OF_TERMINUS: u64 = 64;
 /// The most bytes of a text of a terminus.
 const MAX_TEXT: usize = 1024;
 /// The most bytes of a payload.
@@ -37,8 +44,22 @@ pub(crate) struct Tables {
     pub(crate) alloc: Global,
     pub(crate) termini: Table<TerminusSlot>,
     pub(crate) rows: Table<RowSlot>,
+    pub(crate) keys: Numbers<LinkKey>,
+    pub(crate) index: RowIndex,
+    pub(crate) counters: Counters,
+}
+
+/// What a book counts.
+#[derive(Clone, Copy)]
+pub(crate) struct Counters {
+    /// The number of the next terminus.
     pub(crate) next_terminus: u64,
+    /// The number of the next row.
     pub(crate) next_row: u64,
+    /// How many termini there are.
+    pub(crate) termini: usize,
+    /// How many rows there are.
+    pub(crate) rows: usize,
 }
 
 fn is_short(text: &str) -> bool
@@ -74,8 +95,14 @@ impl Tables {
             alloc,
             termini: Table::new(alloc),
             rows: Table::new(alloc),
-            next_terminus: 1,
-            next_row: 1,
+            keys: Numbers::new(alloc),
+            index: RowIndex::new(alloc),
+            counters: Counters {
+                next_terminus: 1,
+                next_row: 1,
+                termini: 0,
+                rows: 0,
+            },
         }
     }
 
@@ -100,13 +127,13 @@ impl Tables {
     fn why_not_make(&self, terminus: &Terminus) -> Option<BookFault>
         ensures { (b : BookView) → Shows self.now b → result ≡ make_refusal b terminus.now }
     {
-        if terminus.number.0 != self.next_terminus {
+        if terminus.number.0 != self.counters.next_terminus {
             return Some(BookFault::NoTerminus);
         }
-        if look::has_key(&self.termini.slots, &terminus.key) {
+        if look::has_key(&self.termini.slots, &self.keys, &terminus.key) {
             return Some(BookFault::NoTerminus);
         }
-        if look::count_termini(&self.termini.slots) >= MAX_TERMINI {
+        if self.counters.termini >= MAX_TERMINI {
             return Some(BookFault::Limit);
         }
         if !has_short(terminus) {
@@ -126,19 +153,19 @@ impl Tables {
         if !self.may_bind(admission.consumer) {
             return Some(BookFault::NoTerminus);
         }
-        if admission.row.0 != self.next_row {
+        if admission.row.0 != self.counters.next_row {
             return Some(BookFault::NoRow);
         }
-        if look::has_named(rows, producer, &admission.tag) {
+        if look::has_named(rows, &self.index.names, producer, &admission.tag) {
             return Some(BookFault::TagInUse);
         }
-        if look::count_rows(rows) >= MAX_ROWS {
+        if self.counters.rows >= MAX_ROWS {
             return Some(BookFault::Limit);
         }
-        if look::count_from(rows, producer) >= MAX_ROWS_OF_TERMINUS {
+        if self.index.count_from(producer) >= MAX_ROWS_OF_TERMINUS {
             return Some(BookFault::Limit);
         }
-        if look::count_waiting(rows, admission.consumer) >= MAX_ROWS_OF_TERMINUS {
+        if self.index.count_waiting(admission.consumer) >= MAX_ROWS_OF_TERMINUS {
             return Some(BookFault::Limit);
         }
         if admission.payload.len() > MAX_PAYLOAD {
@@ -185,7 +212,7 @@ impl Tables {
         match look::terminus(&self.termini.slots, number) {
             None => Some(BookFault::NoTerminus),
             Some(terminus) => {
-                if look::is_kept(&self.rows.slots, terminus.key.role, terminus.number) {
+                if self.index.keeps(terminus.key.role, terminus.number) {
                     Some(BookFault::NoTerminus)
                 } else {
                     None
@@ -207,43 +234,53 @@ impl Tables {
         }
     }
 
-    /// Makes a terminus, whose number is the next.
+    /// Makes a terminus that applies.
     fn make(&mut self, terminus: &Terminus) -> Result<(), AllocError>
-        ensures shows { (b : BookView) → Shows self.old b → terminus.now.number.0 ≡ b.next_terminus → OnOk result (Shows self.new (effect b (act.Make terminus.now))) }
+        ensures shows { (b : BookView) → Shows self.old b → make_refusal b terminus.now ≡ None → OnOk result (Shows self.new (effect b (act.Make terminus.now))) }
         ensures before { SameBefore self.old self.new }
     {
-        let Some(next) = self.next_terminus.checked_add(1) else {
+        let Some(next) = self.counters.next_terminus.checked_add(1) else {
+            return Err(AllocError);
+        };
+        let Some(termini) = self.counters.termini.checked_add(1) else {
             return Err(AllocError);
         };
         let made = copy::terminus(terminus)?;
+        set_key(&mut self.keys, &terminus.key, terminus.number.0)?;
         self.termini.add(TerminusSlot {
             number: terminus.number.0,
             terminus: Some(made),
         })?;
-        self.next_terminus = next;
+        self.counters.next_terminus = next;
+        self.counters.termini = termini;
         Ok(())
     }
 
-    /// Admits a row, whose number is the next.
+    /// Admits a row that applies.
     fn admit(&mut self, admission: &Admission) -> Result<(), AllocError>
-        ensures shows { (b : BookView) → Shows self.old b → admission.now.row.0 ≡ b.next_row → OnOk result (Shows self.new (effect b (act.Admit admission.now))) }
+        ensures shows { (b : BookView) → Shows self.old b → admit_refusal b admission.now ≡ None → OnOk result (Shows self.new (effect b (act.Admit admission.now))) }
         ensures before { SameBefore self.old self.new }
     {
-        let Some(next) = self.next_row.checked_add(1) else {
+        let Some(next) = self.counters.next_row.checked_add(1) else {
+            return Err(AllocError);
+        };
+        let Some(rows) = self.counters.rows.checked_add(1) else {
             return Err(AllocError);
         };
         let row = copy::admitted_row(admission)?;
+        self.index.admit(admission)?;
         self.rows.add(RowSlot {
             number: admission.row.0,
             row: Some(row),
         })?;
-        self.next_row = next;
+        self.counters.next_row = next;
+        self.counters.rows = rows;
         Ok(())
     }
 
-    /// Decides a row, where it is there.
+    /// Decides a row that is there and undecided.
     fn decide(&mut self, decision: &Decision) -> Result<(), AllocError>
-        ensures shows { (b : BookView) → Shows self.old b → OnOk result (Shows self.new (effect b (act.Decide decision.now))) }
+        ensures shows { (b : BookView) → Shows self.old b → decide_refusal (row_at decision.now.row.0 b.rows) decision.now.outcome ≡ None → OnOk result (Shows self.new (effect b (act.Decide decision.now))) }
         ensures before { SameBefore self.old self.new }
     {
         let number = decision.row.0;
@@ -252,17 +289,20 @@ impl Tables {
             Some(at) => match &self.rows.slots[at].row {
                 None => Ok(()),
                 Some(row) => {
-                    let row = copy::decided_row(row, &decision.outcome)?;
-                    self.rows.replace(at, RowSlot { number, row })?;
+                    let after = copy::decided_row(row, &decision.outcome)?;
+                    let rows = rows_after(self.counters.rows, &after);
+                    self.index.decide(row)?;
+                    self.rows.replace(at, RowSlot { number, row: after })?;
+                    self.counters.rows = rows;
                     Ok(())
                 }
             },
         }
     }
 
-    /// Forgets a row, where it is there.
+    /// Forgets a row that applies.
     fn forget(&mut self, number: RowNumber) -> Result<(), AllocError>
-        ensures shows { (b : BookView) → Shows self.old b → OnOk result (Shows self.new (effect b (act.Forget number))) }
+        ensures shows { (b : BookView) → Shows self.old b → forget_refusal (row_at number.0 b.rows) ≡ None → OnOk result (Shows self.new (effect b (act.Forget number))) }
         ensures before { SameBefore self.old self.new }
     {
         let number = number.0;
@@ -271,8 +311,11 @@ impl Tables {
             Some(at) => match &self.rows.slots[at].row {
                 None => Ok(()),
                 Some(row) => {
-                    let row = copy::forgotten_row(row)?;
-                    self.rows.replace(at, RowSlot { number, row })?;
+                    let after = copy::forgotten_row(row)?;
+                    let rows = rows_after(self.counters.rows, &after);
+                    self.index.forget(row)?;
+                    self.rows.replace(at, RowSlot { number, row: after })?;
+                    self.counters.rows = rows;
                     Ok(())
                 }
             },
@@ -289,9 +332,11 @@ impl Tables {
             None => Ok(()),
             Some(at) => match &self.termini.slots[at].terminus {
                 None => Ok(()),
-                Some(_) => {
+                Some(terminus) => {
+                    set_key(&mut self.keys, &terminus.key, 0)?;
                     let terminus = None;
                     self.termini.replace(at, TerminusSlot { number, terminus })?;
+                    self.counters.termini = self.counters.termini.saturating_sub(1);
                     Ok(())
                 }
             },
@@ -340,39 +385,72 @@ impl Tables {
         Ok(())
     }
 
-    /// Undoes each act since the last commit, before which these were the next numbers.
-    pub(crate) fn rollback(&mut self, next_terminus: u64, next_row: u64)
+    /// Undoes each act since the last commit, before which the counters stood so.
+    pub(crate) fn rollback(&mut self, counters: Counters)
         ensures termini { self.new.termini.slots.items ≡ before self.old.termini.log.items self.old.termini.slots.items }
         ensures rows { self.new.rows.slots.items ≡ before self.old.rows.log.items self.old.rows.slots.items }
-        ensures next_terminus { self.new.next_terminus ≡ next_terminus }
-        ensures next_row { self.new.next_row ≡ next_row }
+        ensures keys { get key_cmp self.new.keys.numbers ≡ earlier key_cmp self.old.keys.log.items (get key_cmp self.old.keys.numbers) }
+        ensures index { IsIndexBack self.old.index self.new.index }
+        ensures counters { self.new.counters ≡ counters }
         ensures settled { IsSettled self.new }
     {
         self.termini.rollback();
         self.rows.rollback();
-        self.next_terminus = next_terminus;
-        self.next_row = next_row;
+        self.keys.rollback();
+        self.index.rollback();
+        self.counters = counters;
     }
 
-    /// Makes each act since the last commit last, and sweeps empty places out.
+    /// Makes each act since the last commit last, and sweeps empty places out once they are more than the others.
     pub(crate) fn commit(&mut self)
         ensures shows { (b : BookView) → Shows self.old b → Shows self.new b }
         ensures settled { IsSettled self.new }
     {
-        sweep_termini(&mut self.termini.slots);
+        sweep_termini(&mut self.termini.slots, self.counters.termini);
         self.termini.commit();
-        sweep_rows(&mut self.rows.slots);
+        sweep_rows(&mut self.rows.slots, self.counters.rows);
         self.rows.commit();
+        self.keys.commit();
+        self.index.commit();
     }
 }
 
-fn sweep_termini(slots: &mut Vec<TerminusSlot>)
+/// How many rows there are behind a change that leaves this of a row.
+fn rows_after(rows: usize, after: &Option<Row>) -> usize
+    ensures { result ≡ (if is_some after.now then rows else rows - 1) }
+{
+    if after.is_some() {
+        rows
+    } else {
+        rows.saturating_sub(1)
+    }
+}
+
+/// Takes empty places out, where fewer than half of all are taken.
+fn sweep_termini(slots: &mut Vec<TerminusSlot>, taken: usize)
+    ensures { IsSwept terminus_number (λ s. s.terminus) slots.old.items slots.new.items }
+{
+    if taken < slots.len() / 2 {
+        drop_empty_termini(slots);
+    }
+}
+
+/// The same of places for rows.
+fn sweep_rows(slots: &mut Vec<RowSlot>, taken: usize)
+    ensures { IsSwept row_number (λ s. s.row) slots.old.items slots.new.items }
+{
+    if taken < slots.len() / 2 {
+        drop_empty_rows(slots);
+    }
+}
+
+fn drop_empty_termini(slots: &mut Vec<TerminusSlot>)
     ensures { slots.new.items ≡ filter (λ s. is_some s.terminus) slots.old.items }
 {
     slots.retain(|slot| slot.terminus.is_some());
 }
 
-fn sweep_rows(slots: &mut Vec<RowSlot>)
+fn drop_empty_rows(slots: &mut Vec<RowSlot>)
     ensures { slots.new.items ≡ filter (λ s. is_some s.row) slots.old.items }
 {
     slots.retain(|slot| slot.row.is_some());

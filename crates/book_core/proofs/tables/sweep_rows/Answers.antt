@@ -1,6 +1,5 @@
-use Rattle.std.proofs.Common.{rules}
-use Rattle.std.proofs.lemmas.Fn.{filter_same}
+use Rattle.book_core.proofs.Steps.{swept_rows}
 use Rattle.book_core.proofs.tables.sweep_rows.Goals as goal
 
-pub returns : goal.returns
-returns c = filter_same _ _ _ (λ x b f' k. search rules) _ _ c.retain.ensures.filtered
+pub returns-then-taken-len : goal.returns-then-taken-len
+returns-then-taken-len c = swept_rows c.args.slots.now.items c.drop_empty_rows.new.slots.items c.drop_empty_rows.ensures

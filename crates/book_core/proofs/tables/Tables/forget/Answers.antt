@@ -1,20 +1,20 @@
 use Rattle.std.proofs.Common.{refl}
 use Rattle.book_core.specs.Book.{forgotten}
 use Rattle.book_core.proofs.Looked.{row_missing}
-use Rattle.book_core.proofs.Steps.{row_stays, row_gone, row_changes}
+use Rattle.book_core.proofs.Steps.{row_stays, row_gone, row_forgotten}
 use Rattle.book_core.proofs.tables.Tables.forget.Goals as goal
 
 pub returns-in-None-clause-shows : goal.returns-in-None-clause-shows
-returns-in-None-clause-shows c b s =
+returns-in-None-clause-shows c b s applies =
     let missing = rw c.deref.ensures.value at c.in-None.ensures.missing in
     row_stays c.args.self.now b c.args.number.0 (forgotten) s (row_missing _ _ (missing s.rows_rise))
 
 pub returns-in-None-row-clause-shows : goal.returns-in-None-row-clause-shows
-returns-in-None-row-clause-shows c b s =
+returns-in-None-row-clause-shows c b s applies =
     let found = rw c.deref.ensures.value at c.in-Some.ensures.found in
     row_stays c.args.self.now b c.args.number.0 (forgotten) s (row_gone _ _ _ _ s.rows_rise found c.index.ensures c.in-None-row.is)
 
 pub returns-in_ok-replace-in-Some-row-clause-shows : goal.returns-in_ok-replace-in-Some-row-clause-shows
-returns-in_ok-replace-in-Some-row-clause-shows c b s =
+returns-in_ok-replace-in-Some-row-clause-shows c b s applies =
     let found = rw c.deref.ensures.value at c.in-Some.ensures.found in
-    row_changes c.args.self.now c.replace.new.self b c.args.number.0 c.in-Some.at _ _ c.in-Some-row.row (forgotten) s found c.index.ensures c.in-Some-row.is c.in_ok-row-in-Some-row.ensures.row refl c.in_ok-replace-in-Some-row.ensures.ok
+    row_forgotten c.args.self.now c.forget.new.self c.replace.new.self c.rows_after-rows.result b c.args.number.0 c.in-Some.at _ _ c.in-Some-row.row s found c.index.ensures c.in-Some-row.is c.in_ok-after-in-Some-row.ensures.row refl c.in_ok-replace-in-Some-row.ensures.ok applies c.in_ok-forget-in-Some-row.ensures.indexed c.rows_after-rows.ensures

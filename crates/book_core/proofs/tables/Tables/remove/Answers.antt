@@ -16,4 +16,4 @@ returns-in-None-terminus-clause-shows c b s =
 pub returns-in_ok-replace-in-Some-terminus-clause-shows : goal.returns-in_ok-replace-in-Some-terminus-clause-shows
 returns-in_ok-replace-in-Some-terminus-clause-shows c b s =
     let found = rw c.deref.ensures.value at c.in-Some.ensures.found in
-    terminus_leaves c.args.self.now c.replace.new.self b c.args.number.0 c.in-Some.at _ _ _ s found c.index.ensures c.in-Some-terminus.is refl refl c.in_ok-replace-in-Some-terminus.ensures.ok
+    terminus_leaves c.args.self.now c.set_key.new.keys c.replace.new.self c.saturating_sub-self.result b c.args.number.0 c.in-Some.at _ _ _ s found c.index.ensures c.in-Some-terminus.is refl refl c.in_ok-replace-in-Some-terminus.ensures.ok c.saturating_sub-self.ensures c.in_ok-set_key-in-Some-terminus.ensures.set

@@ -14,6 +14,13 @@ loop-act-preserved c = record {
   same = record {
     termini = c.step.ensures.before.termini ∙ c.loop-act.invariant.same.termini;
     rows = c.step.ensures.before.rows ∙ c.loop-act.invariant.same.rows;
+    keys = c.step.ensures.before.keys ∙ c.loop-act.invariant.same.keys;
+    index = record {
+      names = c.step.ensures.before.index.names ∙ c.loop-act.invariant.same.index.names;
+      from = c.step.ensures.before.index.from ∙ c.loop-act.invariant.same.index.from;
+      unforgotten = c.step.ensures.before.index.unforgotten ∙ c.loop-act.invariant.same.index.unforgotten;
+      waiting = c.step.ensures.before.index.waiting ∙ c.loop-act.invariant.same.index.waiting;
+    };
   };
   so_far = λ b s.
       let m = c.loop-act.invariant.so_far b s in
