@@ -6,6 +6,8 @@ pub mod Scenes
 pub mod Turns
 pub mod Moves
 pub mod Order
+pub mod Headed
+pub mod AtDoor
 pub mod Levels
 pub mod Entering
 pub mod Passing

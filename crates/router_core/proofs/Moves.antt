@@ -8,7 +8,6 @@ use Rattle.router_core.specs.declared.state.event.Event.{Event}
 use Rattle.router_core.specs.declared.state.event.Event.TheVariants as event
 use Rattle.router_core.specs.declared.driving.Sent.{Sent}
 use Rattle.router_core.specs.declared.door.Door.{Door as DoorState}
-use Rattle.router_core.specs.declared.play.line.Line.TheVariants as line
 use Rattle.router_core.specs.declared.play.socket.Socket.{Socket}
 use Rattle.router_core.specs.declared.play.player.Step.{Step}
 use Rattle.router_core.specs.declared.play.player.Step.TheVariants as step

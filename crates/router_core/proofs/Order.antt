@@ -1,5 +1,5 @@
 -- Every trace of the router is orderly.
-use Rattle.std.proofs.Common.{◌≡◌, ◌∙◌, sym, ap, refl, subst, true≢false, ℕ, Bool, true, false, not, ◌||◌, ◌<◌, ◌≤◌, List, [], ◌∷◌, ◌++◌, ◌+◌, drop, inl, inr, arith}
+use Rattle.std.proofs.Common.{◌≡◌, ◌∙◌, sym, ap, refl, subst, true≢false, ℕ, Bool, true, false, not, ◌||◌, ◌<◌, ◌≤◌, List, [], ◌∷◌, ◌++◌, drop, arith}
 use Rattle.std.specs.Prelude.{◌==◌, nat_eq, nat_lt, filter, Option, Some, None, is_some, option_map, option_and_then, if◌then◌else◌, length, Ok, Err}
 use Rattle.std.proofs.lemmas.Bool.{eqb-true, eq-eqb, ltb-true, leb-true, le-leb}
 use Rattle.amqp_perf.specs.declared.perf.Perf.{Perf}
@@ -15,16 +15,14 @@ use Rattle.router_core.specs.declared.reply.condition.Condition.TheVariants.{Not
 use Rattle.router_core.specs.declared.state.event.ConnectionId.{ConnectionId}
 use Rattle.router_core.specs.declared.state.event.Event.{Event}
 use Rattle.router_core.specs.declared.state.event.Event.TheVariants as event
-use Rattle.router_core.specs.declared.driving.Sent.{Sent}
 use Rattle.router_core.specs.Trace.{Entry, Out, Took, did, puts, ups, with_up, newer, newest}
 use Rattle.router_core.specs.Connection.{Connection, conn, behind, with_item, ended, took, unless_empty, drained, standing, is_live, is_full, is_due, has, due, found, live_of, at_event, fresh}
 use Rattle.router_core.specs.Fits.{reaches, rises, refuses}
 use Rattle.router_core.specs.Frames.{closing}
 use Rattle.router_core.specs.Rows.{header_reply, condition_of, open_by, open_in_turn, open_reply, in_turn, turn_by, perf_reply, item_reply}
 use Rattle.router_core.specs.Replies.{closing_of, ends, heard, answer, answered}
-use Rattle.router_core.specs.Runs.{Taking, took_all, took_one, MayStep, Run}
 use Rattle.router_core.specs.Moves.{outs}
-use Rattle.router_core.specs.Laws.{unwritten, has_turn, have_turns, IsOrderly}
+use Rattle.router_core.specs.Laws.{unwritten, has_turn, have_turns}
 use Rattle.router_core.proofs.Lists.{by_test, has_push, from_push}
 use Rattle.router_core.proofs.Turns.{stays, known, reach_up}
 
@@ -123,7 +121,7 @@ neither true b h = absurd cc
 neither false b h = (refl, h)
 
 -- what passed a filter passes the test and was there
-filter_has : (p : ℕ → Bool) (k : ℕ) (xs : List ℕ) → has k (filter p xs) ≡ true → (p k ≡ true) × (has k xs ≡ true)
+pub filter_has : (p : ℕ → Bool) (k : ℕ) (xs : List ℕ) → has k (filter p xs) ≡ true → (p k ≡ true) × (has k xs ≡ true)
 filter_has p k [] h = absurd cc
 filter_has p k (x ∷ xs) h =
     by_test (nat_eq x k)
@@ -159,12 +157,12 @@ no_twice_push (x ∷ xs) c once absent =
 
 -- the state of a trace
 
-record Ordered (t : List Entry) : Type 0 where
-  turns : (c : ℕ) → have_turns unwritten (outs t c) ≡ true
-  phases : (c : ℕ) (v : Connection) → conn t c ≡ Some v → v.phase.closed ≡ false → behind_all (outs t c) unwritten ≡ v.phase
-  unknown : (c : ℕ) → has c (ups t) ≡ false → outs t c ≡ []
-  rise : (c : ℕ) → has c (ups t) ≡ true → reaches c (newest t) ≡ true
-  once : NoTwice (ups t)
+pub record Ordered (t : List Entry) : Type 0 where
+  pub turns : (c : ℕ) → have_turns unwritten (outs t c) ≡ true
+  pub phases : (c : ℕ) (v : Connection) → conn t c ≡ Some v → v.phase.closed ≡ false → behind_all (outs t c) unwritten ≡ v.phase
+  pub unknown : (c : ℕ) → has c (ups t) ≡ false → outs t c ≡ []
+  pub rise : (c : ℕ) → has c (ups t) ≡ true → reaches c (newest t) ≡ true
+  pub once : NoTwice (ups t)
 
 turns_push : (is : List Item) (p : Conn) (i : Item) → have_turns p is ≡ true → has_turn (behind_all is p) i ≡ true → have_turns p (is ++ i ∷ []) ≡ true
 turns_push [] p i h k = ap (λ (b : Bool). if b then true else false) k
@@ -221,7 +219,7 @@ puts_conn (i ∷ is) t c k apart = puts_conn is (Out c i ∷ t) c k apart ∙ on
     one : (b : Bool) → b ≡ false → (if b then option_map (with_item i) (conn t k) else conn t k) ≡ conn t k
     one b e = rw e refl
 
-puts_outs : (is : List Item) (t : List Entry) (c k : ℕ) → (c == k) ≡ false → outs (puts c is t) k ≡ outs t k
+pub puts_outs : (is : List Item) (t : List Entry) (c k : ℕ) → (c == k) ≡ false → outs (puts c is t) k ≡ outs t k
 puts_outs [] t c k apart = refl
 puts_outs (i ∷ is) t c k apart = puts_outs is (Out c i ∷ t) c k apart ∙ one (c == k) apart
   where
@@ -268,7 +266,7 @@ ends_turns id (c ∷ cs) t ord once pending =
     either_true true b h = refl
     either_true false b h = h
 
-ends_outs : (id : List ℕ) (cs : List ℕ) (t : List Entry) (k : ℕ) → has k cs ≡ false → outs (ends id cs t) k ≡ outs t k
+pub ends_outs : (id : List ℕ) (cs : List ℕ) (t : List Entry) (k : ℕ) → has k cs ≡ false → outs (ends id cs t) k ≡ outs t k
 ends_outs id [] t k absent = refl
 ends_outs id (c ∷ cs) t k absent =
     let both = neither (nat_eq c k) (has k cs) absent
@@ -402,7 +400,7 @@ live_some : (o : Option Connection) → is_live o ≡ true → is_some o ≡ tru
 live_some None h = h
 live_some (Some v) h = refl
 
-answered_turns : (id : List ℕ) (t : List Entry) (e : Event) → Ordered t → refuses t e ≡ false → Ordered (answered id t e)
+pub answered_turns : (id : List ℕ) (t : List Entry) (e : Event) → Ordered t → refuses t e ≡ false → Ordered (answered id t e)
 answered_turns id t (event.Item c i) ord taken =
     let e : Event = event.Item c i
     in answer_turns id t c.0 i e ord (heard_turns id t e ord taken)
@@ -428,7 +426,7 @@ took_inv n (Some v) w is live =
     over x [] e h = absurd cc
     over x (i ∷ is) e h = true≢false (sym h ∙ ap (λ (p : Conn). p.closed) (phase_of x w e) ∙ live)
 
-took_turns : (t : List Entry) (d n : ℕ) → Ordered t → Ordered (Took d n ∷ t)
+pub took_turns : (t : List Entry) (d n : ℕ) → Ordered t → Ordered (Took d n ∷ t)
 took_turns t d n ord = record {
   turns = ord.turns;
   phases = λ c w is live. by_test (d == c)
@@ -439,23 +437,7 @@ took_turns t d n ord = record {
   once = ord.once;
 }
 
-takes_turns : (xs : List Taking) (t : List Entry) → Ordered t → Ordered (took_all xs t)
-takes_turns [] t ord = ord
-takes_turns (x ∷ xs) t ord = takes_turns xs (took_one x t) (took_turns t x.conn.0 _ ord)
-
--- runs
-step_turns : (id : List ℕ) (t : List Entry) (e : Event) (u : List Entry) → Ordered t → MayStep id t e u → Ordered u
-step_turns id t e u ord (inl refused) = subst (λ (w : List Entry). Ordered w) (sym refused.1) ord
-step_turns id t e u ord (inr taken) = subst (λ (w : List Entry). Ordered w) (sym taken.1.answers) (answered_turns id t e ord taken.0)
-
-run_turns : (id : List ℕ) (place : ℕ) (t : List Entry) (es : List Event) (xs : List Sent) (u : List Entry) → Ordered t → Run id place t es xs u → Ordered u
-run_turns id place t [] xs u ord run = subst (λ (w : List Entry). Ordered w) (sym run.0) ord
-run_turns id place t (e ∷ es) xs u ord run =
-    let behind_event : Ordered run.3.behind = step_turns id t e run.3.behind ord run.3.event
-    in run_turns id (place + 1) run.0 es run.2 u
-    (subst (λ (w : List Entry). Ordered w) (sym run.3.emptied.trace) (takes_turns run.3.emptied.takes run.3.behind behind_event)) run.4
-
-ordered_empty : Ordered []
+pub ordered_empty : Ordered []
 ordered_empty = record {
   turns = λ c. refl;
   phases = λ c v is live. absurd cc;
@@ -463,6 +445,3 @@ ordered_empty = record {
   rise = λ c h. absurd cc;
   once = tt;
 }
-
-pub runs_are_orderly : (id : List ℕ) (events : List Event) (xs : List Sent) (u : List Entry) → Run id 0 [] events xs u → IsOrderly u
-runs_are_orderly id events xs u run = (run_turns id 0 [] events xs u ordered_empty run).turns

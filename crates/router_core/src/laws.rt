@@ -1,9 +1,14 @@
-//! What holds of every run of the router, in the words of the protocol. The functions do nothing: their contracts are the
+//! What holds of every trace of the router, in the words of the protocol. The functions do nothing: their contracts are the
 //! laws.
-ghost use Rattle.router_core.specs.Laws.{RunsAreOrderly};
+ghost use Rattle.router_core.specs.Laws.{TracesKeepOrder, RunsKeepOrder, PlaysKeepOrder, PlaysBeginWithHeaders};
 
-/// Over every list of events each connection is written at most one header, one open and one close, a close never without
-/// an open before it, and nothing behind the close (AMQP 1.0 part 2, sections 2.2 and 2.4).
+/// In every trace of the router each connection is written at most one header, one open and one close, a close never
+/// without an open before it, and nothing behind the close; where the first item that comes is a header, the router's
+/// header is written first, and where nothing comes nothing is (AMQP 1.0 part 2, sections 2.2 and 2.4). Lists of events
+/// and scripts of bytes have such traces. In a script nothing is written before the header, whatever the peers send.
 pub fn connections_keep_order()
-    ensures { RunsAreOrderly }
+    ensures traces { TracesKeepOrder }
+    ensures runs { RunsKeepOrder }
+    ensures plays { PlaysKeepOrder }
+    ensures headers { PlaysBeginWithHeaders }
 {}
