@@ -12,3 +12,4 @@ pub mod Levels
 pub mod Entering
 pub mod Passing
 pub mod Carried
+pub mod Answering

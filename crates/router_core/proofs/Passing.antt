@@ -259,7 +259,7 @@ enter_all_kept d (i ∷ is) s c = enter_all_kept d is (enter d i s) c ∙ enter_
 
 -- takes
 
-taken_all : (most : ℕ) (xs : List Item) → take most xs ++ drop (length (take most xs)) xs ≡ xs
+pub taken_all : (most : ℕ) (xs : List Item) → take most xs ++ drop (length (take most xs)) xs ≡ xs
 taken_all zero xs = refl
 taken_all (suc n) [] = refl
 taken_all (suc n) (x ∷ xs) = ap (λ ys. x ∷ ys) (taken_all n xs)
