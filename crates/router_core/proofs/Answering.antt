@@ -178,7 +178,7 @@ calm_empty = record { ordered = ordered_empty; lefts = λ c. ([], refl) }
 
 -- each connection is answered by itself
 
-puts_own : (is : List Item) (t : List Entry) (c : ℕ) → outs (puts c is t) c ≡ outs t c ++ is
+pub puts_own : (is : List Item) (t : List Entry) (c : ℕ) → outs (puts c is t) c ≡ outs t c ++ is
 puts_own [] t c = sym (append-nil (outs t c))
 puts_own (i ∷ is) t c =
     let here : (c == c) ≡ true = same c
@@ -200,10 +200,10 @@ live_phase t c ord live = by_row (conn t c) refl live
         by_phase false e l = ap Some (sym (same_behind (outs t c) unwritten ∙ ord.phases c v is e))
 
 -- an event puts out nothing but its own answer
-heard_outs : (id : List ℕ) (t : List Entry) (e : Event) (c : ℕ) → Calm t → outs (heard id t e) c ≡ outs t c
+pub heard_outs : (id : List ℕ) (t : List Entry) (e : Event) (c : ℕ) → Calm t → outs (heard id t e) c ≡ outs t c
 heard_outs id t e c h = ap (λ (ks : List ℕ). outs (ends id ks (did e ∷ t)) c) (calm_due t e h)
 
-item_own : (id : List ℕ) (t : List Entry) (d : ConnectionId) (i : Item) → Calm t → is_live (conn t d.0) ≡ true
+pub item_own : (id : List ℕ) (t : List Entry) (d : ConnectionId) (i : Item) → Calm t → is_live (conn t d.0) ≡ true
     → outs (answered id t (event.Item d i)) d.0 ≡ outs t d.0 ++ item_reply id (behind_items (outs t d.0) unwritten) i
 item_own id t d i h live =
     let e : Event = event.Item d i
@@ -230,7 +230,7 @@ exact_other : (id : List ℕ) (t : List Entry) (e : Event) (c : ℕ) → Answers
     → outs (answered id t e) c ≡ answers id unwritten (ins (answered id t e) c)
 exact_other id t e c h written came = written ∙ h.exact c ∙ ap (λ (ys : List Item). answers id unwritten ys) (sym came)
 
-exact_event : (id : List ℕ) (t : List Entry) (e : Event) → Answers id t → refuses t e ≡ false → (c : ℕ) → outs (answered id t e) c ≡ answers id unwritten (ins (answered id t e) c)
+pub exact_event : (id : List ℕ) (t : List Entry) (e : Event) → Answers id t → refuses t e ≡ false → (c : ℕ) → outs (answered id t e) c ≡ answers id unwritten (ins (answered id t e) c)
 exact_event id t (event.Item d i) h taken c =
     let e : Event = event.Item d i
     in by_test (d.0 == c)

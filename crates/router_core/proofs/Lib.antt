@@ -13,3 +13,5 @@ pub mod Entering
 pub mod Passing
 pub mod Carried
 pub mod Answering
+pub mod Heeding
+pub mod Alone
