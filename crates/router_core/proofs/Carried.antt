@@ -269,7 +269,7 @@ made_lost d role s c stream apart rise h = record {
 }
 
 -- a number that rises wasn't reached
-new_number : (d : ConnectionId) (c : ℕ) (last : Option ℕ) → rises d.0 last ≡ true → reaches c last ≡ true → (d.0 == c) ≡ false
+pub new_number : (d : ConnectionId) (c : ℕ) (last : Option ℕ) → rises d.0 last ≡ true → reaches c last ≡ true → (d.0 == c) ≡ false
 new_number d c None rise reach = absurd (true≢false (sym reach))
 new_number d c (Some l) rise reach = by_test (d.0 == c) (λ e. absurd (below d.0 c l (eqb-true d.0 c e) (ltb-true l d.0 rise) (leb-true c l reach))) (λ e. e)
   where
@@ -310,11 +310,11 @@ unmade_made d role s h =
 
 -- Bytes come on the connection.
 
-wrong_more : (stream : List ℕ) (items : List Item) (rest bytes : List ℕ) → Cuts true stream items rest → Cuts true (stream ++ bytes) items (rest ++ bytes)
+pub wrong_more : (stream : List ℕ) (items : List Item) (rest bytes : List ℕ) → Cuts true stream items rest → Cuts true (stream ++ bytes) items (rest ++ bytes)
 wrong_more stream items rest bytes cut = (cut.0, cut.1, cut.2, leads_stays stream cut.0 rest bytes cut.3, wrong_stays rest bytes cut.1 cut.4)
 
 -- a stream with more bytes has more items, or its last one ended it
-further : (ended : Bool) (stream : List ℕ) (items : List Item) (rest bytes : List ℕ) → Cuts ended stream items rest
+pub further : (ended : Bool) (stream : List ℕ) (items : List Item) (rest bytes : List ℕ) → Cuts ended stream items rest
     → (e : Bool) × (more : List Item) × (r : List ℕ) × Cuts e (stream ++ bytes) (items ++ more) r
 further false stream items rest bytes cut =
     let k : HasCut (rest ++ bytes) = has_cut (rest ++ bytes)
@@ -340,6 +340,11 @@ closed_entered s c D P E Q more spoken let_in closed h =
       );
     }
 
+-- a stream that ended keeps nothing that counts
+pub keeps_failed : (rest : List ℕ) (ended : Bool) (new : List ℕ) (o : Option Socket) → ended ≡ true → Keeps rest ended o → Keeps new true o
+keeps_failed rest ended new None over h = tt
+keeps_failed rest ended new (Some k) over h = (h.0 ∙ over, λ e. absurd (true≢false e))
+
 opened_failed : (s : Scene) (c : ℕ) (stream bytes : List ℕ) (h : Opened s c stream) → h.ended ≡ true → Opened (say refused s) c (stream ++ bytes)
 opened_failed s c stream bytes h over =
     let q : Quiet s (say refused s) c = refused_quiet s c
@@ -354,10 +359,6 @@ opened_failed s c stream bytes h over =
       reached = h.reached;
       kept = h.kept;
     }
-  where
-    keeps_failed : (rest : List ℕ) (ended : Bool) (new : List ℕ) (o : Option Socket) → ended ≡ true → Keeps rest ended o → Keeps new true o
-    keeps_failed rest ended new None over h = tt
-    keeps_failed rest ended new (Some k) over h = (h.0 ∙ over, λ e. absurd (true≢false e))
 
 opened_closed : (s : Scene) (c : ℕ) (stream bytes : List ℕ) → s.sockets c ≡ None → Opened s c stream → Opened (say refused s) c (stream ++ bytes)
 opened_closed s c stream bytes closed h =
@@ -618,7 +619,7 @@ play_unmade (step.Tick ms ∷ xs) s u c f h plays =
     in unmade_goes xs s plays.0 plays.1 u c q plays.3
     (play_unmade xs plays.1 u c plays.3.empty (unmade_flushed plays.0 plays.1 c plays.3 (unmade_quiet s plays.0 c q h)) plays.4)
 
-play_carries : (id : List ℕ) (steps : List Step) (u : Scene) (c : ℕ) → Plays steps (opening id) u → Carries (bytes_in c steps) u.trace u.lines c
+pub play_carries : (id : List ℕ) (steps : List Step) (u : Scene) (c : ℕ) → Plays steps (opening id) u → Carries (bytes_in c steps) u.trace u.lines c
 play_carries id steps u c plays = play_unmade steps (opening id) u c (λ n. refl) (record {
   entered = record { said = []; balance = refl; stands = (record { silent = λ m. refl; begins = λ m. ([], refl); whole = λ l m. absurd (true≢false (sym l)) }, refl) };
   socket = refl;

@@ -115,7 +115,7 @@ moves (event.Up d p) c = d.0 == c
 moves (event.Down d) c = d.0 == c
 moves _ c = false
 
-stays_at : (e : Event) (c n : ℕ) (o : Option Connection) → moves e c ≡ false → at_event e c n o ≡ o
+pub stays_at : (e : Event) (c n : ℕ) (o : Option Connection) → moves e c ≡ false → at_event e c n o ≡ o
 stays_at (event.Up d p) c n o h = rw h refl
 stays_at (event.Down d) c n o h = rw h refl
 stays_at (event.Item d i) c n o h = refl
@@ -231,7 +231,7 @@ ends_lost id [] t c = refl
 ends_lost id (d ∷ ds) t c =
     ends_lost id ds (puts d (closing_of id (conn t d) ResourceLimitExceeded) t) c ∙ puts_lost (closing_of id (conn t d) ResourceLimitExceeded) t d c
 
-answered_lost : (id : List ℕ) (t : List Entry) (e : Event) (c : ℕ) → was_lost (answered id t e) c ≡ (is_loss_of e c || was_lost t c)
+pub answered_lost : (id : List ℕ) (t : List Entry) (e : Event) (c : ℕ) → was_lost (answered id t e) c ≡ (is_loss_of e c || was_lost t c)
 answered_lost id t (event.Item d i) c =
     let e : Event = event.Item d i
     in puts_lost (answer id (standing (found t e d.0)) i) (heard id t e) d.0 c ∙ ends_lost id (due t e) (did e ∷ t) c

@@ -12,3 +12,6 @@ pub mod Levels
 pub mod Entering
 pub mod Passing
 pub mod Carried
+pub mod Answering
+pub mod Heeding
+pub mod Alone

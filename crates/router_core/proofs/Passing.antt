@@ -259,7 +259,7 @@ enter_all_kept d (i ∷ is) s c = enter_all_kept d is (enter d i s) c ∙ enter_
 
 -- takes
 
-taken_all : (most : ℕ) (xs : List Item) → take most xs ++ drop (length (take most xs)) xs ≡ xs
+pub taken_all : (most : ℕ) (xs : List Item) → take most xs ++ drop (length (take most xs)) xs ≡ xs
 taken_all zero xs = refl
 taken_all (suc n) [] = refl
 taken_all (suc n) (x ∷ xs) = ap (λ ys. x ∷ ys) (taken_all n xs)
@@ -378,7 +378,7 @@ take_all_entered [] s c D P h = h
 take_all_entered (x ∷ xs) s c D P h = take_all_entered xs (take_one x s) c D P (take_entered x s c D P h)
 
 -- a socket stays or is closed
-close_socket : (G : Option Socket → Type 0) (b : Bool) (d : ConnectionId) (m : Scene) (c : ℕ) → G None → G (m.sockets c) → G ((close_if b d m).sockets c)
+pub close_socket : (G : Option Socket → Type 0) (b : Bool) (d : ConnectionId) (m : Scene) (c : ℕ) → G None → G (m.sockets c) → G ((close_if b d m).sockets c)
 close_socket G false d m c none here = here
 close_socket G true d m c none here = by_test (d.0 == c) (λ e. rw e none) (λ e. rw e here)
 

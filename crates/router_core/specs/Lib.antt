@@ -15,3 +15,4 @@ pub mod Asking
 pub mod Moves
 pub mod Laws
 pub mod Carrying
+pub mod Answers
