@@ -13,3 +13,4 @@ pub mod Script
 pub mod Playing
 pub mod Asking
 pub mod Laws
+pub mod Printing
