@@ -1,8 +1,8 @@
 -- A stream listed piece by piece.
-use Rattle.std.proofs.Common.{◌≡◌, ℕ, ◌+◌, ◌++◌, Bool, true, false, List, [], ◌∷◌, map, length, refl, sym, ap, ◌∙◌, subst, append_assoc, append-nil, arith}
+use Rattle.std.proofs.Common.{◌≡◌, ℕ, ◌+◌, ◌++◌, Bool, true, false, List, [], ◌∷◌, length, refl, sym, ap, ◌∙◌, append_assoc, append-nil, arith}
 use Rattle.std.specs.Prelude.{Result, Ok, Err, IfOk, IsTrue, ◌↔◌}
 use Rattle.std.proofs.lemmas.List.{length-append, map-append}
-use Rattle.amqp_frames.specs.Cuts.{Cuts, Leads}
+use Rattle.amqp_frames.specs.Cuts.{Cuts}
 use Rattle.amqp_frames.proofs.Fronts.{wrong_stays}
 use Rattle.amqp_frames.proofs.Steps.{front_nothing}
 use Rattle.amqp_frames.proofs.Streams.{cuts_append, leads_stays}

@@ -1,5 +1,5 @@
 -- The number that a word is, from what `parse` says of it.
-use Rattle.std.proofs.Common.{◌≡◌, ◌≢◌, ℕ, ◌<◌, ◌^◌, ◌&&◌, nat_lt, List, [], ◌∷◌, length, get_or, refl, sym, ap, Option, Some, None, Result, Ok, Err, Bool, true, false, cond, lt-ltb, ltb-true}
+use Rattle.std.proofs.Common.{◌≡◌, ◌≢◌, ℕ, ◌<◌, ◌^◌, ◌&&◌, nat_lt, [], ◌∷◌, length, get_or, refl, Some, None, Result, Ok, Err, Bool, true, false, cond, lt-ltb, ltb-true}
 use Rattle.std.specs.Str.{all_ascii_digits}
 use Rattle.std.specs.Str.Parse.{digits_value, ParsesUnsigned}
 use Rattle.std.specs.Result.{OkIff, result_ok}

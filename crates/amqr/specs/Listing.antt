@@ -1,5 +1,5 @@
 -- The listing of a stream: a line for each item, and one for the rest.
-use Rattle.std.specs.Prelude.{◌≡◌, ℕ, Bool, true, false, if◌then◌else◌, List, [], ◌∷◌, ◌++◌, map, length, codes, decimal}
+use Rattle.std.specs.Prelude.{◌≡◌, ℕ, Bool, true, if◌then◌else◌, List, [], ◌∷◌, ◌++◌, map, length, codes, decimal}
 use Rattle.std.specs.Fmt.{digits}
 use Rattle.amqp_frames.specs.Contract.{fault_number}
 use Rattle.amqp_frames.specs.Cuts.{Cuts}

@@ -1,7 +1,11 @@
 -- What the program writes, and how it ends.
-use Rattle.std.specs.Prelude.{◌≡◌, ℕ, Bool, true, false, List, [], ◌∷◌, Option, Some, None, IfSome, ⊤, ◌⊎◌}
+use Rattle.std.specs.Prelude.{◌≡◌, ℕ, Bool, true, false, ◌||◌, if◌then◌else◌, List, [], ◌∷◌, ◌++◌, codes, Option, Some, None, IfSome, ⊤, ◌⊎◌}
 use Rattle.std.specs.Io.KnownBytes.{Appends}
 use Rattle.std.specs.List.{list_any}
+use Rattle.router_core.specs.Printing.{line_text}
+use Rattle.router_core.specs.Script.{PlaysAll, book}
+use Rattle.router_core.specs.declared.play.line.Line.{Line}
+use Rattle.router_core.specs.declared.play.player.Report.{Report}
 use Rattle.router_core.specs.declared.play.player.Step.{Step}
 use Rattle.amqr.specs.Listing.{IsListing, text_of}
 use Rattle.amqr.specs.Print.{printed}
@@ -34,13 +38,24 @@ Lists stream BadInput old new = WritesListing true stream old new
 Lists stream BadWords old new = ⊥
 Lists stream Failed old new = Refuses refusal.Memory old new
 
--- a play that was begun is done, or the router or memory failed
-abbrev pub MayPlay : Status → Type 0
-MayPlay status = (status ≡ Done) ⊎ (status ≡ Failed)
+-- how a report says that a play ended
+abbrev pub end_of : Report → Status
+end_of r = if r.out_of_memory || r.failed then Failed else Done
 
--- how the play of a text ends: it is a script where it was played, and else its first faulty line is told
+-- the lines of a play of these steps were written, against a router called R1, and the line of the book behind them
+abbrev pub WritesPlay : List Step → Option (List ℕ) → Option (List ℕ) → Type 0
+WritesPlay steps old new = (lines : List Line) × PlaysAll (codes "R1") (steps ∷ []) lines × IfSome (printed (λ x. Some (line_text x)) (lines ++ book ∷ [])) (Appends old new)
+
+-- how the play of steps ends: it is done, or the router or memory failed
+abbrev pub PlaysSteps : List Step → Status → Option (List ℕ) → Option (List ℕ) → Type 0
+PlaysSteps steps Done old new = WritesPlay steps old new
+PlaysSteps steps BadInput old new = ⊥
+PlaysSteps steps BadWords old new = ⊥
+PlaysSteps steps Failed old new = ⊤
+
+-- how the play of a text ends: it is a script where it was played, whose lines were written, and else its first faulty line is told
 abbrev pub Plays : List ℕ → Status → Option (List ℕ) → Option (List ℕ) → Type 0
-Plays text Done old new = (steps : List Step) × HasSteps text steps
+Plays text Done old new = (steps : List Step) × HasSteps text steps × WritesPlay steps old new
 Plays text BadInput old new = (n : ℕ) × IsFaulty text (fault.Line n) × Refuses (refusal.Script n) old new
 Plays text BadWords old new = ⊥
 Plays text Failed old new = ⊤

@@ -1,6 +1,6 @@
 -- What a script says: its steps, or its first faulty line.
-use Rattle.std.specs.Prelude.{◌≡◌, ◌≢◌, ◌+◌, ℕ, ◌==◌, List, [], ◌∷◌, ◌++◌, length, take, Option, Some, None, Result, Ok, Err, ⊤, ◌⊎◌}
-use Rattle.std.specs.List.{All, count_by}
+use Rattle.std.specs.Prelude.{◌≡◌, ◌≢◌, ◌+◌, ℕ, ◌==◌, List, [], ◌∷◌, ◌++◌, length, take, ⊤, ◌⊎◌}
+use Rattle.std.specs.List.{count_by}
 use Rattle.std.specs.Str.{IsUtf8, IsValidUpTo}
 use Rattle.amqr.specs.Words.{Text, cut_at}
 use Rattle.amqr.specs.Lines.{Saying, nothing, step, wrong, saying_of}

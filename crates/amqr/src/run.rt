@@ -1,7 +1,10 @@
 //! The program, over any files, reader and writers.
-ghost use Rattle.std.specs.Prelude.{◌≡◌, ◌<◌, length, IfOk};
+ghost use Rattle.std.specs.Prelude.{◌≡◌, ◌<◌, false, Some, length, IfOk, OnOk, IfSome};
 ghost use Rattle.std.specs.List.{list_any};
-ghost use Rattle.amqr.specs.Running.{Lists, Plays, PlaysInput, MayPlay, is_bad};
+ghost use Rattle.std.specs.Io.KnownBytes.{Appends};
+ghost use Rattle.router_core.specs.Printing.{line_text};
+ghost use Rattle.amqr.specs.Print.{printed};
+ghost use Rattle.amqr.specs.Running.{Lists, Plays, PlaysInput, PlaysSteps, end_of, is_bad};
 
 use crate::input::{InputFault, read_whole};
 use crate::journal::{format_disk, list_journal};
@@ -13,7 +16,7 @@ use crate::words::{Task, read_words};
 use clap::Error;
 use clap::error::ErrorKind;
 use disk_core::{DiskFault, FileDisk};
-use router_core::{Config, CoreFault, Line, Report, Run, Step, play_runs};
+use router_core::{Config, Report, Run, Step, play_runs};
 use std::alloc::Global;
 use std::convert::AsStr;
 use std::fs::{self, File};
@@ -148,7 +151,7 @@ pub fn play_text<O: Write>(alloc: Global, text: &[u8], output: &mut O) -> io::Re
 
 /// Plays the steps of a script.
 fn play_steps<O: Write>(alloc: Global, steps: Vec<Step>, output: &mut O) -> io::Result<Status>
-    ensures { IfOk result MayPlay }
+    ensures { IfOk result (λ status. PlaysSteps steps.items status (O.contents output.old) (O.contents output.new)) }
 {
     let Ok(config) = Config::standard(alloc) else {
         return refuse(output, Refusal::Memory);
@@ -158,25 +161,17 @@ fn play_steps<O: Write>(alloc: Global, steps: Vec<Step>, output: &mut O) -> io::
     print_report(&report, output)
 }
 
-/// Writes the lines of a report.
+/// Writes the lines of a report, and that memory was refused to the play where it was.
 fn print_report<O: Write>(report: &Report, output: &mut O) -> io::Result<Status>
-    ensures { IfOk result MayPlay }
+    ensures status { IfOk result (λ status. status ≡ end_of report.now) }
+    ensures lines { report.now.out_of_memory ≡ false → OnOk result (IfSome (printed (λ line. Some (line_text line)) report.now.lines.items) (Appends (O.contents output.old) (O.contents output.new))) }
 {
     print_lines(output, report.lines.as_slice())?;
     if report.out_of_memory {
         return refuse(output, Refusal::Memory);
     }
-    if has_failed(report.lines.as_slice()) {
+    if report.failed {
         return Ok(Status::Failed);
     }
     Ok(Status::Done)
-}
-
-/// Whether the router failed in a play.
-fn has_failed(lines: &[Line]) -> bool {
-    lines.iter().any(|line| match line {
-        Line::Failed(CoreFault::NoConnection) => false,
-        Line::Failed(_) => true,
-        _ => false,
-    })
 }

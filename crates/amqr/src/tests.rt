@@ -273,6 +273,7 @@ fn listed_streams(rt: HostRuntime) -> Result<(), Fail> {
 fn words_and_files(rt: HostRuntime) -> Result<(), Fail> {
     let alloc = rt.alloc();
     std::fs::write(&rt, "close.amqr", "up 1\ndown 1\n")?;
+    let _ = std::fs::remove_file(&rt, "new.journal");
     for (words, code, output, has_errors) in [
         (
             ["amqr", "play", "close.amqr"].as_slice(),

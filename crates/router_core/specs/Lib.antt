@@ -16,3 +16,4 @@ pub mod Moves
 pub mod Laws
 pub mod Carrying
 pub mod Answers
+pub mod Printing

@@ -39,6 +39,11 @@ struct Hex<'a> {
 }
 
 impl Display for Hex<'_> {
+    ghost use Rattle.std.specs.Prelude.{Some};
+    ghost use Rattle.router_core.specs.Printing.{hex_text};
+
+    ghost output = { λ hex. Some (hex_text hex.bytes.now) };
+
     fn fmt<W: Write>(&self, f: &mut Formatter<W>) -> fmt::Result {
         for byte in self.bytes {
             let byte = *byte;
@@ -49,6 +54,11 @@ impl Display for Hex<'_> {
 }
 
 impl Display for Line {
+    ghost use Rattle.std.specs.Prelude.{Some};
+    ghost use Rattle.router_core.specs.Printing.{line_text};
+
+    ghost output = { λ line. Some (line_text line) };
+
     fn fmt<W: Write>(&self, f: &mut Formatter<W>) -> fmt::Result {
         match self {
             Line::Out { conn, bytes } => {

@@ -1,4 +1,4 @@
-use Rattle.std.proofs.Common.{rules, ◌≡◌, ◌++◌, ◌+◌, ◌∷◌, [], length, Bool, true, false, sym}
+use Rattle.std.proofs.Common.{rules, ◌≡◌, ◌++◌, true, false}
 use Rattle.amqr.specs.Listing.{lines_of_items}
 use Rattle.amqr.proofs.Listings.{listed_by, listed_failed, listed_more, awake_if_ok}
 use Rattle.amqr.proofs.listing.list_stream.Goals as goal

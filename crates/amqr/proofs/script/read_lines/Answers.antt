@@ -1,7 +1,6 @@
-use Rattle.std.proofs.Common.{rules, ◌≡◌, ◌+◌, ◌<◌, length, take, IfOk, IfErr, ℕ, ◌-◌, ◌*◌, ◌^◌, ◌≤◌, ◌/◌, ◌%◌, Bool, true, false, nat_eq, nat_lt, List, [], ◌∷◌, ◌++◌, slice_index_or, slice_set, bit_and, bit_or, Fits, w8, w32, w64, Bor, MutBor}
+use Rattle.std.proofs.Common.{rules, ◌≡◌, ◌<◌, length, ◌^◌, [], ◌∷◌, ◌++◌}
 use Rattle.amqr.specs.Cut.{behind}
-use Rattle.amqr.specs.Words.{cut_at}
-use Rattle.amqr.specs.Script.{HasSteps, IsFaulty, line_of, lines_of}
+use Rattle.amqr.specs.Script.{lines_of}
 use Rattle.amqr.proofs.Reading.{read_nothing, read_silent, read_step, line_fits}
 use Rattle.amqr.proofs.script.read_lines.Goals as goal
 

@@ -1,4 +1,4 @@
-use Rattle.std.proofs.Common.{◌≡◌, ℕ, length}
+use Rattle.std.proofs.Common.{length}
 use Rattle.amqr.specs.Cut.{behind}
 use Rattle.amqr.specs.Script.{lines_of}
 use Rattle.amqr.proofs.Reading.{ReadSoFar}

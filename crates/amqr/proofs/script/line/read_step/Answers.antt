@@ -1,5 +1,5 @@
-use Rattle.std.proofs.Common.{rules, ◌≡◌, ◌∷◌, sym, ◌∙◌}
-use Rattle.amqr.specs.Words.{Text, cut_at}
+use Rattle.std.proofs.Common.{rules, ◌≡◌, ◌∷◌, sym}
+use Rattle.amqr.specs.Words.{cut_at}
 use Rattle.amqr.proofs.Cuts.{many_words, cut_is_some}
 use Rattle.amqr.proofs.script.line.read_step.Goals as goal
 

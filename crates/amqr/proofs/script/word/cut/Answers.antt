@@ -1,5 +1,4 @@
 use Rattle.amqr.proofs.Cuts.{cut_none, cut_some}
-use Rattle.std.proofs.Common.{Some, None}
 use Rattle.amqr.proofs.script.word.cut.Goals as goal
 
 pub returns-in-None : goal.returns-in-None
