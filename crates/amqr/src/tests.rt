@@ -1,5 +1,6 @@
 //! The program on scripts and streams whose answers are known from worked examples, from the standard and from other
 //! implementations.
+mod conditions;
 mod journals;
 mod streams;
 
