@@ -10,8 +10,9 @@ pub mod script;
 pub mod status;
 pub mod words;
 
+use crate::print::refuse;
 use crate::run::run;
-use crate::status::Status;
+use crate::status::{Refusal, Status};
 use std::env;
 use std::io::{self, BufWriter, Write};
 use std::process::ExitCode;
@@ -24,11 +25,19 @@ fn main(rt: HostRuntime) -> ExitCode {
     ExitCode::from(status.code())
 }
 
+/// The words that the process was called with.
+fn words_of(rt: &HostRuntime) -> io::Result<Vec<String>> {
+    Ok(env::args(rt)?.collect(rt.alloc())?)
+}
+
 /// Runs the program on the words and streams of the process.
 fn run_over(rt: &HostRuntime) -> io::Result<Status> {
-    let alloc = rt.alloc();
-    let words: Vec<String> = env::args(rt)?.collect(alloc)?;
-    let mut output = BufWriter::new(alloc, rt.stdout())?;
+    let Ok(words) = words_of(rt) else {
+        return refuse(&mut rt.stdout(), Refusal::Memory);
+    };
+    let Ok(mut output) = BufWriter::new(rt.alloc(), rt.stdout()) else {
+        return refuse(&mut rt.stdout(), Refusal::Memory);
+    };
     let mut errors = rt.stderr();
     let status = run(
         rt,
