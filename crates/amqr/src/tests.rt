@@ -371,5 +371,7 @@ fn words_and_files(rt: HostRuntime) -> Result<(), Fail> {
     for word in ["Usage: amqr", "play", "frames", "format", "journal"] {
         assert!(rt; help.contains(word), "{word} in {help}");
     }
+    std::fs::remove_file(&rt, "close.amqr")?;
+    std::fs::remove_file(&rt, "new.journal")?;
     Ok(())
 }
