@@ -160,24 +160,27 @@ fn three_batches_have_their_places(rt: HostRuntime) -> Result<(), Fail> {
     Ok(())
 }
 
-/// A durable delivery, from its link's termini to its end: the batches of the exchange `durable_transfer`.
-#[test]
-fn durable_journal(rt: HostRuntime) -> Result<(), Fail> {
-    let alloc = rt.alloc();
+/// The journal of a durable delivery, from its link's termini to its end, in five batches of one act.
+fn delivery(rt: &impl Abort, alloc: Global) -> Result<MemDisk, Fail> {
     let mut disk = MemDisk::new(alloc);
     format(&mut disk)?;
     let (mut journal, _) = Journal::open(alloc, disk)?;
     let mut book = Book::empty(alloc);
     let mut trial = Book::empty(alloc);
-    three(&rt, alloc, &mut journal, &mut book, &mut trial)?;
+    three(rt, alloc, &mut journal, &mut book, &mut trial)?;
     let decided = [accept()];
-    let stored = store(&rt, alloc, &mut journal, &mut book, &mut trial, &decided)?;
+    let stored = store(rt, alloc, &mut journal, &mut book, &mut trial, &decided)?;
     assert_eq!(rt; stored, Ok(4));
     let forgotten = [Act::Forget(RowNumber(1))];
-    let stored = store(&rt, alloc, &mut journal, &mut book, &mut trial, &forgotten)?;
+    let stored = store(rt, alloc, &mut journal, &mut book, &mut trial, &forgotten)?;
     assert_eq!(rt; stored, Ok(5));
+    Ok(journal.into_disk())
+}
 
-    let mut disk = journal.into_disk();
+#[test]
+fn durable_journal(rt: HostRuntime) -> Result<(), Fail> {
+    let alloc = rt.alloc();
+    let mut disk = delivery(&rt, alloc)?;
     assert_eq!(rt; disk.bytes().len(), 165);
     let listing = list(alloc, &mut disk)?;
     let wanted = [
@@ -250,17 +253,7 @@ fn a_batch_of_one_forget_is_damaged(rt: HostRuntime) -> Result<(), Fail> {
 #[test]
 fn flipped_bytes_are_told(rt: HostRuntime) -> Result<(), Fail> {
     let alloc = rt.alloc();
-    let mut disk = MemDisk::new(alloc);
-    format(&mut disk)?;
-    let (mut journal, _) = Journal::open(alloc, disk)?;
-    three(
-        &rt,
-        alloc,
-        &mut journal,
-        &mut Book::empty(alloc),
-        &mut Book::empty(alloc),
-    )?;
-    let disk = journal.into_disk();
+    let disk = delivery(&rt, alloc)?;
     for at in 0..disk.bytes().len() {
         let mut bytes = disk.bytes().to_vec(alloc)?;
         if at < bytes.len() {
