@@ -80,7 +80,7 @@ puts_turns (i ∷ is) t c ord turns there =
     (subst (λ (p : Conn). have_turns p is ≡ true) (sym (ap (λ js. behind_all js unwritten) (outs_same t c i) ∙ behind_push (outs t c) unwritten i)) both.1) there
 
 -- another connection isn't touched
-puts_conn : (is : List Item) (t : List Entry) (c k : ℕ) → (c == k) ≡ false → conn (puts c is t) k ≡ conn t k
+pub puts_conn : (is : List Item) (t : List Entry) (c k : ℕ) → (c == k) ≡ false → conn (puts c is t) k ≡ conn t k
 puts_conn [] t c k apart = refl
 puts_conn (i ∷ is) t c k apart = puts_conn is (Out c i ∷ t) c k apart ∙ one (c == k) apart
   where

@@ -20,11 +20,12 @@ use Rattle.router_core.specs.Moves.{Move, handles, takes, Goes, IsTrace, ins, ou
 use Rattle.router_trace.specs.Order.{unwritten, has_turn, have_turns}
 use Rattle.router_play.specs.Answers.{behind_items, answers}
 use Rattle.router_conns.proofs.Lists.{by_test, filter_none}
+use Rattle.router_core.proofs.Headed.{ins_answered as answered_ins}
 use Rattle.router_play.proofs.Scenes.{not_false}
 use Rattle.router_conns.proofs.Turns.{due_none}
 use Rattle.router_core.proofs.Ordered.{Ordered, behind_all, puts_outs}
 use Rattle.router_core.proofs.Order.{answered_turns, took_turns, ordered_empty}
-use Rattle.router_play.proofs.Levels.{Level, ends_even, moves, answered_even, answered_ins, took_waits, same}
+use Rattle.router_play.proofs.Levels.{Level, ends_even, moves, answered_even, took_waits, same}
 use Rattle.router_play.proofs.Passing.{taken_all}
 
 -- answers

@@ -21,8 +21,9 @@ use Rattle.router_play.specs.Script.{Scene, say_all, say, refused, out_line, wit
 use Rattle.router_core.specs.Moves.{with_came, ins, outs}
 use Rattle.router_play.specs.Carrying.{is_loss_of, was_lost, bytes_out, spelled, door_says, passed, Begins}
 use Rattle.router_conns.proofs.Lists.{by_test}
+use Rattle.router_core.proofs.Headed.{ins_answered as answered_ins}
 use Rattle.router_play.proofs.Scenes.{back}
-use Rattle.router_play.proofs.Levels.{Level, Even, even_refl, even_trans, moves, answered_even, answered_ins, answered_kept, still_kept, none_of, same}
+use Rattle.router_play.proofs.Levels.{Level, Even, even_refl, even_trans, moves, answered_even, answered_kept, still_kept, none_of, same}
 
 -- lines and bytes
 

@@ -21,11 +21,12 @@ use Rattle.router_trace.specs.Order.{unwritten}
 use Rattle.router_play.specs.Carrying.{is_loss_of, was_lost, bytes_in, bytes_out, spelled, door_says, passed, Carries}
 use Rattle.router_play.specs.Answers.{behind_items, answers, heeded, router_says, Speaks}
 use Rattle.router_conns.proofs.Lists.{by_test}
+use Rattle.router_core.proofs.Headed.{ins_answered as answered_ins}
 use Rattle.router_play.proofs.Scenes.{not_false}
 use Rattle.router_conns.proofs.Turns.{known}
 use Rattle.router_play.proofs.PlayMoves.{play_is_trace}
-use Rattle.router_core.proofs.Ordered.{puts_outs}
-use Rattle.router_play.proofs.Levels.{moves, stays_at, answered_ins, answered_lost, same}
+use Rattle.router_core.proofs.Ordered.{puts_outs, puts_conn as puts_other}
+use Rattle.router_play.proofs.Levels.{moves, stays_at, answered_lost, same}
 use Rattle.router_play.proofs.Answering.{Calm, Answers, same_behind, behind_more, calm_due, heard_outs, puts_own, calm_event, calm_took, exact_event, answers_empty}
 use Rattle.router_play.proofs.Carried.{play_carries}
 use Rattle.router_play.proofs.Making.{new_number}
@@ -86,10 +87,6 @@ calm_heard id t e c h still =
     ap (λ (ks : List ℕ). conn (ends id ks (did e ∷ t)) c) (calm_due t e h)
     ∙ stays_at e c (length (live_of (ups t) (found t e))) (found t e c) still
     ∙ calm_found t e c h
-
-puts_other : (is : List Item) (t : List Entry) (c k : ℕ) → (c == k) ≡ false → conn (puts c is t) k ≡ conn t k
-puts_other [] t c k apart = refl
-puts_other (i ∷ is) t c k apart = puts_other is (Out c i ∷ t) c k apart ∙ (rw apart refl)
 
 -- the phase behind items that were put
 puts_phase : (is : List Item) (t : List Entry) (c : ℕ) (v : Connection) → conn t c ≡ Some v → (w : Connection) × (conn (puts c is t) c ≡ Some w) × (w.phase ≡ behind_items is v.phase)

@@ -13,7 +13,7 @@ use Rattle.router_trace.specs.Trace.{Entry, Out, did, puts, ups}
 use Rattle.router_trace.specs.Connection.{Connection, conn, with_item, ended, took, drained, unless_empty, standing, is_live, is_item, is_ready, has, due, found, live_of, at_event}
 use Rattle.router_reply.specs.Replies.{closing_of, ends, heard, answer, answered}
 use Rattle.router_core.specs.Runs.{waiting_of}
-use Rattle.router_core.specs.Moves.{with_came, ins, outs}
+use Rattle.router_core.specs.Moves.{outs}
 use Rattle.router_play.specs.Carrying.{is_loss_of, was_lost}
 use Rattle.router_conns.proofs.Lists.{by_test}
 use Rattle.router_conns.proofs.Turns.{stays}
@@ -199,26 +199,6 @@ down_dead id t d =
     let e : Event = event.Down d
     in let here : (d.0 == d.0) ≡ true = same d.0
     in none_of (conn (answered id t e) d.0) ((ends_even id (due t e) (did e ∷ t) d.0).known ∙ (rw here refl))
-
--- the items that came: those of the events
-
-puts_ins : (is : List Item) (t : List Entry) (d c : ℕ) → ins (puts d is t) c ≡ ins t c
-puts_ins [] t d c = refl
-puts_ins (i ∷ is) t d c = puts_ins is (Out d i ∷ t) d c
-
-ends_ins : (id : List ℕ) (ds : List ℕ) (t : List Entry) (c : ℕ) → ins (ends id ds t) c ≡ ins t c
-ends_ins id [] t c = refl
-ends_ins id (d ∷ ds) t c =
-    ends_ins id ds (puts d (closing_of id (conn t d) ResourceLimitExceeded) t) c ∙ puts_ins (closing_of id (conn t d) ResourceLimitExceeded) t d c
-
-pub answered_ins : (id : List ℕ) (t : List Entry) (e : Event) (c : ℕ) → ins (answered id t e) c ≡ with_came e c (ins t c)
-answered_ins id t (event.Item d i) c =
-    let e : Event = event.Item d i
-    in puts_ins (answer id (standing (found t e d.0)) i) (heard id t e) d.0 c ∙ ends_ins id (due t e) (did e ∷ t) c
-answered_ins id t (event.Up d p) c = ends_ins id (due t (event.Up d p)) (did (event.Up d p) ∷ t) c
-answered_ins id t (event.Down d) c = ends_ins id (due t (event.Down d)) (did (event.Down d) ∷ t) c
-answered_ins id t (event.Tick ms) c = ends_ins id (due t (event.Tick ms)) (did (event.Tick ms) ∷ t) c
-answered_ins id t event.Start c = ends_ins id (due t event.Start) (did event.Start ∷ t) c
 
 -- the losses: those of the events
 

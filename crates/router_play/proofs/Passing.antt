@@ -18,8 +18,9 @@ use Rattle.router_play.specs.Script.{Scene, say_all, say, refused, out_line, wit
 use Rattle.router_core.specs.Moves.{ins, outs}
 use Rattle.router_play.specs.Carrying.{was_lost, bytes_out, spelled, said_by, door_says, passed_by, passed}
 use Rattle.router_conns.proofs.Lists.{by_test}
+use Rattle.router_core.proofs.Headed.{ins_answered as answered_ins}
 use Rattle.router_play.proofs.Scenes.{not_true, not_false}
-use Rattle.router_play.proofs.Levels.{answered_even, answered_ins, up_level, took_waits, took_lives, same}
+use Rattle.router_play.proofs.Levels.{answered_even, up_level, took_waits, took_lives, same}
 use Rattle.router_play.proofs.Entering.{bytes_more, spelled_more, own_lines, other_lines, level_balance, hand_cases, hand_sockets, hand_last, hand_kept, Quiet, quiet_refl, quiet_trans, say_quiet, socket_quiet, Through, AtDoor, StandsAt, Stands, Balances, Entered, entered_as, quiet_entered}
 
 -- a connection past the door, wherever its socket is
