@@ -100,9 +100,9 @@ puts_ups (i ∷ is) t c = puts_ups is (Out c i ∷ t) c
 
 -- a connection whose close isn't written yet
 pub record Pending (t : List Entry) (c : ℕ) : Type 0 where
-  view : Connection
-  known_as : conn t c ≡ Some view
-  written : behind_all (outs t c) unwritten ≡ open_phase view.phase.header view.phase.opened
+  pub view : Connection
+  pub known_as : conn t c ≡ Some view
+  pub written : behind_all (outs t c) unwritten ≡ open_phase view.phase.header view.phase.opened
 
 closing_pending : (id : List ℕ) (t : List Entry) (c : ℕ) (x : Condition) → Pending t c → have_turns (behind_all (outs t c) unwritten) (closing_of id (conn t c) x) ≡ true
 closing_pending id t c x pending =

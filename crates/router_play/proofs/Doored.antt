@@ -93,11 +93,11 @@ handed e s none was = by_answer (refuses s.trace e)
     }) was
 
 -- what became of one connection that was made, and of no other
-record Changed (s u : Scene) (c : ℕ) : Type 0 where
-  last : u.last ≡ s.last
-  others : (n : ℕ) → (c == n) ≡ false → (u.sockets n ≡ s.sockets n) × Alike s.trace u.trace n
-  first : header_or_none (ins u.trace c) ≡ true
-  stands : AtSocket u.trace c (u.sockets c)
+pub record Changed (s u : Scene) (c : ℕ) : Type 0 where
+  pub last : u.last ≡ s.last
+  pub others : (n : ℕ) → (c == n) ≡ false → (u.sockets n ≡ s.sockets n) × Alike s.trace u.trace n
+  pub first : header_or_none (ins u.trace c) ≡ true
+  pub stands : AtSocket u.trace c (u.sockets c)
 
 pub changed : (s u : Scene) (c : ℕ) (k : Socket) → s.sockets c ≡ Some k → Changed s u c → Doored s → Doored u
 changed s u c k known change was = record {

@@ -20,31 +20,31 @@ use Rattle.router_play.proofs.Passing.{Keeps, take_all_entered, take_all_socket,
 -- The stages of a connection: it isn't made yet, bytes come on it, it is lost.
 
 pub record Unmade (s : Scene) (c : ℕ) : Type 0 where
-  entered : Entered s c (λ m. []) (λ m. [])
-  socket : s.sockets c ≡ None
-  unknown : conn s.trace c ≡ None
-  silent : outs s.trace c ≡ []
-  kept : was_lost s.trace c ≡ false
+  pub entered : Entered s c (λ m. []) (λ m. [])
+  pub socket : s.sockets c ≡ None
+  pub unknown : conn s.trace c ≡ None
+  pub silent : outs s.trace c ≡ []
+  pub kept : was_lost s.trace c ≡ false
 
 pub record Opened (s : Scene) (c : ℕ) (stream : List ℕ) : Type 0 where
-  ended : Bool
-  items : List Item
-  rest : List ℕ
-  cut : Cuts ended stream items rest
-  reader : Keeps rest ended (s.sockets c)
-  entered : Entered s c (λ m. door_says false (items ++ m)) (λ m. passed false (items ++ m))
-  reached : reaches c s.last ≡ true
-  kept : was_lost s.trace c ≡ false
+  pub ended : Bool
+  pub items : List Item
+  pub rest : List ℕ
+  pub cut : Cuts ended stream items rest
+  pub reader : Keeps rest ended (s.sockets c)
+  pub entered : Entered s c (λ m. door_says false (items ++ m)) (λ m. passed false (items ++ m))
+  pub reached : reaches c s.last ≡ true
+  pub kept : was_lost s.trace c ≡ false
 
 pub record Lost (s : Scene) (c : ℕ) (stream : List ℕ) : Type 0 where
-  ended : Bool
-  items : List Item
-  rest : List ℕ
-  cut : Cuts ended stream items rest
-  entered : Entered s c (λ m. door_says false items) (λ m. passed false items)
-  socket : s.sockets c ≡ None
-  reached : reaches c s.last ≡ true
-  until : was_lost s.trace c ≡ true → ins s.trace c ≡ passed false items
+  pub ended : Bool
+  pub items : List Item
+  pub rest : List ℕ
+  pub cut : Cuts ended stream items rest
+  pub entered : Entered s c (λ m. door_says false items) (λ m. passed false items)
+  pub socket : s.sockets c ≡ None
+  pub reached : reaches c s.last ≡ true
+  pub until : was_lost s.trace c ≡ true → ins s.trace c ≡ passed false items
 
 -- behind a flush
 
