@@ -3,7 +3,7 @@ use Rattle.std.proofs.Common.{◌≡◌, ◌∙◌, sym, ap, refl, subst, ℕ, B
 use Rattle.std.specs.Prelude.{map, length, Option, Some, None, if◌then◌else◌}
 use Rattle.router_trace.specs.declared.event.Event.{Event}
 use Rattle.router_core.specs.declared.driving.Sent.{Sent}
-use Rattle.router_trace.specs.Trace.{Entry}
+use Rattle.router_trace.specs.Trace.{Entry, step_of}
 use Rattle.router_trace.specs.Refusing.{refuses}
 use Rattle.router_reply.specs.Replies.{answered}
 use Rattle.router_core.specs.Runs.{Taking, took_one, took_all, MayStep, Run}
@@ -12,7 +12,7 @@ use Rattle.router_core.specs.Moves.{Move, handles, takes, Goes, IsTrace}
 -- moves, and then more of them
 pub goes_on : (id : List ℕ) (ms ns : List Move) (t u v : List Entry) → Goes id ms t u → Goes id ns u v → Goes id (ms ++ ns) t v
 goes_on id [] ns t u v first rest = subst (λ (w : List Entry). Goes id ns w v) first rest
-goes_on id (handles e ∷ ms) ns t u v first rest = (first.0, goes_on id ms ns (answered id t e) u v first.1 rest)
+goes_on id (handles s ∷ ms) ns t u v first rest = (first.0, goes_on id ms ns (answered id t s) u v first.1 rest)
 goes_on id (takes x ∷ ms) ns t u v first rest = goes_on id ms ns (took_one x t) u v first rest
 
 -- what a trace goes to by moves
@@ -25,8 +25,8 @@ leads_on id t u v first rest = (first.0 ++ rest.0, goes_on id first.0 rest.0 t u
 pub leads_same : (id : List ℕ) (t u : List Entry) → u ≡ t → Leads id t u
 leads_same id t u e = ([], e)
 
-pub leads_event : (id : List ℕ) (t : List Entry) (e : Event) → refuses t e ≡ false → Leads id t (answered id t e)
-leads_event id t e taken = (handles e ∷ [], (taken, refl))
+pub leads_event : (id : List ℕ) (t : List Entry) (e : Event) → refuses t e ≡ false → Leads id t (answered id t (step_of e))
+leads_event id t e taken = (handles (step_of e) ∷ [], (taken, refl))
 
 pub leads_take : (id : List ℕ) (t : List Entry) (x : Taking) → Leads id t (took_one x t)
 leads_take id t x = (takes x ∷ [], refl)
@@ -39,7 +39,7 @@ leads_takes id (x ∷ xs) t = leads_on id t (took_one x t) (took_all xs (took_on
 
 step_leads : (id : List ℕ) (t : List Entry) (e : Event) (u : List Entry) → MayStep id t e u → Leads id t u
 step_leads id t e u (inl is_refused) = leads_same id t u is_refused.1
-step_leads id t e u (inr taken) = (handles e ∷ [], (taken.0, taken.1.answers))
+step_leads id t e u (inr taken) = (handles (step_of e) ∷ [], (taken.0, taken.1.answers))
 
 pub run_leads : (id : List ℕ) (place : ℕ) (t : List Entry) (es : List Event) (xs : List Sent) (u : List Entry) → Run id place t es xs u → Leads id t u
 run_leads id place t [] xs u run = leads_same id t u run.0

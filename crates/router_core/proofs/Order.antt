@@ -7,7 +7,7 @@ use Rattle.amqp_conn.specs.declared.conn.Conn.{Conn}
 use Rattle.router_trace.specs.declared.event.ConnectionId.{ConnectionId}
 use Rattle.router_trace.specs.declared.event.Event.{Event}
 use Rattle.router_trace.specs.declared.event.Event.TheVariants as event
-use Rattle.router_trace.specs.Trace.{Entry, Took, did, puts, ups, with_up, newer, newest}
+use Rattle.router_trace.specs.Trace.{Entry, Took, did, puts, ups, with_up, newer, newest, step_of}
 use Rattle.router_trace.specs.Connection.{Connection, conn, ended, took, unless_empty, drained, standing, is_live, is_full, is_due, has, due, found, live_of, at_event, fresh}
 use Rattle.router_trace.specs.Refusing.{reaches, rises, refuses}
 use Rattle.router_reply.specs.Rows.{item_reply}
@@ -119,22 +119,22 @@ event_pending t e ord taken c h =
     ending : (b : Bool) (o : Option Connection) (v : Connection) → b ≡ true → o ≡ Some v → (if b then option_map ended o else o) ≡ Some (ended v)
     ending b o v e f = rw (e, f) refl
 
-heard_turns : (id : List ℕ) (t : List Entry) (e : Event) → Ordered t → refuses t e ≡ false → Ordered (heard id t e)
+heard_turns : (id : List ℕ) (t : List Entry) (e : Event) → Ordered t → refuses t e ≡ false → Ordered (heard id t (step_of e))
 heard_turns id t e ord taken =
     ends_turns id (due t e) (did e ∷ t) (event_turns t e ord taken) (no_twice_filter (λ k. is_due e k (conn t k)) (ups t) ord.once)
     (event_pending t e ord taken)
 
 -- the row of an item
-answer_turns : (id : List ℕ) (t : List Entry) (c : ℕ) (i : Item) (e : Event) → Ordered t → Ordered (heard id t e) → has c (ups (heard id t e)) ≡ true
+answer_turns : (id : List ℕ) (t : List Entry) (c : ℕ) (i : Item) (e : Event) → Ordered t → Ordered (heard id t (step_of e)) → has c (ups (heard id t (step_of e))) ≡ true
     → (b : Bool) → has c (due t e) ≡ b → (o : Option Connection) → conn t c ≡ o
-    → Ordered (puts c (answer id (standing (if b then option_map ended o else o)) i) (heard id t e))
+    → Ordered (puts c (answer id (standing (if b then option_map ended o else o)) i) (heard id t (step_of e)))
 answer_turns id t c i e ord heard_ord there true mark None is = heard_ord
 answer_turns id t c i e ord heard_ord there true mark (Some v) is = heard_ord
 answer_turns id t c i e ord heard_ord there false mark None is = heard_ord
 answer_turns id t c i e ord heard_ord there false mark (Some v) is =
     by_test v.phase.closed
     (λ over. rw over heard_ord)
-    (λ live. subst (λ (b : Bool). Ordered (puts c (answer id (if b then None else Some v.phase) i) (heard id t e))) (sym live) (puts_turns (item_reply id v.phase i) (heard id t e) c heard_ord
+    (λ live. subst (λ (b : Bool). Ordered (puts c (answer id (if b then None else Some v.phase) i) (heard id t (step_of e)))) (sym live) (puts_turns (item_reply id v.phase i) (heard id t (step_of e)) c heard_ord
     (subst (λ (p : Conn). have_turns p (item_reply id v.phase i) ≡ true)
     (sym (ap (λ js. behind_all js unwritten) (ends_outs id (due t e) (did e ∷ t) c mark) ∙ ord.phases c v is live))
     (reply_turns id v.phase i live))
@@ -144,7 +144,7 @@ live_some : (o : Option Connection) → is_live o ≡ true → is_some o ≡ tru
 live_some None h = h
 live_some (Some v) h = refl
 
-pub answered_turns : (id : List ℕ) (t : List Entry) (e : Event) → Ordered t → refuses t e ≡ false → Ordered (answered id t e)
+pub answered_turns : (id : List ℕ) (t : List Entry) (e : Event) → Ordered t → refuses t e ≡ false → Ordered (answered id t (step_of e))
 answered_turns id t (event.Item c i) ord taken =
     let e : Event = event.Item c i
     in answer_turns id t c.0 i e ord (heard_turns id t e ord taken)

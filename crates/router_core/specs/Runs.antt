@@ -4,7 +4,7 @@ use Rattle.amqp_frames.specs.declared.item.Item.{Item}
 use Rattle.router_trace.specs.declared.event.Event.{Event}
 use Rattle.router_trace.specs.declared.event.ConnectionId.{ConnectionId}
 use Rattle.router_core.specs.declared.driving.Sent.{Sent}
-use Rattle.router_trace.specs.Trace.{Trace, Took}
+use Rattle.router_trace.specs.Trace.{Trace, Took, step_of}
 use Rattle.router_trace.specs.Connection.{Connection, conn, is_ready}
 use Rattle.router_trace.specs.Refusing.{refuses}
 use Rattle.router_reply.specs.Replies.{Replies}
@@ -51,7 +51,7 @@ pub record Emptied (place : ℕ) (t : Trace) (ys : List Sent) (u : Trace) : Type
 
 -- an event is refused, and isn't in the trace, or its replies stand behind it
 abbrev pub MayStep : List ℕ → Trace → Event → Trace → Type 0
-MayStep id t e u = ((refuses t e ≡ true) × (u ≡ t)) ⊎ ((refuses t e ≡ false) × Replies id t e u)
+MayStep id t e u = ((refuses t e ≡ true) × (u ≡ t)) ⊎ ((refuses t e ≡ false) × Replies id t (step_of e) u)
 
 -- an event, and then the outboxes emptied
 pub record Steps (id : List ℕ) (place : ℕ) (t : Trace) (e : Event) (ys : List Sent) (u : Trace) : Type 0 where

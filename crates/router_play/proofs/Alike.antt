@@ -6,7 +6,7 @@ use Rattle.amqp_frames.specs.declared.item.Item.{Item}
 use Rattle.router_trace.specs.declared.event.Event.{Event}
 use Rattle.router_trace.specs.declared.event.Event.TheVariants as event
 use Rattle.router_trace.specs.declared.condition.Condition.TheVariants.{ResourceLimitExceeded}
-use Rattle.router_trace.specs.Trace.{Entry, Out, did, puts, ups}
+use Rattle.router_trace.specs.Trace.{Entry, Out, did, puts, ups, step_of}
 use Rattle.router_trace.specs.Connection.{Connection, conn, behind, with_item, took, unless_empty, drained, standing, is_live, has, due, found, live_of, at_event}
 use Rattle.router_reply.specs.Replies.{closing_of, ends as ends_of, answer, heard, answered}
 use Rattle.router_core.specs.Moves.{ins, with_came}
@@ -78,9 +78,9 @@ over_did t e c other h =
     over_event e c (length (live_of (ups t) (found t e))) (found t e c) other
     (over_lives (has c (due t e)) (conn t c) ∙ ap (λ (b : Bool). b && not (has c (due t e))) h)
 
-pub over_answered : (id : List ℕ) (t : List Entry) (e : Event) (c : ℕ) → is_about e c ≡ false → is_live (conn t c) ≡ false → is_live (conn (answered id t e) c) ≡ false
+pub over_answered : (id : List ℕ) (t : List Entry) (e : Event) (c : ℕ) → is_about e c ≡ false → is_live (conn t c) ≡ false → is_live (conn (answered id t (step_of e)) c) ≡ false
 over_answered id t (event.Item d i) c other h =
-    over_puts (answer id (standing (found t (event.Item d i) d.0)) i) (heard id t (event.Item d i)) d.0 c
+    over_puts (answer id (standing (found t (event.Item d i) d.0)) i) (heard id t (step_of (event.Item d i))) d.0 c
     (over_ends id (due t (event.Item d i)) (did (event.Item d i) ∷ t) c (over_did t (event.Item d i) c other h))
 over_answered id t (event.Down d) c other h = over_ends id (due t (event.Down d)) (did (event.Down d) ∷ t) c (over_did t (event.Down d) c other h)
 over_answered id t (event.Up d p) c other h = over_ends id (due t (event.Up d p)) (did (event.Up d p) ∷ t) c (over_did t (event.Up d p) c other h)

@@ -16,7 +16,7 @@ use Rattle.router_play.specs.declared.line.Line.{Line}
 use Rattle.router_play.specs.declared.socket.Socket.{Socket}
 use Rattle.router_play.specs.declared.script.Step.{Step}
 use Rattle.router_play.specs.declared.script.Step.TheVariants as step
-use Rattle.router_trace.specs.Trace.{Entry, did, ups, newest}
+use Rattle.router_trace.specs.Trace.{Entry, did, ups, newest, step_of}
 use Rattle.router_trace.specs.Connection.{Connection, conn, fresh, is_live, has, found, live_of}
 use Rattle.router_trace.specs.Refusing.{rises}
 use Rattle.router_reply.specs.Replies.{ends, answered}
@@ -66,7 +66,7 @@ record Single (s : Scene) (c : ℕ) (P : List Item → List Item) : Type 0 where
   stage : Before s.trace (s.sockets c) P ⊎ Behind s.trace (s.sockets c) c
 
 -- the first connection is taken in
-first_live : (id : List ℕ) (t : List Entry) (d : ConnectionId) (p : Peer) → Calm t → ups t ≡ [] → is_live (conn (answered id t (event.Up d p)) d.0) ≡ true
+first_live : (id : List ℕ) (t : List Entry) (d : ConnectionId) (p : Peer) → Calm t → ups t ≡ [] → is_live (conn (answered id t (step_of (event.Up d p))) d.0) ≡ true
 first_live id t d p calm nobody =
     let e : Event = event.Up d p
     in let here : (d.0 == d.0) ≡ true = same d.0

@@ -10,7 +10,7 @@ use Rattle.amqp_conn.specs.declared.conn.Conn.{Conn}
 use Rattle.router_trace.specs.declared.event.ConnectionId.{ConnectionId}
 use Rattle.router_trace.specs.declared.event.Event.{Event}
 use Rattle.router_trace.specs.declared.event.Event.TheVariants as event
-use Rattle.router_trace.specs.Trace.{Entry, Out, did, puts, ups}
+use Rattle.router_trace.specs.Trace.{Entry, Out, did, puts, ups, step_of}
 use Rattle.router_trace.specs.Connection.{Connection, conn, behind, took, standing, is_live, is_full, is_due, due, found, unless_due}
 use Rattle.router_trace.specs.Refusing.{refuses}
 use Rattle.router_reply.specs.Rows.{item_reply}
@@ -106,20 +106,20 @@ left_level t u c level h = (
 left_all : (t : List Entry) (c : ℕ) → waiting_of (conn t c) ≡ [] → Left t c
 left_all t c none = (outs t c, sym (ap (λ ys. outs t c ++ ys) none ∙ append-nil (outs t c)))
 
-left_moved : (id : List ℕ) (t : List Entry) (e : Event) (c : ℕ) → moves e c ≡ true → Left (answered id t e) c
+left_moved : (id : List ℕ) (t : List Entry) (e : Event) (c : ℕ) → moves e c ≡ true → Left (answered id t (step_of e)) c
 left_moved id t (event.Up d p) c h =
     let e : Event = event.Up d p
-    in left_level (did e ∷ t) (answered id t e) c (ends_even id (due t e) (did e ∷ t) c).level (left_all (did e ∷ t) c (rw h refl))
+    in left_level (did e ∷ t) (answered id t (step_of e)) c (ends_even id (due t e) (did e ∷ t) c).level (left_all (did e ∷ t) c (rw h refl))
 left_moved id t (event.Down d) c h =
     let e : Event = event.Down d
-    in left_level (did e ∷ t) (answered id t e) c (ends_even id (due t e) (did e ∷ t) c).level (left_all (did e ∷ t) c (rw h refl))
+    in left_level (did e ∷ t) (answered id t (step_of e)) c (ends_even id (due t e) (did e ∷ t) c).level (left_all (did e ∷ t) c (rw h refl))
 left_moved id t (event.Item d i) c h = absurd (true≢false (sym h))
 left_moved id t (event.Tick ms) c h = absurd (true≢false (sym h))
 left_moved id t event.Start c h = absurd (true≢false (sym h))
 
-left_answered : (id : List ℕ) (t : List Entry) (e : Event) (c : ℕ) → Left t c → Left (answered id t e) c
+left_answered : (id : List ℕ) (t : List Entry) (e : Event) (c : ℕ) → Left t c → Left (answered id t (step_of e)) c
 left_answered id t e c h =
-    by_test (moves e c) (left_moved id t e c) (λ still. left_level t (answered id t e) c (answered_even id t e c still).level h)
+    by_test (moves e c) (left_moved id t e c) (λ still. left_level t (answered id t (step_of e)) c (answered_even id t e c still).level h)
 
 left_own : (x : Taking) (t : List Entry) → Left t x.conn.0 → Left (took_one x t) x.conn.0
 left_own x t h =
@@ -169,7 +169,7 @@ calm_full t c h = by_row (conn t c) refl
 pub calm_due : (t : List Entry) (e : Event) → Calm t → due t e ≡ []
 calm_due t e h = filter_none (λ k. is_due e k (conn t k)) (λ k. due_none e k (conn t k) (calm_full t k h)) (ups t)
 
-pub calm_event : (id : List ℕ) (t : List Entry) (e : Event) → Calm t → refuses t e ≡ false → Calm (answered id t e)
+pub calm_event : (id : List ℕ) (t : List Entry) (e : Event) → Calm t → refuses t e ≡ false → Calm (answered id t (step_of e))
 calm_event id t e h taken = record { ordered = answered_turns id t e h.ordered taken; lefts = λ c. left_answered id t e c (h.lefts c) }
 
 pub calm_took : (x : Taking) (t : List Entry) → Calm t → Calm (took_one x t)
@@ -202,15 +202,15 @@ live_phase t c ord live = by_row (conn t c) refl live
         by_phase false e l = ap Some (sym (same_behind (outs t c) unwritten ∙ ord.phases c v is e))
 
 -- an event puts out nothing but its own answer
-pub heard_outs : (id : List ℕ) (t : List Entry) (e : Event) (c : ℕ) → Calm t → outs (heard id t e) c ≡ outs t c
+pub heard_outs : (id : List ℕ) (t : List Entry) (e : Event) (c : ℕ) → Calm t → outs (heard id t (step_of e)) c ≡ outs t c
 heard_outs id t e c h = ap (λ (ks : List ℕ). outs (ends id ks (did e ∷ t)) c) (calm_due t e h)
 
 pub item_own : (id : List ℕ) (t : List Entry) (d : ConnectionId) (i : Item) → Calm t → is_live (conn t d.0) ≡ true
-    → outs (answered id t (event.Item d i)) d.0 ≡ outs t d.0 ++ item_reply id (behind_items (outs t d.0) unwritten) i
+    → outs (answered id t (step_of (event.Item d i))) d.0 ≡ outs t d.0 ++ item_reply id (behind_items (outs t d.0) unwritten) i
 item_own id t d i h live =
     let e : Event = event.Item d i
     in let row : found t e d.0 ≡ conn t d.0 = ap (λ (ks : List ℕ). unless_due ks (conn t) d.0) (calm_due t e h)
-    in puts_own (answer id (standing (found t e d.0)) i) (heard id t e) d.0
+    in puts_own (answer id (standing (found t e d.0)) i) (heard id t (step_of e)) d.0
     ∙ ap (λ ys. ys ++ answer id (standing (found t e d.0)) i) (heard_outs id t e d.0 h)
     ∙ ap (λ (o : Option Conn). outs t d.0 ++ answer id o i) (ap standing row ∙ live_phase t d.0 h.ordered live)
 
@@ -219,26 +219,26 @@ pub record Answers (id : List ℕ) (t : List Entry) : Type 0 where
   pub exact : (c : ℕ) → outs t c ≡ answers id unwritten (ins t c)
 
 exact_own : (id : List ℕ) (t : List Entry) (d : ConnectionId) (i : Item) → Answers id t → is_live (conn t d.0) ≡ true
-    → outs (answered id t (event.Item d i)) d.0 ≡ answers id unwritten (ins (answered id t (event.Item d i)) d.0)
+    → outs (answered id t (step_of (event.Item d i))) d.0 ≡ answers id unwritten (ins (answered id t (step_of (event.Item d i))) d.0)
 exact_own id t d i h live =
     let here : (d.0 == d.0) ≡ true = same d.0
-    in let came : ins (answered id t (event.Item d i)) d.0 ≡ ins t d.0 ++ i ∷ [] = answered_ins id t (event.Item d i) d.0 ∙ (rw here refl)
+    in let came : ins (answered id t (step_of (event.Item d i))) d.0 ≡ ins t d.0 ++ i ∷ [] = answered_ins id t (event.Item d i) d.0 ∙ (rw here refl)
     in item_own id t d i h.calm live
     ∙ ap (λ (ys : List Item). ys ++ item_reply id (behind_items ys unwritten) i) (h.exact d.0)
     ∙ sym (answers_push id (ins t d.0) unwritten i)
     ∙ ap (λ (ys : List Item). answers id unwritten ys) (sym came)
 
-exact_other : (id : List ℕ) (t : List Entry) (e : Event) (c : ℕ) → Answers id t → outs (answered id t e) c ≡ outs t c → ins (answered id t e) c ≡ ins t c
-    → outs (answered id t e) c ≡ answers id unwritten (ins (answered id t e) c)
+exact_other : (id : List ℕ) (t : List Entry) (e : Event) (c : ℕ) → Answers id t → outs (answered id t (step_of e)) c ≡ outs t c → ins (answered id t (step_of e)) c ≡ ins t c
+    → outs (answered id t (step_of e)) c ≡ answers id unwritten (ins (answered id t (step_of e)) c)
 exact_other id t e c h written came = written ∙ h.exact c ∙ ap (λ (ys : List Item). answers id unwritten ys) (sym came)
 
-pub exact_event : (id : List ℕ) (t : List Entry) (e : Event) → Answers id t → refuses t e ≡ false → (c : ℕ) → outs (answered id t e) c ≡ answers id unwritten (ins (answered id t e) c)
+pub exact_event : (id : List ℕ) (t : List Entry) (e : Event) → Answers id t → refuses t e ≡ false → (c : ℕ) → outs (answered id t (step_of e)) c ≡ answers id unwritten (ins (answered id t (step_of e)) c)
 exact_event id t (event.Item d i) h taken c =
     let e : Event = event.Item d i
     in by_test (d.0 == c)
-    (λ same_one. subst (λ (n : ℕ). outs (answered id t e) n ≡ answers id unwritten (ins (answered id t e) n)) (eqb-true d.0 c same_one)
+    (λ same_one. subst (λ (n : ℕ). outs (answered id t (step_of e)) n ≡ answers id unwritten (ins (answered id t (step_of e)) n)) (eqb-true d.0 c same_one)
     (exact_own id t d i h (not_false (is_live (conn t d.0)) taken)))
-    (λ apart. exact_other id t e c h (puts_outs (answer id (standing (found t e d.0)) i) (heard id t e) d.0 c apart ∙ heard_outs id t e c h.calm)
+    (λ apart. exact_other id t e c h (puts_outs (answer id (standing (found t e d.0)) i) (heard id t (step_of e)) d.0 c apart ∙ heard_outs id t e c h.calm)
     (answered_ins id t e c ∙ (rw apart refl)))
 exact_event id t (event.Up d p) h taken c = exact_other id t (event.Up d p) c h (heard_outs id t (event.Up d p) c h.calm) (answered_ins id t (event.Up d p) c)
 exact_event id t (event.Down d) h taken c = exact_other id t (event.Down d) c h (heard_outs id t (event.Down d) c h.calm) (answered_ins id t (event.Down d) c)
@@ -247,8 +247,8 @@ exact_event id t event.Start h taken c = exact_other id t event.Start c h (heard
 
 goes_answers : (id : List ℕ) (ms : List Move) (t u : List Entry) → Answers id t → Goes id ms t u → Answers id u
 goes_answers id [] t u h goes = subst (λ (w : List Entry). Answers id w) (sym goes) h
-goes_answers id (handles e ∷ ms) t u h goes =
-    goes_answers id ms (answered id t e) u (record { calm = calm_event id t e h.calm goes.0; exact = exact_event id t e h goes.0 }) goes.1
+goes_answers id (handles s ∷ ms) t u h goes =
+    goes_answers id ms (answered id t s) u (record { calm = calm_event id t s.event h.calm goes.0; exact = exact_event id t s.event h goes.0 }) goes.1
 goes_answers id (takes x ∷ ms) t u h goes = goes_answers id ms (took_one x t) u (record { calm = calm_took x t h.calm; exact = h.exact }) goes
 
 pub answers_empty : (id : List ℕ) → Answers id []

@@ -14,7 +14,7 @@ use Rattle.router_play.specs.declared.line.Line.TheVariants as line
 use Rattle.router_play.specs.declared.socket.Socket.{Socket}
 use Rattle.router_play.specs.declared.script.Step.{Step}
 use Rattle.router_play.specs.declared.script.Step.TheVariants as step
-use Rattle.router_trace.specs.Trace.{Entry, Took}
+use Rattle.router_trace.specs.Trace.{Entry, Took, step_of}
 use Rattle.router_trace.specs.Connection.{conn, is_live}
 use Rattle.router_trace.specs.Refusing.{refuses, rises}
 use Rattle.router_reply.specs.Replies.{answered}
@@ -55,12 +55,12 @@ item_enters c i s first why = by_answer (refuses s.trace (event.Item c i)) refl
     live_header taken (inr over) = absurd (true≢false (sym (ap not over) ∙ taken))
 
     by_answer : (b : Bool) → refuses s.trace (event.Item c i) ≡ b
-        → Entered (if b then say refused s else with_trace (answered s.id s.trace (event.Item c i)) s).trace c.0
+        → Entered (if b then say refused s else with_trace (answered s.id s.trace (step_of (event.Item c i))) s).trace c.0
     by_answer true is = (first, λ none. not_no (is_live (conn s.trace c.0)) is)
     by_answer false is =
-        let came : ins (answered s.id s.trace (event.Item c i)) c.0 ≡ ins s.trace c.0 ++ i ∷ []
+        let came : ins (answered s.id s.trace (step_of (event.Item c i))) c.0 ≡ ins s.trace c.0 ++ i ∷ []
         = ins_answered s.id s.trace (event.Item c i) c.0 ∙ (let same : (c.0 == c.0) ≡ true = eq-eqb c.0 c.0 refl in rw same refl)
-        in let both = pushed (ins s.trace c.0) (ins (answered s.id s.trace (event.Item c i)) c.0) came first (λ none. live_header is (why none))
+        in let both = pushed (ins s.trace c.0) (ins (answered s.id s.trace (step_of (event.Item c i))) c.0) came first (λ none. live_header is (why none))
         in (both.0, λ none. absurd (both.1 none))
 
 item_changes : (c : ConnectionId) (i : Item) (s : Scene) (k : Socket) → s.sockets c.0 ≡ Some k → k.door ≡ None → Doored s → Doored (hand (event.Item c i) s)
@@ -115,7 +115,7 @@ pass_changes c i k d s user known at_door is was =
     up_came : (inside : Scene) (p : Peer) → ins (hand (event.Up c p) inside).trace c.0 ≡ ins inside.trace c.0
     up_came inside p = by_answer (refuses inside.trace (event.Up c p))
       where
-        by_answer : (b : Bool) → ins (if b then say refused inside else with_trace (answered inside.id inside.trace (event.Up c p)) inside).trace c.0 ≡ ins inside.trace c.0
+        by_answer : (b : Bool) → ins (if b then say refused inside else with_trace (answered inside.id inside.trace (step_of (event.Up c p))) inside).trace c.0 ≡ ins inside.trace c.0
         by_answer true = refl
         by_answer false = ins_answered inside.id inside.trace (event.Up c p) c.0
 

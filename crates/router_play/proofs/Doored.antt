@@ -8,7 +8,7 @@ use Rattle.router_trace.specs.declared.event.Event.{Event}
 use Rattle.router_core.specs.declared.door.Door.{Door as DoorState}
 use Rattle.router_play.specs.declared.line.Line.{Line}
 use Rattle.router_play.specs.declared.socket.Socket.{Socket}
-use Rattle.router_trace.specs.Trace.{Entry}
+use Rattle.router_trace.specs.Trace.{Entry, step_of}
 use Rattle.router_trace.specs.Connection.{conn, is_live}
 use Rattle.router_trace.specs.Refusing.{refuses, rises}
 use Rattle.router_reply.specs.Replies.{answered}
@@ -23,7 +23,7 @@ use Rattle.router_play.proofs.Alike.{Alike, alike_same, came_other, is_about, ov
 pub hand_alike : (e : Event) (s : Scene) (c : ℕ) → is_about e c ≡ false → Alike s.trace (hand e s).trace c
 hand_alike e s c other = by_answer (refuses s.trace e)
   where
-    by_answer : (b : Bool) → Alike s.trace (if b then say refused s else with_trace (answered s.id s.trace e) s).trace c
+    by_answer : (b : Bool) → Alike s.trace (if b then say refused s else with_trace (answered s.id s.trace (step_of e)) s).trace c
     by_answer true = alike_same s.trace s.trace c refl
     by_answer false = record {
       came = ins_answered s.id s.trace e c ∙ came_other e c (ins s.trace c) other;
@@ -85,9 +85,9 @@ closed c s was = record {
 pub handed : (e : Event) (s : Scene) → ((c : ℕ) → is_about e c ≡ false) → Doored s → Doored (hand e s)
 handed e s none was = by_answer (refuses s.trace e)
   where
-    by_answer : (b : Bool) → Doored (if b then say refused s else with_trace (answered s.id s.trace e) s)
+    by_answer : (b : Bool) → Doored (if b then say refused s else with_trace (answered s.id s.trace (step_of e)) s)
     by_answer true = said (refused ∷ []) s was
-    by_answer false = grown s (answered s.id s.trace e) (λ c. record {
+    by_answer false = grown s (answered s.id s.trace (step_of e)) (λ c. record {
       came = ins_answered s.id s.trace e c ∙ came_other e c (ins s.trace c) (none c);
       over = over_answered s.id s.trace e c (none c);
     }) was

@@ -11,7 +11,7 @@ use Rattle.router_core.specs.declared.door.Door.{Door as DoorState}
 use Rattle.router_play.specs.declared.line.Line.{Line}
 use Rattle.router_play.specs.declared.line.Line.TheVariants as line
 use Rattle.router_play.specs.declared.socket.Socket.{Socket}
-use Rattle.router_trace.specs.Trace.{Entry}
+use Rattle.router_trace.specs.Trace.{Entry, step_of}
 use Rattle.router_trace.specs.Connection.{Connection, conn, is_live}
 use Rattle.router_trace.specs.Refusing.{refuses}
 use Rattle.router_reply.specs.Replies.{answered}
@@ -51,8 +51,8 @@ other_lines d c (i ∷ is) apart = rw apart (other_lines d c is apart)
 
 -- an event is refused, or handled
 pub hand_cases : (G : Scene → Type 0) (e : Event) (s : Scene) → (refuses s.trace e ≡ true → G (say refused s))
-    → (refuses s.trace e ≡ false → G (with_trace (answered s.id s.trace e) s)) → G (hand e s)
-hand_cases G e s f g = pick (refuses s.trace e) (say refused s) (with_trace (answered s.id s.trace e) s) f g
+    → (refuses s.trace e ≡ false → G (with_trace (answered s.id s.trace (step_of e)) s)) → G (hand e s)
+hand_cases G e s f g = pick (refuses s.trace e) (say refused s) (with_trace (answered s.id s.trace (step_of e)) s) f g
   where
     pick : (b : Bool) (x y : Scene) → (b ≡ true → G x) → (b ≡ false → G y) → G (if b then x else y)
     pick true x y f g = f refl

@@ -9,7 +9,7 @@ use Rattle.router_trace.specs.declared.event.Event.{Event}
 use Rattle.router_trace.specs.declared.event.Event.TheVariants as event
 use Rattle.router_play.specs.declared.script.Step.{Step}
 use Rattle.router_play.specs.declared.line.Line.{Line}
-use Rattle.router_trace.specs.Trace.{Entry, Out, Took, did, puts, ups, newest}
+use Rattle.router_trace.specs.Trace.{Entry, Out, Took, did, puts, ups, newest, step_of}
 use Rattle.router_trace.specs.Connection.{Connection, conn, with_item, took, standing, is_live, found, unless_due, live_of}
 use Rattle.router_trace.specs.Refusing.{refuses}
 use Rattle.router_reply.specs.Rows.{item_reply}
@@ -82,7 +82,7 @@ held_same t u c lives lost written (inr (inr h)) = inr (inr (ap (λ (ys : List I
 calm_found : (t : List Entry) (e : Event) (c : ℕ) → Calm t → found t e c ≡ conn t c
 calm_found t e c h = ap (λ (ks : List ℕ). unless_due ks (conn t) c) (calm_due t e h)
 
-calm_heard : (id : List ℕ) (t : List Entry) (e : Event) (c : ℕ) → Calm t → moves e c ≡ false → conn (heard id t e) c ≡ conn t c
+calm_heard : (id : List ℕ) (t : List Entry) (e : Event) (c : ℕ) → Calm t → moves e c ≡ false → conn (heard id t (step_of e)) c ≡ conn t c
 calm_heard id t e c h still =
     ap (λ (ks : List ℕ). conn (ends id ks (did e ∷ t)) c) (calm_due t e h)
     ∙ stays_at e c (length (live_of (ups t) (found t e))) (found t e c) still
@@ -111,17 +111,17 @@ live_view (Some v) h = (v, refl, by_phase v.phase.closed h)
     by_phase true h = absurd (true≢false (sym h))
     by_phase false h = refl
 
-held_item : (id : List ℕ) (t : List Entry) (d : ConnectionId) (i : Item) → Calm t → is_live (conn t d.0) ≡ true → Held (answered id t (event.Item d i)) d.0
+held_item : (id : List ℕ) (t : List Entry) (d : ConnectionId) (i : Item) → Calm t → is_live (conn t d.0) ≡ true → Held (answered id t (step_of (event.Item d i))) d.0
 held_item id t d i h live =
     let e : Event = event.Item d i
-    in let u : List Entry = answered id t e
+    in let u : List Entry = answered id t (step_of e)
     in let v = live_view (conn t d.0) live
     in let p : Conn = behind_items (outs t d.0) unwritten
     in let phase : p ≡ v.0.phase = same_behind (outs t d.0) unwritten ∙ h.ordered.phases d.0 v.0 v.1 v.2
     in let reply : List Item = answer id (standing (found t e d.0)) i
-    in let w = puts_phase reply (heard id t e) d.0 v.0 (calm_heard id t e d.0 h refl ∙ v.1)
+    in let w = puts_phase reply (heard id t (step_of e)) d.0 v.0 (calm_heard id t e d.0 h refl ∙ v.1)
     in let behind_all_of : behind_items (outs u d.0) unwritten ≡ w.0.phase
-    = ap (λ (ys : List Item). behind_items ys unwritten) (puts_own reply (heard id t e) d.0 ∙ ap (λ ys. ys ++ reply) (heard_outs id t e d.0 h))
+    = ap (λ (ys : List Item). behind_items ys unwritten) (puts_own reply (heard id t (step_of e)) d.0 ∙ ap (λ ys. ys ++ reply) (heard_outs id t e d.0 h))
     ∙ behind_more (outs t d.0) reply unwritten
     ∙ ap (λ (q : Conn). behind_items reply q) phase
     ∙ sym w.2
@@ -131,36 +131,36 @@ or_true : (a b : Bool) → b ≡ true → (a || b) ≡ true
 or_true true b h = refl
 or_true false b h = h
 
-still_lost : (id : List ℕ) (t : List Entry) (e : Event) (c : ℕ) → was_lost t c ≡ true → was_lost (answered id t e) c ≡ true
+still_lost : (id : List ℕ) (t : List Entry) (e : Event) (c : ℕ) → was_lost t c ≡ true → was_lost (answered id t (step_of e)) c ≡ true
 still_lost id t e c h = answered_lost id t e c ∙ or_true (is_loss_of e c) (was_lost t c) h
 
 live_known : (t : List Entry) (c : ℕ) → is_live (conn t c) ≡ true → is_some (conn t c) ≡ true
 live_known t c h = let v = live_view (conn t c) h in ap (λ (o : Option Connection). is_some o) v.1
 
-pub held_event : (id : List ℕ) (t : List Entry) (e : Event) (c : ℕ) → Calm t → refuses t e ≡ false → Held t c → Held (answered id t e) c
+pub held_event : (id : List ℕ) (t : List Entry) (e : Event) (c : ℕ) → Calm t → refuses t e ≡ false → Held t c → Held (answered id t (step_of e)) c
 held_event id t (event.Item d i) c calm taken h =
     let e : Event = event.Item d i
     in by_test (d.0 == c)
-    (λ own. subst (λ (n : ℕ). Held (answered id t e) n) (eqb-true d.0 c own) (held_item id t d i calm (not_false (is_live (conn t d.0)) taken)))
-    (λ apart. held_same t (answered id t e) c
-    (λ l. ap is_live (puts_other (answer id (standing (found t e d.0)) i) (heard id t e) d.0 c apart ∙ calm_heard id t e c calm refl) ∙ l)
+    (λ own. subst (λ (n : ℕ). Held (answered id t (step_of e)) n) (eqb-true d.0 c own) (held_item id t d i calm (not_false (is_live (conn t d.0)) taken)))
+    (λ apart. held_same t (answered id t (step_of e)) c
+    (λ l. ap is_live (puts_other (answer id (standing (found t e d.0)) i) (heard id t (step_of e)) d.0 c apart ∙ calm_heard id t e c calm refl) ∙ l)
     (still_lost id t e c)
-    (puts_outs (answer id (standing (found t e d.0)) i) (heard id t e) d.0 c apart ∙ heard_outs id t e c calm) h)
+    (puts_outs (answer id (standing (found t e d.0)) i) (heard id t (step_of e)) d.0 c apart ∙ heard_outs id t e c calm) h)
 held_event id t (event.Up d p) c calm taken h =
     let e : Event = event.Up d p
-    in held_same t (answered id t e) c
+    in held_same t (answered id t (step_of e)) c
     (λ l. ap is_live (calm_heard id t e c calm (new_number d c (newest t) (not_false _ taken) (calm.ordered.rise c (known t c (live_known t c l))))) ∙ l)
     (still_lost id t e c) (heard_outs id t e c calm) h
 held_event id t (event.Down d) c calm taken h =
     let e : Event = event.Down d
     in by_test (d.0 == c)
     (λ own. inr (inl (answered_lost id t e c ∙ ap (λ b. b || was_lost t c) own)))
-    (λ apart. held_same t (answered id t e) c (λ l. ap is_live (calm_heard id t e c calm apart) ∙ l) (still_lost id t e c) (heard_outs id t e c calm) h)
+    (λ apart. held_same t (answered id t (step_of e)) c (λ l. ap is_live (calm_heard id t e c calm apart) ∙ l) (still_lost id t e c) (heard_outs id t e c calm) h)
 held_event id t (event.Tick ms) c calm taken h =
     let e : Event = event.Tick ms
-    in held_same t (answered id t e) c (λ l. ap is_live (calm_heard id t e c calm refl) ∙ l) (still_lost id t e c) (heard_outs id t e c calm) h
+    in held_same t (answered id t (step_of e)) c (λ l. ap is_live (calm_heard id t e c calm refl) ∙ l) (still_lost id t e c) (heard_outs id t e c calm) h
 held_event id t event.Start c calm taken h =
-    held_same t (answered id t event.Start) c (λ l. ap is_live (calm_heard id t event.Start c calm refl) ∙ l) (still_lost id t event.Start c) (heard_outs id t event.Start c calm) h
+    held_same t (answered id t (step_of event.Start)) c (λ l. ap is_live (calm_heard id t event.Start c calm refl) ∙ l) (still_lost id t event.Start c) (heard_outs id t event.Start c calm) h
 
 took_live : (n : ℕ) (o : Option Connection) → is_live o ≡ true → is_live (option_and_then (took n) o) ≡ true
 took_live n None h = h
@@ -181,25 +181,25 @@ held_took t d n c h =
 abbrev pub Fate : List Entry → ℕ → Type 0
 Fate t c = Held t c ⊎ ((ins t c ≡ []) × (is_live (conn t c) ≡ false))
 
-fate_event : (id : List ℕ) (t : List Entry) (e : Event) (c : ℕ) → Calm t → refuses t e ≡ false → Fate t c → Fate (answered id t e) c
+fate_event : (id : List ℕ) (t : List Entry) (e : Event) (c : ℕ) → Calm t → refuses t e ≡ false → Fate t c → Fate (answered id t (step_of e)) c
 fate_event id t e c calm taken (inl h) = inl (held_event id t e c calm taken h)
 fate_event id t (event.Item d i) c calm taken (inr h) =
     let e : Event = event.Item d i
     in by_test (d.0 == c)
     (λ own. absurd (true≢false (sym (subst (λ (n : ℕ). is_live (conn t n) ≡ true) (eqb-true d.0 c own) (not_false (is_live (conn t d.0)) taken)) ∙ h.1)))
-    (λ apart. by_test (is_live (conn (answered id t e) c)) (λ l. inl (inl l)) (λ l. inr (answered_ins id t e c ∙ (rw apart refl) ∙ h.0, l)))
+    (λ apart. by_test (is_live (conn (answered id t (step_of e)) c)) (λ l. inl (inl l)) (λ l. inr (answered_ins id t e c ∙ (rw apart refl) ∙ h.0, l)))
 fate_event id t (event.Up d p) c calm taken (inr h) =
     let e : Event = event.Up d p
-    in by_test (is_live (conn (answered id t e) c)) (λ l. inl (inl l)) (λ l. inr (answered_ins id t e c ∙ h.0, l))
+    in by_test (is_live (conn (answered id t (step_of e)) c)) (λ l. inl (inl l)) (λ l. inr (answered_ins id t e c ∙ h.0, l))
 fate_event id t (event.Down d) c calm taken (inr h) =
     let e : Event = event.Down d
-    in by_test (is_live (conn (answered id t e) c)) (λ l. inl (inl l)) (λ l. inr (answered_ins id t e c ∙ h.0, l))
+    in by_test (is_live (conn (answered id t (step_of e)) c)) (λ l. inl (inl l)) (λ l. inr (answered_ins id t e c ∙ h.0, l))
 fate_event id t (event.Tick ms) c calm taken (inr h) =
     let e : Event = event.Tick ms
-    in by_test (is_live (conn (answered id t e) c)) (λ l. inl (inl l)) (λ l. inr (answered_ins id t e c ∙ h.0, l))
+    in by_test (is_live (conn (answered id t (step_of e)) c)) (λ l. inl (inl l)) (λ l. inr (answered_ins id t e c ∙ h.0, l))
 fate_event id t event.Start c calm taken (inr h) =
     let e : Event = event.Start
-    in by_test (is_live (conn (answered id t e) c)) (λ l. inl (inl l)) (λ l. inr (answered_ins id t e c ∙ h.0, l))
+    in by_test (is_live (conn (answered id t (step_of e)) c)) (λ l. inl (inl l)) (λ l. inr (answered_ins id t e c ∙ h.0, l))
 
 fate_took : (t : List Entry) (d n c : ℕ) → Fate t c → Fate (Took d n ∷ t) c
 fate_took t d n c (inl h) = inl (held_took t d n c h)
@@ -208,7 +208,7 @@ fate_took t d n c (inr h) = by_test (is_live (conn (Took d n ∷ t) c)) (λ l. i
 -- items come only on open connections
 
 lasting_event : (id : List ℕ) (t : List Entry) (e : Event) (c : ℕ) → Answers id t → refuses t e ≡ false → lasting id unwritten (ins t c) ≡ true
-    → lasting id unwritten (ins (answered id t e) c) ≡ true
+    → lasting id unwritten (ins (answered id t (step_of e)) c) ≡ true
 lasting_event id t (event.Item d i) c h taken lasts =
     let e : Event = event.Item d i
     in by_test (d.0 == c)
@@ -217,9 +217,9 @@ lasting_event id t (event.Item d i) c h taken lasts =
     in let v = live_view (conn t c) live
     in let still : (behind_items (answers id unwritten (ins t c)) unwritten).closed ≡ false
     = ap (λ (ys : List Item). (behind_items ys unwritten).closed) (sym (h.exact c)) ∙ ap (λ (q : Conn). q.closed) (same_behind (outs t c) unwritten ∙ h.calm.ordered.phases c v.0 v.1 v.2) ∙ v.2
-    in let came : ins (answered id t e) c ≡ ins t c ++ i ∷ [] = answered_ins id t e c ∙ (rw own refl)
+    in let came : ins (answered id t (step_of e)) c ≡ ins t c ++ i ∷ [] = answered_ins id t e c ∙ (rw own refl)
     in ap (λ (ys : List Item). lasting id unwritten ys) came ∙ lasting_push id (ins t c) unwritten i lasts still)
-    (λ apart. let came : ins (answered id t e) c ≡ ins t c = answered_ins id t e c ∙ (rw apart refl)
+    (λ apart. let came : ins (answered id t (step_of e)) c ≡ ins t c = answered_ins id t e c ∙ (rw apart refl)
     in ap (λ (ys : List Item). lasting id unwritten ys) came ∙ lasts)
 lasting_event id t (event.Up d p) c h taken lasts = ap (λ (ys : List Item). lasting id unwritten ys) (answered_ins id t (event.Up d p) c) ∙ lasts
 lasting_event id t (event.Down d) c h taken lasts = ap (λ (ys : List Item). lasting id unwritten ys) (answered_ins id t (event.Down d) c) ∙ lasts
@@ -233,11 +233,11 @@ pub record Heeds (id : List ℕ) (t : List Entry) : Type 0 where
 
 goes_heeds : (id : List ℕ) (ms : List Move) (t u : List Entry) → Heeds id t → Goes id ms t u → Heeds id u
 goes_heeds id [] t u h goes = subst (λ (w : List Entry). Heeds id w) (sym goes) h
-goes_heeds id (handles e ∷ ms) t u h goes =
-    goes_heeds id ms (answered id t e) u (record {
-      told = record { calm = calm_event id t e h.told.calm goes.0; exact = exact_event id t e h.told goes.0 };
-      lasts = λ c. lasting_event id t e c h.told goes.0 (h.lasts c);
-      fates = λ c. fate_event id t e c h.told.calm goes.0 (h.fates c);
+goes_heeds id (handles s ∷ ms) t u h goes =
+    goes_heeds id ms (answered id t s) u (record {
+      told = record { calm = calm_event id t s.event h.told.calm goes.0; exact = exact_event id t s.event h.told goes.0 };
+      lasts = λ c. lasting_event id t s.event c h.told goes.0 (h.lasts c);
+      fates = λ c. fate_event id t s.event c h.told.calm goes.0 (h.fates c);
     }) goes.1
 goes_heeds id (takes x ∷ ms) t u h goes =
     goes_heeds id ms (took_one x t) u (record {

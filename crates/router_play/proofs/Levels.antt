@@ -9,7 +9,7 @@ use Rattle.router_trace.specs.declared.event.ConnectionId.{ConnectionId}
 use Rattle.router_trace.specs.declared.event.Peer.{Peer}
 use Rattle.router_trace.specs.declared.event.Event.{Event}
 use Rattle.router_trace.specs.declared.event.Event.TheVariants as event
-use Rattle.router_trace.specs.Trace.{Entry, Out, did, puts, ups}
+use Rattle.router_trace.specs.Trace.{Entry, Out, did, puts, ups, step_of}
 use Rattle.router_trace.specs.Connection.{Connection, conn, with_item, ended, took, drained, unless_empty, standing, is_live, is_item, is_ready, has, due, found, live_of, at_event}
 use Rattle.router_reply.specs.Replies.{closing_of, ends, heard, answer, answered}
 use Rattle.router_core.specs.Runs.{waiting_of}
@@ -150,8 +150,8 @@ did_even t e c h =
       lives = λ l. found_lives (has c (due t e)) (conn t c) (sym (ap is_live same) ∙ l);
     }
 
-heard_even : (id : List ℕ) (t : List Entry) (e : Event) (c : ℕ) → moves e c ≡ false → Even t (heard id t e) c
-heard_even id t e c h = even_trans t (did e ∷ t) (heard id t e) c (did_even t e c h) (ends_even id (due t e) (did e ∷ t) c)
+heard_even : (id : List ℕ) (t : List Entry) (e : Event) (c : ℕ) → moves e c ≡ false → Even t (heard id t (step_of e)) c
+heard_even id t e c h = even_trans t (did e ∷ t) (heard id t (step_of e)) c (did_even t e c h) (ends_even id (due t e) (did e ∷ t) c)
 
 answer_even : (id : List ℕ) (u : List Entry) (d c : ℕ) (i : Item) (o : Option Connection) → (is_some o ≡ true → is_some (conn u d) ≡ true)
     → Even u (puts d (answer id (standing o) i) u) c
@@ -159,11 +159,11 @@ answer_even id u d c i None there = even_refl u c
 answer_even id u d c i (Some v) there = puts_even (answer id (standing (Some v)) i) u d c (there refl)
 
 -- an event with its replies
-pub answered_even : (id : List ℕ) (t : List Entry) (e : Event) (c : ℕ) → moves e c ≡ false → Even t (answered id t e) c
+pub answered_even : (id : List ℕ) (t : List Entry) (e : Event) (c : ℕ) → moves e c ≡ false → Even t (answered id t (step_of e)) c
 answered_even id t (event.Item d i) c h =
     let e : Event = event.Item d i
-    in even_trans t (heard id t e) (answered id t e) c (heard_even id t e c h)
-    (answer_even id (heard id t e) d.0 c i (found t e d.0) (λ there. (ends_even id (due t e) (did e ∷ t) d.0).known ∙ there))
+    in even_trans t (heard id t (step_of e)) (answered id t (step_of e)) c (heard_even id t e c h)
+    (answer_even id (heard id t (step_of e)) d.0 c i (found t e d.0) (λ there. (ends_even id (due t e) (did e ∷ t) d.0).known ∙ there))
 answered_even id t (event.Up d p) c h = heard_even id t (event.Up d p) c h
 answered_even id t (event.Down d) c h = heard_even id t (event.Down d) c h
 answered_even id t (event.Tick ms) c h = heard_even id t (event.Tick ms) c h
@@ -177,28 +177,28 @@ none_of None h = refl
 none_of (Some v) h = absurd (true≢false h)
 
 -- a connection comes up
-pub up_level : (id : List ℕ) (t : List Entry) (d : ConnectionId) (p : Peer) → conn t d.0 ≡ None → Level t (answered id t (event.Up d p)) d.0
+pub up_level : (id : List ℕ) (t : List Entry) (d : ConnectionId) (p : Peer) → conn t d.0 ≡ None → Level t (answered id t (step_of (event.Up d p))) d.0
 up_level id t d p none =
     let e : Event = event.Up d p
     in let here : (d.0 == d.0) ≡ true = same d.0
-    in level_trans t (did e ∷ t) (answered id t e) d.0
+    in level_trans t (did e ∷ t) (answered id t (step_of e)) d.0
     (record { added = []; written = sym (append-nil (outs t d.0)); waits = rw here (sym (ap (λ (o : Option Connection). waiting_of o ++ []) none)) })
     (ends_even id (due t e) (did e ∷ t) d.0).level
 
 -- a connection for which nothing waits is lost
-pub down_level : (id : List ℕ) (t : List Entry) (d : ConnectionId) → waiting_of (conn t d.0) ≡ [] → Level t (answered id t (event.Down d)) d.0
+pub down_level : (id : List ℕ) (t : List Entry) (d : ConnectionId) → waiting_of (conn t d.0) ≡ [] → Level t (answered id t (step_of (event.Down d))) d.0
 down_level id t d none =
     let e : Event = event.Down d
     in let here : (d.0 == d.0) ≡ true = same d.0
-    in level_trans t (did e ∷ t) (answered id t e) d.0
+    in level_trans t (did e ∷ t) (answered id t (step_of e)) d.0
     (record { added = []; written = sym (append-nil (outs t d.0)); waits = rw here (sym (ap (λ (xs : List Item). xs ++ []) none)) })
     (ends_even id (due t e) (did e ∷ t) d.0).level
 
-pub down_dead : (id : List ℕ) (t : List Entry) (d : ConnectionId) → conn (answered id t (event.Down d)) d.0 ≡ None
+pub down_dead : (id : List ℕ) (t : List Entry) (d : ConnectionId) → conn (answered id t (step_of (event.Down d))) d.0 ≡ None
 down_dead id t d =
     let e : Event = event.Down d
     in let here : (d.0 == d.0) ≡ true = same d.0
-    in none_of (conn (answered id t e) d.0) ((ends_even id (due t e) (did e ∷ t) d.0).known ∙ (rw here refl))
+    in none_of (conn (answered id t (step_of e)) d.0) ((ends_even id (due t e) (did e ∷ t) d.0).known ∙ (rw here refl))
 
 -- the losses: those of the events
 
@@ -211,16 +211,16 @@ ends_lost id [] t c = refl
 ends_lost id (d ∷ ds) t c =
     ends_lost id ds (puts d (closing_of id (conn t d) ResourceLimitExceeded) t) c ∙ puts_lost (closing_of id (conn t d) ResourceLimitExceeded) t d c
 
-pub answered_lost : (id : List ℕ) (t : List Entry) (e : Event) (c : ℕ) → was_lost (answered id t e) c ≡ (is_loss_of e c || was_lost t c)
+pub answered_lost : (id : List ℕ) (t : List Entry) (e : Event) (c : ℕ) → was_lost (answered id t (step_of e)) c ≡ (is_loss_of e c || was_lost t c)
 answered_lost id t (event.Item d i) c =
     let e : Event = event.Item d i
-    in puts_lost (answer id (standing (found t e d.0)) i) (heard id t e) d.0 c ∙ ends_lost id (due t e) (did e ∷ t) c
+    in puts_lost (answer id (standing (found t e d.0)) i) (heard id t (step_of e)) d.0 c ∙ ends_lost id (due t e) (did e ∷ t) c
 answered_lost id t (event.Up d p) c = ends_lost id (due t (event.Up d p)) (did (event.Up d p) ∷ t) c
 answered_lost id t (event.Down d) c = ends_lost id (due t (event.Down d)) (did (event.Down d) ∷ t) c
 answered_lost id t (event.Tick ms) c = ends_lost id (due t (event.Tick ms)) (did (event.Tick ms) ∷ t) c
 answered_lost id t event.Start c = ends_lost id (due t event.Start) (did event.Start ∷ t) c
 
-pub answered_kept : (id : List ℕ) (t : List Entry) (e : Event) (c : ℕ) → is_loss_of e c ≡ false → was_lost (answered id t e) c ≡ was_lost t c
+pub answered_kept : (id : List ℕ) (t : List Entry) (e : Event) (c : ℕ) → is_loss_of e c ≡ false → was_lost (answered id t (step_of e)) c ≡ was_lost t c
 answered_kept id t e c other = answered_lost id t e c ∙ ap (λ b. b || was_lost t c) other
 
 pub still_kept : (e : Event) (c : ℕ) → moves e c ≡ false → is_loss_of e c ≡ false

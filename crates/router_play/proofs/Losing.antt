@@ -7,7 +7,7 @@ use Rattle.router_trace.specs.declared.event.ConnectionId.{ConnectionId}
 use Rattle.router_trace.specs.declared.event.Event.TheVariants as event
 use Rattle.router_core.specs.declared.door.Door.{Door as DoorState}
 use Rattle.router_play.specs.declared.socket.Socket.{Socket}
-use Rattle.router_trace.specs.Trace.{Entry}
+use Rattle.router_trace.specs.Trace.{Entry, step_of}
 use Rattle.router_trace.specs.Connection.{conn, is_live}
 use Rattle.router_trace.specs.Refusing.{reaches}
 use Rattle.router_core.specs.Runs.{waiting_of}
@@ -47,7 +47,7 @@ told_lost d s said D P ds ps spoken let_in none closed balance None h =
       stands = subst (λ (o : Option Socket). Stands said s.trace d.0 (λ m. ds) (λ m. ps) o) (sym closed)
           (through_ends said s.trace s.trace d.0 D P ds ps spoken let_in refl (not_true (is_live (conn s.trace d.0)) r) h);
     })
-    (λ r. let u : List Entry = answered s.id s.trace (event.Down d)
+    (λ r. let u : List Entry = answered s.id s.trace (step_of (event.Down d))
     in record {
       said = said;
       balance = level_balance said s.trace u d.0 (bytes_out d.0 s.lines) (down_level s.id s.trace d none) balance;

@@ -9,7 +9,7 @@ use Rattle.router_trace.specs.declared.event.Event.TheVariants as event
 use Rattle.router_core.specs.declared.door.Door.{Door as DoorState}
 use Rattle.router_play.specs.declared.line.Line.TheVariants as line
 use Rattle.router_play.specs.declared.socket.Socket.{Socket}
-use Rattle.router_trace.specs.Trace.{Entry, Took}
+use Rattle.router_trace.specs.Trace.{Entry, Took, step_of}
 use Rattle.router_trace.specs.Connection.{Connection, conn, took, is_live}
 use Rattle.router_reply.specs.Replies.{answered}
 use Rattle.router_core.specs.Runs.{Taking, waiting_of, items_of, took_one}
@@ -47,7 +47,7 @@ item_past d i s D P h =
       };
     })
     (λ r. let t : List Entry = s.trace
-    in let u : List Entry = answered s.id t (event.Item d i)
+    in let u : List Entry = answered s.id t (step_of (event.Item d i))
     in let here : (d.0 == d.0) ≡ true = same d.0
     in let came : ins u d.0 ≡ ins t d.0 ++ i ∷ [] = answered_ins s.id t (event.Item d i) d.0 ∙ (rw here refl)
     in let goes : (m : List Item) → ins u d.0 ++ m ≡ P (i ∷ m)
@@ -72,7 +72,7 @@ up_past d p s said unknown none balance =
       balance = subst (λ (bs : List ℕ). Balances said s.trace d.0 bs) (sym (unsaid d.0 s)) balance;
       through = new s.trace none;
     })
-    (λ r. let u : List Entry = answered s.id s.trace (event.Up d p)
+    (λ r. let u : List Entry = answered s.id s.trace (step_of (event.Up d p))
     in record {
       said = said;
       balance = level_balance said s.trace u d.0 (bytes_out d.0 s.lines) (up_level s.id s.trace d p unknown) balance;

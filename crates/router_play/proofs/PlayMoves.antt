@@ -18,6 +18,7 @@ use Rattle.router_core.specs.Door.{Verdict, says, passes, ends, door}
 use Rattle.router_play.specs.Script.{Scene, opening, refused, say, say_all, out_line, with_socket, with_trace, stream_of, hand, judged_by, enter_at, enter_by, enter, enter_all, Reads, BytesCome, made, make, told, lose_by, lose, Takes, is_last, close_if, take_one, take_all, Plays}
 use Rattle.router_core.specs.Moves.{IsTrace}
 use Rattle.router_core.proofs.Moves.{Leads, leads_on, leads_same, leads_event, leads_take}
+use Rattle.router_trace.specs.Trace.{step_of}
 
 -- a scene of the same router, to whose trace moves lead
 pub record Onward (s u : Scene) : Type 0 where
@@ -40,7 +41,7 @@ stays_put s u id trace = record {
 hand_onward : (e : Event) (s : Scene) → Onward s (hand e s)
 hand_onward e s = by_answer (refuses s.trace e) refl
   where
-    by_answer : (b : Bool) → refuses s.trace e ≡ b → Onward s (if b then say refused s else with_trace (answered s.id s.trace e) s)
+    by_answer : (b : Bool) → refuses s.trace e ≡ b → Onward s (if b then say refused s else with_trace (answered s.id s.trace (step_of e)) s)
     by_answer true is = stays_put s (say refused s) refl refl
     by_answer false is = record {
       id = refl;

@@ -14,7 +14,7 @@ use Rattle.router_play.specs.declared.line.Line.TheVariants as line
 use Rattle.router_play.specs.declared.socket.Socket.{Socket}
 use Rattle.router_play.specs.declared.script.Step.{Step}
 use Rattle.router_play.specs.declared.script.Step.TheVariants as step
-use Rattle.router_trace.specs.Trace.{Trace}
+use Rattle.router_trace.specs.Trace.{Trace, step_of}
 use Rattle.router_trace.specs.Connection.{Connection, conn, took, is_ready}
 use Rattle.router_trace.specs.Refusing.{refuses, rises}
 use Rattle.router_reply.specs.Replies.{answered}
@@ -63,7 +63,7 @@ with_trace t s = record { id = s.id; trace = t; last = s.last; sockets = s.socke
 
 -- an event is handed to the router: it is refused, or its replies stand behind it
 abbrev pub hand : Event → Scene → Scene
-hand e s = if refuses s.trace e then say refused s else with_trace (answered s.id s.trace e) s
+hand e s = if refuses s.trace e then say refused s else with_trace (answered s.id s.trace (step_of e)) s
 
 -- what the door makes of an item
 abbrev pub judged_by : ConnectionId → Item → Socket → DoorState → Scene → Verdict → Scene

@@ -6,7 +6,7 @@ use Rattle.router_trace.specs.declared.condition.Condition.{Condition}
 use Rattle.router_trace.specs.declared.condition.Condition.TheVariants.{ResourceLimitExceeded}
 use Rattle.router_trace.specs.declared.event.Event.{Event}
 use Rattle.router_trace.specs.declared.event.Event.TheVariants as event
-use Rattle.router_trace.specs.Trace.{Trace, did, puts}
+use Rattle.router_trace.specs.Trace.{Trace, Step, Put, Did, puts, each_to, goes}
 use Rattle.router_trace.specs.Connection.{Connection, conn, standing, found, due}
 use Rattle.router_trace.specs.Frames.{closing}
 use Rattle.router_reply.specs.Rows.{item_reply, down_reply}
@@ -21,21 +21,25 @@ abbrev pub ends : List ℕ → List ℕ → Trace → Trace
 ends id [] t = t
 ends id (c ∷ cs) t = ends id cs (puts c (closing_of id (conn t c) ResourceLimitExceeded) t)
 
--- the event, and behind it the ends for full outboxes
-abbrev pub heard : List ℕ → Trace → Event → Trace
-heard id t e = ends id (due t e) (did e ∷ t)
+-- the event's entry, and behind it the ends for full outboxes
+abbrev pub heard : List ℕ → Trace → Step → Trace
+heard id t s = ends id (due t s.event) (Did s ∷ t)
 
 -- what an item is answered where the event finds this phase: nothing where the connection isn't live
 abbrev pub answer : List ℕ → Option Conn → Item → List Item
 answer id None i = []
 answer id (Some p) i = item_reply id p i
 
+-- what an event's own row puts in outboxes, by what the event finds
+abbrev pub own_row : List ℕ → Trace → Event → List Put
+own_row id t (event.Item c i) = each_to c.0 (answer id (standing (found t (event.Item c i) c.0)) i)
+own_row id t (event.Down c) = each_to c.0 down_reply
+own_row id t _ = []
+
 -- the event with all that follows: the ends, then the event's own row
-abbrev pub answered : List ℕ → Trace → Event → Trace
-answered id t (event.Item c i) = puts c.0 (answer id (standing (found t (event.Item c i) c.0)) i) (heard id t (event.Item c i))
-answered id t (event.Down c) = puts c.0 down_reply (heard id t (event.Down c))
-answered id t e = heard id t e
+abbrev pub answered : List ℕ → Trace → Step → Trace
+answered id t s = goes (own_row id t s.event) (heard id t s)
 
 -- the trace u is t with the event and the items that it has put in outboxes
-pub record Replies (id : List ℕ) (t : Trace) (e : Event) (u : Trace) : Type 0 where
-  pub answers : u ≡ answered id t e
+pub record Replies (id : List ℕ) (t : Trace) (s : Step) (u : Trace) : Type 0 where
+  pub answers : u ≡ answered id t s

@@ -1,6 +1,6 @@
 //! An event with all that follows: the ends for full outboxes, then the event's own row.
 ghost use Rattle.std.specs.Prelude.{◌≡◌, ◌∷◌, ℕ, List, OnOk, true, false};
-ghost use Rattle.router_trace.specs.Trace.{Entry, did, puts, newest};
+ghost use Rattle.router_trace.specs.Trace.{Entry, did, puts, newest, step_of};
 ghost use Rattle.router_trace.specs.Refusing.{rises, refuses};
 ghost use Rattle.router_state.specs.Tables.{TablesFit, TablesAt};
 ghost use Rattle.router_reply.specs.Replies.{answer, answered, heard};
@@ -22,7 +22,7 @@ fn hear_item(
     _conn: ConnectionId,
     _item: &Item,
 ) -> Result<(), AllocError>
-    ensures { OnOk result ((t : List Entry) → TablesAt state.old t (event.Item _conn _item.now) ends.now → TablesFit state.new (heard id.now t (event.Item _conn _item.now))) }
+    ensures { OnOk result ((t : List Entry) → TablesAt state.old t (event.Item _conn _item.now) ends.now → TablesFit state.new (heard id.now t (step_of (event.Item _conn _item.now)))) }
 {
     close_all(state, id, ends)?;
     Ok(())
@@ -36,7 +36,7 @@ fn on_item(
     conn: ConnectionId,
     item: &Item,
 ) -> Result<(), AllocError>
-    ensures { OnOk result ((t : List Entry) → TablesAt state.old t (event.Item conn item.now) ends.now → TablesFit state.new (answered id.now t (event.Item conn item.now))) }
+    ensures { OnOk result ((t : List Entry) → TablesAt state.old t (event.Item conn item.now) ends.now → TablesFit state.new (answered id.now t (step_of (event.Item conn item.now)))) }
 {
     let phase = state.standing(conn.0);
     hear_item(state, id, ends, conn, item)?;
@@ -68,7 +68,7 @@ fn on_up(
     conn: ConnectionId,
     peer: &Peer,
 ) -> Result<(), AllocError>
-    ensures { OnOk result ((t : List Entry) → TablesAt state.old t (event.Up conn peer.now) ends.now → rises conn.0 (newest t) ≡ true → TablesFit state.new (answered id.now t (event.Up conn peer.now))) }
+    ensures { OnOk result ((t : List Entry) → TablesAt state.old t (event.Up conn peer.now) ends.now → rises conn.0 (newest t) ≡ true → TablesFit state.new (answered id.now t (step_of (event.Up conn peer.now)))) }
 {
     state.up(conn, peer)?;
     close_all(state, id, ends)?;
@@ -82,7 +82,7 @@ fn on_down(
     ends: &[u64],
     conn: ConnectionId,
 ) -> Result<(), AllocError>
-    ensures { OnOk result ((t : List Entry) → TablesAt state.old t (event.Down conn) ends.now → TablesFit state.new (answered id.now t (event.Down conn))) }
+    ensures { OnOk result ((t : List Entry) → TablesAt state.old t (event.Down conn) ends.now → TablesFit state.new (answered id.now t (step_of (event.Down conn)))) }
 {
     state.down(conn)?;
     close_all(state, id, ends)?;
@@ -91,7 +91,7 @@ fn on_down(
 
 /// The silent reply to the passing of time, which has no answer.
 fn on_tick(state: &mut State, id: &RouterId, ends: &[u64], _moment: u64) -> Result<(), AllocError>
-    ensures { OnOk result ((t : List Entry) → TablesAt state.old t (event.Tick _moment) ends.now → TablesFit state.new (answered id.now t (event.Tick _moment))) }
+    ensures { OnOk result ((t : List Entry) → TablesAt state.old t (event.Tick _moment) ends.now → TablesFit state.new (answered id.now t (step_of (event.Tick _moment)))) }
 {
     close_all(state, id, ends)?;
     Ok(())
@@ -99,23 +99,32 @@ fn on_tick(state: &mut State, id: &RouterId, ends: &[u64], _moment: u64) -> Resu
 
 /// The silent reply to the start, which has no answer.
 fn on_start(state: &mut State, id: &RouterId, ends: &[u64]) -> Result<(), AllocError>
-    ensures { OnOk result ((t : List Entry) → TablesAt state.old t event.Start ends.now → TablesFit state.new (answered id.now t event.Start)) }
+    ensures { OnOk result ((t : List Entry) → TablesAt state.old t event.Start ends.now → TablesFit state.new (answered id.now t (step_of event.Start))) }
 {
     close_all(state, id, ends)?;
     Ok(())
 }
 
-/// An event that is not refused.
-pub fn reply(state: &mut State, id: &RouterId, event: &Event) -> Result<(), AllocError>
-    ensures { OnOk result ((t : List Entry) → TablesFit state.old t → refuses t event.now ≡ false → TablesFit state.new (answered id.now t event.now)) }
+/// Replies to an event that is not refused, behind the turn that ended these connections for their full outboxes
+/// (`State::turn`).
+///
+/// # Errors
+///
+/// `AllocError` where memory was refused; nothing can be said of the tables then.
+pub fn reply(
+    state: &mut State,
+    id: &RouterId,
+    ends: &[u64],
+    event: &Event,
+) -> Result<(), AllocError>
+    ensures { OnOk result ((t : List Entry) → TablesAt state.old t event.now ends.now → refuses t event.now ≡ false → TablesFit state.new (answered id.now t (step_of event.now))) }
 {
-    let ends = state.turn(event)?;
     match event {
-        Event::Up(conn, peer) => on_up(state, id, &ends, *conn, peer)?,
-        Event::Item(conn, item) => on_item(state, id, &ends, *conn, item)?,
-        Event::Down(conn) => on_down(state, id, &ends, *conn)?,
-        Event::Tick(moment) => on_tick(state, id, &ends, *moment)?,
-        Event::Start => on_start(state, id, &ends)?,
+        Event::Up(conn, peer) => on_up(state, id, ends, *conn, peer)?,
+        Event::Item(conn, item) => on_item(state, id, ends, *conn, item)?,
+        Event::Down(conn) => on_down(state, id, ends, *conn)?,
+        Event::Tick(moment) => on_tick(state, id, ends, *moment)?,
+        Event::Start => on_start(state, id, ends)?,
     }
     Ok(())
 }

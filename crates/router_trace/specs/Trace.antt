@@ -8,6 +8,15 @@ use Rattle.router_trace.specs.declared.event.Event.TheVariants as event
 pub record Step : Type 0 where
   pub event : Event
 
+-- the step of an event
+abbrev pub step_of : Event → Step
+step_of e = record { event = e }
+
+-- an item for the outbox of a connection
+pub record Put : Type 0 where
+  pub conn : ℕ
+  pub item : Item
+
 pub data Entry : Type 0 where
   -- an event was handled
   Did : (step : Step) → Entry
@@ -21,12 +30,20 @@ Trace = List Entry
 
 -- the entry of an event
 abbrev pub did : Event → Entry
-did e = Did (record { event = e })
+did e = Did (step_of e)
 
--- these items put in the outbox of a connection, the first of them first
+-- these items put in outboxes, the first of them first
+abbrev pub goes : List Put → Trace → Trace
+goes [] t = t
+goes (p ∷ ps) t = goes ps (Out p.conn p.item ∷ t)
+
+-- these items for one connection
+abbrev pub each_to : ℕ → List Item → List Put
+each_to c [] = []
+each_to c (i ∷ is) = record { conn = c; item = i } ∷ each_to c is
+
 abbrev pub puts : ℕ → List Item → Trace → Trace
-puts c [] t = t
-puts c (i ∷ is) t = puts c is (Out c i ∷ t)
+puts c is t = goes (each_to c is) t
 
 -- the numbers of the connections that came up, in the order of the events
 abbrev pub with_up : Event → List ℕ → List ℕ
