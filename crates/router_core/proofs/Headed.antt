@@ -6,21 +6,24 @@ use Rattle.std.proofs.lemmas.Bool.{eqb-true, eq-eqb}
 use Rattle.amqp_frames.specs.declared.item.Item.{Item}
 use Rattle.amqp_frames.specs.declared.item.Item.TheVariants as item
 use Rattle.amqp_conn.specs.declared.conn.Conn.{Conn}
-use Rattle.router_core.specs.declared.reply.condition.Condition.TheVariants.{ResourceLimitExceeded}
-use Rattle.router_core.specs.declared.state.event.ConnectionId.{ConnectionId}
-use Rattle.router_core.specs.declared.state.event.Event.{Event}
-use Rattle.router_core.specs.declared.state.event.Event.TheVariants as event
-use Rattle.router_core.specs.Trace.{Entry, Did, Out, Took, did, puts, ups}
-use Rattle.router_core.specs.Connection.{Connection, conn, ended, took, unless_empty, drained, standing, is_live, is_full, is_due, has, due, found, live_of, at_event}
-use Rattle.router_core.specs.Fits.{refuses}
-use Rattle.router_core.specs.Frames.{header_item}
-use Rattle.router_core.specs.Replies.{closing_of, ends, heard, answer, answered}
+use Rattle.router_trace.specs.declared.condition.Condition.TheVariants.{ResourceLimitExceeded}
+use Rattle.router_trace.specs.declared.event.ConnectionId.{ConnectionId}
+use Rattle.router_trace.specs.declared.event.Event.{Event}
+use Rattle.router_trace.specs.declared.event.Event.TheVariants as event
+use Rattle.router_trace.specs.Trace.{Entry, Did, Out, Took, did, puts, ups, step_of}
+use Rattle.router_trace.specs.Connection.{Connection, conn, ended, took, unless_empty, drained, standing, is_live, is_full, is_due, has, due, found, live_of, at_event}
+use Rattle.router_trace.specs.Refusing.{refuses}
+use Rattle.router_trace.specs.Frames.{header_item}
+use Rattle.router_reply.specs.Replies.{closing_of, ends, heard, answer, answered}
 use Rattle.router_core.specs.Runs.{waiting_of, took_one}
 use Rattle.router_core.specs.Moves.{Move, handles, takes, Goes, IsTrace, with_came, ins, outs}
-use Rattle.router_core.specs.Laws.{unwritten, is_header, begins_with_header, HeaderFirst, KeepsOrder}
-use Rattle.router_core.proofs.Lists.{by_test}
-use Rattle.router_core.proofs.Turns.{due_none}
-use Rattle.router_core.proofs.Order.{Ordered, behind_all, filter_has, ends_outs, puts_outs, answered_turns, took_turns, ordered_empty}
+use Rattle.router_trace.specs.Order.{unwritten}
+use Rattle.router_core.specs.Laws.{is_header, begins_with_header, HeaderFirst, KeepsOrder}
+use Rattle.router_conns.proofs.Lists.{by_test}
+use Rattle.router_conns.proofs.Turns.{due_none}
+use Rattle.router_core.proofs.Once.{filter_has}
+use Rattle.router_core.proofs.Ordered.{Ordered, behind_all, ends_outs, puts_outs}
+use Rattle.router_core.proofs.Order.{answered_turns, took_turns, ordered_empty}
 
 -- where nothing was put out nothing waits, and the outbox isn't full
 
@@ -81,9 +84,9 @@ ins_ends id (d ∷ ds) t c =
     let items : List Item = closing_of id (conn t d) ResourceLimitExceeded
     in ins_ends id ds (puts d items t) c ∙ ins_puts items t d c
 
-pub ins_answered : (id : List ℕ) (t : List Entry) (e : Event) (c : ℕ) → ins (answered id t e) c ≡ with_came e c (ins t c)
+pub ins_answered : (id : List ℕ) (t : List Entry) (e : Event) (c : ℕ) → ins (answered id t (step_of e)) c ≡ with_came e c (ins t c)
 ins_answered id t (event.Item d i) c =
-    ins_puts (answer id (standing (found t (event.Item d i) d.0)) i) (heard id t (event.Item d i)) d.0 c ∙ ins_ends id (due t (event.Item d i)) (did (event.Item d i) ∷ t) c
+    ins_puts (answer id (standing (found t (event.Item d i) d.0)) i) (heard id t (step_of (event.Item d i))) d.0 c ∙ ins_ends id (due t (event.Item d i)) (did (event.Item d i) ∷ t) c
 ins_answered id t (event.Down d) c = ins_ends id (due t (event.Down d)) (did (event.Down d) ∷ t) c
 ins_answered id t (event.Up d p) c = ins_ends id (due t (event.Up d p)) (did (event.Up d p) ∷ t) c
 ins_answered id t (event.Tick ms) c = ins_ends id (due t (event.Tick ms)) (did (event.Tick ms) ∷ t) c
@@ -106,10 +109,10 @@ first_ends id (d ∷ ds) t c h =
     let items : List Item = closing_of id (conn t d) ResourceLimitExceeded
     in first_ends id ds (puts d items t) c (first_puts items t d c h)
 
-first_heard : (id : List ℕ) (t : List Entry) (e : Event) (c : ℕ) → HeaderFirst (outs t c) → HeaderFirst (outs (heard id t e) c)
+first_heard : (id : List ℕ) (t : List Entry) (e : Event) (c : ℕ) → HeaderFirst (outs t c) → HeaderFirst (outs (heard id t (step_of e)) c)
 first_heard id t e c h = first_ends id (due t e) (did e ∷ t) c h
 
-silent_heard : (id : List ℕ) (t : List Entry) (e : Event) (c : ℕ) → outs t c ≡ [] → outs (heard id t e) c ≡ []
+silent_heard : (id : List ℕ) (t : List Entry) (e : Event) (c : ℕ) → outs t c ≡ [] → outs (heard id t (step_of e)) c ≡ []
 silent_heard id t e c h = ends_outs id (due t e) (did e ∷ t) c (not_due t e c h) ∙ h
 
 -- headers are answered first
@@ -117,13 +120,13 @@ pub record Headed (t : List Entry) : Type 0 where
   pub header : (c : ℕ) → begins_with_header (ins t c) ≡ true → HeaderFirst (outs t c)
   pub silent : (c : ℕ) → ins t c ≡ [] → outs t c ≡ []
 
-heard_headed : (id : List ℕ) (t : List Entry) (e : Event) → ((c : ℕ) → with_came e c (ins t c) ≡ ins t c) → Headed t → Headed (heard id t e)
+heard_headed : (id : List ℕ) (t : List Entry) (e : Event) → ((c : ℕ) → with_came e c (ins t c) ≡ ins t c) → Headed t → Headed (heard id t (step_of e))
 heard_headed id t e same was = record {
   header = λ c h. first_heard id t e c (was.header c (sym (ap begins_with_header (came c)) ∙ h));
   silent = λ c h. silent_heard id t e c (was.silent c (sym (came c) ∙ h));
 }
   where
-    came : (c : ℕ) → ins (heard id t e) c ≡ ins t c
+    came : (c : ℕ) → ins (heard id t (step_of e)) c ≡ ins t c
     came c = ins_ends id (due t e) (did e ∷ t) c ∙ same c
 
 -- a live connection to which nothing was written stands in its first phase
@@ -151,13 +154,13 @@ header_answer id (item.Bad f) h = absurd cc
 
 -- the first item of a connection
 first_item : (id : List ℕ) (t : List Entry) (d : ConnectionId) (i : Item) → Ordered t → refuses t (event.Item d i) ≡ false
-    → outs t d.0 ≡ [] → is_header i ≡ true → HeaderFirst (outs (answered id t (event.Item d i)) d.0)
+    → outs t d.0 ≡ [] → is_header i ≡ true → HeaderFirst (outs (answered id t (step_of (event.Item d i))) d.0)
 first_item id t d i ord taken none is =
     let e : Event = event.Item d i
     in let row : answer id (standing (found t e d.0)) i ≡ header_item ∷ []
     = ap (λ (p : Option Conn). answer id p i) (first_phase t e d.0 ord taken none) ∙ header_answer id i is
-    in subst (λ (is : List Item). HeaderFirst (outs (puts d.0 is (heard id t e)) d.0)) (sym row)
-    (put_first (outs (heard id t e) d.0) (d.0 == d.0) (eq-eqb d.0 d.0 refl) (silent_heard id t e d.0 none))
+    in subst (λ (is : List Item). HeaderFirst (outs (puts d.0 is (heard id t (step_of e))) d.0)) (sym row)
+    (put_first (outs (heard id t (step_of e)) d.0) (d.0 == d.0) (eq-eqb d.0 d.0 refl) (silent_heard id t e d.0 none))
   where
     put_first : (is : List Item) (b : Bool) → b ≡ true → is ≡ [] → HeaderFirst (if b then is ++ header_item ∷ [] else is)
     put_first is b e h = rw (e, h) refl
@@ -165,29 +168,29 @@ first_item id t d i ord taken none is =
 abbrev row_of : List ℕ → List Entry → ConnectionId → Item → List Item
 row_of id t d i = answer id (standing (found t (event.Item d i) d.0)) i
 
-item_headed : (id : List ℕ) (t : List Entry) (d : ConnectionId) (i : Item) → Ordered t → refuses t (event.Item d i) ≡ false → Headed t → Headed (answered id t (event.Item d i))
+item_headed : (id : List ℕ) (t : List Entry) (d : ConnectionId) (i : Item) → Ordered t → refuses t (event.Item d i) ≡ false → Headed t → Headed (answered id t (step_of (event.Item d i)))
 item_headed id t d i ord taken was = record {
   header = λ c h. by_test (d.0 == c)
       (λ e. here c e (ins t c) refl (sym (ap begins_with_header (came c e)) ∙ h))
-      (λ e. first_puts (row_of id t d i) (heard id t (event.Item d i)) d.0 c (first_heard id t (event.Item d i) c (was.header c (sym (ap begins_with_header (others c e)) ∙ h))));
+      (λ e. first_puts (row_of id t d i) (heard id t (step_of (event.Item d i))) d.0 c (first_heard id t (event.Item d i) c (was.header c (sym (ap begins_with_header (others c e)) ∙ h))));
   silent = λ c h. by_test (d.0 == c)
       (λ e. absurd (push_some (ins t c) i (sym (came c e) ∙ h)))
-      (λ e. puts_outs (row_of id t d i) (heard id t (event.Item d i)) d.0 c e ∙ silent_heard id t (event.Item d i) c (was.silent c (sym (others c e) ∙ h)));
+      (λ e. puts_outs (row_of id t d i) (heard id t (step_of (event.Item d i))) d.0 c e ∙ silent_heard id t (event.Item d i) c (was.silent c (sym (others c e) ∙ h)));
 }
   where
-    came : (c : ℕ) → (d.0 == c) ≡ true → ins (answered id t (event.Item d i)) c ≡ ins t c ++ i ∷ []
+    came : (c : ℕ) → (d.0 == c) ≡ true → ins (answered id t (step_of (event.Item d i))) c ≡ ins t c ++ i ∷ []
     came c e = ins_answered id t (event.Item d i) c ∙ (rw e refl)
 
-    others : (c : ℕ) → (d.0 == c) ≡ false → ins (answered id t (event.Item d i)) c ≡ ins t c
+    others : (c : ℕ) → (d.0 == c) ≡ false → ins (answered id t (step_of (event.Item d i))) c ≡ ins t c
     others c e = ins_answered id t (event.Item d i) c ∙ (rw e refl)
 
-    here : (c : ℕ) → (d.0 == c) ≡ true → (is : List Item) → ins t c ≡ is → begins_with_header (is ++ i ∷ []) ≡ true → HeaderFirst (outs (answered id t (event.Item d i)) c)
+    here : (c : ℕ) → (d.0 == c) ≡ true → (is : List Item) → ins t c ≡ is → begins_with_header (is ++ i ∷ []) ≡ true → HeaderFirst (outs (answered id t (step_of (event.Item d i))) c)
     here c e [] is h =
-        subst (λ (k : ℕ). HeaderFirst (outs (answered id t (event.Item d i)) k)) (eqb-true d.0 c e)
+        subst (λ (k : ℕ). HeaderFirst (outs (answered id t (step_of (event.Item d i))) k)) (eqb-true d.0 c e)
         (first_item id t d i ord taken (was.silent d.0 (subst (λ (k : ℕ). ins t k ≡ []) (sym (eqb-true d.0 c e)) is)) h)
-    here c e (j ∷ js) is h = first_puts (row_of id t d i) (heard id t (event.Item d i)) d.0 c (first_heard id t (event.Item d i) c (was.header c (ap begins_with_header is ∙ h)))
+    here c e (j ∷ js) is h = first_puts (row_of id t d i) (heard id t (step_of (event.Item d i))) d.0 c (first_heard id t (event.Item d i) c (was.header c (ap begins_with_header is ∙ h)))
 
-answered_headed : (id : List ℕ) (t : List Entry) (e : Event) → Ordered t → refuses t e ≡ false → Headed t → Headed (answered id t e)
+answered_headed : (id : List ℕ) (t : List Entry) (e : Event) → Ordered t → refuses t e ≡ false → Headed t → Headed (answered id t (step_of e))
 answered_headed id t (event.Item c i) ord taken was = item_headed id t c i ord taken was
 answered_headed id t (event.Down c) ord taken was = heard_headed id t (event.Down c) (λ c. refl) was
 answered_headed id t (event.Up c p) ord taken was = heard_headed id t (event.Up c p) (λ c. refl) was
@@ -197,8 +200,8 @@ answered_headed id t event.Start ord taken was = heard_headed id t event.Start (
 -- both invariants along moves
 goes_kept : (id : List ℕ) (ms : List Move) (t u : List Entry) → Ordered t → Headed t → Goes id ms t u → Ordered u × Headed u
 goes_kept id [] t u ord was goes = subst (λ (w : List Entry). Ordered w × Headed w) (sym goes) (ord, was)
-goes_kept id (handles e ∷ ms) t u ord was goes =
-    goes_kept id ms (answered id t e) u (answered_turns id t e ord goes.0) (answered_headed id t e ord goes.0 was) goes.1
+goes_kept id (handles s ∷ ms) t u ord was goes =
+    goes_kept id ms (answered id t s) u (answered_turns id t s.event ord goes.0) (answered_headed id t s.event ord goes.0 was) goes.1
 goes_kept id (takes x ∷ ms) t u ord was goes =
     goes_kept id ms (took_one x t) u (took_turns t x.conn.0 _ ord) (record {
       header = was.header;

@@ -2,22 +2,22 @@
 -- on a connection.
 use Rattle.std.specs.Prelude.{◌≡◌, ◌==◌, ℕ, false, if◌then◌else◌, List, [], ◌∷◌, ◌++◌}
 use Rattle.amqp_frames.specs.declared.item.Item.{Item}
-use Rattle.router_core.specs.declared.state.event.Event.{Event}
-use Rattle.router_core.specs.declared.state.event.Event.TheVariants as event
-use Rattle.router_core.specs.Trace.{Trace, Did, Out, Took}
-use Rattle.router_core.specs.Fits.{refuses}
-use Rattle.router_core.specs.Replies.{answered}
+use Rattle.router_trace.specs.declared.event.Event.{Event}
+use Rattle.router_trace.specs.declared.event.Event.TheVariants as event
+use Rattle.router_trace.specs.Trace.{Trace, Did, Out, Took, Step}
+use Rattle.router_trace.specs.Refusing.{refuses}
+use Rattle.router_reply.specs.Replies.{answered}
 use Rattle.router_core.specs.Runs.{Taking, took_one}
 
 -- the router handles an event, or items are taken of an outbox
 pub data Move : Type 0 where
-  handles : Event → Move
+  handles : Step → Move
   takes : Taking → Move
 
 -- u is t with these moves, one after the other: no event is refused, and its replies stand behind it
 abbrev pub Goes : List ℕ → List Move → Trace → Trace → Type 0
 Goes id [] t u = u ≡ t
-Goes id (handles e ∷ ms) t u = (refuses t e ≡ false) × Goes id ms (answered id t e) u
+Goes id (handles s ∷ ms) t u = (refuses t s.event ≡ false) × Goes id ms (answered id t s) u
 Goes id (takes x ∷ ms) t u = Goes id ms (took_one x t) u
 
 -- a trace of the router of this id

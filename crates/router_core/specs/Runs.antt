@@ -1,13 +1,13 @@
 -- A list of events, one after the other, each outbox emptied behind each.
 use Rattle.std.specs.Prelude.{◌≡◌, ◌⊎◌, ℕ, ◌+◌, true, false, List, [], ◌∷◌, ◌++◌, map, take, length, Option, Some, None}
 use Rattle.amqp_frames.specs.declared.item.Item.{Item}
-use Rattle.router_core.specs.declared.state.event.Event.{Event}
-use Rattle.router_core.specs.declared.state.event.ConnectionId.{ConnectionId}
+use Rattle.router_trace.specs.declared.event.Event.{Event}
+use Rattle.router_trace.specs.declared.event.ConnectionId.{ConnectionId}
 use Rattle.router_core.specs.declared.driving.Sent.{Sent}
-use Rattle.router_core.specs.Trace.{Trace, Took}
-use Rattle.router_core.specs.Connection.{Connection, conn, is_ready}
-use Rattle.router_core.specs.Fits.{refuses}
-use Rattle.router_core.specs.Replies.{Replies}
+use Rattle.router_trace.specs.Trace.{Trace, Took, step_of}
+use Rattle.router_trace.specs.Connection.{Connection, conn, is_ready}
+use Rattle.router_trace.specs.Refusing.{refuses}
+use Rattle.router_reply.specs.Replies.{Replies}
 
 -- the items that wait in an outbox
 abbrev pub waiting_of : Option Connection → List Item
@@ -51,7 +51,7 @@ pub record Emptied (place : ℕ) (t : Trace) (ys : List Sent) (u : Trace) : Type
 
 -- an event is refused, and isn't in the trace, or its replies stand behind it
 abbrev pub MayStep : List ℕ → Trace → Event → Trace → Type 0
-MayStep id t e u = ((refuses t e ≡ true) × (u ≡ t)) ⊎ ((refuses t e ≡ false) × Replies id t e u)
+MayStep id t e u = ((refuses t e ≡ true) × (u ≡ t)) ⊎ ((refuses t e ≡ false) × Replies id t (step_of e) u)
 
 -- an event, and then the outboxes emptied
 pub record Steps (id : List ℕ) (place : ℕ) (t : Trace) (e : Event) (ys : List Sent) (u : Trace) : Type 0 where

@@ -1,18 +1,20 @@
 //! The router: one event or one take at a time.
 ghost use Rattle.std.specs.Prelude.{◌≡◌, ◌∷◌, ℕ, List, [], length, true, false, Ok, Err, None, option_map, OnOk, IfOk, IfErr};
-ghost use Rattle.router_core.specs.Trace.{Entry, Took};
-ghost use Rattle.router_core.specs.Connection.{conn as known, is_ready};
-ghost use Rattle.router_core.specs.Fits.{refuses, IsLeast};
-ghost use Rattle.router_core.specs.Replies.{Replies};
+ghost use Rattle.router_trace.specs.Trace.{Entry, Took, step_of};
+ghost use Rattle.router_trace.specs.Connection.{conn as known, is_ready};
+ghost use Rattle.router_trace.specs.Refusing.{refuses};
+ghost use Rattle.router_conns.specs.Fits.{IsLeast};
+ghost use Rattle.router_reply.specs.Replies.{Replies, answered};
+ghost use Rattle.router_state.specs.Tables.{TablesFit};
 ghost use Rattle.router_core.specs.Handling.{Fits, is_failed, id_of, IsBatchOf};
 ghost use Rattle.router_core.specs.declared.fault.CoreFault.TheVariants.{Disk, Memory, Failed, NoConnection};
 
 use crate::fault::CoreFault;
-use crate::reply::RouterId;
-use crate::reply::events::reply;
-use crate::state::{ConnectionId, Event, State};
 use amqp_frames::Item;
 use route_table::Config;
+use router_reply::reply;
+use router_state::State;
+use router_trace::{ConnectionId, Event, RouterId};
 use std::alloc::{AllocError, Global};
 
 /// An event was handled.
@@ -66,7 +68,7 @@ impl Core {
     /// both change nothing. Behind `Memory` the router is failed.
     pub fn handle(&mut self, event: Event) -> Result<Done, CoreFault>
         // The trace goes on with the event and its replies.
-        ensures fits { OnOk result ((t : List Entry) → Fits self.old t → (u : List Entry) × Replies (id_of self.old) t event u × Fits self.new u) }
+        ensures fits { OnOk result ((t : List Entry) → Fits self.old t → (u : List Entry) × Replies (id_of self.old) t (step_of event) u × Fits self.new u) }
         ensures taken { OnOk result ((t : List Entry) → Fits self.old t → refuses t event ≡ false) }
         ensures works { OnOk result (is_failed self.new ≡ false) }
         ensures named { id_of self.new ≡ id_of self.old }
@@ -85,7 +87,7 @@ impl Core {
         if self.state.refuses(&event) {
             return Err(CoreFault::NoConnection);
         }
-        match reply(&mut self.state, &self.id, &event) {
+        match turn_and_reply(&mut self.state, &self.id, &event) {
             Ok(()) => Ok(Done {}),
             Err(AllocError) => {
                 self.failed = true;
@@ -142,4 +144,12 @@ impl Core {
             Some(conn) => Some(ConnectionId(conn)),
         }
     }
+}
+
+/// What an event that is not refused does: it ends connections for their full outboxes, and is replied to.
+fn turn_and_reply(state: &mut State, id: &RouterId, event: &Event) -> Result<(), AllocError>
+    ensures { OnOk result ((t : List Entry) → TablesFit state.old t → refuses t event.now ≡ false → TablesFit state.new (answered id.now t (step_of event.now))) }
+{
+    let ends = state.turn(event)?;
+    reply(state, id, &ends, event)
 }
