@@ -1,0 +1,3 @@
+pub mod PlainLemmas
+pub mod LoginLemmas
+pub mod OneAnswer

@@ -1,0 +1,50 @@
+//! How an exchange ended.
+ghost use Rattle.std.specs.Prelude.{◌≡◌};
+ghost use Rattle.amqp_sasl.specs.Codes.{number_of};
+
+/// The code of a SASL outcome (AMQP 1.0 part 5, section 5.3.3.6). A number that the standard doesn't give is kept.
+#[derive(Clone, Copy, Debug, PartialEq, Eq)]
+pub enum SaslCode {
+    /// The peer is who it says it is.
+    Ok,
+    /// Its credentials are wrong.
+    Auth,
+    /// The system failed.
+    Sys,
+    /// The system failed, and will go on failing until it is looked after.
+    SysPerm,
+    /// The system failed, and another try may pass.
+    SysTemp,
+    /// A number that the standard doesn't give.
+    Other(u8),
+}
+
+impl SaslCode {
+    /// The code of this number.
+    pub fn from_number(number: u8) -> SaslCode
+        ensures { number_of result ≡ number }
+    {
+        match number {
+            0 => SaslCode::Ok,
+            1 => SaslCode::Auth,
+            2 => SaslCode::Sys,
+            3 => SaslCode::SysPerm,
+            4 => SaslCode::SysTemp,
+            _ => SaslCode::Other(number),
+        }
+    }
+
+    /// Its number in the field `code` of an outcome.
+    pub fn number(self) -> u8
+        ensures { result ≡ number_of self }
+    {
+        match self {
+            SaslCode::Ok => 0,
+            SaslCode::Auth => 1,
+            SaslCode::Sys => 2,
+            SaslCode::SysPerm => 3,
+            SaslCode::SysTemp => 4,
+            SaslCode::Other(number) => number,
+        }
+    }
+}

@@ -1,0 +1,21 @@
+//! Comparing what must not be found out byte by byte.
+ghost use Rattle.std.specs.Prelude.{◌≡◌, ◌↔◌, IsTrue, slice_get, unwrap_or};
+
+/// Whether the two are the same bytes. All bytes that are given are looked at, also behind one that differs and behind
+/// the end of those that are held, so that how many are the same doesn't show in how long it takes.
+pub(crate) fn same_bytes(given: &[u8], held: &[u8]) -> bool
+    ensures { IsTrue result ↔ (given.now ≡ held.now) }
+{
+    let mut same = given.len() == held.len();
+    for place in 0..given.len() {
+        same &= given[place] == byte_at(held, place);
+    }
+    same
+}
+
+/// The byte at this place, 0 behind the end.
+fn byte_at(bytes: &[u8], place: usize) -> u8
+    ensures { result ≡ unwrap_or (slice_get bytes.now place) 0 }
+{
+    bytes.get(place).copied().unwrap_or(0)
+}

@@ -1,0 +1,3 @@
+pub mod Serials
+pub mod Session
+pub mod Figures
