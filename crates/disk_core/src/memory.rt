@@ -1,9 +1,9 @@
 //! A disk in memory.
-ghost use Rattle.std.specs.Prelude.{◌≡◌, ◌≢◌, ◌≤◌, [], length, take, IfOk};
+ghost use Rattle.std.specs.Prelude.{◌≡◌, ◌≢◌, ◌≤◌, [], None, length, take, IfOk};
 ghost use Rattle.disk_core.specs.Call.{events_of};
 ghost use Rattle.disk_core.specs.Event.{seen_of, kept_of, ImagesNow, Images};
 ghost use Rattle.disk_core.specs.Disk.{Only};
-ghost use Rattle.disk_core.specs.DiskLaws.{image_as_seen, image_counts, image_only};
+ghost use Rattle.disk_core.specs.DiskLaws.{image_as_seen, image_counts, image_kept, image_only};
 
 use crate::call::{Call, note, replay};
 use crate::overwrite::{copy_part, overwrite, reserve_for};
@@ -127,6 +127,14 @@ impl Disk for MemDisk {
 impl Crash for MemDisk {
     ghost use Rattle.disk_core.specs.Memory.{bytes_of, synced_bytes, images_of};
 
+    ghost kept = { λ m. kept_of m.first.items (events_of m.calls.items) };
+
+    ghost lets_through = { λ m. None };
+
+    ghost fused = { λ calls. None };
+
+    ghost keeps = { λ m. image_kept m.first.items (events_of m.calls.items) };
+
     /// Does nothing.
     fn fuse(&mut self, _calls: u64) {}
 
@@ -136,6 +144,7 @@ impl Crash for MemDisk {
         ensures left { IfOk result (λ disk. images_of self (bytes_of disk)) }
         ensures oldest { how ≡ 0 → IfOk result (λ disk. bytes_of disk ≡ synced_bytes self) }
         ensures newest { how ≢ 0 → IfOk result (λ disk. bytes_of disk ≡ bytes_of self) }
+        ensures durable { IfOk result (λ disk. Only (bytes_of disk) (images_of disk)) }
     {
         let MemDisk {
             alloc,
