@@ -1,6 +1,6 @@
 //! The two traits: a disk, and a disk that can be crashed.
 ghost use Rattle.std.specs.Prelude.{◌≡◌, ◌≢◌, ◌≤◌, ◌+◌, ◌++◌, [], List, ℕ, Option, None, drop, length, take, IfOk, OnOk, IsErrOf};
-ghost use Rattle.disk_core.specs.Disk.{part, overwritten, Spoilt, SpoiltFrom, NoMore, Follows, Only, Elapses, HasCause};
+ghost use Rattle.disk_core.specs.Disk.{part, overwritten, between, from, Opens, NoMore, Only, Elapses, HasCause};
 
 use crate::DiskFault;
 use std::alloc::AllocError;
@@ -55,7 +55,7 @@ pub trait Disk: Drop {
     /// may leave any bytes in the range and past the old end.
     fn write_at(&mut self, at: usize, bytes: &[u8]) -> Result<(), DiskFault>
         ensures written { OnOk result (seen self.new ≡ overwritten at bytes.now (seen self.old)) }
-        ensures crash { Follows (Spoilt at (at + length bytes.now))
+        ensures crash { Opens (between at (at + length bytes.now))
             (may_leave self.old) (may_leave self.new) }
 
         // No bytes, or no memory: nothing was done.
@@ -73,7 +73,7 @@ pub trait Disk: Drop {
     /// leave any bytes from there on.
     fn cut(&mut self, len: usize) -> Result<(), DiskFault>
         ensures cut { OnOk result (seen self.new ≡ take len (seen self.old)) }
-        ensures crash { Follows (SpoiltFrom len) (may_leave self.old) (may_leave self.new) }
+        ensures crash { Opens (from len) (may_leave self.old) (may_leave self.new) }
 
         // No byte is cut, or no memory: nothing was done.
         ensures idle { length (seen self.old) ≤ len →

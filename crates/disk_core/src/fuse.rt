@@ -1,6 +1,6 @@
 //! A disk that fails after a number of calls.
 ghost use Rattle.std.specs.Prelude.{◌≡◌, ◌≢◌, ◌+◌, ◌≤◌, ◌++◌, [], true, false, None, Some, length, take, drop, IsErr, IsErrOf, IfOk, OnOk};
-ghost use Rattle.disk_core.specs.Disk.{part, overwritten, Spoilt, SpoiltFrom, NoMore, Follows, Only, Elapses, HasCause};
+ghost use Rattle.disk_core.specs.Disk.{part, overwritten, between, from, Opens, NoMore, Only, Elapses, HasCause};
 ghost use Rattle.disk_core.specs.Fuse.{Burns, calls_left, has_begun, own_failures, disk_of};
 
 use crate::{Crash, Disk, DiskFault};
@@ -76,7 +76,7 @@ impl<D: Disk> FuseDisk<D> {
     }
 }
 
-#[tactic(auto, using(crate::specs::DiskLaws::spoilt_not, crate::specs::DiskLaws::spoilt_from_not))]
+#[tactic(auto, using(crate::specs::ImageLaws::opens_none))]
 impl<D: Disk> Disk for FuseDisk<D> {
     ghost seen = { λ f. D.seen f.inner };
 
@@ -140,7 +140,7 @@ impl<D: Disk> Disk for FuseDisk<D> {
     fn write_at(&mut self, at: usize, bytes: &[u8]) -> Result<(), DiskFault>
         ensures written { OnOk result
             (D.seen (disk_of self.new) ≡ overwritten at bytes.now (D.seen (disk_of self.old))) }
-        ensures crash { Follows (Spoilt at (at + length bytes.now))
+        ensures crash { Opens (between at (at + length bytes.now))
             (D.may_leave (disk_of self.old)) (D.may_leave (disk_of self.new)) }
         ensures idle { bytes.now ≡ [] →
             NoMore (D.may_leave (disk_of self.old)) (D.may_leave (disk_of self.new)) }
@@ -183,7 +183,7 @@ impl<D: Disk> Disk for FuseDisk<D> {
     fn cut(&mut self, len: usize) -> Result<(), DiskFault>
         ensures cut { OnOk result
             (D.seen (disk_of self.new) ≡ take len (D.seen (disk_of self.old))) }
-        ensures crash { Follows (SpoiltFrom len)
+        ensures crash { Opens (from len)
             (D.may_leave (disk_of self.old)) (D.may_leave (disk_of self.new)) }
         ensures idle { length (D.seen (disk_of self.old)) ≤ len →
             NoMore (D.may_leave (disk_of self.old)) (D.may_leave (disk_of self.new)) }

@@ -141,6 +141,10 @@ impl<D: Disk> Journal<D> {
         ensures works { IfOk result (λ r. has_failed r.0 ≡ false) }
         ensures seen { IfOk result (λ r. D.seen (disk_of r.0) ≡ D.seen disk) }
         ensures crash { IfOk result (λ r. NoMore (D.may_leave disk) (D.may_leave (disk_of r.0))) }
+
+        // A crash at any moment of the call leaves what it might have left before.
+        ensures any_moment { IfOk result (λ r. LeavesOnly D.moment D.left_since disk (disk_of r.0) (D.may_leave disk)) }
+
         ensures fault { IfErr result (Explains (D.seen disk)) }
     {
         let mut disk = disk;
