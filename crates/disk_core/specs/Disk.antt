@@ -1,7 +1,7 @@
 -- What the calls of a disk do to its bytes, and what a crash may leave of them.
 -- Source: the project's own disk model, told in docs/disk.md. Between two syncs each written range and the part
 -- past the old end may hold any bytes; bytes outside stay; after a sync that succeeds a crash leaves what a read gives.
-use Rattle.std.specs.Prelude.{◌<◌, ◌≡◌, ◌⊎◌, ℕ, ◌+◌, ◌-◌, ◌≤◌, List, [], ◌∷◌, ◌++◌, length, take, drop, replicate, Result, IsErrOf}
+use Rattle.std.specs.Prelude.{◌<◌, ◌≡◌, ◌⊎◌, ℕ, ◌+◌, ◌-◌, ◌≤◌, Bool, false, ◌&&◌, ◌||◌, nat_le, nat_lt, List, [], ◌∷◌, ◌++◌, length, take, drop, replicate, slice_get, Result, IsErrOf}
 use Rattle.disk_core.specs.declared.fault.DiskFault.{DiskFault}
 use Rattle.disk_core.specs.declared.fault.DiskFault.TheVariants.{Failed}
 
@@ -14,25 +14,37 @@ abbrev pub overwritten : ℕ → List ℕ → List ℕ → List ℕ
 overwritten at [] old = old
 overwritten at (byte ∷ bytes) old = take at old ++ replicate (at - length old) 0 ++ (byte ∷ bytes) ++ drop (at + length (byte ∷ bytes)) old
 
--- A crash may leave new where old stood before a write from one place to another, the end: any bytes between the
--- two places and past the old end, the same bytes elsewhere.
+-- the places of a write, from one place up to another, and those of a cut, which counts as a write of all from its place on
+abbrev pub between : ℕ → ℕ → ℕ → Bool
+between at end place = nat_le at place && nat_lt place end
+
+abbrev pub from : ℕ → ℕ → Bool
+from at place = nat_le at place
+
+-- A file has each byte of another, but at open places. Behind the other's end it may have anything; where all from some
+-- place on is open, it may end there.
+abbrev pub Agrees : (ℕ → Bool) → List ℕ → List ℕ → Type 0
+Agrees free file c = (place : ℕ) → place < length file → free place ≡ false → slice_get c place ≡ slice_get file place
+
+-- each outcome of a crash has the bytes of a file, but at open places
+abbrev pub Spares : (ℕ → Bool) → List ℕ → (List ℕ → Type 0) → Type 0
+Spares free file outcomes = (c : List ℕ) → outcomes c → Agrees free file c
+
+-- Of what stayed, whatever a crash did, all stays that isn't at these places. So the order of the writes is nothing to it.
+pub record Opens (places : ℕ → Bool) (old new : List ℕ → Type 0) : Type 0 where
+  pub spares : (file : List ℕ) (free : ℕ → Bool) → Spares free file old → Spares (λ place. free place || places place) file new
+
+-- What a write from one place up to another may leave of a file that a crash would have left whole: any bytes between the
+-- two places and past the old end, the same bytes elsewhere. It is what agrees but there.
 pub record Spoilt (at end : ℕ) (old new : List ℕ) : Type 0 where
   pub middle : List ℕ
   pub past : List ℕ
   pub is : new ≡ take at old ++ middle ++ drop end old ++ past
   pub fits : end < length old → length middle ≡ end - at
 
--- the same of a cut: it counts as a write of all from its place on
-abbrev pub SpoiltFrom : ℕ → List ℕ → List ℕ → Type 0
-SpoiltFrom at old new = Spoilt at (length old) old new
-
 -- a crash leaves nothing that it might not have left before
 abbrev pub NoMore : (List ℕ → Type 0) → (List ℕ → Type 0) → Type 0
 NoMore old new = (c : List ℕ) → new c → old c
-
--- each new outcome of a crash is an old outcome after a step
-abbrev pub Follows : (List ℕ → List ℕ → Type 0) → (List ℕ → Type 0) → (List ℕ → Type 0) → Type 0
-Follows step old new = (c : List ℕ) → new c → (d : List ℕ) × old d × step d c
 
 -- a crash leaves this and nothing else
 abbrev pub Only : List ℕ → (List ℕ → Type 0) → Type 0

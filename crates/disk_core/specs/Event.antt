@@ -1,6 +1,6 @@
 -- A disk told by what was done to it, the newest first: what a read gives then, and what a crash may leave.
-use Rattle.std.specs.Prelude.{◌≡◌, ◌⊎◌, ℕ, ◌+◌, ◌≤◌, List, [], ◌∷◌, length, take}
-use Rattle.disk_core.specs.Disk.{overwritten, Spoilt, SpoiltFrom}
+use Rattle.std.specs.Prelude.{◌≡◌, ◌⊎◌, ℕ, ◌+◌, ◌≤◌, Bool, false, ◌||◌, List, [], ◌∷◌, length, take}
+use Rattle.disk_core.specs.Disk.{overwritten, between, from, Agrees}
 
 -- The last two are a write and a cut that failed: nothing of them is seen, but a crash may leave them begun.
 pub data Event : Type 0 where
@@ -28,14 +28,24 @@ kept_of first (Synced ∷ es) = seen_of first es
 kept_of first (BeganWrite at count ∷ es) = kept_of first es
 kept_of first (BeganCut len ∷ es) = kept_of first es
 
--- what a crash may leave now: what was there at the last sync, spoilt by each write and cut since
+-- the places that a write or a cut since the last sync has opened
+abbrev pub opened : List Event → ℕ → Bool
+opened [] place = false
+opened (Wrote at bytes ∷ es) place = opened es place || between at (at + length bytes) place
+opened (Shortened len ∷ es) place = opened es place || from len place
+opened (Synced ∷ es) place = false
+opened (BeganWrite at count ∷ es) place = opened es place || between at (at + count) place
+opened (BeganCut len ∷ es) place = opened es place || from len place
+
+-- What a crash may leave now: behind a sync, what a read gives; else anything that has each byte of the last sync but at the
+-- places opened since, in whatever order.
 abbrev pub ImagesNow : List ℕ → List Event → List ℕ → Type 0
 ImagesNow first [] c = c ≡ first
-ImagesNow first (Wrote at bytes ∷ es) c = (d : List ℕ) × ImagesNow first es d × Spoilt at (at + length bytes) d c
-ImagesNow first (Shortened len ∷ es) c = (d : List ℕ) × ImagesNow first es d × SpoiltFrom len d c
+ImagesNow first (Wrote at bytes ∷ es) c = Agrees (opened (Wrote at bytes ∷ es)) (kept_of first es) c
+ImagesNow first (Shortened len ∷ es) c = Agrees (opened (Shortened len ∷ es)) (kept_of first es) c
 ImagesNow first (Synced ∷ es) c = c ≡ seen_of first es
-ImagesNow first (BeganWrite at count ∷ es) c = (d : List ℕ) × ImagesNow first es d × Spoilt at (at + count) d c
-ImagesNow first (BeganCut len ∷ es) c = (d : List ℕ) × ImagesNow first es d × SpoiltFrom len d c
+ImagesNow first (BeganWrite at count ∷ es) c = Agrees (opened (BeganWrite at count ∷ es)) (kept_of first es) c
+ImagesNow first (BeganCut len ∷ es) c = Agrees (opened (BeganCut len ∷ es)) (kept_of first es) c
 
 -- what a crash might have left at some moment from t on; a moment is the number of events before it
 abbrev pub Images : List ℕ → List Event → ℕ → List ℕ → Type 0

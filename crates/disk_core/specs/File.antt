@@ -12,9 +12,9 @@ bytes_in disk = disk.bytes.items
 abbrev pub failures_of : FileDisk → ℕ
 failures_of disk = disk.failed
 
--- a sync has failed, so that none is trusted any more
+-- a sync has failed, or the file may be other than the copy, so that no sync is trusted any more
 abbrev pub has_lost : FileDisk → Bool
-has_lost disk = disk.sync_failed
+has_lost disk = disk.lost
 
 -- what a crash may leave, by its record
 abbrev pub images_of : FileDisk → List ℕ → Type 0

@@ -5,5 +5,7 @@ pub mod Event
 pub mod Fault
 pub mod File
 pub mod Fuse
+pub mod ImageLaws
 pub mod Memory
 pub mod Note
+pub mod SpoiltLaws

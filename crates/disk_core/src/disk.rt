@@ -1,6 +1,6 @@
 //! The two traits: a disk, and a disk that can be crashed.
-ghost use Rattle.std.specs.Prelude.{◌≡◌, ◌≤◌, ◌+◌, ◌++◌, [], List, ℕ, drop, length, take, IfOk, OnOk, IsErrOf};
-ghost use Rattle.disk_core.specs.Disk.{part, overwritten, Spoilt, SpoiltFrom, NoMore, Follows, Only, Elapses, HasCause};
+ghost use Rattle.std.specs.Prelude.{◌≡◌, ◌≢◌, ◌≤◌, ◌+◌, ◌++◌, [], List, ℕ, Option, None, drop, length, take, IfOk, OnOk, IsErrOf};
+ghost use Rattle.disk_core.specs.Disk.{part, overwritten, between, from, Opens, NoMore, Only, Elapses, HasCause};
 
 use crate::DiskFault;
 use std::alloc::AllocError;
@@ -55,7 +55,7 @@ pub trait Disk: Drop {
     /// may leave any bytes in the range and past the old end.
     fn write_at(&mut self, at: usize, bytes: &[u8]) -> Result<(), DiskFault>
         ensures written { OnOk result (seen self.new ≡ overwritten at bytes.now (seen self.old)) }
-        ensures crash { Follows (Spoilt at (at + length bytes.now))
+        ensures crash { Opens (between at (at + length bytes.now))
             (may_leave self.old) (may_leave self.new) }
 
         // No bytes, or no memory: nothing was done.
@@ -73,7 +73,7 @@ pub trait Disk: Drop {
     /// leave any bytes from there on.
     fn cut(&mut self, len: usize) -> Result<(), DiskFault>
         ensures cut { OnOk result (seen self.new ≡ take len (seen self.old)) }
-        ensures crash { Follows (SpoiltFrom len) (may_leave self.old) (may_leave self.new) }
+        ensures crash { Opens (from len) (may_leave self.old) (may_leave self.new) }
 
         // No byte is cut, or no memory: nothing was done.
         ensures idle { length (seen self.old) ≤ len →
@@ -113,9 +113,20 @@ pub trait Disk: Drop {
 
 /// A disk whose stop can be played.
 pub trait Crash: Disk {
+    /// What a read gave at the last sync, or at first where none was.
+    ghost kept: { Self → List ℕ };
+
+    /// The calls that its fuse lets through yet. None is set at `None`.
+    ghost lets_through: { Self → Option ℕ };
+
+    /// What setting the fuse to so many calls makes of it: `None` on a disk that has no fuse.
+    ghost fused: { ℕ → Option ℕ };
+
     /// After so many calls more every call fails, on a disk that has a fuse; another disk does nothing. The bytes
     /// stay as they are.
     fn fuse(&mut self, calls: u64)
+        ensures set { lets_through self.new ≡ fused calls }
+        ensures kept { kept self.new ≡ kept self.old }
         ensures seen { Self.Disk.seen self.new ≡ Self.Disk.seen self.old }
         ensures crash { NoMore (Self.Disk.may_leave self.old) (Self.Disk.may_leave self.new) }
         ensures time { Elapses (Self.Disk.moment self.old) (Self.Disk.moment self.new)
@@ -124,7 +135,17 @@ pub trait Crash: Disk {
         ensures failures { Self.Disk.failures self.new ≡ Self.Disk.failures self.old };
 
     /// The disk after a stop, with no fuse set, its failures counted from 0: `how` 0 leaves what the last sync left,
-    /// 1 all writes since, and any other number does as 1. At an `Err` the disk is dropped.
+    /// 1 all writes since, and any other number does as 1. What it leaves is on the disk. At an `Err` the disk is
+    /// dropped.
     fn crash(self, how: u8) -> Result<Self, AllocError>
-        ensures left { IfOk result (λ disk. Self.Disk.may_leave self (Self.Disk.seen disk)) };
+        ensures left { IfOk result (λ disk. Self.Disk.may_leave self (Self.Disk.seen disk)) }
+        ensures oldest { how ≡ 0 → IfOk result (λ disk. Self.Disk.seen disk ≡ kept self) }
+        ensures newest { how ≢ 0 → IfOk result (λ disk. Self.Disk.seen disk ≡ Self.Disk.seen self) }
+        ensures durable { IfOk result
+            (λ disk. Only (Self.Disk.seen disk) (Self.Disk.may_leave disk)) }
+        ensures fuse { IfOk result (λ disk. lets_through disk ≡ None) }
+        ensures failures { IfOk result (λ disk. Self.Disk.failures disk ≡ 0) };
+
+    /// What was synced is one of the things that a crash may leave.
+    ghost keeps: { (disk : Self) → Self.Disk.may_leave disk (kept disk) };
 }

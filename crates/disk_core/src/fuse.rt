@@ -1,6 +1,6 @@
 //! A disk that fails after a number of calls.
-ghost use Rattle.std.specs.Prelude.{◌≡◌, ◌≢◌, ◌+◌, ◌≤◌, ◌++◌, [], true, length, take, drop, IsErr, IsErrOf, IfOk, OnOk};
-ghost use Rattle.disk_core.specs.Disk.{part, overwritten, Spoilt, SpoiltFrom, NoMore, Follows, Only, Elapses, HasCause};
+ghost use Rattle.std.specs.Prelude.{◌≡◌, ◌≢◌, ◌+◌, ◌≤◌, ◌++◌, [], true, false, None, Some, length, take, drop, IsErr, IsErrOf, IfOk, OnOk};
+ghost use Rattle.disk_core.specs.Disk.{part, overwritten, between, from, Opens, NoMore, Only, Elapses, HasCause};
 ghost use Rattle.disk_core.specs.Fuse.{Burns, calls_left, has_begun, own_failures, disk_of};
 
 use crate::{Crash, Disk, DiskFault};
@@ -24,6 +24,8 @@ impl<D: Disk> FuseDisk<D> {
     pub fn new(inner: D) -> Self
         ensures disk { disk_of result ≡ inner }
         ensures fuse { calls_left result ≡ None }
+        ensures begun { has_begun result ≡ false }
+        ensures failures { own_failures result ≡ 0 }
     {
         FuseDisk {
             inner,
@@ -55,6 +57,7 @@ impl<D: Disk> FuseDisk<D> {
     fn spend(&mut self) -> Result<(), DiskFault>
         ensures burns { Burns self.old.left self.new.left result }
         ensures blown { IsErr result → self.old.left ≡ Some 0 }
+        ensures own { self.old.left ≢ Some 0 → self.new.failed ≡ self.old.failed }
         ensures disk { self.new.inner ≡ self.old.inner }
         ensures begun { self.new.begun ≡ self.old.begun }
         ensures cause { HasCause self.old.failed self.new.failed result }
@@ -73,7 +76,7 @@ impl<D: Disk> FuseDisk<D> {
     }
 }
 
-#[tactic(auto, using(crate::specs::DiskLaws::spoilt_not, crate::specs::DiskLaws::spoilt_from_not))]
+#[tactic(auto, using(crate::specs::ImageLaws::opens_none))]
 impl<D: Disk> Disk for FuseDisk<D> {
     ghost seen = { λ f. D.seen f.inner };
 
@@ -104,6 +107,7 @@ impl<D: Disk> Disk for FuseDisk<D> {
         // A blown fuse lets no call through.
         ensures burns { Burns (calls_left self.old) (calls_left self.new) result }
         ensures blown { calls_left self.old ≡ Some 0 → disk_of self.new ≡ disk_of self.old }
+        ensures own { calls_left self.old ≢ Some 0 → own_failures self.new ≡ own_failures self.old }
         ensures begun { has_begun self.new ≡ has_begun self.old }
     {
         self.spend()?;
@@ -126,6 +130,7 @@ impl<D: Disk> Disk for FuseDisk<D> {
         // A blown fuse lets no call through.
         ensures burns { Burns (calls_left self.old) (calls_left self.new) result }
         ensures blown { calls_left self.old ≡ Some 0 → disk_of self.new ≡ disk_of self.old }
+        ensures own { calls_left self.old ≢ Some 0 → own_failures self.new ≡ own_failures self.old }
         ensures begun { has_begun self.new ≡ has_begun self.old }
     {
         self.spend()?;
@@ -135,7 +140,7 @@ impl<D: Disk> Disk for FuseDisk<D> {
     fn write_at(&mut self, at: usize, bytes: &[u8]) -> Result<(), DiskFault>
         ensures written { OnOk result
             (D.seen (disk_of self.new) ≡ overwritten at bytes.now (D.seen (disk_of self.old))) }
-        ensures crash { Follows (Spoilt at (at + length bytes.now))
+        ensures crash { Opens (between at (at + length bytes.now))
             (D.may_leave (disk_of self.old)) (D.may_leave (disk_of self.new)) }
         ensures idle { bytes.now ≡ [] →
             NoMore (D.may_leave (disk_of self.old)) (D.may_leave (disk_of self.new)) }
@@ -149,11 +154,16 @@ impl<D: Disk> Disk for FuseDisk<D> {
         ensures cause { HasCause (D.failures (disk_of self.old) + own_failures self.old)
             (D.failures (disk_of self.new) + own_failures self.new) result }
 
-        // A blown fuse lets no write through, but the first one may have begun.
+        // A blown fuse lets no write through, but the first one has begun: where the disk below doesn't fail too, a
+        // read gives what was to be written, and so a stop may leave it.
         ensures burns { Burns (calls_left self.old) (calls_left self.new) result }
+        ensures own { calls_left self.old ≢ Some 0 → own_failures self.new ≡ own_failures self.old }
         ensures blown { calls_left self.old ≡ Some 0 → has_begun self.old ≡ true →
             disk_of self.new ≡ disk_of self.old }
-        ensures whole { OnOk result (has_begun self.new ≡ has_begun self.old) }
+        ensures passed { calls_left self.old ≡ Some 0 → has_begun self.old ≡ false → IsErrOf result DiskFault.Failed →
+            D.failures (disk_of self.new) ≡ D.failures (disk_of self.old) →
+            D.seen (disk_of self.new) ≡ overwritten at bytes.now (D.seen (disk_of self.old)) }
+        ensures whole { own_failures self.new ≡ own_failures self.old → has_begun self.new ≡ has_begun self.old }
         ensures begun { calls_left self.old ≡ Some 0 → own_failures self.new ≢ own_failures self.old →
             has_begun self.new ≡ true }
     {
@@ -173,7 +183,7 @@ impl<D: Disk> Disk for FuseDisk<D> {
     fn cut(&mut self, len: usize) -> Result<(), DiskFault>
         ensures cut { OnOk result
             (D.seen (disk_of self.new) ≡ take len (D.seen (disk_of self.old))) }
-        ensures crash { Follows (SpoiltFrom len)
+        ensures crash { Opens (from len)
             (D.may_leave (disk_of self.old)) (D.may_leave (disk_of self.new)) }
         ensures idle { length (D.seen (disk_of self.old)) ≤ len →
             NoMore (D.may_leave (disk_of self.old)) (D.may_leave (disk_of self.new)) }
@@ -190,6 +200,7 @@ impl<D: Disk> Disk for FuseDisk<D> {
         // A blown fuse lets no call through.
         ensures burns { Burns (calls_left self.old) (calls_left self.new) result }
         ensures blown { calls_left self.old ≡ Some 0 → disk_of self.new ≡ disk_of self.old }
+        ensures own { calls_left self.old ≢ Some 0 → own_failures self.new ≡ own_failures self.old }
         ensures begun { has_begun self.new ≡ has_begun self.old }
     {
         self.spend()?;
@@ -212,6 +223,7 @@ impl<D: Disk> Disk for FuseDisk<D> {
         // A blown fuse lets no call through.
         ensures burns { Burns (calls_left self.old) (calls_left self.new) result }
         ensures blown { calls_left self.old ≡ Some 0 → disk_of self.new ≡ disk_of self.old }
+        ensures own { calls_left self.old ≢ Some 0 → own_failures self.new ≡ own_failures self.old }
         ensures begun { has_begun self.new ≡ has_begun self.old }
     {
         self.spend()?;
@@ -220,6 +232,14 @@ impl<D: Disk> Disk for FuseDisk<D> {
 }
 
 impl<D: Crash> Crash for FuseDisk<D> {
+    ghost kept = { λ f. D.kept f.inner };
+
+    ghost lets_through = { λ f. f.left };
+
+    ghost fused = { λ calls. Some calls };
+
+    ghost keeps = { λ f. D.keeps f.inner };
+
     /// Sets this disk's own fuse.
     fn fuse(&mut self, calls: u64)
         ensures fuse { calls_left self.new ≡ Some calls }
@@ -233,7 +253,14 @@ impl<D: Crash> Crash for FuseDisk<D> {
     fn crash(self, how: u8) -> Result<Self, AllocError>
         ensures left { IfOk result
             (λ disk. D.Disk.may_leave (disk_of self) (D.Disk.seen (disk_of disk))) }
+        ensures oldest { how ≡ 0 → IfOk result (λ disk. D.Disk.seen (disk_of disk) ≡ D.kept (disk_of self)) }
+        ensures newest { how ≢ 0 → IfOk result
+            (λ disk. D.Disk.seen (disk_of disk) ≡ D.Disk.seen (disk_of self)) }
+        ensures durable { IfOk result
+            (λ disk. Only (D.Disk.seen (disk_of disk)) (D.Disk.may_leave (disk_of disk))) }
         ensures fuse { IfOk result (λ disk. calls_left disk ≡ None) }
+        ensures begun { IfOk result (λ disk. has_begun disk ≡ false) }
+        ensures failures { IfOk result (λ disk. D.Disk.failures (disk_of disk) + own_failures disk ≡ 0) }
     {
         Ok(FuseDisk::new(self.into_inner().crash(how)?))
     }

@@ -1,9 +1,9 @@
 //! A disk in memory.
-ghost use Rattle.std.specs.Prelude.{◌≡◌, ◌≢◌, ◌≤◌, [], length, take, IfOk};
+ghost use Rattle.std.specs.Prelude.{◌≡◌, ◌≢◌, ◌≤◌, [], None, length, take, IfOk};
 ghost use Rattle.disk_core.specs.Call.{events_of};
 ghost use Rattle.disk_core.specs.Event.{seen_of, kept_of, ImagesNow, Images};
 ghost use Rattle.disk_core.specs.Disk.{Only};
-ghost use Rattle.disk_core.specs.DiskLaws.{image_as_seen, image_counts, image_only};
+ghost use Rattle.disk_core.specs.ImageLaws.{image_as_seen, image_counts, image_kept, image_only};
 
 use crate::call::{Call, note, replay};
 use crate::overwrite::{copy_part, overwrite, reserve_for};
@@ -68,7 +68,7 @@ impl MemDisk {
     }
 }
 
-#[tactic(auto, using(crate::specs::DiskLaws::spoilt_not, crate::specs::DiskLaws::spoilt_from_not))]
+#[tactic(auto, using(crate::specs::ImageLaws::opens_none))]
 impl Disk for MemDisk {
     ghost seen = { λ m. m.bytes.items };
 
@@ -127,15 +127,24 @@ impl Disk for MemDisk {
 impl Crash for MemDisk {
     ghost use Rattle.disk_core.specs.Memory.{bytes_of, synced_bytes, images_of};
 
+    ghost kept = { λ m. kept_of m.first.items (events_of m.calls.items) };
+
+    ghost lets_through = { λ m. None };
+
+    ghost fused = { λ calls. None };
+
+    ghost keeps = { λ m. image_kept m.first.items (events_of m.calls.items) };
+
     /// Does nothing.
     fn fuse(&mut self, _calls: u64) {}
 
-    #[tactic(auto, using(crate::specs::DiskLaws::image_as_seen, crate::specs::DiskLaws::image_as_kept))]
+    #[tactic(auto, using(crate::specs::ImageLaws::image_as_seen, crate::specs::ImageLaws::image_as_kept))]
     /// 0 leaves the bytes of the last sync; any other number all writes and cuts since.
     fn crash(self, how: u8) -> Result<Self, AllocError>
         ensures left { IfOk result (λ disk. images_of self (bytes_of disk)) }
         ensures oldest { how ≡ 0 → IfOk result (λ disk. bytes_of disk ≡ synced_bytes self) }
         ensures newest { how ≢ 0 → IfOk result (λ disk. bytes_of disk ≡ bytes_of self) }
+        ensures durable { IfOk result (λ disk. Only (bytes_of disk) (images_of disk)) }
     {
         let MemDisk {
             alloc,

@@ -15,3 +15,5 @@ pub mod Walks
 pub mod Releases
 pub mod Lists
 pub mod Terminal
+pub mod Judged
+pub mod Sights

@@ -1,7 +1,8 @@
 -- What a crash leaves of a batch that goes to the disk.
-use Rattle.std.proofs.Common.{◌≡◌, ◌≢◌, ◌⊎◌, inl, inr, ℕ, zero, suc, ◌+◌, ◌<◌, List, [], ◌∷◌, ◌++◌, length, take, drop, None, refl, sym, ap, ◌∙◌, subst, append_assoc, length-append, arith}
+use Rattle.std.proofs.Common.{◌≡◌, ◌≢◌, ◌⊎◌, inl, inr, ℕ, zero, suc, ◌+◌, ◌<◌, List, [], ◌∷◌, ◌++◌, length, take, drop, None, refl, sym, ap, ◌∙◌, append_assoc, length-append, arith}
 use Rattle.std.proofs.lemmas.List.{take_at, drop_at}
-use Rattle.disk_core.specs.Disk.{Spoilt, overwritten, Only}
+use Rattle.disk_core.specs.Disk.{Spoilt, between, Agrees, overwritten, Only}
+use Rattle.disk_core.specs.SpoiltLaws.{spoilt_of}
 use Rattle.disk_core.specs.DiskLaws.{overwritten_inside}
 use Rattle.book_core.specs.declared.act.Act.{Act}
 use Rattle.book_core.specs.Book.{empty_book, first_fault}
@@ -111,19 +112,17 @@ opened bs acts file new place valid is applies st e written = record {
 -- The four calls, on what a crash may leave.
 module _ (seen : List ℕ) (may_leave : List ℕ → Type 0) (place : ℕ) (bs : List (List Act)) (acts : List Act) (block : List ℕ)
     (at : IsAt seen may_leave place bs) (is_block : block ≡ batch acts ++ 0 ∷ []) (is : IsBatch acts) (applies : first_fault (book_after empty_book bs) acts ≡ None) where
-  pub first_leaves : (c : List ℕ) → (d : List ℕ) × may_leave d × Spoilt (place + 1) (place + 1 + length block) d c → Holds c bs
+  pub first_leaves : (c : List ℕ) → Agrees (between (place + 1) (place + 1 + length block)) seen c → Holds c bs
   first_leaves c left =
-      let P : List ℕ → Type 0 = λ d. Spoilt (place + 1) (place + 1 + length block) d c in
-      spoilt_behind bs seen c place (place + 1 + length block) at.file at.is_place (subst P (at.durable left.0 left.1) left.2)
+      spoilt_behind bs seen c place (place + 1 + length block) at.file at.is_place (spoilt_of (place + 1) (place + 1 + length block) seen c (omega arith) left)
 
   pub is_staged : (file : List ℕ) → file ≡ overwritten (place + 1) block seen → IsStaged file bs acts
   is_staged file written = staged bs acts seen file block place at.file at.is_place is_block written
 
-  pub second_leaves : (file : List ℕ) (leaves : List ℕ → Type 0) → file ≡ overwritten (place + 1) block seen → Only file leaves
-      → (c : List ℕ) → (d : List ℕ) × leaves d × Spoilt place (place + 1) d c → Holds c bs ⊎ Holds c (bs ++ acts ∷ [])
-  second_leaves file leaves written only c left =
-      let P : List ℕ → Type 0 = λ d. Spoilt place (place + 1) d c in
-      spoilt_gate bs acts file c place at.file.valid is applies (is_staged file written) at.is_place (subst P (only left.0 left.1) left.2)
+  pub second_leaves : (file : List ℕ) → file ≡ overwritten (place + 1) block seen
+      → (c : List ℕ) → Agrees (between place (place + 1)) file c → Holds c bs ⊎ Holds c (bs ++ acts ∷ [])
+  second_leaves file written c left =
+      spoilt_gate bs acts file c place at.file.valid is applies (is_staged file written) at.is_place (spoilt_of place (place + 1) file c (omega arith) left)
 
   pub stored : (file new : List ℕ) (leaves : List ℕ → Type 0) → file ≡ overwritten (place + 1) block seen → new ≡ overwritten place (1 ∷ []) file → Only new leaves
       → IsAt new leaves (place + length block) (bs ++ acts ∷ [])

@@ -71,3 +71,7 @@ blocks (acts ∷ bs) = 1 ∷ (batch acts ++ blocks bs)
 -- all of a journal's bytes before the gate that ends it
 abbrev pub front : List (List Act) → List ℕ
 front bs = magic ++ blocks bs
+
+-- a journal of no batches, as it is made: nine bytes
+abbrev pub fresh : List ℕ
+fresh = magic ++ 0 ∷ []

@@ -1,17 +1,17 @@
 //! A new journal.
-ghost use Rattle.std.specs.Prelude.{◌≡◌, ◌<◌, ◌++◌, [], ◌∷◌, OnOk, IsErrOf};
+ghost use Rattle.std.specs.Prelude.{◌≡◌, ◌<◌, [], OnOk, IsErrOf};
 ghost use Rattle.disk_core.specs.Disk.{Only};
-ghost use Rattle.gate_journal.specs.Format.{magic};
+ghost use Rattle.gate_journal.specs.Format.{fresh};
 ghost use Rattle.gate_journal.specs.Batches.{Holds};
 ghost use Rattle.gate_journal.specs.Stands.{IsAt};
 
 use disk_core::{Disk, DiskFault};
 
-/// Makes the journal of no batches on a disk, whatever stood there: nine bytes, on the disk at `Ok`. A crash within it may
-/// leave no journal.
+/// Makes the journal of no batches on a disk, whatever stood there: nine bytes, on the disk at `Ok`. It begins with a cut
+/// of all, so a crash within it, or behind it where it fails, may leave any bytes.
 pub fn format<D: Disk>(disk: &mut D) -> Result<(), DiskFault>
-    ensures formatted { OnOk result (D.seen disk.new ≡ magic ++ 0 ∷ []) }
-    ensures durable { OnOk result (Only (D.seen disk.new) (D.may_leave disk.new)) }
+    ensures formatted { OnOk result (D.seen disk.new ≡ fresh) }
+    ensures durable { OnOk result (Only fresh (D.may_leave disk.new)) }
     ensures empty { OnOk result (Holds (D.seen disk.new) []) }
     ensures cause { IsErrOf result DiskFault.Failed → D.failures disk.old < D.failures disk.new }
 {

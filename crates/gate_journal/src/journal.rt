@@ -1,5 +1,5 @@
 //! The journal.
-ghost use Rattle.std.specs.Prelude.{◌≡◌, ◌≢◌, ◌⊎◌, pos, ◌-ℤ◌, ◌+◌, ◌-◌, ◌<◌, ◌≤◌, sum_by, ◌++◌, [], ◌∷◌, ℕ, List, true, false, None, OnOk, IfOk, IfErr, IfSome, IsTrue, ◌↔◌, IsErrOf, length};
+ghost use Rattle.std.specs.Prelude.{◌≡◌, ◌≢◌, ◌⊎◌, pos, ◌-ℤ◌, ◌+◌, ◌-◌, ◌<◌, ◌≤◌, sum_by, ◌++◌, [], ◌∷◌, ℕ, List, true, false, None, OnOk, OnErr, IfOk, IfErr, IfSome, IsTrue, ◌↔◌, IsErrOf, length};
 ghost use Rattle.disk_core.specs.Disk.{LeavesOnly, NoMore, Elapses};
 ghost use Rattle.book_core.specs.declared.act.Act.{Act};
 ghost use Rattle.book_core.specs.Book.{empty_book, first_fault, effects};
@@ -87,7 +87,7 @@ impl<D: Disk> Journal<D> {
     /// that they decide is a terminal state that its spelling gives back.
     ///
     /// At `Ok` the batch stands: a crash leaves it. At `Full` nothing is changed. At `Disk` and `Memory` the journal
-    /// answers `Failed` from then on, and is to be opened again.
+    /// answers `Failed` from then on, and is to be opened again: at `Failed` nothing is changed either, its disk neither.
     pub fn append(&mut self, book: &Book, acts: &[Act]) -> Result<u64, JournalFault>
         requires some { acts.now ≢ [] }
         requires small { length (acts_bytes acts.now) ≤ 4194304 }
@@ -108,6 +108,8 @@ impl<D: Disk> Journal<D> {
         ensures room { OnOk result (IsFull (used_bytes self.old) (kept_bytes self.old) acts.now → ⊥) }
         ensures room_at_fault { IsErrOf result JournalFault.Disk → IsFull (used_bytes self.old) (kept_bytes self.old) acts.now → ⊥ }
         ensures unchanged { IsErrOf result JournalFault.Full → self.new ≡ self.old }
+        ensures still_failed { IsErrOf result JournalFault.Failed → self.new ≡ self.old }
+        ensures figures { OnErr result (self.new ≡ record self.old { disk = disk_of self.new; failed = has_failed self.new }) }
 
         ensures disk { IsErrOf result JournalFault.Disk → D.failures (disk_of self.old) < D.failures (disk_of self.new) }
         ensures failed { IsErrOf result JournalFault.Failed ↔ (has_failed self.old ≡ true) }
@@ -139,6 +141,10 @@ impl<D: Disk> Journal<D> {
         ensures works { IfOk result (λ r. has_failed r.0 ≡ false) }
         ensures seen { IfOk result (λ r. D.seen (disk_of r.0) ≡ D.seen disk) }
         ensures crash { IfOk result (λ r. NoMore (D.may_leave disk) (D.may_leave (disk_of r.0))) }
+
+        // A crash at any moment of the call leaves what it might have left before.
+        ensures any_moment { IfOk result (λ r. LeavesOnly D.moment D.left_since disk (disk_of r.0) (D.may_leave disk)) }
+
         ensures fault { IfErr result (Explains (D.seen disk)) }
     {
         let mut disk = disk;
@@ -198,6 +204,7 @@ impl<D: Crash> Journal<D> {
             (D.Disk.left_since (disk_of self.old)) (D.Disk.left_since (disk_of self.new))
             (D.Disk.may_leave (disk_of self.new)) }
         ensures failures { D.Disk.failures (disk_of self.new) ≡ D.Disk.failures (disk_of self.old) }
+        ensures set { D.lets_through (disk_of self.new) ≡ D.fused calls }
         ensures figures { self.new ≡ record self.old { disk = disk_of self.new } }
     {
         self.disk.fuse(calls);

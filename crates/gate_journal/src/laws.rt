@@ -1,14 +1,33 @@
 //! Laws of the journal's definitions. Each is the clause of a function that does nothing.
-ghost use Rattle.std.specs.Prelude.{◌≡◌, ◌≢◌, [], List, ℕ};
+ghost use Rattle.std.specs.Prelude.{◌≡◌, ◌≢◌, ◌+◌, [], List, ℕ, None, sum_by};
 ghost use Rattle.amqp_perf.specs.declared.state.DeliveryState.{DeliveryState};
 ghost use Rattle.amqp_perf.specs.Fitting.{FitsState};
 ghost use Rattle.book_core.specs.declared.act.Act.{Act};
-ghost use Rattle.gate_journal.specs.Batches.{Holds, IsTerminal, IsOutcome};
-ghost use Rattle.gate_journal.specs.Reserve.{OnlyRelease, Costs};
+ghost use Rattle.book_core.specs.Book.{empty_book, first_fault, effects};
+ghost use Rattle.gate_journal.specs.Batches.{AllApply, Holds, IsTerminal, IsOutcome, book_after};
+ghost use Rattle.gate_journal.specs.Opening.{Explains, IsDamagedAt};
+ghost use Rattle.gate_journal.specs.Reserve.{OnlyRelease, Costs, reserve, growth, release};
+ghost use Rattle.gate_journal.specs.declared.fault.OpenFault.TheVariants.{NotAJournal};
 
 /// A file holds one list of batches only.
 pub fn one_list()
     ensures { (file : List ℕ) (first second : List (List Act)) → Holds file first → Holds file second → first ≡ second }
+{}
+
+/// Of a file at most one is true: it holds batches, it is damaged at a place, it is no journal. And it is damaged at one
+/// place only.
+pub fn one_judgement()
+    ensures holds_or_damaged { (file : List ℕ) (bs : List (List Act)) (place : ℕ) → Holds file bs → IsDamagedAt file place → ⊥ }
+    ensures holds_or_none { (file : List ℕ) (bs : List (List Act)) → Holds file bs → Explains file NotAJournal → ⊥ }
+    ensures damaged_or_none { (file : List ℕ) (place : ℕ) → IsDamagedAt file place → Explains file NotAJournal → ⊥ }
+    ensures one_place { (file : List ℕ) (first second : ℕ) → IsDamagedAt file first → IsDamagedAt file second → first ≡ second }
+{}
+
+/// What a batch makes of the room that a journal keeps free is the formula of it: what the book's rows and termini ask for
+/// afterwards is what they asked for before, and what the acts grow it by, less what they release.
+pub fn reserve_follows()
+    ensures { (bs : List (List Act)) (acts : List Act) → AllApply empty_book bs → first_fault (book_after empty_book bs) acts ≡ None
+        → reserve (effects (book_after empty_book bs) acts) + sum_by release acts ≡ reserve (book_after empty_book bs) + sum_by growth acts }
 {}
 
 /// A batch that only decides, forgets and drops, with outcomes of at most 400 bytes, costs nothing: it is never refused for

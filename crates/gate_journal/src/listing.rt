@@ -1,6 +1,6 @@
 //! The acts of a journal, one by one.
 ghost use Rattle.std.specs.Prelude.{◌≡◌, ◌<◌, ◌++◌, OnOk, IfOk, IfErr, IsErrOf};
-ghost use Rattle.disk_core.specs.Disk.{NoMore};
+ghost use Rattle.disk_core.specs.Disk.{NoMore, Only, LeavesOnly};
 ghost use Rattle.gate_journal.specs.Opening.{Explains};
 ghost use Rattle.gate_journal.specs.Listing.{placed};
 ghost use Rattle.gate_journal.specs.Listed.{IsListed};
@@ -78,6 +78,15 @@ pub fn list<D: Disk>(alloc: Global, disk: &mut D) -> Result<Listing, OpenFault>
     ensures disk { IsErrOf result OpenFault.Disk → D.failures disk.old < D.failures disk.new }
     ensures seen { OnOk result (D.seen disk.new ≡ D.seen disk.old) }
     ensures crash { NoMore (D.may_leave disk.old) (D.may_leave disk.new) }
+
+    // A crash at any moment of the call leaves what it might have left before.
+    ensures any_moment { LeavesOnly D.moment D.left_since disk.old disk.new (D.may_leave disk.old) }
+
+    // Whatever is told of the file, it was synced, and a read gives what it gave.
+    ensures durable { (IsErrOf result OpenFault.Disk → ⊥) → (IsErrOf result OpenFault.Memory → ⊥)
+        → Only (D.seen disk.new) (D.may_leave disk.new) }
+    ensures unchanged { (IsErrOf result OpenFault.Disk → ⊥) → (IsErrOf result OpenFault.Memory → ⊥)
+        → D.seen disk.new ≡ D.seen disk.old }
 {
     let bytes = read_all(alloc, disk)?;
     list_file(alloc, bytes.as_slice())

@@ -1,6 +1,6 @@
 //! The whole of a disk.
 ghost use Rattle.std.specs.Prelude.{◌≡◌, ◌<◌, ◌⊎◌, OnOk, IfOk, IfErr, IsErrOf};
-ghost use Rattle.disk_core.specs.Disk.{Only, NoMore};
+ghost use Rattle.disk_core.specs.Disk.{Only, NoMore, LeavesOnly};
 
 use crate::fault::OpenFault;
 use disk_core::Disk;
@@ -12,6 +12,7 @@ pub(crate) fn read_all<D: Disk>(alloc: Global, disk: &mut D) -> Result<Vec<u8>, 
     ensures seen { OnOk result (D.seen disk.new ≡ D.seen disk.old) }
     ensures durable { OnOk result (Only (D.seen disk.new) (D.may_leave disk.new)) }
     ensures crash { NoMore (D.may_leave disk.old) (D.may_leave disk.new) }
+    ensures moments { LeavesOnly D.moment D.left_since disk.old disk.new (D.may_leave disk.old) }
     ensures disk { IsErrOf result OpenFault.Disk → D.failures disk.old < D.failures disk.new }
     ensures other { IfErr result (λ f. (f ≡ OpenFault.Disk) ⊎ (f ≡ OpenFault.Memory)) }
 {

@@ -1,5 +1,5 @@
 use Rattle.std.proofs.Common.{[], ap}
-use Rattle.disk_core.specs.DiskLaws.{image_synced}
+use Rattle.disk_core.specs.ImageLaws.{image_synced}
 use Rattle.disk_core.specs.Note.{events_noted}
 use Rattle.disk_core.proofs.file.FileDiskDisk.sync.Goals as goal
 

@@ -1,5 +1,5 @@
 use Rattle.disk_core.specs.Call.{events_of}
-use Rattle.disk_core.specs.DiskLaws.{image_synced}
+use Rattle.disk_core.specs.ImageLaws.{image_synced}
 use Rattle.disk_core.proofs.memory.MemDiskDisk.sync.Goals as goal
 
 pub returns-clause-crash : goal.returns-clause-crash

@@ -1,0 +1,14 @@
+use Rattle.gate_journal.proofs.Judged.{holds_or_damaged, holds_or_none, damaged_or_none, one_place}
+use Rattle.gate_journal.proofs.laws.one_judgement.Goals as goal
+
+pub returns-clause-holds_or_damaged : goal.returns-clause-holds_or_damaged
+returns-clause-holds_or_damaged c = holds_or_damaged
+
+pub returns-clause-holds_or_none : goal.returns-clause-holds_or_none
+returns-clause-holds_or_none c = holds_or_none
+
+pub returns-clause-damaged_or_none : goal.returns-clause-damaged_or_none
+returns-clause-damaged_or_none c = damaged_or_none
+
+pub returns-clause-one_place : goal.returns-clause-one_place
+returns-clause-one_place c = one_place
