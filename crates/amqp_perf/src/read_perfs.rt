@@ -84,7 +84,7 @@ pub(crate) fn begin_fields(alloc: Global, fields: &mut Fields<'_>) -> Result<Beg
 }
 
 /// The first fields of an attach: which link it is, and its ends.
-#[derive(Debug, Drop)]
+#[derive(Drop)]
 struct LinkEnds {
     name: Text,
     handle: u32,
@@ -118,7 +118,7 @@ fn ends_of(alloc: Global, fields: &mut Fields<'_>) -> Result<LinkEnds, PerfFault
 }
 
 /// The next fields of an attach: what its end holds, and takes.
-#[derive(Debug, Drop)]
+#[derive(Drop)]
 struct LinkHoldings {
     unsettled: Option<Unsettled>,
     incomplete_unsettled: bool,
@@ -143,7 +143,7 @@ fn holdings_of(alloc: Global, fields: &mut Fields<'_>) -> Result<LinkHoldings, P
 }
 
 /// The last fields of an attach: what it can do, and what its end would like.
-#[derive(Debug, Drop)]
+#[derive(Drop)]
 struct LinkExtras {
     offered_capabilities: Symbols,
     desired_capabilities: Symbols,
