@@ -12,6 +12,7 @@ pub struct Text {
 }
 
 impl Drop for Text {
+    /// Lets go of it: a call, where a derived drop is its steps at each way out of a function that holds one.
     fn drop(self) {
         let Text { text: _content } = self;
     }
@@ -73,6 +74,7 @@ pub struct Symbol {
 }
 
 impl Drop for Symbol {
+    /// Lets go of it: a call, where a derived drop is its steps at each way out of a function that holds one.
     fn drop(self) {
         let Symbol { text: _content } = self;
     }
@@ -134,6 +136,7 @@ pub struct Binary {
 }
 
 impl Drop for Binary {
+    /// Lets go of it: a call, where a derived drop is its steps at each way out of a function that holds one.
     fn drop(self) {
         let Binary { bytes: _content } = self;
     }
@@ -196,6 +199,7 @@ pub struct Map {
 }
 
 impl Drop for Map {
+    /// Lets go of it: a call, where a derived drop is its steps at each way out of a function that holds one.
     fn drop(self) {
         let Map { spelling: _content } = self;
     }
@@ -257,6 +261,7 @@ pub struct AnyValue {
 }
 
 impl Drop for AnyValue {
+    /// Lets go of it: a call, where a derived drop is its steps at each way out of a function that holds one.
     fn drop(self) {
         let AnyValue { spelling: _content } = self;
     }
@@ -319,6 +324,7 @@ pub struct Symbols {
 }
 
 impl Drop for Symbols {
+    /// Lets go of it: a call, where a derived drop is its steps at each way out of a function that holds one.
     fn drop(self) {
         let Symbols { symbols: _content } = self;
     }

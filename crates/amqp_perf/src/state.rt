@@ -20,6 +20,7 @@ pub struct Fault {
 }
 
 impl Drop for Fault {
+    /// Lets go of what it holds: a call, where a derived drop is its steps at each way out of a function that holds one.
     fn drop(self) {
         let Fault {
             condition: _condition,
@@ -47,6 +48,7 @@ pub enum DeliveryState {
 }
 
 impl Drop for DeliveryState {
+    /// Lets go of what it holds: a call, where a derived drop is its steps at each way out of a function that holds one.
     fn drop(self) {
         match self {
             DeliveryState::Received(_received) => {}

@@ -12,6 +12,7 @@ pub enum Address {
 }
 
 impl Drop for Address {
+    /// Lets go of what it holds: a call, where a derived drop is its steps at each way out of a function that holds one.
     fn drop(self) {
         match self {
             Address::Text(_text) => {}
@@ -66,6 +67,7 @@ pub struct Source {
 }
 
 impl Drop for Source {
+    /// Lets go of what it holds: a call, where a derived drop is its steps at each way out of a function that holds one.
     fn drop(self) {
         let Source {
             address: _address,
@@ -103,6 +105,7 @@ pub struct Target {
 }
 
 impl Drop for Target {
+    /// Lets go of what it holds: a call, where a derived drop is its steps at each way out of a function that holds one.
     fn drop(self) {
         let Target {
             address: _address,
