@@ -22,7 +22,7 @@ use Rattle.amqp_perf.specs.declared.terminus.TargetTerminus.{TargetTerminus}
 use Rattle.amqp_perf.specs.declared.terminus.TargetTerminus.TheVariants as target
 use Rattle.amqp_perf.specs.Faults.{◌>>=◌}
 use Rattle.amqp_perf.specs.Fields.{name_of, plain, carried, judged, is_symbol, symbol, unless_null, address_of, address_at}
-use Rattle.amqp_perf.specs.Termini.{session_end, source_fields, source_by, source_in, source_at, target_fields, target_by, target_in, target_at}
+use Rattle.amqp_perf.specs.Termini.{session_end, node_at, choices_fields, source_fields, source_by, source_in, source_at, target_fields, target_by, target_in, target_at}
 use Rattle.amqp_perf.specs.Texts.{FieldText, spelt, mapped, uint_unless, flag_text, symbols_text, described_text}
 use Rattle.amqp_perf.specs.Spelling.{address_text, policy_text, state_text, source_texts, target_texts, source_text, target_text}
 use Rattle.amqp_perf.specs.Fitting.{Each, IsSymbol, IsOther, is_address_value, FitsAddress, names_source, names_target, FitsSource, FitsTarget, FitsSourceTerminus, FitsTargetTerminus}
@@ -96,7 +96,7 @@ policy_or policy = by_test (pointwise nat_eq policy session_end) refl
 -- ---- sources and targets
 
 source_fields_again : (x : Source) → FitsSource x → source_fields (place 28 (source_texts x)) ≡ Ok x
-unfolding source_fields
+unfolding source_fields node_at choices_fields
 source_fields_again x h =
     rw (
       address_again 27 x.address ((uint_unless 0 x.durable) ∷ (policy_text x.expiry_policy) ∷ (uint_unless 0 x.timeout) ∷ (flag_text x.dynamic) ∷ (x.dynamic_node_properties) ∷ (mapped d.symbol x.distribution_mode) ∷ (x.filter) ∷ (state_text x.default_outcome) ∷ (symbols_text x.outcomes) ∷ (symbols_text x.capabilities) ∷ []) h.address,
@@ -117,7 +117,7 @@ source_fields_again x h =
     ) refl
 
 target_fields_again : (x : Target) → FitsTarget x → target_fields (place 28 (target_texts x)) ≡ Ok x
-unfolding target_fields
+unfolding target_fields node_at
 target_fields_again x h =
     rw (
       address_again 27 x.address ((uint_unless 0 x.durable) ∷ (policy_text x.expiry_policy) ∷ (uint_unless 0 x.timeout) ∷ (flag_text x.dynamic) ∷ (x.dynamic_node_properties) ∷ (symbols_text x.capabilities) ∷ []) h.address,

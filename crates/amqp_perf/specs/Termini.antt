@@ -8,6 +8,8 @@ use Rattle.amqp_perf.specs.declared.opening.Opening.{Opening}
 use Rattle.amqp_perf.specs.declared.opening.Opening.TheVariants as opening
 use Rattle.amqp_perf.specs.declared.terminus.Source.{Source}
 use Rattle.amqp_perf.specs.declared.terminus.Target.{Target}
+use Rattle.amqp_perf.specs.declared.read_termini.NodeFields.{NodeFields}
+use Rattle.amqp_perf.specs.declared.read_termini.SourceChoices.{SourceChoices}
 use Rattle.amqp_perf.specs.declared.terminus.SourceTerminus.{SourceTerminus}
 use Rattle.amqp_perf.specs.declared.terminus.SourceTerminus.TheVariants as source
 use Rattle.amqp_perf.specs.declared.terminus.TargetTerminus.{TargetTerminus}
@@ -20,27 +22,37 @@ use Rattle.amqp_perf.specs.States.{state_at}
 abbrev pub session_end : List ℕ
 session_end = codes "session-end"
 
-unfoldable pub source_fields : At → Result Source PerfFault
-source_fields at = do
+-- what a source and a target begin with
+unfoldable pub node_at : Takes NodeFields
+node_at at = do
   address ← address_at at
   durable ← uint address.1
   expiry_policy ← symbol durable.1
   timeout ← uint expiry_policy.1
   dynamic ← flag timeout.1
   dynamic_node_properties ← map dynamic.1
-  distribution_mode ← symbol dynamic_node_properties.1
+  Ok (
+    record {
+      address = address.0;
+      durable = unwrap_or durable.0 0;
+      expiry_policy = unwrap_or expiry_policy.0 session_end;
+      timeout = unwrap_or timeout.0 0;
+      dynamic = dynamic.0;
+      dynamic_node_properties = dynamic_node_properties.0;
+    },
+    dynamic_node_properties.1,
+  )
+
+-- what a source goes on with
+unfoldable pub choices_fields : At → Result SourceChoices PerfFault
+choices_fields at = do
+  distribution_mode ← symbol at
   filter ← map distribution_mode.1
   default_outcome ← state_at filter.1
   outcomes ← symbols default_outcome.1
   capabilities ← symbols outcomes.1
   _ ← ended capabilities.1
   Ok (record {
-    address = address.0;
-    durable = unwrap_or durable.0 0;
-    expiry_policy = unwrap_or expiry_policy.0 session_end;
-    timeout = unwrap_or timeout.0 0;
-    dynamic = dynamic.0;
-    dynamic_node_properties = dynamic_node_properties.0;
     distribution_mode = distribution_mode.0;
     filter = filter.0;
     default_outcome = default_outcome.0;
@@ -48,23 +60,36 @@ source_fields at = do
     capabilities = capabilities.0;
   })
 
+unfoldable pub source_fields : At → Result Source PerfFault
+source_fields at = do
+  node ← node_at at
+  choices ← choices_fields node.1
+  Ok (record {
+    address = node.0.address;
+    durable = node.0.durable;
+    expiry_policy = node.0.expiry_policy;
+    timeout = node.0.timeout;
+    dynamic = node.0.dynamic;
+    dynamic_node_properties = node.0.dynamic_node_properties;
+    distribution_mode = choices.distribution_mode;
+    filter = choices.filter;
+    default_outcome = choices.default_outcome;
+    outcomes = choices.outcomes;
+    capabilities = choices.capabilities;
+  })
+
 unfoldable pub target_fields : At → Result Target PerfFault
 target_fields at = do
-  address ← address_at at
-  durable ← uint address.1
-  expiry_policy ← symbol durable.1
-  timeout ← uint expiry_policy.1
-  dynamic ← flag timeout.1
-  dynamic_node_properties ← map dynamic.1
-  capabilities ← symbols dynamic_node_properties.1
+  node ← node_at at
+  capabilities ← symbols node.1
   _ ← ended capabilities.1
   Ok (record {
-    address = address.0;
-    durable = unwrap_or durable.0 0;
-    expiry_policy = unwrap_or expiry_policy.0 session_end;
-    timeout = unwrap_or timeout.0 0;
-    dynamic = dynamic.0;
-    dynamic_node_properties = dynamic_node_properties.0;
+    address = node.0.address;
+    durable = node.0.durable;
+    expiry_policy = node.0.expiry_policy;
+    timeout = node.0.timeout;
+    dynamic = node.0.dynamic;
+    dynamic_node_properties = node.0.dynamic_node_properties;
     capabilities = capabilities.0;
   })
 

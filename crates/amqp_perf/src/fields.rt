@@ -15,7 +15,7 @@ use amqp_types::{Kind, Plain, TypeFault, Value, encode, front_of, value_of};
 use std::alloc::{AllocError, Global};
 
 /// A place among the fields of a list.
-#[derive(Clone, Copy, Debug)]
+#[derive(Clone, Copy)]
 pub struct Fields<'a> {
     /// How many levels a field's value may have.
     pub depth: u32,

@@ -6,9 +6,16 @@ use std::alloc::AllocError;
 use std::marker::Model;
 
 /// A string: UTF-8 text (AMQP 1.0 part 1, section 1.6.20).
-#[derive(Debug, Drop)]
+#[derive(Debug)]
 pub struct Text {
     text: String,
+}
+
+impl Drop for Text {
+    /// Lets go of it: a call, where a derived drop is its steps at each way out of a function that holds one.
+    fn drop(self) {
+        let Text { text: _content } = self;
+    }
 }
 
 impl Model for Text {
@@ -61,9 +68,16 @@ impl PartialEq for Text {
 }
 
 /// A symbol: ASCII text (AMQP 1.0 part 1, section 1.6.21).
-#[derive(Debug, Drop)]
+#[derive(Debug)]
 pub struct Symbol {
     text: String,
+}
+
+impl Drop for Symbol {
+    /// Lets go of it: a call, where a derived drop is its steps at each way out of a function that holds one.
+    fn drop(self) {
+        let Symbol { text: _content } = self;
+    }
 }
 
 impl Model for Symbol {
@@ -116,9 +130,16 @@ impl PartialEq for Symbol {
 }
 
 /// A sequence of octets (AMQP 1.0 part 1, section 1.6.19).
-#[derive(Debug, Drop)]
+#[derive(Debug)]
 pub struct Binary {
     bytes: Vec<u8>,
+}
+
+impl Drop for Binary {
+    /// Lets go of it: a call, where a derived drop is its steps at each way out of a function that holds one.
+    fn drop(self) {
+        let Binary { bytes: _content } = self;
+    }
 }
 
 impl Model for Binary {
@@ -172,9 +193,16 @@ impl PartialEq for Binary {
 
 /// A map that is carried unread (AMQP 1.0 part 1, section 1.6.23), kept as its canonical spelling. So two of them are
 /// equal where the maps are, however they were spelt when they came.
-#[derive(Debug, Drop)]
+#[derive(Debug)]
 pub struct Map {
     spelling: Vec<u8>,
+}
+
+impl Drop for Map {
+    /// Lets go of it: a call, where a derived drop is its steps at each way out of a function that holds one.
+    fn drop(self) {
+        let Map { spelling: _content } = self;
+    }
 }
 
 impl Model for Map {
@@ -227,9 +255,16 @@ impl PartialEq for Map {
 }
 
 /// A value of any type that is carried unread, kept as its canonical spelling.
-#[derive(Debug, Drop)]
+#[derive(Debug)]
 pub struct AnyValue {
     spelling: Vec<u8>,
+}
+
+impl Drop for AnyValue {
+    /// Lets go of it: a call, where a derived drop is its steps at each way out of a function that holds one.
+    fn drop(self) {
+        let AnyValue { spelling: _content } = self;
+    }
 }
 
 impl Model for AnyValue {
@@ -283,9 +318,16 @@ impl PartialEq for AnyValue {
 
 /// Symbols of a field that may hold several; none where the field is null or an empty array (AMQP 1.0 part 1, section
 /// 1.4, `multiple`).
-#[derive(Debug, Drop)]
+#[derive(Debug)]
 pub struct Symbols {
     symbols: Vec<Symbol>,
+}
+
+impl Drop for Symbols {
+    /// Lets go of it: a call, where a derived drop is its steps at each way out of a function that holds one.
+    fn drop(self) {
+        let Symbols { symbols: _content } = self;
+    }
 }
 
 impl Model for Symbols {

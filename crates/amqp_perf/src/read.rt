@@ -2,7 +2,7 @@
 ghost use Rattle.std.specs.Prelude.{◌≡◌, ◌≤◌, length, IfOk};
 ghost use Rattle.amqp_perf.specs.Contract.{Gives, GivesAs};
 ghost use Rattle.amqp_perf.specs.Places.{at_of};
-ghost use Rattle.amqp_perf.specs.Performative.{performative, performative_at, state, body, limit_of};
+ghost use Rattle.amqp_perf.specs.Performative.{performative, performative_at, state, body, sasl_body, limit_of};
 
 use crate::descriptor::Descriptor;
 use crate::fault::PerfFault;
@@ -125,6 +125,19 @@ fn body_of(
         Descriptor::Detach => Ok(Perf::Detach(detach_fields(alloc, fields)?)),
         Descriptor::End => Ok(Perf::End(end_fields(alloc, fields)?)),
         Descriptor::Close => Ok(Perf::Close(close_fields(alloc, fields)?)),
+        _ => sasl_body_of(alloc, descriptor, fields),
+    }
+}
+
+/// The fields behind the descriptor of a SASL body.
+fn sasl_body_of(
+    alloc: Global,
+    descriptor: Descriptor,
+    fields: &mut Fields<'_>,
+) -> Result<Perf, PerfFault>
+    ensures { Gives result (sasl_body descriptor (at_of fields.old)) }
+{
+    match descriptor {
         Descriptor::SaslMechanisms => Ok(Perf::SaslMechanisms(sasl_mechanisms_fields(
             alloc, fields,
         )?)),

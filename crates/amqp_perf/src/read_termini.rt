@@ -9,9 +9,10 @@ ghost use Rattle.std.specs.Option.{unwrap_or};
 use crate::descriptor::Descriptor;
 use crate::fault::PerfFault;
 use crate::fields::Fields;
-use crate::leaf::Symbol;
+use crate::leaf::{Map, Symbol, Symbols};
 use crate::opening::{Opening, carried, listed, opening_of, refused};
-use crate::terminus::{Source, SourceTerminus, Target, TargetTerminus};
+use crate::state::DeliveryState;
+use crate::terminus::{Address, Source, SourceTerminus, Target, TargetTerminus};
 use std::alloc::Global;
 
 /// When a terminus ends, where nothing is told (AMQP 1.0 part 3, section 3.5.3).
@@ -27,9 +28,20 @@ fn expiry_policy(alloc: Global, told: Option<Symbol>) -> Result<Symbol, PerfFaul
     }
 }
 
-#[tactic(auto, unfolding(crate::specs::Termini::source_fields))]
-fn source_fields(alloc: Global, fields: &mut Fields<'_>) -> Result<Source, PerfFault>
-    ensures { Gives result (termini.source_fields (at_of fields.old)) }
+/// What a source and a target begin with: the node that is meant.
+#[derive(Drop)]
+struct NodeFields {
+    address: Option<Address>,
+    durable: u32,
+    expiry_policy: Symbol,
+    timeout: u32,
+    dynamic: bool,
+    dynamic_node_properties: Option<Map>,
+}
+
+#[tactic(auto, unfolding(crate::specs::Termini::node_at))]
+fn node_of(alloc: Global, fields: &mut Fields<'_>) -> Result<NodeFields, PerfFault>
+    ensures { Took (λ x. x) result (at_of fields.new) (termini.node_at (at_of fields.old)) }
 {
     let address = fields.address(alloc)?;
     let durable = fields.uint()?;
@@ -37,19 +49,37 @@ fn source_fields(alloc: Global, fields: &mut Fields<'_>) -> Result<Source, PerfF
     let timeout = fields.uint()?;
     let dynamic = fields.flag()?;
     let dynamic_node_properties = fields.map(alloc)?;
-    let distribution_mode = fields.symbol(alloc)?;
-    let filter = fields.map(alloc)?;
-    let default_outcome = fields.state(alloc)?;
-    let outcomes = fields.symbols(alloc)?;
-    let capabilities = fields.symbols(alloc)?;
-    fields.ended()?;
-    Ok(Source {
+    Ok(NodeFields {
         address,
         durable: durable.unwrap_or(0),
         expiry_policy: expiry_policy(alloc, policy)?,
         timeout: timeout.unwrap_or(0),
         dynamic,
         dynamic_node_properties,
+    })
+}
+
+/// What a source goes on with: which messages are wanted of the node, and how they are settled.
+#[derive(Drop)]
+struct SourceChoices {
+    distribution_mode: Option<Symbol>,
+    filter: Option<Map>,
+    default_outcome: Option<DeliveryState>,
+    outcomes: Symbols,
+    capabilities: Symbols,
+}
+
+#[tactic(auto, unfolding(crate::specs::Termini::choices_fields))]
+fn choices_of(alloc: Global, fields: &mut Fields<'_>) -> Result<SourceChoices, PerfFault>
+    ensures { Gives result (termini.choices_fields (at_of fields.old)) }
+{
+    let distribution_mode = fields.symbol(alloc)?;
+    let filter = fields.map(alloc)?;
+    let default_outcome = fields.state(alloc)?;
+    let outcomes = fields.symbols(alloc)?;
+    let capabilities = fields.symbols(alloc)?;
+    fields.ended()?;
+    Ok(SourceChoices {
         distribution_mode,
         filter,
         default_outcome,
@@ -58,25 +88,41 @@ fn source_fields(alloc: Global, fields: &mut Fields<'_>) -> Result<Source, PerfF
     })
 }
 
+#[tactic(auto, unfolding(crate::specs::Termini::source_fields))]
+fn source_fields(alloc: Global, fields: &mut Fields<'_>) -> Result<Source, PerfFault>
+    ensures { Gives result (termini.source_fields (at_of fields.old)) }
+{
+    let node = node_of(alloc, fields)?;
+    let choices = choices_of(alloc, fields)?;
+    Ok(Source {
+        address: node.address,
+        durable: node.durable,
+        expiry_policy: node.expiry_policy,
+        timeout: node.timeout,
+        dynamic: node.dynamic,
+        dynamic_node_properties: node.dynamic_node_properties,
+        distribution_mode: choices.distribution_mode,
+        filter: choices.filter,
+        default_outcome: choices.default_outcome,
+        outcomes: choices.outcomes,
+        capabilities: choices.capabilities,
+    })
+}
+
 #[tactic(auto, unfolding(crate::specs::Termini::target_fields))]
 fn target_fields(alloc: Global, fields: &mut Fields<'_>) -> Result<Target, PerfFault>
     ensures { Gives result (termini.target_fields (at_of fields.old)) }
 {
-    let address = fields.address(alloc)?;
-    let durable = fields.uint()?;
-    let policy = fields.symbol(alloc)?;
-    let timeout = fields.uint()?;
-    let dynamic = fields.flag()?;
-    let dynamic_node_properties = fields.map(alloc)?;
+    let node = node_of(alloc, fields)?;
     let capabilities = fields.symbols(alloc)?;
     fields.ended()?;
     Ok(Target {
-        address,
-        durable: durable.unwrap_or(0),
-        expiry_policy: expiry_policy(alloc, policy)?,
-        timeout: timeout.unwrap_or(0),
-        dynamic,
-        dynamic_node_properties,
+        address: node.address,
+        durable: node.durable,
+        expiry_policy: node.expiry_policy,
+        timeout: node.timeout,
+        dynamic: node.dynamic,
+        dynamic_node_properties: node.dynamic_node_properties,
         capabilities,
     })
 }

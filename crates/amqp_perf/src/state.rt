@@ -9,7 +9,7 @@ use std::marker::Model;
 pub type DeliveryTag = ArrayVec<u8, 32>;
 
 /// An error (AMQP 1.0 part 2, section 2.8.14).
-#[derive(Debug, Drop)]
+#[derive(Debug)]
 pub struct Fault {
     /// What is wrong, by a name of the standard or of the peer's.
     pub condition: Symbol,
@@ -19,8 +19,19 @@ pub struct Fault {
     pub info: Option<Map>,
 }
 
+impl Drop for Fault {
+    /// Lets go of what it holds: a call, where a derived drop is its steps at each way out of a function that holds one.
+    fn drop(self) {
+        let Fault {
+            condition: _condition,
+            description: _description,
+            info: _info,
+        } = self;
+    }
+}
+
 /// How far a delivery is (AMQP 1.0 part 3, section 3.4).
-#[derive(Debug, Drop)]
+#[derive(Debug)]
 pub enum DeliveryState {
     /// So much of it has come; the only state here that is not terminal, beside `Other`.
     Received(Received),
@@ -34,6 +45,20 @@ pub enum DeliveryState {
     Modified(Modified),
     /// A state with another descriptor, carried unread. It is not terminal.
     Other(AnyValue),
+}
+
+impl Drop for DeliveryState {
+    /// Lets go of what it holds: a call, where a derived drop is its steps at each way out of a function that holds one.
+    fn drop(self) {
+        match self {
+            DeliveryState::Received(_received) => {}
+            DeliveryState::Accepted => {}
+            DeliveryState::Rejected(_rejected) => {}
+            DeliveryState::Released => {}
+            DeliveryState::Modified(_modified) => {}
+            DeliveryState::Other(_value) => {}
+        }
+    }
 }
 
 /// How much of a delivery has come (AMQP 1.0 part 3, section 3.4.1).

@@ -3,12 +3,22 @@ use crate::leaf::{AnyValue, Map, Symbol, Symbols, Text};
 use crate::state::DeliveryState;
 
 /// The address of a terminus (AMQP 1.0 part 3, section 3.5.3).
-#[derive(Debug, Drop)]
+#[derive(Debug)]
 pub enum Address {
     /// A string, the only kind that is routed.
     Text(Text),
     /// A value of another type, carried unread.
     Other(AnyValue),
+}
+
+impl Drop for Address {
+    /// Lets go of what it holds: a call, where a derived drop is its steps at each way out of a function that holds one.
+    fn drop(self) {
+        match self {
+            Address::Text(_text) => {}
+            Address::Other(_value) => {}
+        }
+    }
 }
 
 /// What stands in the source of an attach.
@@ -30,7 +40,7 @@ pub enum TargetTerminus {
 }
 
 /// Where messages come from (AMQP 1.0 part 3, section 3.5.3).
-#[derive(Debug, Drop)]
+#[derive(Debug)]
 pub struct Source {
     /// Its address.
     pub address: Option<Address>,
@@ -56,8 +66,27 @@ pub struct Source {
     pub capabilities: Symbols,
 }
 
+impl Drop for Source {
+    /// Lets go of what it holds: a call, where a derived drop is its steps at each way out of a function that holds one.
+    fn drop(self) {
+        let Source {
+            address: _address,
+            durable: _durable,
+            expiry_policy: _expiry_policy,
+            timeout: _timeout,
+            dynamic: _dynamic,
+            dynamic_node_properties: _dynamic_node_properties,
+            distribution_mode: _distribution_mode,
+            filter: _filter,
+            default_outcome: _default_outcome,
+            outcomes: _outcomes,
+            capabilities: _capabilities,
+        } = self;
+    }
+}
+
 /// Where messages go to (AMQP 1.0 part 3, section 3.5.4).
-#[derive(Debug, Drop)]
+#[derive(Debug)]
 pub struct Target {
     /// Its address.
     pub address: Option<Address>,
@@ -73,4 +102,19 @@ pub struct Target {
     pub dynamic_node_properties: Option<Map>,
     /// What it can do.
     pub capabilities: Symbols,
+}
+
+impl Drop for Target {
+    /// Lets go of what it holds: a call, where a derived drop is its steps at each way out of a function that holds one.
+    fn drop(self) {
+        let Target {
+            address: _address,
+            durable: _durable,
+            expiry_policy: _expiry_policy,
+            timeout: _timeout,
+            dynamic: _dynamic,
+            dynamic_node_properties: _dynamic_node_properties,
+            capabilities: _capabilities,
+        } = self;
+    }
 }

@@ -19,7 +19,7 @@ use amqp_types::{Kind, Plain, Value, encode, put_plain};
 use std::alloc::{AllocError, Global};
 
 /// A field to be written.
-#[derive(Clone, Copy, Debug)]
+#[derive(Clone, Copy)]
 pub(crate) enum Field<'a> {
     /// Null: nothing, or the field's default.
     Null,

@@ -3,6 +3,7 @@ ghost use Rattle.std.specs.Prelude.{◌≡◌, ◌++◌, option_map, IfOk, OnOk,
 ghost use Rattle.amqp_perf.specs.declared.descriptor.Descriptor.TheVariants as is;
 ghost use Rattle.amqp_perf.specs.Texts as texts;
 ghost use Rattle.amqp_perf.specs.Spelling as spellings;
+ghost use Rattle.amqp_perf.specs.NestedViews.{nested_view};
 
 use crate::descriptor::Descriptor;
 use crate::perf::{
@@ -10,7 +11,7 @@ use crate::perf::{
     SaslMechanisms, SaslOutcome, SaslResponse, Transfer,
 };
 use crate::text::{Field, put_described, symbols_text};
-use crate::write_states::{error_text, state_text, unsettled_text};
+use crate::write_states::{Nested, error_text, state_text, unsettled_text};
 use crate::write_termini::{source_text, target_text};
 use amqp_types::Plain;
 use std::alloc::{AllocError, Global};
@@ -20,18 +21,43 @@ pub(crate) fn put_open(alloc: Global, out: &mut Vec<u8>, opening: &Open) -> Resu
 {
     let outgoing_locales = symbols_text(alloc, &opening.outgoing_locales)?;
     let incoming_locales = symbols_text(alloc, &opening.incoming_locales)?;
-    let offered_capabilities = symbols_text(alloc, &opening.offered_capabilities)?;
-    let desired_capabilities = symbols_text(alloc, &opening.desired_capabilities)?;
+    let offered = symbols_text(alloc, &opening.offered_capabilities)?;
+    let desired = symbols_text(alloc, &opening.desired_capabilities)?;
+    put_open_with(
+        out,
+        opening,
+        &outgoing_locales,
+        &incoming_locales,
+        &offered,
+        &desired,
+    )
+}
+
+/// An open whose symbols are spelt.
+fn put_open_with<'a>(
+    out: &mut Vec<u8>,
+    opening: &'a Open,
+    outgoing_locales: &'a Option<Vec<u8>>,
+    incoming_locales: &'a Option<Vec<u8>>,
+    offered: &'a Option<Vec<u8>>,
+    desired: &'a Option<Vec<u8>>,
+) -> Result<(), AllocError>
+    requires outgoing { option_map (λ v. v.items) outgoing_locales.now ≡ texts.symbols_text opening.now.outgoing_locales }
+    requires incoming { option_map (λ v. v.items) incoming_locales.now ≡ texts.symbols_text opening.now.incoming_locales }
+    requires offered { option_map (λ v. v.items) offered.now ≡ texts.symbols_text opening.now.offered_capabilities }
+    requires desired { option_map (λ v. v.items) desired.now ≡ texts.symbols_text opening.now.desired_capabilities }
+    ensures { OnOk result (out.new.items ≡ out.old.items ++ texts.described_text is.Open (spellings.open_texts opening.now)) }
+{
     let fields = [
         Field::Plain(Plain::String(opening.container_id.as_str())),
         Field::text(&opening.hostname),
         Field::uint_unless(u32::MAX, opening.max_frame_size),
         Field::ushort_unless(u16::MAX, opening.channel_max),
         Field::uint(opening.idle_time_out),
-        Field::spelt(&outgoing_locales),
-        Field::spelt(&incoming_locales),
-        Field::spelt(&offered_capabilities),
-        Field::spelt(&desired_capabilities),
+        Field::spelt(outgoing_locales),
+        Field::spelt(incoming_locales),
+        Field::spelt(offered),
+        Field::spelt(desired),
         Field::map(&opening.properties),
     ];
     put_described(out, Descriptor::Open, &fields)
@@ -40,23 +66,37 @@ pub(crate) fn put_open(alloc: Global, out: &mut Vec<u8>, opening: &Open) -> Resu
 pub(crate) fn put_begin(alloc: Global, out: &mut Vec<u8>, begin: &Begin) -> Result<(), AllocError>
     ensures { OnOk result (out.new.items ≡ out.old.items ++ texts.described_text is.Begin (spellings.begin_texts begin.now)) }
 {
-    let offered_capabilities = symbols_text(alloc, &begin.offered_capabilities)?;
-    let desired_capabilities = symbols_text(alloc, &begin.desired_capabilities)?;
+    let offered = symbols_text(alloc, &begin.offered_capabilities)?;
+    let desired = symbols_text(alloc, &begin.desired_capabilities)?;
+    put_begin_with(out, begin, &offered, &desired)
+}
+
+/// A begin whose symbols are spelt.
+fn put_begin_with<'a>(
+    out: &mut Vec<u8>,
+    begin: &'a Begin,
+    offered: &'a Option<Vec<u8>>,
+    desired: &'a Option<Vec<u8>>,
+) -> Result<(), AllocError>
+    requires offered { option_map (λ v. v.items) offered.now ≡ texts.symbols_text begin.now.offered_capabilities }
+    requires desired { option_map (λ v. v.items) desired.now ≡ texts.symbols_text begin.now.desired_capabilities }
+    ensures { OnOk result (out.new.items ≡ out.old.items ++ texts.described_text is.Begin (spellings.begin_texts begin.now)) }
+{
     let fields = [
         Field::ushort(begin.remote_channel),
         Field::Plain(Plain::Uint(begin.next_outgoing_id)),
         Field::Plain(Plain::Uint(begin.incoming_window)),
         Field::Plain(Plain::Uint(begin.outgoing_window)),
         Field::uint_unless(u32::MAX, begin.handle_max),
-        Field::spelt(&offered_capabilities),
-        Field::spelt(&desired_capabilities),
+        Field::spelt(offered),
+        Field::spelt(desired),
         Field::map(&begin.properties),
     ];
     put_described(out, Descriptor::Begin, &fields)
 }
 
 /// The fields of an attach that hold other values, spelt.
-#[derive(Debug, Drop)]
+#[derive(Drop)]
 struct AttachParts {
     source: Option<Vec<u8>>,
     target: Option<Vec<u8>>,
@@ -94,6 +134,22 @@ pub(crate) fn put_attach(
     ensures { OnOk result (out.new.items ≡ out.old.items ++ texts.described_text is.Attach (spellings.attach_texts attach.now)) }
 {
     let parts = attach_parts(alloc, attach)?;
+    put_attach_with(out, attach, &parts)
+}
+
+/// An attach whose fields that hold other values are spelt.
+fn put_attach_with<'a>(
+    out: &mut Vec<u8>,
+    attach: &'a Attach,
+    parts: &'a AttachParts,
+) -> Result<(), AllocError>
+    requires source { option_map (λ v. v.items) parts.now.source ≡ spellings.source_text attach.now.source }
+    requires target { option_map (λ v. v.items) parts.now.target ≡ spellings.target_text attach.now.target }
+    requires unsettled { option_map (λ v. v.items) parts.now.unsettled ≡ spellings.unsettled_text attach.now.unsettled }
+    requires offered { option_map (λ v. v.items) parts.now.offered_capabilities ≡ texts.symbols_text attach.now.offered_capabilities }
+    requires desired { option_map (λ v. v.items) parts.now.desired_capabilities ≡ texts.symbols_text attach.now.desired_capabilities }
+    ensures { OnOk result (out.new.items ≡ out.old.items ++ texts.described_text is.Attach (spellings.attach_texts attach.now)) }
+{
     let fields = [
         Field::Plain(Plain::String(attach.name.as_str())),
         Field::Plain(Plain::Uint(attach.handle)),
@@ -140,6 +196,18 @@ pub(crate) fn put_transfer(
     ensures { OnOk result (out.new.items ≡ out.old.items ++ texts.described_text is.Transfer (spellings.transfer_texts transfer.now)) }
 {
     let state = state_text(alloc, &transfer.state)?;
+    put_transfer_with(out, transfer, &state)
+}
+
+/// A transfer whose state is spelt.
+fn put_transfer_with<'a>(
+    out: &mut Vec<u8>,
+    transfer: &'a Transfer,
+    state: &'a Option<Nested>,
+) -> Result<(), AllocError>
+    requires { option_map nested_view state.now ≡ spellings.state_text transfer.now.state }
+    ensures { OnOk result (out.new.items ≡ out.old.items ++ texts.described_text is.Transfer (spellings.transfer_texts transfer.now)) }
+{
     let fields = [
         Field::Plain(Plain::Uint(transfer.handle)),
         Field::uint(transfer.delivery_id),
@@ -148,7 +216,7 @@ pub(crate) fn put_transfer(
         Field::flag(transfer.settled),
         Field::flag(transfer.more),
         Field::ubyte(transfer.rcv_settle_mode),
-        Field::nested(&state),
+        Field::nested(state),
         Field::flag(transfer.resume),
         Field::flag(transfer.aborted),
         Field::flag(transfer.batchable),
@@ -164,12 +232,24 @@ pub(crate) fn put_disposition(
     ensures { OnOk result (out.new.items ≡ out.old.items ++ texts.described_text is.Disposition (spellings.disposition_texts disposition.now)) }
 {
     let state = state_text(alloc, &disposition.state)?;
+    put_disposition_with(out, disposition, &state)
+}
+
+/// A disposition whose state is spelt.
+fn put_disposition_with<'a>(
+    out: &mut Vec<u8>,
+    disposition: &'a Disposition,
+    state: &'a Option<Nested>,
+) -> Result<(), AllocError>
+    requires { option_map nested_view state.now ≡ spellings.state_text disposition.now.state }
+    ensures { OnOk result (out.new.items ≡ out.old.items ++ texts.described_text is.Disposition (spellings.disposition_texts disposition.now)) }
+{
     let fields = [
         Field::role(disposition.role),
         Field::Plain(Plain::Uint(disposition.first)),
         Field::uint(disposition.last),
         Field::flag(disposition.settled),
-        Field::nested(&state),
+        Field::nested(state),
         Field::flag(disposition.batchable),
     ];
     put_described(out, Descriptor::Disposition, &fields)

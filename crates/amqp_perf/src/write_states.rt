@@ -15,7 +15,7 @@ use amqp_types::{Plain, put_map, put_plain};
 use std::alloc::{AllocError, Global};
 
 /// A delivery state that is spelt: the two that say nothing more take no memory.
-#[derive(Debug, Drop)]
+#[derive(Drop)]
 pub(crate) enum Nested {
     /// Accepted or released.
     Fixed([u8; 4]),

@@ -3,11 +3,12 @@ ghost use Rattle.std.specs.Prelude.{◌≡◌, ◌++◌, option_map, IfOk, OnOk,
 ghost use Rattle.amqp_perf.specs.declared.descriptor.Descriptor.TheVariants as is;
 ghost use Rattle.amqp_perf.specs.Texts as texts;
 ghost use Rattle.amqp_perf.specs.Spelling as spellings;
+ghost use Rattle.amqp_perf.specs.NestedViews.{nested_view};
 
 use crate::descriptor::Descriptor;
 use crate::terminus::{Source, SourceTerminus, Target, TargetTerminus};
 use crate::text::{Field, put_described, symbols_text};
-use crate::write_states::state_text;
+use crate::write_states::{Nested, state_text};
 use std::alloc::{AllocError, Global};
 
 fn put_source(alloc: Global, out: &mut Vec<u8>, source: &Source) -> Result<(), AllocError>
@@ -16,6 +17,22 @@ fn put_source(alloc: Global, out: &mut Vec<u8>, source: &Source) -> Result<(), A
     let default_outcome = state_text(alloc, &source.default_outcome)?;
     let outcomes = symbols_text(alloc, &source.outcomes)?;
     let capabilities = symbols_text(alloc, &source.capabilities)?;
+    put_source_with(out, source, &default_outcome, &outcomes, &capabilities)
+}
+
+/// A source whose fields that hold other values are spelt.
+fn put_source_with<'a>(
+    out: &mut Vec<u8>,
+    source: &'a Source,
+    default_outcome: &'a Option<Nested>,
+    outcomes: &'a Option<Vec<u8>>,
+    capabilities: &'a Option<Vec<u8>>,
+) -> Result<(), AllocError>
+    requires default_outcome { option_map nested_view default_outcome.now ≡ spellings.state_text source.now.default_outcome }
+    requires outcomes { option_map (λ v. v.items) outcomes.now ≡ texts.symbols_text source.now.outcomes }
+    requires capabilities { option_map (λ v. v.items) capabilities.now ≡ texts.symbols_text source.now.capabilities }
+    ensures { OnOk result (out.new.items ≡ out.old.items ++ texts.described_text is.Source (spellings.source_texts source.now)) }
+{
     let fields = [
         Field::address(&source.address),
         Field::uint_unless(0, source.durable),
@@ -25,9 +42,9 @@ fn put_source(alloc: Global, out: &mut Vec<u8>, source: &Source) -> Result<(), A
         Field::map(&source.dynamic_node_properties),
         Field::symbol(&source.distribution_mode),
         Field::map(&source.filter),
-        Field::nested(&default_outcome),
-        Field::spelt(&outcomes),
-        Field::spelt(&capabilities),
+        Field::nested(default_outcome),
+        Field::spelt(outcomes),
+        Field::spelt(capabilities),
     ];
     put_described(out, Descriptor::Source, &fields)
 }
@@ -36,6 +53,18 @@ fn put_target(alloc: Global, out: &mut Vec<u8>, target: &Target) -> Result<(), A
     ensures { OnOk result (out.new.items ≡ out.old.items ++ texts.described_text is.Target (spellings.target_texts target.now)) }
 {
     let capabilities = symbols_text(alloc, &target.capabilities)?;
+    put_target_with(out, target, &capabilities)
+}
+
+/// A target whose capabilities are spelt.
+fn put_target_with<'a>(
+    out: &mut Vec<u8>,
+    target: &'a Target,
+    capabilities: &'a Option<Vec<u8>>,
+) -> Result<(), AllocError>
+    requires { option_map (λ v. v.items) capabilities.now ≡ texts.symbols_text target.now.capabilities }
+    ensures { OnOk result (out.new.items ≡ out.old.items ++ texts.described_text is.Target (spellings.target_texts target.now)) }
+{
     let fields = [
         Field::address(&target.address),
         Field::uint_unless(0, target.durable),
@@ -43,7 +72,7 @@ fn put_target(alloc: Global, out: &mut Vec<u8>, target: &Target) -> Result<(), A
         Field::uint_unless(0, target.timeout),
         Field::flag(target.dynamic),
         Field::map(&target.dynamic_node_properties),
-        Field::spelt(&capabilities),
+        Field::spelt(capabilities),
     ];
     put_described(out, Descriptor::Target, &fields)
 }
