@@ -14,3 +14,13 @@ pub record Fits (w : Window) (t : Session) : Type 0 where
 -- a transfer may be sent
 abbrev pub CanSend : Window → Type 0
 CanSend w = 0 < w.remote_window
+
+-- the window that has the figures of this list; each list has one alone
+abbrev pub window_of : Session → Window
+window_of t = record {
+  first_outgoing = session.first_outgoing t;
+  next_outgoing = session.next_outgoing t;
+  next_incoming = session.next_incoming t;
+  remote_window = session.remote_window t;
+  allowance = session.allowance t;
+}
