@@ -1,7 +1,7 @@
 -- A disk over a file, as its callers see it.
 use Rattle.std.specs.Prelude.{ℕ, Bool, List, [], length}
 use Rattle.disk_core.specs.declared.file.FileDisk.{FileDisk}
-use Rattle.disk_core.specs.Event.{ImagesNow, Images}
+use Rattle.disk_core.specs.Event.{Event, ImagesNow, Images}
 use Rattle.disk_core.specs.Note.{events_noted}
 
 -- the bytes that the file holds, by this disk's own account
@@ -15,6 +15,10 @@ failures_of disk = disk.failed
 -- a sync has failed, or the file may be other than the copy, so that no sync is trusted any more
 abbrev pub has_lost : FileDisk → Bool
 has_lost disk = disk.lost
+
+-- what was done to it, by its record, the newest first
+abbrev pub events_in : FileDisk → List Event
+events_in disk = events_noted disk.history.notes
 
 -- what a crash may leave, by its record
 abbrev pub images_of : FileDisk → List ℕ → Type 0

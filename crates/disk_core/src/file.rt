@@ -2,7 +2,7 @@
 ghost use Rattle.std.specs.Prelude.{◌≡◌, ◌+◌, ◌≤◌, ◌++◌, ◌∷◌, [], true, false, length, take, drop, IsErr, IsErrOf, IfOk, IfErr, OnOk};
 ghost use Rattle.disk_core.specs.Disk.{part, overwritten, between, from, Opens, NoMore, Only, Elapses, HasCause};
 ghost use Rattle.disk_core.specs.ImageLaws.{image_as_seen, image_counts, image_only};
-ghost use Rattle.disk_core.specs.Event.{seen_of, ImagesNow, Images};
+ghost use Rattle.disk_core.specs.Event.{seen_of, ImagesNow, Images, BeganWrite, BeganCut};
 ghost use Rattle.disk_core.specs.Note.{events_noted};
 
 use crate::overwrite::{overwrite, part_of, reserve_for};
@@ -171,7 +171,7 @@ fn make<R: Files<File = File>>(rt: &R, path: &str) -> io::Result<File> {
 
 #[tactic(auto, using(crate::specs::ImageLaws::opens_none))]
 impl Disk for FileDisk {
-    ghost use Rattle.disk_core.specs.File.{bytes_in, failures_of, has_lost, images_of, moment_of, left_since_of};
+    ghost use Rattle.disk_core.specs.File.{bytes_in, failures_of, has_lost, events_in, images_of, moment_of, left_since_of};
 
     ghost seen = { λ f. f.bytes.items };
 
@@ -248,8 +248,9 @@ impl Disk for FileDisk {
             (left_since_of self.old) (left_since_of self.new) (images_of self.new) }
         ensures cause { HasCause (failures_of self.old) (failures_of self.new) result }
 
-        // A call that fails leaves the bytes as they were, but the file may have a part: no sync succeeds any more.
+        // A call that fails leaves the bytes as they were, but it has begun, by the record, and no sync succeeds any more.
         ensures failed { IsErr result → bytes_in self.new ≡ bytes_in self.old }
+        ensures began { IsErrOf result DiskFault.Failed → events_in self.new ≡ BeganWrite at (length bytes.now) ∷ events_in self.old }
         ensures kept { IsErrOf result DiskFault.Failed → has_lost self.new ≡ true }
         ensures still_lost { has_lost self.old ≡ true → has_lost self.new ≡ true }
     {
@@ -280,8 +281,9 @@ impl Disk for FileDisk {
             (left_since_of self.old) (left_since_of self.new) (images_of self.new) }
         ensures cause { HasCause (failures_of self.old) (failures_of self.new) result }
 
-        // A call that fails leaves the bytes as they were, but the file may have a part: no sync succeeds any more.
+        // A call that fails leaves the bytes as they were, but it has begun, by the record, and no sync succeeds any more.
         ensures failed { IsErr result → bytes_in self.new ≡ bytes_in self.old }
+        ensures began { IsErrOf result DiskFault.Failed → events_in self.new ≡ BeganCut len ∷ events_in self.old }
         ensures kept { IsErrOf result DiskFault.Failed → has_lost self.new ≡ true }
         ensures still_lost { has_lost self.old ≡ true → has_lost self.new ≡ true }
     {

@@ -7,6 +7,7 @@ mod disk;
 mod fault;
 mod file;
 mod fuse;
+pub mod laws;
 mod memory;
 mod overwrite;
 mod record;

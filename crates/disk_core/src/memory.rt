@@ -1,8 +1,8 @@
 //! A disk in memory.
-ghost use Rattle.std.specs.Prelude.{◌≡◌, ◌≢◌, ◌≤◌, [], None, length, take, IfOk};
+ghost use Rattle.std.specs.Prelude.{◌≡◌, ◌≢◌, ◌≤◌, ◌+◌, [], None, length, take, IfOk, OnOk, IsErrOf};
 ghost use Rattle.disk_core.specs.Call.{events_of};
 ghost use Rattle.disk_core.specs.Event.{seen_of, kept_of, ImagesNow, Images};
-ghost use Rattle.disk_core.specs.Disk.{Only};
+ghost use Rattle.disk_core.specs.Disk.{overwritten, between, from, Opens, NoMore, Only, Elapses, HasCause};
 ghost use Rattle.disk_core.specs.ImageLaws.{image_as_seen, image_counts, image_kept, image_only};
 
 use crate::call::{Call, note, replay};
@@ -70,6 +70,8 @@ impl MemDisk {
 
 #[tactic(auto, using(crate::specs::ImageLaws::opens_none))]
 impl Disk for MemDisk {
+    ghost use Rattle.disk_core.specs.Memory.{bytes_of, synced_bytes, images_of, moment_of, left_since_of};
+
     ghost seen = { λ m. m.bytes.items };
 
     ghost may_leave = { λ m. ImagesNow m.first.items (events_of m.calls.items) };
@@ -94,7 +96,20 @@ impl Disk for MemDisk {
         Ok(copy_part(&self.bytes, at, buffer))
     }
 
-    fn write_at(&mut self, at: usize, bytes: &[u8]) -> Result<(), DiskFault> {
+    fn write_at(&mut self, at: usize, bytes: &[u8]) -> Result<(), DiskFault>
+        ensures written { OnOk result (bytes_of self.new ≡ overwritten at bytes.now (bytes_of self.old)) }
+        ensures crash { Opens (between at (at + length bytes.now)) (images_of self.old) (images_of self.new) }
+        ensures idle { bytes.now ≡ [] → NoMore (images_of self.old) (images_of self.new) }
+        ensures undone { IsErrOf result DiskFault.Memory → bytes_of self.new ≡ bytes_of self.old }
+        ensures undone_crash { IsErrOf result DiskFault.Memory →
+            NoMore (images_of self.old) (images_of self.new) }
+        ensures time { Elapses (moment_of self.old) (moment_of self.new)
+            (left_since_of self.old) (left_since_of self.new) (images_of self.new) }
+        ensures cause { HasCause 0 0 result }
+
+        // It isn't on the disk before the next sync.
+        ensures kept { synced_bytes self.new ≡ synced_bytes self.old }
+    {
         if bytes.is_empty() {
             return Ok(());
         }
@@ -108,7 +123,20 @@ impl Disk for MemDisk {
         Ok(())
     }
 
-    fn cut(&mut self, len: usize) -> Result<(), DiskFault> {
+    fn cut(&mut self, len: usize) -> Result<(), DiskFault>
+        ensures cut { OnOk result (bytes_of self.new ≡ take len (bytes_of self.old)) }
+        ensures crash { Opens (from len) (images_of self.old) (images_of self.new) }
+        ensures idle { length (bytes_of self.old) ≤ len → NoMore (images_of self.old) (images_of self.new) }
+        ensures undone { IsErrOf result DiskFault.Memory → bytes_of self.new ≡ bytes_of self.old }
+        ensures undone_crash { IsErrOf result DiskFault.Memory →
+            NoMore (images_of self.old) (images_of self.new) }
+        ensures time { Elapses (moment_of self.old) (moment_of self.new)
+            (left_since_of self.old) (left_since_of self.new) (images_of self.new) }
+        ensures cause { HasCause 0 0 result }
+
+        // It isn't on the disk before the next sync.
+        ensures kept { synced_bytes self.new ≡ synced_bytes self.old }
+    {
         if len >= self.bytes.len() {
             return Ok(());
         }
@@ -117,7 +145,16 @@ impl Disk for MemDisk {
         Ok(())
     }
 
-    fn sync(&mut self) -> Result<(), DiskFault> {
+    fn sync(&mut self) -> Result<(), DiskFault>
+        ensures durable { OnOk result (Only (bytes_of self.new) (images_of self.new)) }
+        ensures seen { OnOk result (bytes_of self.new ≡ bytes_of self.old) }
+        ensures crash { NoMore (images_of self.old) (images_of self.new) }
+        ensures undone { IsErrOf result DiskFault.Memory → bytes_of self.new ≡ bytes_of self.old }
+        ensures time { Elapses (moment_of self.old) (moment_of self.new)
+            (left_since_of self.old) (left_since_of self.new) (images_of self.new) }
+        ensures cause { HasCause 0 0 result }
+        ensures kept { OnOk result (synced_bytes self.new ≡ bytes_of self.new) }
+    {
         note(&mut self.calls, Call::Synced)?;
         self.synced = self.calls.len();
         Ok(())

@@ -16,4 +16,5 @@ pub mod Releases
 pub mod Lists
 pub mod Terminal
 pub mod Judged
+pub mod Decided
 pub mod Sights

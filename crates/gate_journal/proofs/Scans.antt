@@ -54,8 +54,8 @@ read_shorter bytes acts rest act behind are e read =
     omega (arith, ap length step.is, length-append (act_bytes act) behind, nonempty act step.writable)
 
 -- what is left is no act
-pub no_more : (bytes : List ℕ) (acts : List Act) (rest : List ℕ) → 0 < length rest → bytes ≡ acts_bytes acts ++ rest → AreWritable acts → act_at rest ≡ Err Misspelt → NoActs bytes
-no_more bytes acts rest some e h none whole writable f =
+pub no_more : (bytes : List ℕ) (acts : List Act) (rest : List ℕ) (fault : ReadFault) → 0 < length rest → bytes ≡ acts_bytes acts ++ rest → AreWritable acts → act_at rest ≡ Err fault → NoActs bytes
+no_more bytes acts rest fault some e h none whole writable f =
     let p = acts_prefix whole acts rest writable h (sym f ∙ e) in
     by_others p.others p.spelled p.writable
   where
@@ -68,7 +68,7 @@ some_bytes : (acts : List Act) → acts ≢ [] → AreWritable acts → 0 < leng
 some_bytes [] some h = absurd (some refl)
 some_bytes (a ∷ acts) some h = omega (arith, length-append (act_bytes a) (acts_bytes acts), nonempty a h.0)
 
-inside_back : (acts : List Act) (gate : ℕ) (rest : List ℕ) → IsBatch acts → inside_at (batch acts ++ gate ∷ rest) ≡ Ok (acts_bytes acts, gate ∷ rest)
+pub inside_back : (acts : List Act) (gate : ℕ) (rest : List ℕ) → IsBatch acts → inside_at (batch acts ++ gate ∷ rest) ≡ Ok (acts_bytes acts, gate ∷ rest)
 unfolding inside_at batch
 inside_back acts gate rest h =
     let some = some_bytes acts h.some h.writable in
@@ -77,6 +77,11 @@ inside_back acts gate rest h =
     ap inside_at (append_assoc (in_4 (length (acts_bytes acts))) (acts_bytes acts) (gate ∷ rest))
     ∙ (rw (back_4 (length (acts_bytes acts)) (acts_bytes acts ++ gate ∷ rest) (let small = h.small in omega (arith, small)))
     (rw (above, within) (rw (chunk_back (acts_bytes acts) (gate ∷ rest)) (rw (let gates : (suc (length rest) == 0) ≡ false = grind (arith, nat_tests) in gates) refl))))
+
+pub none_fails : (bytes : List ℕ) (fault : ReadFault) → inside_at bytes ≡ Err fault → NoneBegins bytes
+none_fails bytes fault read acts gate rest h e =
+    let yes : inside_at bytes ≡ Ok (acts_bytes acts, gate ∷ rest) = ap inside_at e ∙ inside_back acts gate rest h in
+    absurd cc
 
 pub none_inside : (bytes : List ℕ) (fault : ReadFault) → ((fault ≡ Memory → ⊥) → inside_at bytes ≡ Err fault) → fault ≡ Misspelt → NoneBegins bytes
 none_inside bytes fault read is acts gate rest h e =
@@ -144,4 +149,4 @@ pub none_left : (bytes : List ℕ) (acts : List Act) (rest : List ℕ) (fault : 
     → ((fault ≡ Memory → ⊥) → act_at rest ≡ Err fault) → fault ≡ Misspelt → NoActs bytes
 none_left bytes acts rest fault some e h read is =
     let none = read (λ m. absurd cc) in
-    no_more bytes acts rest (not_empty rest some) e h (none ∙ ap (λ (f : ReadFault). Err f) is)
+    no_more bytes acts rest fault (not_empty rest some) e h none

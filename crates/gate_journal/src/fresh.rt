@@ -11,7 +11,7 @@ use disk_core::{Disk, DiskFault};
 /// of all, so a crash within it, or behind it where it fails, may leave any bytes.
 pub fn format<D: Disk>(disk: &mut D) -> Result<(), DiskFault>
     ensures formatted { OnOk result (D.seen disk.new ≡ fresh) }
-    ensures durable { OnOk result (Only fresh (D.may_leave disk.new)) }
+    ensures durable { OnOk result (Only (D.seen disk.new) (D.may_leave disk.new)) }
     ensures empty { OnOk result (Holds (D.seen disk.new) []) }
     ensures cause { IsErrOf result DiskFault.Failed → D.failures disk.old < D.failures disk.new }
 {

@@ -1,5 +1,5 @@
 //! Laws of the journal's definitions. Each is the clause of a function that does nothing.
-ghost use Rattle.std.specs.Prelude.{◌≡◌, ◌≢◌, ◌+◌, [], List, ℕ, None, sum_by};
+ghost use Rattle.std.specs.Prelude.{◌≡◌, ◌≢◌, ◌⊎◌, ◌+◌, ◌<◌, [], List, ℕ, None, get_or, sum_by};
 ghost use Rattle.amqp_perf.specs.declared.state.DeliveryState.{DeliveryState};
 ghost use Rattle.amqp_perf.specs.Fitting.{FitsState};
 ghost use Rattle.book_core.specs.declared.act.Act.{Act};
@@ -14,9 +14,11 @@ pub fn one_list()
     ensures { (file : List ℕ) (first second : List (List Act)) → Holds file first → Holds file second → first ≡ second }
 {}
 
-/// Of a file at most one is true: it holds batches, it is damaged at a place, it is no journal. And it is damaged at one
+/// Of a file exactly one is true: it holds batches, it is damaged at a place, it is no journal. And it is damaged at one
 /// place only.
 pub fn one_judgement()
+    ensures some { (file : List ℕ) → ((place : ℕ) → get_or file place 0 < 256)
+        → ((bs : List (List Act)) × Holds file bs) ⊎ (((place : ℕ) × IsDamagedAt file place) ⊎ Explains file NotAJournal) }
     ensures holds_or_damaged { (file : List ℕ) (bs : List (List Act)) (place : ℕ) → Holds file bs → IsDamagedAt file place → ⊥ }
     ensures holds_or_none { (file : List ℕ) (bs : List (List Act)) → Holds file bs → Explains file NotAJournal → ⊥ }
     ensures damaged_or_none { (file : List ℕ) (place : ℕ) → IsDamagedAt file place → Explains file NotAJournal → ⊥ }

@@ -1,5 +1,9 @@
+use Rattle.gate_journal.proofs.Decided.{judged}
 use Rattle.gate_journal.proofs.Judged.{holds_or_damaged, holds_or_none, damaged_or_none, one_place}
 use Rattle.gate_journal.proofs.laws.one_judgement.Goals as goal
+
+pub returns-clause-some : goal.returns-clause-some
+returns-clause-some c = judged
 
 pub returns-clause-holds_or_damaged : goal.returns-clause-holds_or_damaged
 returns-clause-holds_or_damaged c = holds_or_damaged
