@@ -37,8 +37,13 @@ pub(crate) fn next_item(alloc: Global, bytes: &[u8]) -> Result<Next<'_>, AllocEr
             let (text, after) = bytes.split_at(size);
             match read_item(alloc, text) {
                 Ok((item, at)) => {
-                    let payload = Bytes::copy_from_slice(alloc, &text[at..])?;
-                    Ok(Next::Found(load(item, payload), after))
+                    match Bytes::copy_from_slice(alloc, &text[at..]) {
+                        Ok(payload) => Ok(Next::Found(load(item, payload), after)),
+                        Err(fault) => {
+                            drop(item);
+                            Err(fault)
+                        }
+                    }
                 }
                 Err(FrameFault::Memory) => Err(AllocError),
                 Err(fault) => Ok(Next::Wrong(fault)),

@@ -58,6 +58,7 @@ fn read_frame(
     let (perf, behind) = read_perf(alloc, body)?;
     let payload = from_place(body, behind);
     if !payload.is_empty() && !carries_payload(&perf) {
+        drop(perf);
         return Err(FrameFault::Perf(PerfFault::NotPerformative));
     }
     let payload_at = text.len() - payload.len();

@@ -186,6 +186,7 @@ fn share(
         }
         Err(AllocFailed { value }) => {
             *buffer = value;
+            drop(item);
             Err(AllocError)
         }
     }

@@ -5,7 +5,7 @@ use Rattle.amqp_frames.proofs.cut.next_item.Goals as goal
 pub returns-in-Whole-clause-front : goal.returns-in-Whole-clause-front
 returns-in-Whole-clause-front c = front_short c.args.bytes.now c.in-Whole.size (sym c.in-Whole.ensures) c.if-bytes-size.true
 
-pub returns-in_ok-payload-in-Ok-clause-front : goal.returns-in_ok-payload-in-Ok-clause-front
-returns-in_ok-payload-in-Ok-clause-front c =
+pub returns-in-Ok-copy_from_slice-clause-front : goal.returns-in-Ok-copy_from_slice-clause-front
+returns-in-Ok-copy_from_slice-clause-front c =
     front_read c.args.bytes.now _ _ _ c.in-Whole.size _ _ _ (sym c.in-Whole.ensures) c.if-bytes-size.false
-    c.split_at.ensures.front c.split_at.ensures.back c.in-Ok.ensures.item c.in_ok-payload-in-Ok.ensures c.load.ensures
+    c.split_at.ensures.front c.split_at.ensures.back c.in-Ok.ensures.item c.in-Ok-copy_from_slice.ensures c.load.ensures
