@@ -14,7 +14,7 @@ use router_state::State;
 use router_trace::{ConnectionId, Event, Peer, RouterId};
 use std::alloc::AllocError;
 
-/// Notes an item, and puts the ends for full outboxes.
+/// Hears an item: its event is noted, which changes no table, and the ends for full outboxes are put.
 fn hear_item(
     state: &mut State,
     id: &RouterId,
@@ -28,7 +28,7 @@ fn hear_item(
     Ok(())
 }
 
-/// An item.
+/// An item: its row decides over the tables as the event finds them, the event is heard, and then the row puts.
 fn on_item(
     state: &mut State,
     id: &RouterId,
@@ -44,7 +44,7 @@ fn on_item(
     Ok(())
 }
 
-/// Answers an item that finds a connection in this phase, where it is live.
+/// Puts the answer to an item that found a connection in this phase, where it is live.
 fn answer_item(
     state: &mut State,
     id: &RouterId,
