@@ -17,4 +17,4 @@ pub mod Lists
 pub mod Terminal
 pub mod Judged
 pub mod Decided
-pub mod Sights
+pub mod Moments

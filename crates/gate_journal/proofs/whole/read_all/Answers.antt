@@ -1,4 +1,4 @@
-use Rattle.gate_journal.proofs.Sights.{first_call, next_call}
+use Rattle.gate_journal.proofs.Moments.{first_call, next_call}
 use Rattle.gate_journal.proofs.whole.read_all.Goals as goal
 
 pub returns-in_err-sync-clause-moments : goal.returns-in_err-sync-clause-moments
