@@ -143,13 +143,29 @@ fn take_item(
     ensures cut { IfOk result (λ taken. (others : List AnItem) × (taken.0.items ≡ loaded item (drop payload_at buffer.old.items) ∷ others) × Cuts taken.1 behind.now others buffer.new.items) }
     ensures err { OnErr result (buffer.new.items ≡ buffer.old.items) }
 {
+    match cut_behind(alloc, behind) {
+        Ok((mut items, ended, rest)) => {
+            // Nothing that can fail is left, but that the item's payload takes the buffer.
+            let loaded = share(buffer, rest, item, payload_at)?;
+            drop(mem::replace(&mut items[0], loaded));
+            Ok((items, ended))
+        }
+        Err(fault) => {
+            drop(item);
+            Err(fault)
+        }
+    }
+}
+
+/// The items of these bytes behind a place for the one before them, whether they end in a `Bad`, and the rest.
+fn cut_behind(alloc: Global, behind: &[u8]) -> Result<(Vec<Item>, bool, Vec<u8>), AllocError>
+    ensures { IfOk result (λ found. (others : List AnItem) × (found.0.items ≡ AnItem.Beat 0 ∷ others) × Cuts found.1 behind.now others found.2.items) }
+{
     let mut items = Vec::new(alloc);
-    // The item takes this place at the end, when nothing that can fail is left: its payload takes the buffer.
     items.push(Item::Beat { channel: 0 })?;
     let (ended, rest) = cut(alloc, &mut items, behind)?;
     let rest = keep(alloc, rest)?;
-    items[0] = share(buffer, rest, item, payload_at)?;
-    Ok((items, ended))
+    Ok((items, ended, rest))
 }
 
 /// These bytes in a buffer of their own, which has room for the item that they begin.

@@ -23,7 +23,7 @@ use Rattle.amqp_perf.specs.declared.perf.SaslResponse.{SaslResponse}
 use Rattle.amqp_perf.specs.declared.perf.SaslOutcome.{SaslOutcome}
 use Rattle.amqp_perf.specs.declared.perf.Attach.{Attach}
 use Rattle.amqp_perf.specs.Faults.{◌>>=◌}
-use Rattle.amqp_perf.specs.Performative.{limits_at, offers_fields, windows_at, credit_fields, delivery_at, progress_fields, ends_at, holdings_at, extras_fields, open_fields, begin_fields, flow_fields, transfer_fields, disposition_fields, detach_fields, end_fields, close_fields, sasl_mechanisms_fields, sasl_init_fields, sasl_challenge_fields, sasl_response_fields, sasl_outcome_fields, attach_fields, limit_of, body, behind, performative_by, performative_at, performative, some_state, state}
+use Rattle.amqp_perf.specs.Performative.{ends_at, holdings_at, extras_fields, open_fields, begin_fields, flow_fields, transfer_fields, disposition_fields, detach_fields, end_fields, close_fields, sasl_mechanisms_fields, sasl_init_fields, sasl_challenge_fields, sasl_response_fields, sasl_outcome_fields, attach_fields, limit_of, body, behind, performative_by, performative_at, performative, some_state, state}
 use Rattle.amqp_perf.specs.Texts.{FieldText, spelt, mapped, ubyte_unless, ushort_unless, uint_unless, flag_text, symbols_text, described_text}
 use Rattle.amqp_perf.specs.Spelling.{source_text, target_text, unsettled_text, role_text, error_text, state_text, state_spelling, open_texts, begin_texts, flow_texts, transfer_texts, disposition_texts, detach_texts, end_texts, close_texts, sasl_mechanisms_texts, sasl_init_texts, sasl_challenge_texts, sasl_response_texts, sasl_outcome_texts, attach_texts, spelling}
 use Rattle.amqp_perf.specs.Fitting.{IsShort, FitsOpen, FitsBegin, FitsFlow, FitsTransfer, FitsDisposition, FitsDetach, FitsEnd, FitsClose, FitsSaslMechanisms, FitsSaslInit, FitsSaslChallenge, FitsSaslResponse, FitsSaslOutcome, FitsAttach, FitsState, Fits}
@@ -37,7 +37,7 @@ use Rattle.amqp_perf.proofs.WrittenUnsettled.{unsettled_at_again}
 -- ---- the fields of each
 
 open_again : (x : Open) → FitsOpen x → open_fields (place 30 (open_texts x)) ≡ Ok x
-unfolding open_fields limits_at offers_fields
+unfolding open_fields
 open_again x h =
     rw (
       required_text_again 29 x.container_id ((mapped d.string x.hostname) ∷ (uint_unless 4294967295 x.max_frame_size) ∷ (ushort_unless 65535 x.channel_max) ∷ (mapped d.uint x.idle_time_out) ∷ (symbols_text x.outgoing_locales) ∷ (symbols_text x.incoming_locales) ∷ (symbols_text x.offered_capabilities) ∷ (symbols_text x.desired_capabilities) ∷ (x.properties) ∷ []) h.container_id,
@@ -72,7 +72,7 @@ begin_again x h =
     ) refl
 
 flow_again : (x : Flow) → FitsFlow x → flow_fields (place 30 (flow_texts x)) ≡ Ok x
-unfolding flow_fields windows_at credit_fields
+unfolding flow_fields
 flow_again x h =
     rw (
       uint_again 29 x.next_incoming_id ((spelt (d.uint x.incoming_window)) ∷ (spelt (d.uint x.next_outgoing_id)) ∷ (spelt (d.uint x.outgoing_window)) ∷ (mapped d.uint x.handle) ∷ (mapped d.uint x.delivery_count) ∷ (mapped d.uint x.link_credit) ∷ (mapped d.uint x.available) ∷ (flag_text x.drain) ∷ (flag_text x.echo) ∷ (x.properties) ∷ []) h.next_incoming_id,
@@ -90,7 +90,7 @@ flow_again x h =
     ) refl
 
 transfer_again : (x : Transfer) → FitsTransfer x → transfer_fields (place 30 (transfer_texts x)) ≡ Ok x
-unfolding transfer_fields delivery_at progress_fields
+unfolding transfer_fields
 transfer_again x h =
     rw (
       required_uint_again 29 x.handle ((mapped d.uint x.delivery_id) ∷ (mapped (λ t. d.binary t.items) x.delivery_tag) ∷ (mapped d.uint x.message_format) ∷ (flag_text x.settled) ∷ (flag_text x.more) ∷ (mapped d.ubyte x.rcv_settle_mode) ∷ (state_text x.state) ∷ (flag_text x.resume) ∷ (flag_text x.aborted) ∷ (flag_text x.batchable) ∷ []) h.handle,

@@ -23,12 +23,6 @@ use Rattle.amqp_perf.specs.declared.perf.SaslInit.{SaslInit}
 use Rattle.amqp_perf.specs.declared.perf.SaslChallenge.{SaslChallenge}
 use Rattle.amqp_perf.specs.declared.perf.SaslResponse.{SaslResponse}
 use Rattle.amqp_perf.specs.declared.perf.SaslOutcome.{SaslOutcome}
-use Rattle.amqp_perf.specs.declared.read_perfs.OpenLimits.{OpenLimits}
-use Rattle.amqp_perf.specs.declared.read_perfs.OpenOffers.{OpenOffers}
-use Rattle.amqp_perf.specs.declared.read_perfs.FlowWindows.{FlowWindows}
-use Rattle.amqp_perf.specs.declared.read_perfs.FlowCredit.{FlowCredit}
-use Rattle.amqp_perf.specs.declared.read_perfs.TransferDelivery.{TransferDelivery}
-use Rattle.amqp_perf.specs.declared.read_perfs.TransferProgress.{TransferProgress}
 use Rattle.amqp_perf.specs.declared.read_perfs.LinkEnds.{LinkEnds}
 use Rattle.amqp_perf.specs.declared.read_perfs.LinkHoldings.{LinkHoldings}
 use Rattle.amqp_perf.specs.declared.read_perfs.LinkExtras.{LinkExtras}
@@ -50,56 +44,31 @@ role_of true = role.Receiver
 unfoldable pub required_role : Takes Role
 required_role at = required_flag at >>= λ x. Ok (role_of x.0, x.1)
 
--- open (part 2, section 2.7.1): its first five fields, then the others
-unfoldable pub limits_at : Takes OpenLimits
-limits_at at = do
+-- open (part 2, section 2.7.1)
+unfoldable pub open_fields : At → Result Open PerfFault
+open_fields at = do
   container_id ← required_text at
   hostname ← text container_id.1
   max_frame_size ← uint hostname.1
   channel_max ← ushort max_frame_size.1
   idle_time_out ← uint channel_max.1
-  Ok (
-    record {
-      container_id = container_id.0;
-      hostname = hostname.0;
-      max_frame_size = unwrap_or max_frame_size.0 4294967295;
-      channel_max = unwrap_or channel_max.0 65535;
-      idle_time_out = idle_time_out.0;
-    },
-    idle_time_out.1,
-  )
-
-unfoldable pub offers_fields : At → Result OpenOffers PerfFault
-offers_fields at = do
-  outgoing_locales ← symbols at
+  outgoing_locales ← symbols idle_time_out.1
   incoming_locales ← symbols outgoing_locales.1
   offered_capabilities ← symbols incoming_locales.1
   desired_capabilities ← symbols offered_capabilities.1
   properties ← map desired_capabilities.1
   _ ← ended properties.1
   Ok (record {
+    container_id = container_id.0;
+    hostname = hostname.0;
+    max_frame_size = unwrap_or max_frame_size.0 4294967295;
+    channel_max = unwrap_or channel_max.0 65535;
+    idle_time_out = idle_time_out.0;
     outgoing_locales = outgoing_locales.0;
     incoming_locales = incoming_locales.0;
     offered_capabilities = offered_capabilities.0;
     desired_capabilities = desired_capabilities.0;
     properties = properties.0;
-  })
-
-unfoldable pub open_fields : At → Result Open PerfFault
-open_fields at = do
-  limits ← limits_at at
-  offers ← offers_fields limits.1
-  Ok (record {
-    container_id = limits.0.container_id;
-    hostname = limits.0.hostname;
-    max_frame_size = limits.0.max_frame_size;
-    channel_max = limits.0.channel_max;
-    idle_time_out = limits.0.idle_time_out;
-    outgoing_locales = offers.outgoing_locales;
-    incoming_locales = offers.incoming_locales;
-    offered_capabilities = offers.offered_capabilities;
-    desired_capabilities = offers.desired_capabilities;
-    properties = offers.properties;
   })
 
 -- begin (part 2, section 2.7.2)
@@ -198,26 +167,14 @@ attach_fields at = do
     properties = extras.properties;
   })
 
--- flow (part 2, section 2.7.4): the session's windows, then the link's credit
-unfoldable pub windows_at : Takes FlowWindows
-windows_at at = do
+-- flow (part 2, section 2.7.4)
+unfoldable pub flow_fields : At → Result Flow PerfFault
+flow_fields at = do
   next_incoming_id ← uint at
   incoming_window ← required_uint next_incoming_id.1
   next_outgoing_id ← required_uint incoming_window.1
   outgoing_window ← required_uint next_outgoing_id.1
-  Ok (
-    record {
-      next_incoming_id = next_incoming_id.0;
-      incoming_window = incoming_window.0;
-      next_outgoing_id = next_outgoing_id.0;
-      outgoing_window = outgoing_window.0;
-    },
-    outgoing_window.1,
-  )
-
-unfoldable pub credit_fields : At → Result FlowCredit PerfFault
-credit_fields at = do
-  handle ← uint at
+  handle ← uint outgoing_window.1
   delivery_count ← uint handle.1
   link_credit ← uint delivery_count.1
   available ← uint link_credit.1
@@ -226,6 +183,10 @@ credit_fields at = do
   properties ← map echo.1
   _ ← ended properties.1
   Ok (record {
+    next_incoming_id = next_incoming_id.0;
+    incoming_window = incoming_window.0;
+    next_outgoing_id = next_outgoing_id.0;
+    outgoing_window = outgoing_window.0;
     handle = handle.0;
     delivery_count = delivery_count.0;
     link_credit = link_credit.0;
@@ -235,77 +196,33 @@ credit_fields at = do
     properties = properties.0;
   })
 
-unfoldable pub flow_fields : At → Result Flow PerfFault
-flow_fields at = do
-  windows ← windows_at at
-  credit ← credit_fields windows.1
-  Ok (record {
-    next_incoming_id = windows.0.next_incoming_id;
-    incoming_window = windows.0.incoming_window;
-    next_outgoing_id = windows.0.next_outgoing_id;
-    outgoing_window = windows.0.outgoing_window;
-    handle = credit.handle;
-    delivery_count = credit.delivery_count;
-    link_credit = credit.link_credit;
-    available = credit.available;
-    drain = credit.drain;
-    echo = credit.echo;
-    properties = credit.properties;
-  })
-
--- transfer (part 2, section 2.7.5): which delivery it is of, then how far that is
-unfoldable pub delivery_at : Takes TransferDelivery
-delivery_at at = do
+-- transfer (part 2, section 2.7.5)
+unfoldable pub transfer_fields : At → Result Transfer PerfFault
+transfer_fields at = do
   handle ← required_uint at
   delivery_id ← uint handle.1
   delivery_tag ← tag delivery_id.1
   message_format ← uint delivery_tag.1
   settled ← flag message_format.1
   more ← flag settled.1
-  Ok (
-    record {
-      handle = handle.0;
-      delivery_id = delivery_id.0;
-      delivery_tag = delivery_tag.0;
-      message_format = message_format.0;
-      settled = settled.0;
-      more = more.0;
-    },
-    more.1,
-  )
-
-unfoldable pub progress_fields : At → Result TransferProgress PerfFault
-progress_fields at = do
-  rcv_settle_mode ← ubyte at
+  rcv_settle_mode ← ubyte more.1
   state ← state_at rcv_settle_mode.1
   resume ← flag state.1
   aborted ← flag resume.1
   batchable ← flag aborted.1
   _ ← ended batchable.1
   Ok (record {
+    handle = handle.0;
+    delivery_id = delivery_id.0;
+    delivery_tag = delivery_tag.0;
+    message_format = message_format.0;
+    settled = settled.0;
+    more = more.0;
     rcv_settle_mode = rcv_settle_mode.0;
     state = state.0;
     resume = resume.0;
     aborted = aborted.0;
     batchable = batchable.0;
-  })
-
-unfoldable pub transfer_fields : At → Result Transfer PerfFault
-transfer_fields at = do
-  delivery ← delivery_at at
-  progress ← progress_fields delivery.1
-  Ok (record {
-    handle = delivery.0.handle;
-    delivery_id = delivery.0.delivery_id;
-    delivery_tag = delivery.0.delivery_tag;
-    message_format = delivery.0.message_format;
-    settled = delivery.0.settled;
-    more = delivery.0.more;
-    rcv_settle_mode = progress.rcv_settle_mode;
-    state = progress.state;
-    resume = progress.resume;
-    aborted = progress.aborted;
-    batchable = progress.batchable;
   })
 
 -- disposition (part 2, section 2.7.6)

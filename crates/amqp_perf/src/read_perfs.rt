@@ -11,7 +11,7 @@ use crate::perf::{
     Attach, Begin, Close, Detach, Disposition, End, Flow, Open, Role, SaslChallenge, SaslInit,
     SaslMechanisms, SaslOutcome, SaslResponse, Transfer,
 };
-use crate::state::{DeliveryState, DeliveryTag, Unsettled};
+use crate::state::Unsettled;
 use crate::terminus::{SourceTerminus, TargetTerminus};
 use std::alloc::Global;
 
@@ -29,80 +29,32 @@ impl<'a> Fields<'a> {
     }
 }
 
-/// The first fields of an open: who the peer is, and what it takes.
-#[derive(Drop)]
-struct OpenLimits {
-    container_id: Text,
-    hostname: Option<Text>,
-    max_frame_size: u32,
-    channel_max: u16,
-    idle_time_out: Option<u32>,
-}
-
-#[tactic(auto, unfolding(crate::specs::Performative::limits_at))]
-fn limits_of(alloc: Global, fields: &mut Fields<'_>) -> Result<OpenLimits, PerfFault>
-    ensures { Took (λ x. x) result (at_of fields.new) (performatives.limits_at (at_of fields.old)) }
+#[tactic(auto, unfolding(crate::specs::Performative::open_fields))]
+pub(crate) fn open_fields(alloc: Global, fields: &mut Fields<'_>) -> Result<Open, PerfFault>
+    ensures { Gives result (performatives.open_fields (at_of fields.old)) }
 {
     let container_id = fields.required_text(alloc)?;
     let hostname = fields.text(alloc)?;
     let max_frame_size = fields.uint()?;
     let channel_max = fields.ushort()?;
     let idle_time_out = fields.uint()?;
-    Ok(OpenLimits {
-        container_id,
-        hostname,
-        max_frame_size: max_frame_size.unwrap_or(4294967295),
-        channel_max: channel_max.unwrap_or(65535),
-        idle_time_out,
-    })
-}
-
-/// The last fields of an open: what the peer can do, and what it would like.
-#[derive(Drop)]
-struct OpenOffers {
-    outgoing_locales: Symbols,
-    incoming_locales: Symbols,
-    offered_capabilities: Symbols,
-    desired_capabilities: Symbols,
-    properties: Option<Map>,
-}
-
-#[tactic(auto, unfolding(crate::specs::Performative::offers_fields))]
-fn offers_of(alloc: Global, fields: &mut Fields<'_>) -> Result<OpenOffers, PerfFault>
-    ensures { Gives result (performatives.offers_fields (at_of fields.old)) }
-{
     let outgoing_locales = fields.symbols(alloc)?;
     let incoming_locales = fields.symbols(alloc)?;
     let offered_capabilities = fields.symbols(alloc)?;
     let desired_capabilities = fields.symbols(alloc)?;
     let properties = fields.map(alloc)?;
     fields.ended()?;
-    Ok(OpenOffers {
+    Ok(Open {
+        container_id,
+        hostname,
+        max_frame_size: max_frame_size.unwrap_or(4294967295),
+        channel_max: channel_max.unwrap_or(65535),
+        idle_time_out,
         outgoing_locales,
         incoming_locales,
         offered_capabilities,
         desired_capabilities,
         properties,
-    })
-}
-
-#[tactic(auto, unfolding(crate::specs::Performative::open_fields))]
-pub(crate) fn open_fields(alloc: Global, fields: &mut Fields<'_>) -> Result<Open, PerfFault>
-    ensures { Gives result (performatives.open_fields (at_of fields.old)) }
-{
-    let limits = limits_of(alloc, fields)?;
-    let offers = offers_of(alloc, fields)?;
-    Ok(Open {
-        container_id: limits.container_id,
-        hostname: limits.hostname,
-        max_frame_size: limits.max_frame_size,
-        channel_max: limits.channel_max,
-        idle_time_out: limits.idle_time_out,
-        outgoing_locales: offers.outgoing_locales,
-        incoming_locales: offers.incoming_locales,
-        offered_capabilities: offers.offered_capabilities,
-        desired_capabilities: offers.desired_capabilities,
-        properties: offers.properties,
     })
 }
 
@@ -238,47 +190,14 @@ pub(crate) fn attach_fields(alloc: Global, fields: &mut Fields<'_>) -> Result<At
     })
 }
 
-/// The first fields of a flow: the windows of the session.
-#[derive(Drop)]
-struct FlowWindows {
-    next_incoming_id: Option<u32>,
-    incoming_window: u32,
-    next_outgoing_id: u32,
-    outgoing_window: u32,
-}
-
-#[tactic(auto, unfolding(crate::specs::Performative::windows_at))]
-fn windows_of(fields: &mut Fields<'_>) -> Result<FlowWindows, PerfFault>
-    ensures { Took (λ x. x) result (at_of fields.new) (performatives.windows_at (at_of fields.old)) }
+#[tactic(auto, unfolding(crate::specs::Performative::flow_fields))]
+pub(crate) fn flow_fields(alloc: Global, fields: &mut Fields<'_>) -> Result<Flow, PerfFault>
+    ensures { Gives result (performatives.flow_fields (at_of fields.old)) }
 {
     let next_incoming_id = fields.uint()?;
     let incoming_window = fields.required_uint()?;
     let next_outgoing_id = fields.required_uint()?;
     let outgoing_window = fields.required_uint()?;
-    Ok(FlowWindows {
-        next_incoming_id,
-        incoming_window,
-        next_outgoing_id,
-        outgoing_window,
-    })
-}
-
-/// The last fields of a flow: the credit of a link, if one is meant.
-#[derive(Drop)]
-struct FlowCredit {
-    handle: Option<u32>,
-    delivery_count: Option<u32>,
-    link_credit: Option<u32>,
-    available: Option<u32>,
-    drain: bool,
-    echo: bool,
-    properties: Option<Map>,
-}
-
-#[tactic(auto, unfolding(crate::specs::Performative::credit_fields))]
-fn credit_of(alloc: Global, fields: &mut Fields<'_>) -> Result<FlowCredit, PerfFault>
-    ensures { Gives result (performatives.credit_fields (at_of fields.old)) }
-{
     let handle = fields.uint()?;
     let delivery_count = fields.uint()?;
     let link_credit = fields.uint()?;
@@ -287,7 +206,11 @@ fn credit_of(alloc: Global, fields: &mut Fields<'_>) -> Result<FlowCredit, PerfF
     let echo = fields.flag()?;
     let properties = fields.map(alloc)?;
     fields.ended()?;
-    Ok(FlowCredit {
+    Ok(Flow {
+        next_incoming_id,
+        incoming_window,
+        next_outgoing_id,
+        outgoing_window,
         handle,
         delivery_count,
         link_credit,
@@ -298,41 +221,9 @@ fn credit_of(alloc: Global, fields: &mut Fields<'_>) -> Result<FlowCredit, PerfF
     })
 }
 
-#[tactic(auto, unfolding(crate::specs::Performative::flow_fields))]
-pub(crate) fn flow_fields(alloc: Global, fields: &mut Fields<'_>) -> Result<Flow, PerfFault>
-    ensures { Gives result (performatives.flow_fields (at_of fields.old)) }
-{
-    let windows = windows_of(fields)?;
-    let credit = credit_of(alloc, fields)?;
-    Ok(Flow {
-        next_incoming_id: windows.next_incoming_id,
-        incoming_window: windows.incoming_window,
-        next_outgoing_id: windows.next_outgoing_id,
-        outgoing_window: windows.outgoing_window,
-        handle: credit.handle,
-        delivery_count: credit.delivery_count,
-        link_credit: credit.link_credit,
-        available: credit.available,
-        drain: credit.drain,
-        echo: credit.echo,
-        properties: credit.properties,
-    })
-}
-
-/// The first fields of a transfer: which delivery it is of.
-#[derive(Drop)]
-struct TransferDelivery {
-    handle: u32,
-    delivery_id: Option<u32>,
-    delivery_tag: Option<DeliveryTag>,
-    message_format: Option<u32>,
-    settled: bool,
-    more: bool,
-}
-
-#[tactic(auto, unfolding(crate::specs::Performative::delivery_at))]
-fn delivery_of(fields: &mut Fields<'_>) -> Result<TransferDelivery, PerfFault>
-    ensures { Took (λ x. x) result (at_of fields.new) (performatives.delivery_at (at_of fields.old)) }
+#[tactic(auto, unfolding(crate::specs::Performative::transfer_fields))]
+pub(crate) fn transfer_fields(alloc: Global, fields: &mut Fields<'_>) -> Result<Transfer, PerfFault>
+    ensures { Gives result (performatives.transfer_fields (at_of fields.old)) }
 {
     let handle = fields.required_uint()?;
     let delivery_id = fields.uint()?;
@@ -340,63 +231,24 @@ fn delivery_of(fields: &mut Fields<'_>) -> Result<TransferDelivery, PerfFault>
     let message_format = fields.uint()?;
     let settled = fields.flag()?;
     let more = fields.flag()?;
-    Ok(TransferDelivery {
-        handle,
-        delivery_id,
-        delivery_tag,
-        message_format,
-        settled,
-        more,
-    })
-}
-
-/// The last fields of a transfer: how far the delivery is.
-#[derive(Drop)]
-struct TransferProgress {
-    rcv_settle_mode: Option<u8>,
-    state: Option<DeliveryState>,
-    resume: bool,
-    aborted: bool,
-    batchable: bool,
-}
-
-#[tactic(auto, unfolding(crate::specs::Performative::progress_fields))]
-fn progress_of(alloc: Global, fields: &mut Fields<'_>) -> Result<TransferProgress, PerfFault>
-    ensures { Gives result (performatives.progress_fields (at_of fields.old)) }
-{
     let rcv_settle_mode = fields.ubyte()?;
     let state = fields.state(alloc)?;
     let resume = fields.flag()?;
     let aborted = fields.flag()?;
     let batchable = fields.flag()?;
     fields.ended()?;
-    Ok(TransferProgress {
+    Ok(Transfer {
+        handle,
+        delivery_id,
+        delivery_tag,
+        message_format,
+        settled,
+        more,
         rcv_settle_mode,
         state,
         resume,
         aborted,
         batchable,
-    })
-}
-
-#[tactic(auto, unfolding(crate::specs::Performative::transfer_fields))]
-pub(crate) fn transfer_fields(alloc: Global, fields: &mut Fields<'_>) -> Result<Transfer, PerfFault>
-    ensures { Gives result (performatives.transfer_fields (at_of fields.old)) }
-{
-    let delivery = delivery_of(fields)?;
-    let progress = progress_of(alloc, fields)?;
-    Ok(Transfer {
-        handle: delivery.handle,
-        delivery_id: delivery.delivery_id,
-        delivery_tag: delivery.delivery_tag,
-        message_format: delivery.message_format,
-        settled: delivery.settled,
-        more: delivery.more,
-        rcv_settle_mode: progress.rcv_settle_mode,
-        state: progress.state,
-        resume: progress.resume,
-        aborted: progress.aborted,
-        batchable: progress.batchable,
     })
 }
 
