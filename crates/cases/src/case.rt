@@ -63,6 +63,17 @@ impl<'a> Case<'a> {
         String::from_utf8(bytes).or(Err(CaseFault::Text))
     }
 
+    /// The text of the lines of input, without the words.
+    ///
+    /// # Errors
+    ///
+    /// As `input_text`.
+    pub fn lines_text(&self, alloc: Global) -> Result<String, CaseFault> {
+        let mut bytes = Vec::new(alloc);
+        put_input(alloc, &mut bytes, "", self.input.as_slice())?;
+        String::from_utf8(bytes).or(Err(CaseFault::Text))
+    }
+
     /// The answer that is wanted, its lines parted by LF.
     pub fn wanted_text(&self, alloc: Global) -> Result<String, CaseFault> {
         let mut text = String::new(alloc);

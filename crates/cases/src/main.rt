@@ -1,10 +1,15 @@
 //! Tries cases that stand in plain files: what each asks, and what it wants. `docs/cases.md` tells their form.
 #![tactic(auto)]
 
+mod acts;
+mod batches;
+mod books;
 mod case;
 mod configurations;
+mod disks;
 mod fault;
 mod frames;
+mod journals;
 mod performatives;
 mod run;
 mod scene;

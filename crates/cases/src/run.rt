@@ -60,10 +60,10 @@ pub fn try_file(rt: &HostRuntime, path: &str, tally: &mut Tally) -> Result<(), C
     };
     let text = fs::read_to_string(rt, path)?;
     let cases = read_cases(rt.alloc(), text.as_str())?;
-    let mut scene = Scene::new(subject);
+    let mut scene = Scene::new(rt.alloc(), subject);
     for case in &cases {
         if case.begins {
-            scene = Scene::new(subject);
+            scene = Scene::new(rt.alloc(), subject);
         }
         let answer = scene.answer(rt, case);
         tally.count(differs(rt, path, case, answer)?);

@@ -1,8 +1,16 @@
 //! Scenes: what the questions of a case file are asked of.
+use crate::books;
 use crate::case::Case;
+use crate::configurations;
+use crate::disks::{self, AnyDisk};
 use crate::fault::CaseFault;
-use crate::{configurations, frames, performatives, values};
+use crate::frames;
+use crate::journals::{self, StopDisk};
+use crate::performatives;
+use crate::values;
+use book_core::Book;
 use route_table::Config;
+use std::alloc::Global;
 
 /// What the questions of a case file are on.
 #[derive(Clone, Copy, Debug, PartialEq, Eq)]
@@ -15,6 +23,12 @@ pub enum Subject {
     Frames,
     /// Configurations.
     Configurations,
+    /// Books.
+    Books,
+    /// Disks.
+    Disks,
+    /// Journals.
+    Journals,
 }
 
 impl Subject {
@@ -26,6 +40,9 @@ impl Subject {
             "performatives" => Some(Subject::Performatives),
             "frames" => Some(Subject::Frames),
             "configurations" => Some(Subject::Configurations),
+            "books" => Some(Subject::Books),
+            "disks" => Some(Subject::Disks),
+            "journals" => Some(Subject::Journals),
             _ => None,
         }
     }
@@ -42,16 +59,25 @@ pub enum Scene {
     Frames,
     /// The configuration that was read last.
     Configuration(Option<Config>),
+    /// A book, empty at first.
+    Book(Book),
+    /// The disk that was taken last.
+    Disk(Option<AnyDisk>),
+    /// The disk of a journal, where one was taken.
+    Journal(Option<StopDisk>),
 }
 
 impl Scene {
     /// The scene before any question.
-    pub fn new(subject: Subject) -> Scene {
+    pub fn new(alloc: Global, subject: Subject) -> Scene {
         match subject {
             Subject::Values => Scene::Values,
             Subject::Performatives => Scene::Performatives,
             Subject::Frames => Scene::Frames,
             Subject::Configurations => Scene::Configuration(None),
+            Subject::Books => Scene::Book(Book::empty(alloc)),
+            Subject::Disks => Scene::Disk(None),
+            Subject::Journals => Scene::Journal(None),
         }
     }
 
@@ -67,6 +93,9 @@ impl Scene {
             Scene::Performatives => performatives::answer(alloc, case),
             Scene::Frames => frames::answer(alloc, case),
             Scene::Configuration(scene) => configurations::answer(alloc, scene, case),
+            Scene::Book(book) => books::answer(alloc, book, case),
+            Scene::Disk(scene) => disks::answer(rt, scene, case),
+            Scene::Journal(scene) => journals::answer(alloc, scene, case),
         }
     }
 }

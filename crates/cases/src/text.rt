@@ -3,17 +3,16 @@ use crate::fault::CaseFault;
 use std::alloc::Global;
 use std::fmt::Write;
 
-/// The bytes that words of hexadecimal digits name: parts joined by `+`, each `HEX` or `HEX*TIMES`; `-` is none.
+/// The bytes that words of hexadecimal digits name: parts joined by `+` or on lines of their own, each `HEX` or `HEX*TIMES`;
+/// `-` is none.
 ///
 /// # Errors
 ///
 /// `Bytes` where a part isn't hexadecimal digits in pairs, or its times no number; `Memory`.
 pub fn bytes_of(alloc: Global, words: &str) -> Result<Vec<u8>, CaseFault> {
     let mut bytes = Vec::new(alloc);
-    if words == "-" {
-        return Ok(bytes);
-    }
-    for part in words.split('+') {
+    for part in words.split(['+', '\n']) {
+        let part = if part == "-" { "" } else { part };
         let (digits, times) = part.split_once('*').unwrap_or((part, "1"));
         put_times(alloc, &mut bytes, digits, times)?;
     }
@@ -55,7 +54,8 @@ pub fn size_of(word: Option<&str>) -> Result<usize, CaseFault> {
 }
 
 /// Appends the words of a question, and behind them its lines of input: `> TEXT` is the text and an LF, `* TIMES TEXT` the
-/// text so many times, where `{}` is the number of the time, from 0, and `{x}` the same in two hexadecimal digits.
+/// text so many times, where `{}` is the number of the time, from 0, and `{x}` the same in two hexadecimal digits. For TIMES
+/// `FROM..TO` may stand; the number is then from FROM, and TO isn't reached.
 pub fn put_input(
     alloc: Global,
     out: &mut Vec<u8>,
@@ -76,11 +76,11 @@ pub fn put_input(
     Ok(())
 }
 
-/// Appends a text so many times: `TIMES TEXT`.
+/// Appends a text so many times: `TIMES TEXT`, or `FROM..TO TEXT`.
 fn put_repeated(alloc: Global, out: &mut Vec<u8>, rest: &str) -> Result<(), CaseFault> {
     let (times, text) = rest.split_once(' ').ok_or(CaseFault::Word)?;
-    let times = number_of(Some(times))?;
-    for time in 0..times {
+    let (from, to) = times.split_once("..").unwrap_or(("0", times));
+    for time in number_of(Some(from))?..number_of(Some(to))? {
         let counted = counted(alloc, text, time)?;
         put_text(alloc, out, counted.as_str())?;
     }
