@@ -6,21 +6,24 @@ use Rattle.std.proofs.lemmas.Bool.{eqb-true, eq-eqb}
 use Rattle.amqp_frames.specs.declared.item.Item.{Item}
 use Rattle.amqp_frames.specs.declared.item.Item.TheVariants as item
 use Rattle.amqp_conn.specs.declared.conn.Conn.{Conn}
-use Rattle.router_core.specs.declared.reply.condition.Condition.TheVariants.{ResourceLimitExceeded}
-use Rattle.router_core.specs.declared.state.event.ConnectionId.{ConnectionId}
-use Rattle.router_core.specs.declared.state.event.Event.{Event}
-use Rattle.router_core.specs.declared.state.event.Event.TheVariants as event
-use Rattle.router_core.specs.Trace.{Entry, Did, Out, Took, did, puts, ups}
-use Rattle.router_core.specs.Connection.{Connection, conn, ended, took, unless_empty, drained, standing, is_live, is_full, is_due, has, due, found, live_of, at_event}
-use Rattle.router_core.specs.Fits.{refuses}
-use Rattle.router_core.specs.Frames.{header_item}
-use Rattle.router_core.specs.Replies.{closing_of, ends, heard, answer, answered}
+use Rattle.router_trace.specs.declared.condition.Condition.TheVariants.{ResourceLimitExceeded}
+use Rattle.router_trace.specs.declared.event.ConnectionId.{ConnectionId}
+use Rattle.router_trace.specs.declared.event.Event.{Event}
+use Rattle.router_trace.specs.declared.event.Event.TheVariants as event
+use Rattle.router_trace.specs.Trace.{Entry, Did, Out, Took, did, puts, ups}
+use Rattle.router_trace.specs.Connection.{Connection, conn, ended, took, unless_empty, drained, standing, is_live, is_full, is_due, has, due, found, live_of, at_event}
+use Rattle.router_trace.specs.Refusing.{refuses}
+use Rattle.router_trace.specs.Frames.{header_item}
+use Rattle.router_reply.specs.Replies.{closing_of, ends, heard, answer, answered}
 use Rattle.router_core.specs.Runs.{waiting_of, took_one}
 use Rattle.router_core.specs.Moves.{Move, handles, takes, Goes, IsTrace, with_came, ins, outs}
-use Rattle.router_core.specs.Laws.{unwritten, is_header, begins_with_header, HeaderFirst, KeepsOrder}
-use Rattle.router_core.proofs.Lists.{by_test}
-use Rattle.router_core.proofs.Turns.{due_none}
-use Rattle.router_core.proofs.Order.{Ordered, behind_all, filter_has, ends_outs, puts_outs, answered_turns, took_turns, ordered_empty}
+use Rattle.router_trace.specs.Order.{unwritten}
+use Rattle.router_core.specs.Laws.{is_header, begins_with_header, HeaderFirst, KeepsOrder}
+use Rattle.router_conns.proofs.Lists.{by_test}
+use Rattle.router_conns.proofs.Turns.{due_none}
+use Rattle.router_core.proofs.Once.{filter_has}
+use Rattle.router_core.proofs.Ordered.{Ordered, behind_all, ends_outs, puts_outs}
+use Rattle.router_core.proofs.Order.{answered_turns, took_turns, ordered_empty}
 
 -- where nothing was put out nothing waits, and the outbox isn't full
 

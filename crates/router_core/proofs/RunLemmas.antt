@@ -2,9 +2,9 @@
 use Rattle.std.proofs.Common.{◌≡◌, ◌∙◌, sym, ap, refl, subst, ℕ, List, [], ◌∷◌, ◌++◌, append_assoc, append-nil, suc, length, arith}
 use Rattle.std.specs.Prelude.{map}
 use Rattle.router_core.specs.declared.driving.Sent.{Sent}
-use Rattle.router_core.specs.declared.state.event.Event.{Event}
+use Rattle.router_trace.specs.declared.event.Event.{Event}
 use Rattle.router_core.specs.declared.router.Core.{Core}
-use Rattle.router_core.specs.Trace.{Entry}
+use Rattle.router_trace.specs.Trace.{Entry}
 use Rattle.router_core.specs.Handling.{Fits}
 use Rattle.router_core.specs.Runs.{Taking, took_all, took_one, sent, as_sent, items_of, Run}
 

@@ -4,7 +4,7 @@ use Rattle.amqp_frames.specs.declared.item.Item.{Item}
 use Rattle.amqp_frames.specs.declared.item.Item.TheVariants as item
 use Rattle.router_core.specs.declared.door.DoorAnswer.{DoorAnswer}
 use Rattle.router_core.specs.declared.door.DoorAnswer.TheVariants as answer
-use Rattle.router_core.specs.Frames.{header_item}
+use Rattle.router_trace.specs.Frames.{header_item}
 
 -- what the door makes of an item: these items go out and the next one is awaited; the connection is up, with this user,
 -- and the item goes on to the router; or these items go out and the connection is over

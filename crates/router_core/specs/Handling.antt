@@ -2,9 +2,9 @@
 use Rattle.std.specs.Prelude.{ℕ, Bool, List, Option, Some, None}
 use Rattle.router_core.specs.declared.router.Core.{Core}
 use Rattle.router_core.specs.declared.router.Batch.{Batch}
-use Rattle.router_core.specs.Trace.{Trace}
-use Rattle.router_core.specs.Connection.{Connection, Batched}
-use Rattle.router_core.specs.Tables.{TablesFit}
+use Rattle.router_trace.specs.Trace.{Trace}
+use Rattle.router_trace.specs.Connection.{Connection, Batched}
+use Rattle.router_state.specs.Tables.{TablesFit}
 
 -- the router's tables are those of the trace
 pub record Fits (core : Core) (t : Trace) : Type 0 where

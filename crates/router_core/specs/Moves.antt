@@ -2,11 +2,11 @@
 -- on a connection.
 use Rattle.std.specs.Prelude.{◌≡◌, ◌==◌, ℕ, false, if◌then◌else◌, List, [], ◌∷◌, ◌++◌}
 use Rattle.amqp_frames.specs.declared.item.Item.{Item}
-use Rattle.router_core.specs.declared.state.event.Event.{Event}
-use Rattle.router_core.specs.declared.state.event.Event.TheVariants as event
-use Rattle.router_core.specs.Trace.{Trace, Did, Out, Took}
-use Rattle.router_core.specs.Fits.{refuses}
-use Rattle.router_core.specs.Replies.{answered}
+use Rattle.router_trace.specs.declared.event.Event.{Event}
+use Rattle.router_trace.specs.declared.event.Event.TheVariants as event
+use Rattle.router_trace.specs.Trace.{Trace, Did, Out, Took}
+use Rattle.router_trace.specs.Refusing.{refuses}
+use Rattle.router_reply.specs.Replies.{answered}
 use Rattle.router_core.specs.Runs.{Taking, took_one}
 
 -- the router handles an event, or items are taken of an outbox

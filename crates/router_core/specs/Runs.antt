@@ -1,13 +1,13 @@
 -- A list of events, one after the other, each outbox emptied behind each.
 use Rattle.std.specs.Prelude.{◌≡◌, ◌⊎◌, ℕ, ◌+◌, true, false, List, [], ◌∷◌, ◌++◌, map, take, length, Option, Some, None}
 use Rattle.amqp_frames.specs.declared.item.Item.{Item}
-use Rattle.router_core.specs.declared.state.event.Event.{Event}
-use Rattle.router_core.specs.declared.state.event.ConnectionId.{ConnectionId}
+use Rattle.router_trace.specs.declared.event.Event.{Event}
+use Rattle.router_trace.specs.declared.event.ConnectionId.{ConnectionId}
 use Rattle.router_core.specs.declared.driving.Sent.{Sent}
-use Rattle.router_core.specs.Trace.{Trace, Took}
-use Rattle.router_core.specs.Connection.{Connection, conn, is_ready}
-use Rattle.router_core.specs.Fits.{refuses}
-use Rattle.router_core.specs.Replies.{Replies}
+use Rattle.router_trace.specs.Trace.{Trace, Took}
+use Rattle.router_trace.specs.Connection.{Connection, conn, is_ready}
+use Rattle.router_trace.specs.Refusing.{refuses}
+use Rattle.router_reply.specs.Replies.{Replies}
 
 -- the items that wait in an outbox
 abbrev pub waiting_of : Option Connection → List Item

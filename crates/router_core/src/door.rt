@@ -1,12 +1,11 @@
 //! What stands before the router: headers, before a connection is up.
 ghost use Rattle.std.specs.Prelude.{◌≡◌, ◌∷◌, [], true, false, codes, OnOk, OnErr, IfOk};
-ghost use Rattle.router_core.specs.Frames.{header_item};
+ghost use Rattle.router_trace.specs.Frames.{header_item};
 ghost use Rattle.router_core.specs.Door.{door, verdict_of, passes, ends};
 
-use crate::reply::router_id::header_item;
-use crate::state::PeerRole;
 use amqp_frames::Item;
 use amqp_perf::Text;
+use router_trace::{PeerRole, header_item};
 use std::alloc::{AllocError, Global};
 
 /// What the door makes of an item.

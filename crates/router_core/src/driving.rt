@@ -1,15 +1,15 @@
 //! A list of events, handled one after the other.
 ghost use Rattle.std.specs.Prelude.{◌≡◌, ◌∷◌, ◌++◌, ℕ, List, map, length, false, None, OnOk, IfErr};
-ghost use Rattle.router_core.specs.Trace.{Entry};
-ghost use Rattle.router_core.specs.Connection.{conn as known, is_ready};
+ghost use Rattle.router_trace.specs.Trace.{Entry};
+ghost use Rattle.router_trace.specs.Connection.{conn as known, is_ready};
 ghost use Rattle.router_core.specs.Handling.{Fits, id_of};
 ghost use Rattle.router_core.specs.Runs.{Emptied, Steps, Run, MayStep, as_sent, taking, items_of, took_one};
 ghost use Rattle.router_core.specs.declared.driving.Sent.{Sent as ASent};
 
 use crate::fault::CoreFault;
 use crate::router::Core;
-use crate::state::{ConnectionId, Event};
 use amqp_frames::Item;
+use router_trace::{ConnectionId, Event};
 use std::alloc::Global;
 
 /// So many items are taken at a time.

@@ -1,14 +1,12 @@
 //! What holds of every trace of the router, in the words of the protocol. The functions do nothing: their contracts are the
 //! laws.
-ghost use Rattle.router_core.specs.Laws.{TracesKeepOrder, RunsKeepOrder, PlaysKeepOrder, PlaysBeginWithHeaders};
+ghost use Rattle.router_core.specs.Laws.{TracesKeepOrder, RunsKeepOrder};
 
 /// In every trace of the router each connection is written at most one header, one open and one close, a close never
 /// without an open before it, and nothing behind the close; where the first item that comes is a header, the router's
 /// header is written first, and where nothing comes nothing is (AMQP 1.0 part 2, sections 2.2 and 2.4). Lists of events
-/// and scripts of bytes have such traces. In a script nothing is written before the header, whatever the peers send.
+/// have such traces.
 pub fn connections_keep_order()
     ensures traces { TracesKeepOrder }
     ensures runs { RunsKeepOrder }
-    ensures plays { PlaysKeepOrder }
-    ensures headers { PlaysBeginWithHeaders }
 {}

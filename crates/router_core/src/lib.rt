@@ -1,22 +1,16 @@
 //! The router's core: events in, items out.
 #![tactic(auto)]
 
-pub mod door;
-pub mod driving;
-pub mod fault;
-pub mod laws;
-pub mod play;
-pub mod reply;
-pub mod router;
-pub mod state;
+mod door;
+mod driving;
+mod fault;
+mod laws;
+mod router;
 
 pub use door::{Door, DoorAnswer};
 pub use driving::{Driven, Sent, drive};
 pub use fault::CoreFault;
-pub use play::{Line, Report, Run, Step, play_runs};
+pub use laws::connections_keep_order;
 pub use route_table::Config;
 pub use router::{Batch, Core, Done};
-pub use state::{ConnectionId, Event, Peer, PeerRole};
-
-#[cfg(test)]
-mod tests;
+pub use router_trace::{ConnectionId, Event, Peer, PeerRole};

@@ -1,18 +1,19 @@
 //! The router: one event or one take at a time.
 ghost use Rattle.std.specs.Prelude.{◌≡◌, ◌∷◌, ℕ, List, [], length, true, false, Ok, Err, None, option_map, OnOk, IfOk, IfErr};
-ghost use Rattle.router_core.specs.Trace.{Entry, Took};
-ghost use Rattle.router_core.specs.Connection.{conn as known, is_ready};
-ghost use Rattle.router_core.specs.Fits.{refuses, IsLeast};
-ghost use Rattle.router_core.specs.Replies.{Replies};
+ghost use Rattle.router_trace.specs.Trace.{Entry, Took};
+ghost use Rattle.router_trace.specs.Connection.{conn as known, is_ready};
+ghost use Rattle.router_trace.specs.Refusing.{refuses};
+ghost use Rattle.router_conns.specs.Fits.{IsLeast};
+ghost use Rattle.router_reply.specs.Replies.{Replies};
 ghost use Rattle.router_core.specs.Handling.{Fits, is_failed, id_of, IsBatchOf};
 ghost use Rattle.router_core.specs.declared.fault.CoreFault.TheVariants.{Disk, Memory, Failed, NoConnection};
 
 use crate::fault::CoreFault;
-use crate::reply::RouterId;
-use crate::reply::events::reply;
-use crate::state::{ConnectionId, Event, State};
 use amqp_frames::Item;
 use route_table::Config;
+use router_reply::reply;
+use router_state::State;
+use router_trace::{ConnectionId, Event, RouterId};
 use std::alloc::{AllocError, Global};
 
 /// An event was handled.

@@ -1,7 +1,7 @@
 use Rattle.std.proofs.Common.{◌≡◌, ◌+◌, ◌++◌, List, length}
 use Rattle.std.specs.Vec.Iter.{into_iter_items}
 use Rattle.router_core.specs.declared.driving.Sent.{Sent}
-use Rattle.router_core.specs.Trace.{Entry}
+use Rattle.router_trace.specs.Trace.{Entry}
 use Rattle.router_core.specs.Handling.{Fits, id_of}
 use Rattle.router_core.specs.Runs.{Run}
 use Rattle.router_core.proofs.driving.drive.Given as goal

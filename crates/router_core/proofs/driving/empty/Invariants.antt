@@ -1,5 +1,5 @@
 use Rattle.std.proofs.Common.{◌≡◌, ◌++◌, List}
-use Rattle.router_core.specs.Trace.{Entry}
+use Rattle.router_trace.specs.Trace.{Entry}
 use Rattle.router_core.specs.Handling.{Fits, id_of}
 use Rattle.router_core.specs.Runs.{Taking, took_all, sent}
 use Rattle.router_core.proofs.driving.empty.Given as goal

@@ -1,6 +1,5 @@
-use Rattle.router_core.proofs.Moves.{run_is_trace, play_is_trace}
+use Rattle.router_core.proofs.Moves.{run_is_trace}
 use Rattle.router_core.proofs.Headed.{trace_keeps_order}
-use Rattle.router_core.proofs.AtDoor.{header_opens}
 use Rattle.router_core.proofs.laws.connections_keep_order.Goals as goal
 
 pub returns-clause-traces : goal.returns-clause-traces
@@ -8,9 +7,3 @@ returns-clause-traces c = trace_keeps_order
 
 pub returns-clause-runs : goal.returns-clause-runs
 returns-clause-runs c = λ id events xs u run. trace_keeps_order id u (run_is_trace id events xs u run)
-
-pub returns-clause-plays : goal.returns-clause-plays
-returns-clause-plays c = λ id steps u plays. trace_keeps_order id u.trace (play_is_trace id steps u plays)
-
-pub returns-clause-headers : goal.returns-clause-headers
-returns-clause-headers c = header_opens

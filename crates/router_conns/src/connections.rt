@@ -1,0 +1,329 @@
+//! The table of connections, with their outboxes.
+ghost use Rattle.std.specs.Prelude.{◌≡◌, ◌==◌, ◌∷◌, ◌++◌, ℕ, List, [], Some, None, length, nat_eq, nat_lt, true, false, not, filter, option_map, option_and_then, OnOk, IfOk, if◌then◌else◌};
+ghost use Rattle.std.specs.Ordering.{nat_cmp};
+ghost use Rattle.std.specs.BTreeMap.{get};
+ghost use Rattle.router_trace.specs.Trace.{Entry, Out, Took, did, newest};
+ghost use Rattle.router_trace.specs.Connection.{conn as known, took, standing, is_live, is_full, is_ready, with_item, is_due, has, ended, unless_due, due};
+ghost use Rattle.router_conns.specs.Fits.{IsBatch, count, ConnectionsFit, ConnectionsAt};
+ghost use Rattle.router_trace.specs.Refusing.{refuses, rises, is_loss};
+ghost use Rattle.router_trace.specs.declared.event.Event.TheVariants as event;
+
+use crate::row::{CONNECTIONS, Row, Taken};
+use amqp_conn::Conn;
+use amqp_frames::Item;
+use router_trace::{ConnectionId, Event, Peer};
+use std::alloc::{AllocError, Global};
+use std::collections::BTreeMap;
+
+/// The table of connections: those that are live, and those that are over while items of theirs wait.
+#[derive(Debug, Drop)]
+pub struct Connections {
+    alloc: Global,
+    rows: BTreeMap<u64, Row>,
+    // the live ones, by number
+    live: Vec<u64>,
+    // the last that came up
+    newest: Option<u64>,
+    // true only where no live one's outbox is full
+    roomy: bool,
+}
+
+impl Connections {
+    /// No connections.
+    pub fn new(alloc: Global) -> Connections
+        ensures { ConnectionsFit result [] }
+    {
+        Connections {
+            alloc,
+            rows: BTreeMap::new(alloc),
+            live: Vec::new(alloc),
+            newest: None,
+            roomy: true,
+        }
+    }
+
+    /// Whether an event is refused.
+    pub fn refuses(&self, event: &Event) -> bool
+        ensures { (t : List Entry) → ConnectionsFit self.now t → result ≡ refuses t event.now }
+    {
+        match event {
+            Event::Up(conn, _) => match self.newest {
+                None => false,
+                Some(newest) => conn.0 <= newest,
+            },
+            Event::Item(conn, _) => self.standing(conn.0).is_none(),
+            Event::Down(conn) => self.standing(conn.0).is_none(),
+            Event::Tick(_) => false,
+            Event::Start => false,
+        }
+    }
+
+    /// The phase of a live connection.
+    pub fn standing(&self, conn: u64) -> Option<Conn>
+        ensures { result ≡ standing (get nat_cmp self.now.rows conn) }
+    {
+        match self.rows.get(&conn) {
+            None => None,
+            Some(row) => row.standing(),
+        }
+    }
+
+    /// The phase of a connection, whether live or over.
+    pub fn phase(&self, conn: u64) -> Option<Conn>
+        ensures { result ≡ option_map (λ v. v.phase) (get nat_cmp self.now.rows conn) }
+    {
+        match self.rows.get(&conn) {
+            None => None,
+            Some(row) => Some(row.phase()),
+        }
+    }
+
+    /// Whether something can be taken of a connection.
+    pub fn is_ready(&self, conn: u64) -> bool
+        ensures { result ≡ is_ready (get nat_cmp self.now.rows conn) }
+    {
+        match self.rows.get(&conn) {
+            None => false,
+            Some(row) => row.is_ready(),
+        }
+    }
+
+    /// Whether an event ends a connection for its full outbox.
+    fn is_due(&self, event: &Event, conn: u64) -> bool
+        ensures { result ≡ is_due event.now conn (get nat_cmp self.now.rows conn) }
+    {
+        match event {
+            Event::Down(lost) => lost.0 != conn && self.is_full(conn),
+            _ => self.is_full(conn),
+        }
+    }
+
+    /// Whether a connection is live and its outbox full.
+    fn is_full(&self, conn: u64) -> bool
+        ensures { result ≡ is_full (get nat_cmp self.now.rows conn) }
+    {
+        match self.rows.get(&conn) {
+            None => false,
+            Some(row) => row.is_full(),
+        }
+    }
+
+    /// The live connections that an event ends for their full outboxes.
+    fn gather(&self, event: &Event) -> Result<Vec<u64>, AllocError>
+        ensures { IfOk result (λ gathered. gathered.items ≡ filter (λ k. is_due event.now k (get nat_cmp self.now.rows k)) self.now.live.items) }
+    {
+        let mut gathered = Vec::new(self.alloc);
+        for conn in &self.live {
+            if self.is_due(event, *conn) {
+                match gathered.push(*conn) {
+                    Ok(()) => {}
+                    Err(_) => return Err(AllocError),
+                }
+            }
+        }
+        Ok(gathered)
+    }
+
+    /// Marks a connection as over.
+    fn end(&mut self, conn: u64)
+        ensures rows { (c : ℕ) → get nat_cmp self.new.rows c ≡ (if conn == c then option_map ended (get nat_cmp self.old.rows c) else get nat_cmp self.old.rows c) }
+        ensures live { self.new.live ≡ self.old.live }
+        ensures newest { self.new.newest ≡ self.old.newest }
+        ensures roomy { self.new.roomy ≡ self.old.roomy }
+    {
+        if let Some(row) = self.rows.get_mut(&conn) {
+            row.end();
+        }
+    }
+
+    /// Marks these connections as over.
+    fn end_all(&mut self, ends: &[u64])
+        ensures rows { (c : ℕ) → get nat_cmp self.new.rows c ≡ unless_due ends.now (get nat_cmp self.old.rows) c }
+        ensures live { self.new.live.items ≡ filter (λ k. not (has k ends.now)) self.old.live.items }
+        ensures last { self.new.newest ≡ self.old.newest }
+        ensures roomy { self.new.roomy ≡ self.old.roomy }
+    {
+        for conn in ends {
+            self.end(*conn);
+        }
+        leave_all(&mut self.live, ends);
+    }
+
+    /// Ends the connections that an event ends for their full outboxes, and gives them by number. Their closes are the
+    /// caller's to put. Where memory is refused nothing can be said of the table.
+    pub fn turn(&mut self, event: &Event) -> Result<Vec<u64>, AllocError>
+        ensures at { OnOk result ((t : List Entry) → ConnectionsFit self.old t → ConnectionsAt self.new t event.now) }
+        ensures due { IfOk result (λ ends. (t : List Entry) → ConnectionsFit self.old t → ends.items ≡ due t event.now) }
+    {
+        if self.roomy {
+            return Ok(Vec::new(self.alloc));
+        }
+        let ends = self.gather(event)?;
+        self.end_all(&ends);
+        self.roomy = !is_loss(event);
+        Ok(ends)
+    }
+
+    /// A connection comes up. Where memory is refused nothing can be said of the table.
+    pub fn up(&mut self, conn: ConnectionId, peer: &Peer) -> Result<(), AllocError>
+        ensures { OnOk result ((t : List Entry) → ConnectionsAt self.old t (event.Up conn peer.now) → rises conn.0 (newest t) ≡ true → ConnectionsFit self.new (did (event.Up conn peer.now) ∷ t)) }
+    {
+        let live = self.live.len();
+        let row = Row::new(self.alloc, live);
+        add_row(&mut self.rows, conn.0, row)?;
+        join(&mut self.live, conn.0)?;
+        self.newest = Some(conn.0);
+        Ok(())
+    }
+
+    /// A connection is lost.
+    pub fn down(&mut self, conn: ConnectionId)
+        ensures { (t : List Entry) → ConnectionsAt self.old t (event.Down conn) → ConnectionsFit self.new (did (event.Down conn) ∷ t) }
+    {
+        remove_row(&mut self.rows, conn.0);
+        leave(&mut self.live, conn.0);
+    }
+
+    /// Notes that a connection is over, or that its outbox is full.
+    fn note(&mut self, conn: u64, over: bool, full: bool)
+        ensures rows { self.new.rows ≡ self.old.rows }
+        ensures live { self.new.live.items ≡ (if over then filter (λ k. not (nat_eq conn k)) self.old.live.items else self.old.live.items) }
+        ensures last { self.new.newest ≡ self.old.newest }
+        ensures roomy { self.new.roomy ≡ (if full then false else self.old.roomy) }
+    {
+        if full {
+            self.roomy = false;
+        }
+        if over {
+            leave(&mut self.live, conn);
+        }
+    }
+
+    /// Takes up to `most` items out of an outbox; none where nothing is known of the connection. Where memory is refused
+    /// nothing can be said of the table.
+    pub fn take(&mut self, conn: u64, most: usize) -> Result<Option<Taken>, AllocError>
+        ensures batched { IfOk result (λ taken. (t : List Entry) → ConnectionsFit self.old t → IsBatch most (known t conn) taken) }
+        ensures fits { IfOk result (λ taken. (t : List Entry) → ConnectionsFit self.old t → ConnectionsFit self.new (Took conn (count taken) ∷ t)) }
+    {
+        take_from(self.alloc, &mut self.rows, conn, most)
+    }
+
+    /// Puts an item in an outbox. Where memory is refused nothing can be said of the table.
+    pub fn put(&mut self, conn: u64, item: Item) -> Result<(), AllocError>
+        ensures { OnOk result ((t : List Entry) → ConnectionsFit self.old t → ConnectionsFit self.new (Out conn item ∷ t)) }
+    {
+        let fill = put_in(&mut self.rows, conn, item)?;
+        self.note(conn, fill.over, fill.full);
+        Ok(())
+    }
+}
+
+/// Takes items out of the outbox of a row, where there is one; the row goes with its last where it is over.
+fn take_from(
+    alloc: Global,
+    rows: &mut BTreeMap<u64, Row>,
+    conn: u64,
+    most: usize,
+) -> Result<Option<Taken>, AllocError>
+    ensures batched { IfOk result (λ taken. IsBatch most (get nat_cmp rows.old conn) taken) }
+    ensures rows { IfOk result (λ taken. (c : ℕ) → get nat_cmp rows.new c ≡ (if conn == c then option_and_then (took (count taken)) (get nat_cmp rows.old c) else get nat_cmp rows.old c)) }
+{
+    let taken = match rows.get_mut(&conn) {
+        None => return Ok(None),
+        Some(row) => row.take(alloc, most)?,
+    };
+    if taken.ended {
+        remove_row(rows, conn);
+    }
+    Ok(Some(taken))
+}
+
+/// How a connection stands when an item was put in its outbox.
+#[derive(Clone, Copy)]
+struct Fill {
+    // it isn't live
+    over: bool,
+    // it is, and its outbox is full
+    full: bool,
+}
+
+/// Puts an item in the outbox of a row, where there is one.
+fn put_in(rows: &mut BTreeMap<u64, Row>, conn: u64, item: Item) -> Result<Fill, AllocError>
+    ensures rows { OnOk result ((c : ℕ) → get nat_cmp rows.new c ≡ (if conn == c then option_map (with_item item) (get nat_cmp rows.old c) else get nat_cmp rows.old c)) }
+    ensures over { IfOk result (λ fill. fill.over ≡ not (is_live (option_map (with_item item) (get nat_cmp rows.old conn)))) }
+    ensures full { IfOk result (λ fill. fill.full ≡ is_full (option_map (with_item item) (get nat_cmp rows.old conn))) }
+{
+    match rows.get_mut(&conn) {
+        None => {
+            discard(item);
+            Ok(Fill {
+                over: true,
+                full: false,
+            })
+        }
+        Some(row) => {
+            row.put(item)?;
+            Ok(Fill {
+                over: row.standing().is_none(),
+                full: row.is_full(),
+            })
+        }
+    }
+}
+
+/// Adds a row.
+fn add_row(rows: &mut BTreeMap<u64, Row>, conn: u64, row: Row) -> Result<(), AllocError>
+    ensures { OnOk result ((c : ℕ) → get nat_cmp rows.new c ≡ (if conn == c then Some row else get nat_cmp rows.old c)) }
+{
+    match rows.insert(conn, row) {
+        Ok(_) => Ok(()),
+        Err(_) => Err(AllocError),
+    }
+}
+
+/// Removes a row.
+fn remove_row(rows: &mut BTreeMap<u64, Row>, conn: u64)
+    ensures { (c : ℕ) → get nat_cmp rows.new c ≡ (if conn == c then None else get nat_cmp rows.old c) }
+{
+    let _ = rows.remove(&conn);
+}
+
+/// Puts a number at the end of a list, which takes 64.
+fn join(live: &mut Vec<u64>, conn: u64) -> Result<(), AllocError>
+    ensures { OnOk result (live.new.items ≡ (if nat_lt (length live.old.items) 64 then live.old.items ++ conn ∷ [] else live.old.items)) }
+{
+    if live.len() >= CONNECTIONS {
+        return Ok(());
+    }
+    match live.push(conn) {
+        Ok(()) => Ok(()),
+        Err(_) => Err(AllocError),
+    }
+}
+
+/// Takes a number out of a list.
+fn leave(live: &mut Vec<u64>, conn: u64)
+    ensures { live.new.items ≡ filter (λ k. not (nat_eq conn k)) live.old.items }
+{
+    live.retain(|live| conn != *live);
+}
+
+/// Takes these numbers out of a list.
+fn leave_all(live: &mut Vec<u64>, ends: &[u64])
+    ensures { live.new.items ≡ filter (λ k. not (has k ends.now)) live.old.items }
+{
+    live.retain(|live| !ends.contains(live));
+}
+
+/// Lets go of an item.
+fn discard(_item: Item) {}
+
+/// Whether an event tells of a lost connection.
+fn is_loss(event: &Event) -> bool
+    ensures { result ≡ is_loss event.now }
+{
+    match event {
+        Event::Down(_) => true,
+        _ => false,
+    }
+}

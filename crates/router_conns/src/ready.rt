@@ -1,0 +1,46 @@
+//! The connections of which something can be taken.
+ghost use Rattle.std.specs.Prelude.{◌≡◌, ◌==◌, ℕ, Bool, false, true, OnOk, if◌then◌else◌};
+ghost use Rattle.std.specs.Ordering.{nat_cmp};
+ghost use Rattle.std.specs.BTreeSet.{contains};
+ghost use Rattle.router_conns.specs.Fits.{IsLeast};
+
+use std::alloc::{AllocError, Global};
+use std::collections::BTreeSet;
+
+/// The numbers of the connections of which something can be taken.
+#[derive(Debug, Drop)]
+pub struct Ready {
+    set: BTreeSet<u64>,
+}
+
+impl Ready {
+    /// None.
+    pub fn new(alloc: Global) -> Ready
+        ensures { (c : ℕ) → contains nat_cmp result.set c ≡ false }
+    {
+        Ready {
+            set: BTreeSet::new(alloc),
+        }
+    }
+
+    /// Notes whether something can be taken of a connection.
+    pub fn note(&mut self, conn: u64, ready: bool) -> Result<(), AllocError>
+        ensures { OnOk result ((c : ℕ) → contains nat_cmp self.new.set c ≡ (if conn == c then ready else contains nat_cmp self.old.set c)) }
+    {
+        if ready {
+            return match self.set.insert(conn) {
+                Ok(_) => Ok(()),
+                Err(_) => Err(AllocError),
+            };
+        }
+        let _ = self.set.remove(&conn);
+        Ok(())
+    }
+
+    /// The lowest of them.
+    pub fn first(&self) -> Option<u64>
+        ensures { IsLeast (contains nat_cmp self.now.set) result }
+    {
+        self.set.first().copied()
+    }
+}

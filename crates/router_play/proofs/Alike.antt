@@ -1,0 +1,95 @@
+-- What isn't live stays so, until it comes up.
+use Rattle.std.proofs.Common.{◌≡◌, ◌∙◌, sym, ap, refl, subst, true≢false, ℕ, Bool, true, false, not, ◌&&◌, ◌<◌, List, [], ◌∷◌, ◌++◌, inl, inr, arith}
+use Rattle.std.specs.Prelude.{◌==◌, ◌⊎◌, nat_lt, map, length, Option, Some, None, option_map, option_and_then, if◌then◌else◌}
+use Rattle.std.proofs.lemmas.Bool.{eqb-true, eq-eqb, ltb-true, lt-ltb}
+use Rattle.amqp_frames.specs.declared.item.Item.{Item}
+use Rattle.router_trace.specs.declared.event.Event.{Event}
+use Rattle.router_trace.specs.declared.event.Event.TheVariants as event
+use Rattle.router_trace.specs.declared.condition.Condition.TheVariants.{ResourceLimitExceeded}
+use Rattle.router_trace.specs.Trace.{Entry, Out, did, puts, ups}
+use Rattle.router_trace.specs.Connection.{Connection, conn, behind, with_item, took, unless_empty, drained, standing, is_live, has, due, found, live_of, at_event}
+use Rattle.router_reply.specs.Replies.{closing_of, ends as ends_of, answer, heard, answered}
+use Rattle.router_core.specs.Moves.{ins, with_came}
+use Rattle.router_conns.proofs.Lists.{by_test}
+use Rattle.router_conns.proofs.Turns.{over_lives, stays}
+
+-- what isn't live stays so, until it comes up
+
+-- the same items came on a connection, and it isn't live where it wasn't
+pub record Alike (t u : List Entry) (c : ℕ) : Type 0 where
+  pub came : ins u c ≡ ins t c
+  pub over : is_live (conn t c) ≡ false → is_live (conn u c) ≡ false
+
+pub alike_same : (t u : List Entry) (c : ℕ) → u ≡ t → Alike t u c
+alike_same t u c e = record {
+  came = ap (λ (w : List Entry). ins w c) e;
+  over = λ h. ap (λ (w : List Entry). is_live (conn w c)) e ∙ h;
+}
+
+pub alike_on : (t u v : List Entry) (c : ℕ) → Alike t u c → Alike u v c → Alike t v c
+alike_on t u v c first rest = record {
+  came = rest.came ∙ first.came;
+  over = λ h. rest.over (first.over h);
+}
+
+over_item : (i : Item) (v : Option Connection) → is_live v ≡ false → is_live (option_map (with_item i) v) ≡ false
+over_item i None h = refl
+over_item i (Some v) h =
+    by_test (behind i v.phase).closed (λ e. rw e refl) (λ e. let was : v.phase.closed ≡ false = stays i v.phase e in absurd (true≢false (rw was at h)))
+
+over_put : (b : Bool) (i : Item) (v : Option Connection) → is_live v ≡ false → is_live (if b then option_map (with_item i) v else v) ≡ false
+over_put true i v h = over_item i v h
+over_put false i v h = h
+
+over_puts : (is : List Item) (t : List Entry) (d c : ℕ) → is_live (conn t c) ≡ false → is_live (conn (puts d is t) c) ≡ false
+over_puts [] t d c h = h
+over_puts (i ∷ is) t d c h = over_puts is (Out d i ∷ t) d c (over_put (d == c) i (conn t c) h)
+
+over_ends : (id : List ℕ) (cs : List ℕ) (t : List Entry) (c : ℕ) → is_live (conn t c) ≡ false → is_live (conn (ends_of id cs t) c) ≡ false
+over_ends id [] t c h = h
+over_ends id (d ∷ ds) t c h =
+    let items : List Item = closing_of id (conn t d) ResourceLimitExceeded
+    in over_ends id ds (puts d items t) c (over_puts items t d c h)
+
+over_gone : (b : Bool) (v : Connection) (rest : List Item) → is_live (Some v) ≡ false → is_live (if b then unless_empty v rest else Some v) ≡ false
+over_gone true v [] h = refl
+over_gone true v (i ∷ is) h = h
+over_gone false v rest h = h
+
+pub over_took : (n : ℕ) (v : Option Connection) → is_live v ≡ false → is_live (option_and_then (took n) v) ≡ false
+over_took n None h = refl
+over_took n (Some v) h = over_gone v.phase.closed (drained n v) (drained n v).waiting h
+
+-- an event about a connection: that it came up, or an item of it
+abbrev pub is_about : Event → ℕ → Bool
+is_about (event.Up d p) c = d.0 == c
+is_about (event.Item d i) c = d.0 == c
+is_about _ c = false
+
+over_event : (e : Event) (c n : ℕ) (v : Option Connection) → is_about e c ≡ false → is_live v ≡ false → is_live (at_event e c n v) ≡ false
+over_event (event.Up d p) c n v other h = rw other h
+over_event (event.Item d i) c n v other h = h
+over_event (event.Down d) c n v other h = by_test (d.0 == c) (λ e. rw e refl) (λ e. rw e h)
+over_event (event.Tick ms) c n v other h = h
+over_event event.Start c n v other h = h
+
+over_did : (t : List Entry) (e : Event) (c : ℕ) → is_about e c ≡ false → is_live (conn t c) ≡ false → is_live (conn (did e ∷ t) c) ≡ false
+over_did t e c other h =
+    over_event e c (length (live_of (ups t) (found t e))) (found t e c) other
+    (over_lives (has c (due t e)) (conn t c) ∙ ap (λ (b : Bool). b && not (has c (due t e))) h)
+
+pub over_answered : (id : List ℕ) (t : List Entry) (e : Event) (c : ℕ) → is_about e c ≡ false → is_live (conn t c) ≡ false → is_live (conn (answered id t e) c) ≡ false
+over_answered id t (event.Item d i) c other h =
+    over_puts (answer id (standing (found t (event.Item d i) d.0)) i) (heard id t (event.Item d i)) d.0 c
+    (over_ends id (due t (event.Item d i)) (did (event.Item d i) ∷ t) c (over_did t (event.Item d i) c other h))
+over_answered id t (event.Down d) c other h = over_ends id (due t (event.Down d)) (did (event.Down d) ∷ t) c (over_did t (event.Down d) c other h)
+over_answered id t (event.Up d p) c other h = over_ends id (due t (event.Up d p)) (did (event.Up d p) ∷ t) c (over_did t (event.Up d p) c other h)
+over_answered id t (event.Tick ms) c other h = over_ends id (due t (event.Tick ms)) (did (event.Tick ms) ∷ t) c (over_did t (event.Tick ms) c other h)
+over_answered id t event.Start c other h = over_ends id (due t event.Start) (did event.Start ∷ t) c (over_did t event.Start c other h)
+
+pub came_other : (e : Event) (c : ℕ) (is : List Item) → is_about e c ≡ false → with_came e c is ≡ is
+came_other (event.Item d i) c is other = rw other refl
+came_other (event.Up d p) c is other = refl
+came_other (event.Down d) c is other = refl
+came_other (event.Tick ms) c is other = refl
+came_other event.Start c is other = refl

@@ -1,0 +1,141 @@
+-- What the answer of a door makes of a script's scene.
+use Rattle.std.proofs.Common.{◌≡◌, ◌∙◌, sym, ap, refl, subst, ℕ, Bool, true, false}
+use Rattle.std.specs.Prelude.{◌==◌, map, Option, Some, None, if◌then◌else◌}
+use Rattle.std.proofs.lemmas.Bool.{eqb-true}
+use Rattle.std.specs.Ordering.{nat_cmp}
+use Rattle.std.specs.BTreeMap.{get}
+use Rattle.amqp_frames.specs.declared.item.Item.{Item}
+use Rattle.router_trace.specs.declared.event.ConnectionId.{ConnectionId}
+use Rattle.router_trace.specs.declared.event.Peer.{Peer}
+use Rattle.router_trace.specs.declared.event.Event.TheVariants as event
+use Rattle.router_core.specs.declared.door.Door.{Door as DoorState}
+use Rattle.router_play.specs.declared.line.Line.TheVariants as line
+use Rattle.router_play.specs.declared.socket.Socket.{Socket}
+use Rattle.router_play.specs.declared.socket.Asked.{Asked}
+use Rattle.router_play.specs.declared.socket.Asked.TheVariants as asked
+use Rattle.router_play.specs.declared.player.Player.{Player}
+use Rattle.router_core.specs.Door.{Verdict, says, passes, ends, door}
+use Rattle.router_play.specs.Script.{Scene, with_socket, say_all, say, out_line, hand, enter, enter_by, enter_at, judged_by}
+use Rattle.router_play.specs.Asking.{IsAskedAt, IsVerdict, AsksAt, behind, follow}
+use Rattle.router_core.specs.declared.router.Core.{Core}
+use Rattle.router_trace.specs.Trace.{Trace}
+use Rattle.router_core.specs.Handling.{Fits, id_of}
+use Rattle.router_play.specs.Playing.{Follows}
+use Rattle.router_conns.proofs.Lists.{by_test}
+
+-- a scene that has this table of connections, and from which the answer leads to another
+record Asks (c : ConnectionId) (i : Item) (new : ℕ → Option Socket) (a : Asked) (s goal : Scene) : Type 0 where
+  pub after : Scene
+  pub id : after.id ≡ s.id
+  pub trace : after.trace ≡ s.trace
+  pub last : after.last ≡ s.last
+  pub lines : after.lines ≡ s.lines
+  pub sockets : (n : ℕ) → new n ≡ after.sockets n
+  pub leads : follow c i a after ≡ goal
+
+changed : (c : ℕ) (old new : ℕ → Option Socket) (f : ℕ → Option Socket) (k l : Option Socket) → ((n : ℕ) → old n ≡ f n)
+    → ((n : ℕ) → new n ≡ (if c == n then k else old n)) → k ≡ l → (n : ℕ) → new n ≡ (if c == n then l else f n)
+changed c old new f k l same up e n = up n ∙ two (c == n) k l (old n) (f n) e (same n)
+  where
+    two : (b : Bool) (x y v w : Option Socket) → x ≡ y → v ≡ w → (if b then x else v) ≡ (if b then y else w)
+    two true x y v w e f = e
+    two false x y v w e f = f
+
+judged : (c : ConnectionId) (i : Item) (old new : ℕ → Option Socket) (a : Asked) (s : Scene) (k after : Socket) (d : DoorState) (v : Verdict)
+    → ((n : ℕ) → old n ≡ s.sockets n) → IsVerdict k d v after a → ((n : ℕ) → new n ≡ (if c.0 == n then behind a after else old n))
+    → Asks c i new a s (judged_by c i k d s v)
+judged c i old new (asked.Say ys) s k after d (says items) same is up = record {
+  after = with_socket c (Some (record { door = Some (record d { done = true }); reader = k.reader })) s;
+  id = refl;
+  trace = refl;
+  last = refl;
+  lines = refl;
+  sockets = changed c.0 old new s.sockets (Some after) _ same up (ap Some is.1);
+  leads = ap (λ zs. say_all (map (out_line c) zs) (with_socket c (Some (record { door = Some (record d { done = true }); reader = k.reader })) s)) is.0;
+}
+judged c i old new (asked.Pass peer) s k after d (passes user) same is up = record {
+  after = with_socket c (Some (record { door = None; reader = k.reader })) s;
+  id = refl;
+  trace = refl;
+  last = refl;
+  lines = refl;
+  sockets = changed c.0 old new s.sockets (Some after) _ same up (ap Some is.1);
+  leads = ap (λ (q : Peer). hand (event.Item c i) (hand (event.Up c q) (with_socket c (Some (record { door = None; reader = k.reader })) s))) is.0;
+}
+judged c i old new (asked.End ys) s k after d (ends items) same is up = record {
+  after = with_socket c None s;
+  id = refl;
+  trace = refl;
+  last = refl;
+  lines = refl;
+  sockets = changed c.0 old new s.sockets None None same up refl;
+  leads = ap (λ zs. say (line.End c) (say_all (map (out_line c) zs) (with_socket c None s))) is;
+}
+judged c i old new asked.Nobody s k after d (says items) same is up = absurd is
+judged c i old new asked.Nobody s k after d (passes user) same is up = absurd is
+judged c i old new asked.Nobody s k after d (ends items) same is up = absurd is
+judged c i old new asked.Router s k after d (says items) same is up = absurd is
+judged c i old new asked.Router s k after d (passes user) same is up = absurd is
+judged c i old new asked.Router s k after d (ends items) same is up = absurd is
+judged c i old new (asked.Say ys) s k after d (passes user) same is up = absurd is
+judged c i old new (asked.Say ys) s k after d (ends items) same is up = absurd is
+judged c i old new (asked.Pass peer) s k after d (says items) same is up = absurd is
+judged c i old new (asked.Pass peer) s k after d (ends items) same is up = absurd is
+judged c i old new (asked.End ys) s k after d (says items) same is up = absurd is
+judged c i old new (asked.End ys) s k after d (passes user) same is up = absurd is
+
+asked_at : (c : ConnectionId) (i : Item) (old new : ℕ → Option Socket) (a : Asked) (s : Scene) (k after : Socket) (d : Option DoorState)
+    → s.sockets c.0 ≡ Some k → ((n : ℕ) → old n ≡ s.sockets n) → IsAskedAt i k d after a → ((n : ℕ) → new n ≡ (if c.0 == n then behind a after else old n))
+    → Asks c i new a s (enter_at c i k s d)
+asked_at c i old new a s k after (Some d) here same is up = judged c i old new a s k after d (door d.done i) same is up
+asked_at c i old new asked.Router s k after None here same is up = record {
+  after = s;
+  id = refl;
+  trace = refl;
+  last = refl;
+  lines = refl;
+  sockets = λ n. changed c.0 old new s.sockets (Some after) (Some k) same up (ap Some is) n ∙ unchanged c.0 s.sockets k here n;
+  leads = refl;
+}
+  where
+    unchanged : (c : ℕ) (f : ℕ → Option Socket) (k : Socket) → f c ≡ Some k → (n : ℕ) → (if c == n then Some k else f n) ≡ f n
+    unchanged c f k e n = by_test (c == n) (λ h. rw h (sym e ∙ ap f (eqb-true c n h))) (λ h. rw h refl)
+asked_at c i old new asked.Nobody s k after None here same is up = absurd is
+asked_at c i old new (asked.Say ys) s k after None here same is up = absurd is
+asked_at c i old new (asked.Pass peer) s k after None here same is up = absurd is
+asked_at c i old new (asked.End ys) s k after None here same is up = absurd is
+
+asked_by : (c : ConnectionId) (i : Item) (old new : ℕ → Option Socket) (a : Asked) (s : Scene) (o : Option Socket)
+    → s.sockets c.0 ≡ o → ((n : ℕ) → old n ≡ s.sockets n) → AsksAt c.0 i old o new a → Asks c i new a s (enter_by c i s o)
+asked_by c i old new a s (Some k) here same asks = asked_at c i old new a s k asks.0 k.door here same asks.1 asks.2
+asked_by c i old new a s None here same asks = record {
+  after = s;
+  id = refl;
+  trace = refl;
+  last = refl;
+  lines = refl;
+  sockets = λ n. asks.1 n ∙ same n;
+  leads = ap (λ (b : Asked). follow c i b s) asks.0;
+}
+
+-- what a player asked follows a scene from which the answer leads where the item enters
+pub asked_scene : (p q : Player) (c : ConnectionId) (i : Item) (a : Asked) (s : Scene)
+    → AsksAt c.0 i (get nat_cmp p.sockets) (get nat_cmp p.sockets c.0) (get nat_cmp q.sockets) a
+    → q.core ≡ p.core → q.newest ≡ p.newest → q.lines.items ≡ p.lines.items → Follows p s
+    → (after : Scene) × Follows q after × (follow c i a after ≡ enter c i s)
+asked_scene p q c i a s asks core newest lines follows =
+    let found : AsksAt c.0 i (get nat_cmp p.sockets) (s.sockets c.0) (get nat_cmp q.sockets) a
+    = subst (λ (o : Option Socket). AsksAt c.0 i (get nat_cmp p.sockets) o (get nat_cmp q.sockets) a) (follows.sockets c.0) asks
+    in let w : Asks c i (get nat_cmp q.sockets) a s (enter_by c i s (s.sockets c.0))
+    = asked_by c i (get nat_cmp p.sockets) (get nat_cmp q.sockets) a s (s.sockets c.0) refl follows.sockets found
+    in (
+      w.after,
+      record {
+        core = subst (λ (k : Core). Fits k w.after.trace) (sym core) (subst (λ (t : Trace). Fits p.core t) (sym w.trace) follows.core);
+        named = ap id_of core ∙ follows.named ∙ sym w.id;
+        last = newest ∙ follows.last ∙ sym w.last;
+        sockets = w.sockets;
+        lines = lines ∙ follows.lines ∙ sym w.lines;
+      },
+      w.leads,
+    )

@@ -1,0 +1,270 @@
+-- What was put out for a connection and what waits in its outbox grow alike.
+use Rattle.std.proofs.Common.{◌≡◌, ◌∙◌, sym, ap, refl, subst, true≢false, ℕ, zero, suc, Bool, true, false, ◌||◌, List, [], ◌∷◌, ◌++◌, append_assoc, append-nil, length, drop}
+use Rattle.std.specs.Prelude.{◌==◌, Option, Some, None, is_some, option_map, option_and_then, if◌then◌else◌}
+use Rattle.std.proofs.lemmas.Bool.{eqb-true, eq-eqb}
+use Rattle.amqp_frames.specs.declared.item.Item.{Item}
+use Rattle.router_trace.specs.declared.condition.Condition.{Condition}
+use Rattle.router_trace.specs.declared.condition.Condition.TheVariants.{ResourceLimitExceeded}
+use Rattle.router_trace.specs.declared.event.ConnectionId.{ConnectionId}
+use Rattle.router_trace.specs.declared.event.Peer.{Peer}
+use Rattle.router_trace.specs.declared.event.Event.{Event}
+use Rattle.router_trace.specs.declared.event.Event.TheVariants as event
+use Rattle.router_trace.specs.Trace.{Entry, Out, did, puts, ups}
+use Rattle.router_trace.specs.Connection.{Connection, conn, with_item, ended, took, drained, unless_empty, standing, is_live, is_item, is_ready, has, due, found, live_of, at_event}
+use Rattle.router_reply.specs.Replies.{closing_of, ends, heard, answer, answered}
+use Rattle.router_core.specs.Runs.{waiting_of}
+use Rattle.router_core.specs.Moves.{outs}
+use Rattle.router_play.specs.Carrying.{is_loss_of, was_lost}
+use Rattle.router_conns.proofs.Lists.{by_test}
+use Rattle.router_conns.proofs.Turns.{stays}
+
+-- the same items were put out for a connection and wait there
+pub record Level (t u : List Entry) (c : ℕ) : Type 0 where
+  pub added : List Item
+  pub written : outs u c ≡ outs t c ++ added
+  pub waits : waiting_of (conn u c) ≡ waiting_of (conn t c) ++ added
+
+-- and it is known and lives as before, or no more
+pub record Even (t u : List Entry) (c : ℕ) : Type 0 where
+  pub level : Level t u c
+  pub known : is_some (conn u c) ≡ is_some (conn t c)
+  pub lives : is_live (conn u c) ≡ true → is_live (conn t c) ≡ true
+
+pub level_trans : (t u w : List Entry) (c : ℕ) → Level t u c → Level u w c → Level t w c
+level_trans t u w c h k = record {
+  added = h.added ++ k.added;
+  written = k.written ∙ ap (λ xs. xs ++ k.added) h.written ∙ append_assoc (outs t c) h.added k.added;
+  waits = k.waits ∙ ap (λ xs. xs ++ k.added) h.waits ∙ append_assoc (waiting_of (conn t c)) h.added k.added;
+}
+
+pub even_refl : (t : List Entry) (c : ℕ) → Even t t c
+even_refl t c = record {
+  level = record { added = []; written = sym (append-nil (outs t c)); waits = sym (append-nil (waiting_of (conn t c))) };
+  known = refl;
+  lives = λ h. h;
+}
+
+pub even_trans : (t u w : List Entry) (c : ℕ) → Even t u c → Even u w c → Even t w c
+even_trans t u w c h k = record {
+  level = level_trans t u w c h.level k.level;
+  known = k.known ∙ h.known;
+  lives = λ l. h.lives (k.lives l);
+}
+
+-- an item more
+
+with_lives : (i : Item) (o : Option Connection) → is_live (option_map (with_item i) o) ≡ true → is_live o ≡ true
+with_lives i None h = h
+with_lives i (Some v) h = open_live v (stays i v.phase (live_open (with_item i v) h))
+  where
+    live_open : (v : Connection) → is_live (Some v) ≡ true → v.phase.closed ≡ false
+    live_open v h = by_test v.phase.closed (λ e. absurd (true≢false (sym (rw e at h)))) (λ e. e)
+
+    open_live : (v : Connection) → v.phase.closed ≡ false → is_live (Some v) ≡ true
+    open_live v h = rw h refl
+
+with_known : (i : Item) (o : Option Connection) → is_some (option_map (with_item i) o) ≡ is_some o
+with_known i None = refl
+with_known i (Some v) = refl
+
+with_waits : (i : Item) (o : Option Connection) → is_some o ≡ true → waiting_of (option_map (with_item i) o) ≡ waiting_of o ++ i ∷ []
+with_waits i None h = absurd (true≢false (sym h))
+with_waits i (Some v) h = refl
+
+out_even : (t : List Entry) (d : ℕ) (i : Item) (c : ℕ) → is_some (conn t d) ≡ true → Even t (Out d i ∷ t) c
+out_even t d i c there =
+    by_test (d == c)
+    (λ e. record {
+      level = record {
+        added = i ∷ [];
+        written = rw e refl;
+        waits = rw e (with_waits i (conn t c) (subst (λ (n : ℕ). is_some (conn t n) ≡ true) (eqb-true d c e) there));
+      };
+      known = rw e (with_known i (conn t c));
+      lives = λ h. with_lives i (conn t c) (rw e at h);
+    })
+    (λ e. record {
+      level = record { added = []; written = rw e (sym (append-nil (outs t c))); waits = rw e (sym (append-nil (waiting_of (conn t c)))) };
+      known = rw e refl;
+      lives = λ h. rw e at h;
+    })
+
+pub puts_even : (is : List Item) (t : List Entry) (d c : ℕ) → is_some (conn t d) ≡ true → Even t (puts d is t) c
+puts_even [] t d c there = even_refl t c
+puts_even (i ∷ is) t d c there =
+    even_trans t (Out d i ∷ t) (puts d is (Out d i ∷ t)) c (out_even t d i c there)
+    (puts_even is (Out d i ∷ t) d c ((out_even t d i d there).known ∙ there))
+
+-- the ends for full outboxes
+
+closing_even : (id : List ℕ) (t : List Entry) (d c : ℕ) (x : Condition) (o : Option Connection) → conn t d ≡ o → Even t (puts d (closing_of id o x) t) c
+closing_even id t d c x None is = even_refl t c
+closing_even id t d c x (Some v) is = puts_even (closing_of id (Some v) x) t d c (ap (λ (o : Option Connection). is_some o) is)
+
+pub ends_even : (id : List ℕ) (ds : List ℕ) (t : List Entry) (c : ℕ) → Even t (ends id ds t) c
+ends_even id [] t c = even_refl t c
+ends_even id (d ∷ ds) t c =
+    even_trans t (puts d (closing_of id (conn t d) ResourceLimitExceeded) t) (ends id (d ∷ ds) t) c (closing_even id t d c ResourceLimitExceeded (conn t d) refl)
+    (ends_even id ds (puts d (closing_of id (conn t d) ResourceLimitExceeded) t) c)
+
+-- the event itself
+
+-- an event makes or unmakes a connection
+abbrev pub moves : Event → ℕ → Bool
+moves (event.Up d p) c = d.0 == c
+moves (event.Down d) c = d.0 == c
+moves _ c = false
+
+pub stays_at : (e : Event) (c n : ℕ) (o : Option Connection) → moves e c ≡ false → at_event e c n o ≡ o
+stays_at (event.Up d p) c n o h = rw h refl
+stays_at (event.Down d) c n o h = rw h refl
+stays_at (event.Item d i) c n o h = refl
+stays_at (event.Tick ms) c n o h = refl
+stays_at event.Start c n o h = refl
+
+found_waits : (b : Bool) (o : Option Connection) → waiting_of (if b then option_map ended o else o) ≡ waiting_of o
+found_waits true None = refl
+found_waits true (Some v) = refl
+found_waits false o = refl
+
+found_known : (b : Bool) (o : Option Connection) → is_some (if b then option_map ended o else o) ≡ is_some o
+found_known true None = refl
+found_known true (Some v) = refl
+found_known false o = refl
+
+found_lives : (b : Bool) (o : Option Connection) → is_live (if b then option_map ended o else o) ≡ true → is_live o ≡ true
+found_lives true None h = h
+found_lives true (Some v) h = absurd (true≢false (sym h))
+found_lives false o h = h
+
+did_even : (t : List Entry) (e : Event) (c : ℕ) → moves e c ≡ false → Even t (did e ∷ t) c
+did_even t e c h =
+    let same : conn (did e ∷ t) c ≡ found t e c = stays_at e c (length (live_of (ups t) (found t e))) (found t e c) h
+    in record {
+      level = record {
+        added = [];
+        written = sym (append-nil (outs t c));
+        waits = ap waiting_of same ∙ found_waits (has c (due t e)) (conn t c) ∙ sym (append-nil (waiting_of (conn t c)));
+      };
+      known = ap (λ (o : Option Connection). is_some o) same ∙ found_known (has c (due t e)) (conn t c);
+      lives = λ l. found_lives (has c (due t e)) (conn t c) (sym (ap is_live same) ∙ l);
+    }
+
+heard_even : (id : List ℕ) (t : List Entry) (e : Event) (c : ℕ) → moves e c ≡ false → Even t (heard id t e) c
+heard_even id t e c h = even_trans t (did e ∷ t) (heard id t e) c (did_even t e c h) (ends_even id (due t e) (did e ∷ t) c)
+
+answer_even : (id : List ℕ) (u : List Entry) (d c : ℕ) (i : Item) (o : Option Connection) → (is_some o ≡ true → is_some (conn u d) ≡ true)
+    → Even u (puts d (answer id (standing o) i) u) c
+answer_even id u d c i None there = even_refl u c
+answer_even id u d c i (Some v) there = puts_even (answer id (standing (Some v)) i) u d c (there refl)
+
+-- an event with its replies
+pub answered_even : (id : List ℕ) (t : List Entry) (e : Event) (c : ℕ) → moves e c ≡ false → Even t (answered id t e) c
+answered_even id t (event.Item d i) c h =
+    let e : Event = event.Item d i
+    in even_trans t (heard id t e) (answered id t e) c (heard_even id t e c h)
+    (answer_even id (heard id t e) d.0 c i (found t e d.0) (λ there. (ends_even id (due t e) (did e ∷ t) d.0).known ∙ there))
+answered_even id t (event.Up d p) c h = heard_even id t (event.Up d p) c h
+answered_even id t (event.Down d) c h = heard_even id t (event.Down d) c h
+answered_even id t (event.Tick ms) c h = heard_even id t (event.Tick ms) c h
+answered_even id t event.Start c h = heard_even id t event.Start c h
+
+pub same : (n : ℕ) → (n == n) ≡ true
+same n = eq-eqb n n refl
+
+pub none_of : (o : Option Connection) → is_some o ≡ false → o ≡ None
+none_of None h = refl
+none_of (Some v) h = absurd (true≢false h)
+
+-- a connection comes up
+pub up_level : (id : List ℕ) (t : List Entry) (d : ConnectionId) (p : Peer) → conn t d.0 ≡ None → Level t (answered id t (event.Up d p)) d.0
+up_level id t d p none =
+    let e : Event = event.Up d p
+    in let here : (d.0 == d.0) ≡ true = same d.0
+    in level_trans t (did e ∷ t) (answered id t e) d.0
+    (record { added = []; written = sym (append-nil (outs t d.0)); waits = rw here (sym (ap (λ (o : Option Connection). waiting_of o ++ []) none)) })
+    (ends_even id (due t e) (did e ∷ t) d.0).level
+
+-- a connection for which nothing waits is lost
+pub down_level : (id : List ℕ) (t : List Entry) (d : ConnectionId) → waiting_of (conn t d.0) ≡ [] → Level t (answered id t (event.Down d)) d.0
+down_level id t d none =
+    let e : Event = event.Down d
+    in let here : (d.0 == d.0) ≡ true = same d.0
+    in level_trans t (did e ∷ t) (answered id t e) d.0
+    (record { added = []; written = sym (append-nil (outs t d.0)); waits = rw here (sym (ap (λ (xs : List Item). xs ++ []) none)) })
+    (ends_even id (due t e) (did e ∷ t) d.0).level
+
+pub down_dead : (id : List ℕ) (t : List Entry) (d : ConnectionId) → conn (answered id t (event.Down d)) d.0 ≡ None
+down_dead id t d =
+    let e : Event = event.Down d
+    in let here : (d.0 == d.0) ≡ true = same d.0
+    in none_of (conn (answered id t e) d.0) ((ends_even id (due t e) (did e ∷ t) d.0).known ∙ (rw here refl))
+
+-- the losses: those of the events
+
+puts_lost : (is : List Item) (t : List Entry) (d c : ℕ) → was_lost (puts d is t) c ≡ was_lost t c
+puts_lost [] t d c = refl
+puts_lost (i ∷ is) t d c = puts_lost is (Out d i ∷ t) d c
+
+ends_lost : (id : List ℕ) (ds : List ℕ) (t : List Entry) (c : ℕ) → was_lost (ends id ds t) c ≡ was_lost t c
+ends_lost id [] t c = refl
+ends_lost id (d ∷ ds) t c =
+    ends_lost id ds (puts d (closing_of id (conn t d) ResourceLimitExceeded) t) c ∙ puts_lost (closing_of id (conn t d) ResourceLimitExceeded) t d c
+
+pub answered_lost : (id : List ℕ) (t : List Entry) (e : Event) (c : ℕ) → was_lost (answered id t e) c ≡ (is_loss_of e c || was_lost t c)
+answered_lost id t (event.Item d i) c =
+    let e : Event = event.Item d i
+    in puts_lost (answer id (standing (found t e d.0)) i) (heard id t e) d.0 c ∙ ends_lost id (due t e) (did e ∷ t) c
+answered_lost id t (event.Up d p) c = ends_lost id (due t (event.Up d p)) (did (event.Up d p) ∷ t) c
+answered_lost id t (event.Down d) c = ends_lost id (due t (event.Down d)) (did (event.Down d) ∷ t) c
+answered_lost id t (event.Tick ms) c = ends_lost id (due t (event.Tick ms)) (did (event.Tick ms) ∷ t) c
+answered_lost id t event.Start c = ends_lost id (due t event.Start) (did event.Start ∷ t) c
+
+pub answered_kept : (id : List ℕ) (t : List Entry) (e : Event) (c : ℕ) → is_loss_of e c ≡ false → was_lost (answered id t e) c ≡ was_lost t c
+answered_kept id t e c other = answered_lost id t e c ∙ ap (λ b. b || was_lost t c) other
+
+pub still_kept : (e : Event) (c : ℕ) → moves e c ≡ false → is_loss_of e c ≡ false
+still_kept (event.Up d p) c h = refl
+still_kept (event.Down d) c h = h
+still_kept (event.Item d i) c h = refl
+still_kept (event.Tick ms) c h = refl
+still_kept event.Start c h = refl
+
+-- takes
+
+drop_nil : (n : ℕ) → drop n (waiting_of None) ≡ []
+drop_nil zero = refl
+drop_nil (suc n) = refl
+
+pub took_waits : (n : ℕ) (o : Option Connection) → waiting_of (option_and_then (took n) o) ≡ drop n (waiting_of o)
+took_waits n None = sym (drop_nil n)
+took_waits n (Some v) = by_phase (drained n v) v.phase.closed
+  where
+    over : (w : Connection) (xs : List Item) → w.waiting ≡ xs → waiting_of (unless_empty w xs) ≡ xs
+    over w [] h = refl
+    over w (x ∷ xs) h = h
+
+    by_phase : (w : Connection) (b : Bool) → waiting_of (if b then unless_empty w w.waiting else Some w) ≡ w.waiting
+    by_phase w true = over w w.waiting refl
+    by_phase w false = refl
+
+pub took_lives : (n : ℕ) (o : Option Connection) → is_live (option_and_then (took n) o) ≡ true → is_live o ≡ true
+took_lives n None h = h
+took_lives n (Some v) h = let live : v.phase.closed ≡ false = by_phase (drained n v) v.phase.closed refl h in rw live refl
+  where
+    over : (w : Connection) (xs : List Item) → w.phase.closed ≡ true → is_live (unless_empty w xs) ≡ true → ⊥
+    over w [] e h = true≢false (sym h)
+    over w (x ∷ xs) e h = true≢false (sym (rw e at h))
+
+    by_phase : (w : Connection) (b : Bool) → w.phase.closed ≡ b → is_live (if b then unless_empty w w.waiting else Some w) ≡ true → b ≡ false
+    by_phase w true e h = absurd (over w w.waiting e h)
+    by_phase w false e h = refl
+
+-- nothing waits where nothing can be taken
+pub ready_waits : (o : Option Connection) → is_ready o ≡ false → waiting_of o ≡ []
+ready_waits None h = refl
+ready_waits (Some v) h = by_test v.phase.closed (λ e. absurd (true≢false (rw e at h))) (λ e. empty v.waiting (rw e at h))
+  where
+    empty : (xs : List Item) → is_item xs ≡ false → xs ≡ []
+    empty [] h = refl
+    empty (x ∷ xs) h = absurd (true≢false h)

@@ -1,0 +1,169 @@
+-- What takes and losses make of a script's scene.
+use Rattle.std.proofs.Common.{◌≡◌, ◌∙◌, sym, ap, refl, subst, ℕ, Bool, true, false, List, [], ◌∷◌, ◌++◌, length, take, drop, get_or, not, append_assoc, append-nil, ◌+◌, ◌<◌, ◌≤◌}
+use Rattle.std.specs.Prelude.{◌==◌, map, is_none, Option, Some, None, if◌then◌else◌}
+use Rattle.std.proofs.lemmas.Bool.{eqb-true}
+use Rattle.std.proofs.lemmas.List.{drop_more}
+use Rattle.std.proofs.lemmas.List.{drop_all}
+use Rattle.std.specs.Ordering.{nat_cmp}
+use Rattle.std.specs.BTreeMap.{get}
+use Rattle.router_trace.specs.declared.event.ConnectionId.{ConnectionId}
+use Rattle.router_core.specs.declared.door.Door.{Door as DoorState}
+use Rattle.router_play.specs.declared.socket.Socket.{Socket}
+use Rattle.router_play.specs.declared.player.Player.{Player}
+use Rattle.router_play.specs.declared.script.Step.{Step}
+use Rattle.router_play.specs.declared.script.Run.{Run}
+use Rattle.router_play.specs.declared.line.Line.{Line}
+use Rattle.router_play.specs.declared.sockets.Parted.{Parted}
+use Rattle.router_play.specs.declared.sockets.Parted.TheVariants as parted
+use Rattle.router_core.specs.declared.router.Core.{Core}
+use Rattle.router_core.specs.declared.router.Batch.{Batch}
+use Rattle.amqp_frames.specs.declared.item.Item.{Item}
+use Rattle.router_trace.specs.Trace.{Entry, Took}
+use Rattle.router_trace.specs.Connection.{Connection, conn}
+use Rattle.router_core.specs.Handling.{Fits, id_of, IsBatchOf}
+use Rattle.router_core.specs.Runs.{Taking, taking, took_one, waiting_of}
+use Rattle.router_play.specs.Script.{Scene, with_socket, with_trace, say_all, out_line, lose, lose_by, told, is_last, close_if, take_one, take_all, opening, Takes, Flushes, Plays, PlaysAll}
+use Rattle.router_play.specs.Playing.{Follows, PartsAt, part_by}
+use Rattle.router_conns.proofs.Lists.{by_test}
+
+-- what holds only of a failed router doesn't hold where it works
+pub back : (a b : Bool) → (a ≡ true → b ≡ true) → b ≡ false → a ≡ false
+back true b h e = sym (h refl) ∙ e
+back false b h e = refl
+
+-- a scene with this table of connections, from which a loss leads to another
+record Parts (c : ConnectionId) (new : ℕ → Option Socket) (r : Parted) (s goal : Scene) : Type 0 where
+  pub after : Scene
+  pub id : after.id ≡ s.id
+  pub trace : after.trace ≡ s.trace
+  pub last : after.last ≡ s.last
+  pub lines : after.lines ≡ s.lines
+  pub sockets : (n : ℕ) → new n ≡ after.sockets n
+  pub leads : part_by c r after ≡ goal
+
+parted_at : (c : ConnectionId) (old new : ℕ → Option Socket) (r : Parted) (s : Scene) (o : Option Socket)
+    → s.sockets c.0 ≡ o → ((n : ℕ) → old n ≡ s.sockets n) → PartsAt o r → ((n : ℕ) → new n ≡ (if c.0 == n then None else old n))
+    → Parts c new r s (lose_by c s o)
+parted_at c old new r s None here same is up = record {
+  after = s;
+  id = refl;
+  trace = refl;
+  last = refl;
+  lines = refl;
+  sockets = λ n. up n ∙ unchanged c.0 s.sockets (old n) here n (same n);
+  leads = ap (λ (q : Parted). part_by c q s) is;
+}
+  where
+    unchanged : (c : ℕ) (f : ℕ → Option Socket) (v : Option Socket) → f c ≡ None → (n : ℕ) → v ≡ f n → (if c == n then None else v) ≡ f n
+    unchanged c f v e n h = by_test (c == n) (λ x. rw x (sym e ∙ ap f (eqb-true c n x))) (λ x. rw x h)
+parted_at c old new r s (Some k) here same is up = record {
+  after = with_socket c None s;
+  id = refl;
+  trace = refl;
+  last = refl;
+  lines = refl;
+  sockets = λ n. up n ∙ two (c.0 == n) (old n) (s.sockets n) (same n);
+  leads = ap (λ (q : Parted). part_by c q (with_socket c None s)) is ∙ by_door k.door;
+}
+  where
+    two : (b : Bool) (v w : Option Socket) → v ≡ w → (if b then None else v) ≡ (if b then None else w)
+    two true v w e = refl
+    two false v w e = e
+
+    by_door : (d : Option DoorState) → part_by c (if is_none d then parted.Passed else parted.AtDoor) (with_socket c None s) ≡ told c (with_socket c None s) d
+    by_door None = refl
+    by_door (Some d) = refl
+
+pub parted_scene : (p q : Player) (c : ConnectionId) (r : Parted) (s : Scene)
+    → PartsAt (get nat_cmp p.sockets c.0) r → ((n : ℕ) → get nat_cmp q.sockets n ≡ (if c.0 == n then None else get nat_cmp p.sockets n))
+    → q.core ≡ p.core → q.newest ≡ p.newest → q.lines.items ≡ p.lines.items → Follows p s
+    → (after : Scene) × Follows q after × (part_by c r after ≡ lose c s)
+parted_scene p q c r s parts rows core newest lines follows =
+    let found : PartsAt (s.sockets c.0) r = subst (λ (o : Option Socket). PartsAt o r) (follows.sockets c.0) parts
+    in let w : Parts c (get nat_cmp q.sockets) r s (lose_by c s (s.sockets c.0))
+    = parted_at c (get nat_cmp p.sockets) (get nat_cmp q.sockets) r s (s.sockets c.0) refl follows.sockets found rows
+    in (
+      w.after,
+      record {
+        core = subst (λ (k : Core). Fits k w.after.trace) (sym core) (subst (λ (t : List Entry). Fits p.core t) (sym w.trace) follows.core);
+        named = ap id_of core ∙ follows.named ∙ sym w.id;
+        last = newest ∙ follows.last ∙ sym w.last;
+        sockets = w.sockets;
+        lines = lines ∙ follows.lines ∙ sym w.lines;
+      },
+      w.leads,
+    )
+
+-- a batch is what the outbox gives
+batch_items : (o : Option Connection) (b : Batch) → IsBatchOf o 64 b → b.items.items ≡ take 64 (waiting_of o)
+batch_items None b is = absurd is
+batch_items (Some v) b is = is.in_order
+
+batch_last : (o : Option Connection) (b : Batch) → IsBatchOf o 64 b → b.ended ≡ is_last (length b.items.items) o
+batch_last None b is = absurd is
+batch_last (Some v) b is = is.gone
+
+pub taken_follows : (p q : Player) (c : ConnectionId) (b : Batch) (s : Scene) → Follows p s
+    → Fits q.core (Took c.0 (length b.items.items) ∷ s.trace) → IsBatchOf (conn s.trace c.0) 64 b
+    → id_of q.core ≡ id_of p.core → q.sockets ≡ p.sockets → q.newest ≡ p.newest → q.lines.items ≡ p.lines.items
+    → Follows q (with_trace (took_one (taking c) s.trace) s)
+taken_follows p q c b s follows fits is named sockets newest lines = record {
+  core = subst (λ (ys : List Item). Fits q.core (Took c.0 (length ys) ∷ s.trace)) (batch_items (conn s.trace c.0) b is) fits;
+  named = named ∙ follows.named;
+  last = newest ∙ follows.last;
+  sockets = λ n. ap (λ m. get nat_cmp m n) sockets ∙ follows.sockets n;
+  lines = lines ∙ follows.lines;
+}
+
+pub taken_scene : (c : ConnectionId) (b : Batch) (s : Scene) → IsBatchOf (conn s.trace c.0) 64 b
+    → close_if b.ended c (say_all (map (out_line c) b.items.items) (with_trace (took_one (taking c) s.trace) s)) ≡ take_one (taking c) s
+taken_scene c b s is =
+    let items : b.items.items ≡ take 64 (waiting_of (conn s.trace c.0)) = batch_items (conn s.trace c.0) b is
+    in ap (λ (x : Bool). close_if x c (say_all (map (out_line c) b.items.items) (with_trace (took_one (taking c) s.trace) s))) (batch_last (conn s.trace c.0) b is)
+    ∙ ap (λ (ys : List Item). close_if (is_last (length ys) (conn s.trace c.0)) c (say_all (map (out_line c) ys) (with_trace (took_one (taking c) s.trace) s))) items
+
+-- one take more
+pub take_all_more : (xs : List Taking) (x : Taking) (s : Scene) → take_all (xs ++ x ∷ []) s ≡ take_one x (take_all xs s)
+take_all_more [] x s = refl
+take_all_more (y ∷ ys) x s = take_all_more ys x (take_one y s)
+
+-- a step more, and then the rest
+pub plays_more : (steps : List Step) (i : ℕ) (x : Step) (m mid next u : Scene) → x ≡ get_or steps i x → i < length steps
+    → Takes x m mid → Flushes mid next → Plays (drop (i + 1) steps) next u → Plays (drop i steps) m u
+plays_more steps i x m mid next u is lt takes flushes rest =
+    subst (λ (ys : List Step). Plays ys m u) (sym (drop_more steps i x lt ∙ ap (λ y. y ∷ drop (i + 1) steps) (sym is))) (mid, next, takes, flushes, rest)
+
+pub not_true : (b : Bool) → not b ≡ true → b ≡ false
+not_true true h = sym h
+not_true false h = refl
+
+pub not_false : (b : Bool) → not b ≡ false → b ≡ true
+not_false true h = refl
+not_false false h = sym h
+
+pub or_false : (a b : Bool) → (if a then true else b) ≡ false → (a ≡ false) × (b ≡ false)
+or_false true b h = absurd cc
+or_false false b h = (refl, h)
+
+-- the steps of runs
+abbrev pub steps_of : List Run → List (List Step)
+steps_of runs = map (λ r. r.steps.items) runs
+
+-- a run more, and then the rest
+pub runs_more : (id : List ℕ) (runs : List Run) (i : ℕ) (x : Run) (u : Scene) (before now others : List Line) → x ≡ get_or runs i x → i < length runs
+    → Plays x.steps.items (opening id) u → now ≡ before ++ u.lines
+    → ((ls : List Line) → PlaysAll id (steps_of (drop i runs)) ls → PlaysAll id (steps_of runs) (before ++ ls))
+    → PlaysAll id (steps_of (drop (i + 1) runs)) others → PlaysAll id (steps_of runs) (now ++ others)
+runs_more id runs i x u before now others is lt plays lines whole rest =
+    subst (λ (ls : List Line). PlaysAll id (steps_of runs) ls)
+    (sym (append_assoc before u.lines others) ∙ ap (λ ls. ls ++ others) (sym lines))
+    (whole (u.lines ++ others)
+    (subst (λ (rs : List Run). PlaysAll id (steps_of rs) (u.lines ++ others)) (sym (drop_more runs i x lt ∙ ap (λ y. y ∷ drop (i + 1) runs) (sym is)))
+    (u, others, plays, rest, refl)))
+
+-- nothing is left to play
+pub runs_done : (id : List ℕ) (runs : List Run) (i : ℕ) (lines : List Line) → length runs ≤ i
+    → ((ls : List Line) → PlaysAll id (steps_of (drop i runs)) ls → PlaysAll id (steps_of runs) (lines ++ ls)) → PlaysAll id (steps_of runs) lines
+runs_done id runs i lines over whole =
+    subst (λ (ls : List Line). PlaysAll id (steps_of runs) ls) (append-nil lines)
+    (whole [] (subst (λ (rs : List Run). PlaysAll id (steps_of rs) []) (sym (drop_all i runs over)) refl))

@@ -1,0 +1,10 @@
+use Rattle.router_core.proofs.Headed.{trace_keeps_order}
+use Rattle.router_play.proofs.PlayMoves.{play_is_trace}
+use Rattle.router_play.proofs.AtDoor.{header_opens}
+use Rattle.router_play.proofs.laws.scripts_keep_order.Goals as goal
+
+pub returns-clause-plays : goal.returns-clause-plays
+returns-clause-plays c = λ id steps u plays. trace_keeps_order id u.trace (play_is_trace id steps u plays)
+
+pub returns-clause-headers : goal.returns-clause-headers
+returns-clause-headers c = header_opens

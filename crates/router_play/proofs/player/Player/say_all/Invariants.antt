@@ -1,0 +1,12 @@
+use Rattle.std.proofs.Common.{◌≡◌, ◌++◌, drop}
+use Rattle.std.specs.Prelude.{map}
+use Rattle.router_play.specs.Script.{out_line}
+use Rattle.router_play.proofs.player.Player.say_all.Given as goal
+
+abbrev pub invariant-loop-item : goal.invariant-loop-item
+invariant-loop-item l = record {
+  lines : l.self.lines.items ++ map (out_line l.conn) (drop l.item-index l.items) ≡ l.fn.self.lines.items ++ map (out_line l.conn) l.fn.items;
+  core : l.self.core ≡ l.fn.self.core;
+  sockets : l.self.sockets ≡ l.fn.self.sockets;
+  last : l.self.newest ≡ l.fn.self.newest;
+}

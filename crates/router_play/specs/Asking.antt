@@ -1,0 +1,58 @@
+-- Who takes an item of an open connection, and what becomes of the connection.
+use Rattle.std.specs.Prelude.{◌≡◌, ◌==◌, ◌++◌, ℕ, Bool, true, false, if◌then◌else◌, map, List, Option, Some, None}
+use Rattle.amqp_frames.specs.Cuts.{Cuts}
+use Rattle.router_trace.specs.declared.event.ConnectionId.{ConnectionId}
+use Rattle.router_trace.specs.declared.event.Event.TheVariants as event
+use Rattle.router_play.specs.declared.line.Line.TheVariants as line
+use Rattle.router_play.specs.Script.{Scene, stream_of, hand, say, say_all, out_line}
+use Rattle.amqp_frames.specs.declared.item.Item.{Item}
+use Rattle.router_core.specs.declared.door.Door.{Door as DoorState}
+use Rattle.router_play.specs.declared.socket.Socket.{Socket}
+use Rattle.router_play.specs.declared.socket.Asked.{Asked}
+use Rattle.router_play.specs.declared.socket.Asked.TheVariants as asked
+use Rattle.router_core.specs.Door.{Verdict, says, passes, ends, door}
+
+-- the answer is the door's verdict
+abbrev pub IsVerdict : Socket → DoorState → Verdict → Socket → Asked → Type 0
+IsVerdict k d (says items) new (asked.Say ys) = (ys.items ≡ items) × (new ≡ record { door = Some (record d { done = true }); reader = k.reader })
+IsVerdict k d (passes user) new (asked.Pass peer) = (peer ≡ record { user = user; role = d.role }) × (new ≡ record { door = None; reader = k.reader })
+IsVerdict k d (ends items) new (asked.End ys) = ys.items ≡ items
+IsVerdict k d verdict new answer = ⊥
+
+-- at the door its verdict, and behind it the router
+abbrev pub IsAskedAt : Item → Socket → Option DoorState → Socket → Asked → Type 0
+IsAskedAt i k (Some d) new answer = IsVerdict k d (door d.done i) new answer
+IsAskedAt i k None new asked.Router = new ≡ k
+IsAskedAt i k None new _ = ⊥
+
+abbrev pub IsAsked : Item → Socket → Socket → Asked → Type 0
+IsAsked i old new answer = IsAskedAt i old old.door new answer
+
+-- the connection behind the answer: it is closed with its end
+abbrev pub behind : Asked → Socket → Option Socket
+behind (asked.End ys) k = None
+behind _ k = Some k
+
+-- a table of open connections, and the same with one of them asked
+abbrev pub AsksAt : ℕ → Item → (ℕ → Option Socket) → Option Socket → (ℕ → Option Socket) → Asked → Type 0
+AsksAt c i old None new answer = (answer ≡ asked.Nobody) × ((n : ℕ) → new n ≡ old n)
+AsksAt c i old (Some k) new answer = (after : Socket) × IsAsked i k after answer × ((n : ℕ) → new n ≡ (if c == n then behind answer after else old n))
+
+-- bytes read: none where the stream ended, else the items of the cut
+abbrev pub ReadsOne : List ℕ → Socket → Bool → Socket → Option (List Item) → Type 0
+ReadsOne bytes k true after None = after ≡ k
+ReadsOne bytes k false after (Some items) = (ended : Bool) × (rest : List ℕ) × Cuts ended (k.reader.rest ++ bytes) items rest × (after ≡ stream_of k rest ended)
+ReadsOne bytes k _ after _ = ⊥
+
+-- a table of open connections, and the same with bytes read on one of them
+abbrev pub ReadsAt : ℕ → List ℕ → (ℕ → Option Socket) → Option Socket → (ℕ → Option Socket) → Option (List Item) → Type 0
+ReadsAt c bytes old None new read = (read ≡ None) × ((n : ℕ) → new n ≡ old n)
+ReadsAt c bytes old (Some k) new read = (after : Socket) × ReadsOne bytes k k.reader.failed after read × ((n : ℕ) → new n ≡ (if c == n then Some after else old n))
+
+-- what the router and the lines get of an answer
+abbrev pub follow : ConnectionId → Item → Asked → Scene → Scene
+follow c i asked.Nobody s = s
+follow c i asked.Router s = hand (event.Item c i) s
+follow c i (asked.Say ys) s = say_all (map (out_line c) ys.items) s
+follow c i (asked.Pass peer) s = hand (event.Item c i) (hand (event.Up c peer) s)
+follow c i (asked.End ys) s = say (line.End c) (say_all (map (out_line c) ys.items) s)

@@ -1,0 +1,101 @@
+-- From bytes to bytes: what goes out on each connection of a script, for the bytes that come on it.
+use Rattle.std.specs.Prelude.{◌≡◌, ℕ, Bool, true, false, ◌||◌, ◌==◌, if◌then◌else◌, List, [], ◌∷◌, ◌++◌, Option, Some, None}
+use Rattle.amqp_frames.specs.declared.item.Item.{Item}
+use Rattle.amqp_frames.specs.Cuts.{Cuts}
+use Rattle.amqp_frames.specs.ItemSpelling.{item_spelling}
+use Rattle.router_trace.specs.declared.event.Event.{Event}
+use Rattle.router_trace.specs.declared.event.Event.TheVariants as event
+use Rattle.router_play.specs.declared.line.Line.{Line}
+use Rattle.router_play.specs.declared.line.Line.TheVariants as line
+use Rattle.router_play.specs.declared.script.Step.{Step}
+use Rattle.router_play.specs.declared.script.Step.TheVariants as step
+use Rattle.router_trace.specs.Trace.{Trace, Did, Out, Took}
+use Rattle.router_trace.specs.Connection.{conn, is_live}
+use Rattle.router_trace.specs.Refusing.{rises}
+use Rattle.router_core.specs.Door.{Verdict, says, passes, ends, door}
+use Rattle.router_core.specs.Moves.{IsTrace, ins, outs}
+
+-- the events tell that a connection was lost
+abbrev pub is_loss_of : Event → ℕ → Bool
+is_loss_of (event.Down d) c = d.0 == c
+is_loss_of _ c = false
+
+abbrev pub was_lost : Trace → ℕ → Bool
+was_lost [] c = false
+was_lost (Did s ∷ t) c = is_loss_of s.event c || was_lost t c
+was_lost (Out d i ∷ t) c = was_lost t c
+was_lost (Took d n ∷ t) c = was_lost t c
+
+-- the steps behind the making of a connection: its number is above that of each connection made before
+abbrev pub behind_up : ℕ → Option ℕ → List Step → List Step
+behind_up c last [] = []
+behind_up c last (step.Up d role ∷ xs) =
+    if rises d.0 last then (if d.0 == c then xs else behind_up c (Some d.0) xs) else behind_up c last xs
+behind_up c last (_ ∷ xs) = behind_up c last xs
+
+-- the bytes that steps bring on a connection, until it is lost
+abbrev pub bytes_of : ℕ → List Step → List ℕ
+bytes_of c [] = []
+bytes_of c (step.In d bytes ∷ xs) = if d.0 == c then bytes ++ bytes_of c xs else bytes_of c xs
+bytes_of c (step.Down d ∷ xs) = if d.0 == c then [] else bytes_of c xs
+bytes_of c (_ ∷ xs) = bytes_of c xs
+
+-- the bytes that come on a connection of a script, from its making to its loss
+abbrev pub bytes_in : ℕ → List Step → List ℕ
+bytes_in c steps = bytes_of c (behind_up c None steps)
+
+-- the bytes that lines put out on a connection
+abbrev pub bytes_out : ℕ → List Line → List ℕ
+bytes_out c [] = []
+bytes_out c (line.Out d bytes ∷ ls) = if d.0 == c then bytes ++ bytes_out c ls else bytes_out c ls
+bytes_out c (_ ∷ ls) = bytes_out c ls
+
+-- the canonical bytes of items
+abbrev pub spelled : List Item → List ℕ
+spelled [] = []
+spelled (i ∷ is) = item_spelling i ++ spelled is
+
+-- what the door says to the items of a stream, until it lets the connection pass or ends it
+abbrev pub said_by : Verdict → List Item → List Item
+said_by (says xs) later = xs ++ later
+said_by (passes user) later = []
+said_by (ends xs) later = xs
+
+abbrev pub door_says : Bool → List Item → List Item
+door_says done [] = []
+door_says done (i ∷ is) = said_by (door done i) (door_says true is)
+
+-- the items of a stream that are past the door: from the one on that it lets pass
+abbrev pub passed_by : Verdict → List Item → List Item → List Item
+passed_by (says xs) here later = later
+passed_by (passes user) here later = here
+passed_by (ends xs) here later = []
+
+abbrev pub passed : Bool → List Item → List Item
+passed done [] = []
+passed done (i ∷ is) = passed_by (door done i) (i ∷ is) (passed true is)
+
+-- a list is a beginning of another
+abbrev pub Begins : List Item → List Item → Type 0
+Begins xs ys = (more : List Item) × (xs ++ more ≡ ys)
+
+-- a connection carries the stream that came on it, where these lines were printed of this trace
+pub record Carries (stream : List ℕ) (t : Trace) (lines : List Line) (c : ℕ) : Type 0 where
+  pub ended : Bool
+  pub items : List Item
+  pub rest : List ℕ
+  -- the bytes that came are cut once, as one stream
+  pub cut : Cuts ended stream items rest
+  -- the items that the router is told are those past the door, up to the connection's end
+  pub enters : Begins (ins t c) (passed false items)
+  -- all of them, while it lives, and where it lived until it was lost
+  pub whole : is_live (conn t c) ≡ true → ins t c ≡ passed false items
+  pub until : was_lost t c ≡ true → ins t c ≡ passed false items
+  -- what goes out are the canonical bytes of what the door says, and then of all that the router put out for it
+  pub out : bytes_out c lines ≡ spelled (door_says false items) ++ spelled (outs t c)
+
+-- runs, one after the other: each has a trace of its own, of which its lines carry every connection
+abbrev pub RunsCarry : List ℕ → List (List Step) → List Line → Type 0
+RunsCarry id [] lines = lines ≡ []
+RunsCarry id (steps ∷ runs) lines = (t : Trace) × (mine : List Line) × (others : List Line)
+    × IsTrace id t × ((c : ℕ) → Carries (bytes_in c steps) t mine c) × RunsCarry id runs others × (lines ≡ mine ++ others)

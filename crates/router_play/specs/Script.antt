@@ -1,0 +1,167 @@
+-- A script, step by step: what becomes of its connections, of the trace and of the lines.
+use Rattle.std.specs.Prelude.{◌≡◌, ℕ, Bool, true, false, ◌==◌, if◌then◌else◌, is_none, List, [], ◌∷◌, ◌++◌, map, length, Option, Some, None}
+use Rattle.amqp_frames.specs.declared.item.Item.{Item}
+use Rattle.amqp_frames.specs.Cuts.{Cuts}
+use Rattle.amqp_frames.specs.ItemSpelling.{item_spelling}
+use Rattle.router_core.specs.declared.fault.CoreFault.TheVariants.{NoConnection}
+use Rattle.router_trace.specs.declared.event.ConnectionId.{ConnectionId}
+use Rattle.router_trace.specs.declared.event.PeerRole.{PeerRole}
+use Rattle.router_trace.specs.declared.event.Event.{Event}
+use Rattle.router_trace.specs.declared.event.Event.TheVariants as event
+use Rattle.router_core.specs.declared.door.Door.{Door as DoorState}
+use Rattle.router_play.specs.declared.line.Line.{Line}
+use Rattle.router_play.specs.declared.line.Line.TheVariants as line
+use Rattle.router_play.specs.declared.socket.Socket.{Socket}
+use Rattle.router_play.specs.declared.script.Step.{Step}
+use Rattle.router_play.specs.declared.script.Step.TheVariants as step
+use Rattle.router_trace.specs.Trace.{Trace}
+use Rattle.router_trace.specs.Connection.{Connection, conn, took, is_ready}
+use Rattle.router_trace.specs.Refusing.{refuses, rises}
+use Rattle.router_reply.specs.Replies.{answered}
+use Rattle.router_core.specs.Runs.{Taking, items_of, took_one}
+use Rattle.router_core.specs.Door.{Verdict, says, passes, ends, door}
+
+-- where a script stands: the router's id and its trace, the number of the last connection made, the connections that are
+-- open (those at the door, and those that passed), and the lines so far
+pub record Scene : Type 0 where
+  pub id : List ℕ
+  pub trace : Trace
+  pub last : Option ℕ
+  pub sockets : ℕ → Option Socket
+  pub lines : List Line
+
+-- before the first step
+abbrev pub opening : List ℕ → Scene
+opening id = record { id = id; trace = []; last = None; sockets = λ c. None; lines = [] }
+
+-- lines more
+abbrev pub say_all : List Line → Scene → Scene
+say_all ls s = record { id = s.id; trace = s.trace; last = s.last; sockets = s.sockets; lines = s.lines ++ ls }
+
+abbrev pub say : Line → Scene → Scene
+say l s = say_all (l ∷ []) s
+
+-- the line of what is refused
+abbrev pub refused : Line
+refused = line.Failed NoConnection
+
+-- the line of the book at the end, in which nothing is kept
+abbrev pub book : Line
+book = line.Book 0 0 0
+
+-- the line of an item that goes out: its canonical spelling
+abbrev pub out_line : ConnectionId → Item → Line
+out_line c i = line.Out c (item_spelling i)
+
+-- a connection as it is now; none where it is closed
+abbrev pub with_socket : ConnectionId → Option Socket → Scene → Scene
+with_socket c k s = record { id = s.id; trace = s.trace; last = s.last; sockets = λ n. if c.0 == n then k else s.sockets n; lines = s.lines }
+
+-- the trace is this now
+abbrev pub with_trace : Trace → Scene → Scene
+with_trace t s = record { id = s.id; trace = t; last = s.last; sockets = s.sockets; lines = s.lines }
+
+-- an event is handed to the router: it is refused, or its replies stand behind it
+abbrev pub hand : Event → Scene → Scene
+hand e s = if refuses s.trace e then say refused s else with_trace (answered s.id s.trace e) s
+
+-- what the door makes of an item
+abbrev pub judged_by : ConnectionId → Item → Socket → DoorState → Scene → Verdict → Scene
+judged_by c i k d s (says items) =
+    say_all (map (out_line c) items) (with_socket c (Some (record { door = Some (record d { done = true }); reader = k.reader })) s)
+judged_by c i k d s (passes user) =
+    hand (event.Item c i) (hand (event.Up c (record { user = user; role = d.role })) (with_socket c (Some (record { door = None; reader = k.reader })) s))
+judged_by c i k d s (ends items) = say (line.End c) (say_all (map (out_line c) items) (with_socket c None s))
+
+-- an item comes on a connection: at the door, or to the router; nobody takes it once the connection is closed
+abbrev pub enter_at : ConnectionId → Item → Socket → Scene → Option DoorState → Scene
+enter_at c i k s None = hand (event.Item c i) s
+enter_at c i k s (Some d) = judged_by c i k d s (door d.done i)
+
+abbrev pub enter_by : ConnectionId → Item → Scene → Option Socket → Scene
+enter_by c i s None = s
+enter_by c i s (Some k) = enter_at c i k s k.door
+
+abbrev pub enter : ConnectionId → Item → Scene → Scene
+enter c i s = enter_by c i s (s.sockets c.0)
+
+abbrev pub enter_all : ConnectionId → List Item → Scene → Scene
+enter_all c [] s = s
+enter_all c (i ∷ is) s = enter_all c is (enter c i s)
+
+-- bytes come on a connection: the items that the stream is cut into with them enter; they are refused where the
+-- connection is closed or its stream ended in what is no item
+abbrev pub stream_of : Socket → List ℕ → Bool → Socket
+stream_of k rest ended = record { door = k.door; reader = record { rest = rest; failed = ended } }
+
+abbrev pub Reads : ConnectionId → List ℕ → Scene → Socket → Bool → Scene → Type 0
+Reads c bytes s k true u = u ≡ say refused s
+Reads c bytes s k false u = (ended : Bool) × (items : List Item) × (rest : List ℕ)
+    × Cuts ended (k.reader.rest ++ bytes) items rest × (u ≡ enter_all c items (with_socket c (Some (stream_of k rest ended)) s))
+
+abbrev pub BytesCome : ConnectionId → List ℕ → Scene → Option Socket → Scene → Type 0
+BytesCome c bytes s None u = u ≡ say refused s
+BytesCome c bytes s (Some k) u = Reads c bytes s k k.reader.failed u
+
+-- a connection is made
+abbrev pub new_socket : PeerRole → Socket
+new_socket role = record { door = Some (record { role = role; done = false }); reader = record { rest = []; failed = false } }
+
+abbrev pub made : ConnectionId → PeerRole → Scene → Scene
+made c role s = record { id = s.id; trace = s.trace; last = Some c.0; sockets = λ n. if c.0 == n then Some (new_socket role) else s.sockets n; lines = s.lines }
+
+abbrev pub make : ConnectionId → PeerRole → Scene → Scene
+make c role s = if rises c.0 s.last then made c role s else say refused s
+
+-- a connection is lost: the router is told of it where it passed the door
+abbrev pub told : ConnectionId → Scene → Option DoorState → Scene
+told c s None = hand (event.Down c) s
+told c s (Some d) = s
+
+abbrev pub lose_by : ConnectionId → Scene → Option Socket → Scene
+lose_by c s None = say refused s
+lose_by c s (Some k) = told c (with_socket c None s) k.door
+
+abbrev pub lose : ConnectionId → Scene → Scene
+lose c s = lose_by c s (s.sockets c.0)
+
+-- a step
+abbrev pub Takes : Step → Scene → Scene → Type 0
+Takes (step.Up c role) s u = u ≡ make c role s
+Takes (step.In c bytes) s u = BytesCome c bytes s (s.sockets c.0) u
+Takes (step.Down c) s u = u ≡ lose c s
+Takes (step.Tick ms) s u = u ≡ hand (event.Tick ms) s
+
+-- items taken of an outbox go out; a connection that is over is closed with the last of them
+abbrev pub is_last : ℕ → Option Connection → Bool
+is_last n None = false
+is_last n (Some v) = is_none (took n v)
+
+abbrev pub close_if : Bool → ConnectionId → Scene → Scene
+close_if false c s = s
+close_if true c s = say (line.End c) (with_socket c None s)
+
+abbrev pub take_one : Taking → Scene → Scene
+take_one x s =
+    close_if (is_last (length (items_of x s.trace)) (conn s.trace x.conn.0)) x.conn
+    (say_all (map (out_line x.conn) (items_of x s.trace)) (with_trace (took_one x s.trace) s))
+
+abbrev pub take_all : List Taking → Scene → Scene
+take_all [] s = s
+take_all (x ∷ xs) s = take_all xs (take_one x s)
+
+-- all outboxes are emptied
+pub record Flushes (s u : Scene) : Type 0 where
+  pub takes : List Taking
+  pub scene : u ≡ take_all takes s
+  pub empty : (c : ℕ) → is_ready (conn u.trace c) ≡ false
+
+-- steps, one after the other, the outboxes emptied behind each
+abbrev pub Plays : List Step → Scene → Scene → Type 0
+Plays [] s u = u ≡ s
+Plays (x ∷ xs) s u = (mid : Scene) × (next : Scene) × Takes x s mid × Flushes mid next × Plays xs next u
+
+-- the lines of runs: each against a router to which nothing happened
+abbrev pub PlaysAll : List ℕ → List (List Step) → List Line → Type 0
+PlaysAll id [] lines = lines ≡ []
+PlaysAll id (steps ∷ runs) lines = (u : Scene) × (others : List Line) × Plays steps (opening id) u × PlaysAll id runs others × (lines ≡ u.lines ++ others)

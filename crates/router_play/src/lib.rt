@@ -1,0 +1,15 @@
+//! A script played against the router, in memory: connections come up, bytes come in, and bytes go out.
+#![tactic(auto)]
+
+mod laws;
+mod line;
+mod player;
+mod script;
+mod socket;
+mod sockets;
+
+pub use laws::{connections_are_answered_alone, pieces_make_no_difference, scripts_keep_order};
+pub use line::Line;
+pub use player::play_runs;
+pub use router_core::{Config, ConnectionId, CoreFault, PeerRole};
+pub use script::{Report, Run, Step};

@@ -1,0 +1,396 @@
+//! Plays a script.
+ghost use Rattle.std.specs.Prelude.{◌≡◌, ◌==◌, ◌∷◌, ◌++◌, ℕ, List, [], None, Some, map, option_map, true, false, if◌then◌else◌, OnOk, IfOk};
+ghost use Rattle.router_core.specs.Handling.{is_failed};
+ghost use Rattle.router_play.specs.Script.{Scene, opening, PlaysAll, book, refused, out_line, say_all, hand, enter, enter_all, BytesCome, make, lose, Takes, take_one, close_if, Flushes, Plays};
+ghost use Rattle.router_play.specs.Carrying.{RunsCarry};
+ghost use Rattle.router_trace.specs.Connection.{conn as known, is_ready};
+ghost use Rattle.router_core.specs.Runs.{taking};
+ghost use Rattle.router_play.specs.Asking.{follow};
+ghost use Rattle.router_trace.specs.declared.event.Event.TheVariants as event;
+ghost use Rattle.router_play.specs.declared.line.Line.TheVariants as line;
+ghost use Rattle.router_play.specs.declared.line.Line.{Line as ALine};
+ghost use Rattle.router_play.specs.Playing.{Follows, Said, IsRead, part_by};
+
+use crate::line::Line;
+use crate::script::{Report, Run, Step};
+use crate::socket::{Asked, Socket};
+use crate::sockets::{Parted, add, ask_in, close, part_in, read_in};
+use amqp_frames::{Item, write_item};
+use amqp_perf::Binary;
+use router_core::{Batch, Config, Core, CoreFault};
+use router_trace::{ConnectionId, Event, Peer, PeerRole};
+use std::alloc::{AllocError, Global};
+use std::collections::BTreeMap;
+
+/// So many items are taken at a time.
+const MOST: usize = 64;
+
+/// A script as it is played.
+#[derive(Drop)]
+struct Player {
+    alloc: Global,
+    core: Core,
+    sockets: BTreeMap<u64, Socket>,
+    newest: Option<u64>,
+    lines: Vec<Line>,
+}
+
+/// Plays runs, one after the other, each against a router to which nothing happened: after each step all outboxes are
+/// taken, by connection. The last line tells of the book. Where memory is refused to the play itself the lines end there.
+pub fn play_runs(alloc: Global, config: Config, runs: &[Run]) -> Report
+    ensures plays { result.out_of_memory ≡ false → result.failed ≡ false → (lines : List ALine) × PlaysAll config.router_id (map (λ r. r.steps.items) runs.now) lines × (result.lines.items ≡ lines ++ book ∷ []) }
+    ensures carries { result.out_of_memory ≡ false → result.failed ≡ false → (lines : List ALine) × RunsCarry config.router_id (map (λ r. r.steps.items) runs.now) lines × (result.lines.items ≡ lines ++ book ∷ []) }
+{
+    let mut lines = Vec::new(alloc);
+    let mut failed = false;
+    for run in runs {
+        match play_run(alloc, &config, run, &mut lines) {
+            Ok(works) => failed = either(failed, !works),
+            Err(AllocError) => {
+                return Report {
+                    lines,
+                    out_of_memory: true,
+                    failed,
+                };
+            }
+        }
+    }
+    match say_book(&mut lines) {
+        Ok(()) => Report {
+            lines,
+            out_of_memory: false,
+            failed,
+        },
+        Err(AllocError) => Report {
+            lines,
+            out_of_memory: true,
+            failed,
+        },
+    }
+}
+
+/// Whether one of two things holds.
+fn either(one: bool, other: bool) -> bool
+    ensures { result ≡ (if one then true else other) }
+{
+    one || other
+}
+
+/// Plays a run, and puts its lines behind the others. Gives whether the router works at its end.
+fn play_run(
+    alloc: Global,
+    config: &Config,
+    run: &Run,
+    lines: &mut Vec<Line>,
+) -> Result<bool, AllocError>
+    ensures { IfOk result (λ works. works ≡ true → (u : Scene) × Plays run.now.steps.items (opening config.now.router_id) u × (lines.new.items ≡ lines.old.items ++ u.lines)) }
+{
+    let mut player = Player::new(alloc, config)?;
+    let played = player.play(&run.steps);
+    let works = !player.core.is_failed();
+    let Player { lines: told, .. } = player;
+    append(lines, told)?;
+    played?;
+    Ok(works)
+}
+
+/// Puts lines behind others.
+fn append(lines: &mut Vec<Line>, told: Vec<Line>) -> Result<(), AllocError>
+    ensures { OnOk result (lines.new.items ≡ lines.old.items ++ told.items) }
+{
+    for line in told {
+        match lines.push(line) {
+            Ok(()) => {}
+            Err(_) => return Err(AllocError),
+        }
+    }
+    Ok(())
+}
+
+/// The line of the book at the end.
+fn say_book(lines: &mut Vec<Line>) -> Result<(), AllocError>
+    ensures { OnOk result (lines.new.items ≡ lines.old.items ++ book ∷ []) }
+{
+    match lines.push(Line::Book {
+        rows: 0,
+        termini: 0,
+        batches: 0,
+    }) {
+        Ok(()) => Ok(()),
+        Err(_) => Err(AllocError),
+    }
+}
+
+impl Player {
+    /// A player before the first step.
+    fn new(alloc: Global, config: &Config) -> Result<Player, AllocError>
+        ensures follows { IfOk result (λ p. Follows p (opening config.now.router_id)) }
+    {
+        Ok(Player {
+            alloc,
+            core: Core::open(alloc, config)?,
+            sockets: BTreeMap::new(alloc),
+            newest: None,
+            lines: Vec::new(alloc),
+        })
+    }
+
+    /// One line more.
+    fn say(&mut self, line: Line) -> Result<(), AllocError>
+        ensures said { OnOk result (Said self.old self.new (line ∷ [])) }
+        ensures core { self.new.core ≡ self.old.core }
+    {
+        match self.lines.push(line) {
+            Ok(()) => Ok(()),
+            Err(_) => Err(AllocError),
+        }
+    }
+
+    /// The line of an item that goes out.
+    fn say_out(&mut self, conn: ConnectionId, item: &Item) -> Result<(), AllocError>
+        ensures said { OnOk result (Said self.old self.new (out_line conn item.now ∷ [])) }
+        ensures core { self.new.core ≡ self.old.core }
+    {
+        let mut bytes = Vec::new(self.alloc);
+        write_item(self.alloc, item, &mut bytes)?;
+        self.say(Line::Out {
+            conn,
+            bytes: Binary::new(bytes),
+        })
+    }
+
+    /// The lines of items that go out.
+    fn say_all(&mut self, conn: ConnectionId, items: &[Item]) -> Result<(), AllocError>
+        ensures said { OnOk result (Said self.old self.new (map (out_line conn) items.now)) }
+        ensures core { self.new.core ≡ self.old.core }
+    {
+        for item in items {
+            self.say_out(conn, item)?;
+        }
+        Ok(())
+    }
+
+    /// Hands an event to the router.
+    fn hand(&mut self, event: Event) -> Result<(), AllocError>
+        ensures follows { OnOk result (is_failed self.new.core ≡ false → (s : Scene) → Follows self.old s → Follows self.new (hand event s)) }
+        ensures stays { is_failed self.old.core ≡ true → is_failed self.new.core ≡ true }
+    {
+        match self.core.handle(event) {
+            Ok(_) => Ok(()),
+            Err(fault) => self.say(Line::Failed(fault)),
+        }
+    }
+
+    /// An item comes on a connection: at the door, or to the router.
+    fn enter(&mut self, conn: ConnectionId, item: Item) -> Result<(), AllocError>
+        ensures follows { OnOk result (is_failed self.new.core ≡ false → (s : Scene) → Follows self.old s → Follows self.new (enter conn item s)) }
+        ensures stays { is_failed self.old.core ≡ true → is_failed self.new.core ≡ true }
+    {
+        let asked = self.ask(conn, &item)?;
+        self.follow(conn, item, asked)
+    }
+
+    /// Items come on a connection, one after the other.
+    fn enter_all(&mut self, conn: ConnectionId, items: Vec<Item>) -> Result<(), AllocError>
+        ensures follows { OnOk result (is_failed self.new.core ≡ false → (s : Scene) → Follows self.old s → Follows self.new (enter_all conn items.items s)) }
+        ensures stays { is_failed self.old.core ≡ true → is_failed self.new.core ≡ true }
+    {
+        for item in items {
+            self.enter(conn, item)?;
+        }
+        Ok(())
+    }
+
+    /// Bytes come on a connection.
+    fn bytes(&mut self, conn: ConnectionId, bytes: &[u8]) -> Result<(), AllocError>
+        ensures follows { OnOk result (is_failed self.new.core ≡ false → (s : Scene) → Follows self.old s → (u : Scene) × BytesCome conn bytes.now s (s.sockets conn.0) u × Follows self.new u) }
+        ensures stays { is_failed self.old.core ≡ true → is_failed self.new.core ≡ true }
+    {
+        match self.read(conn, bytes)? {
+            None => self.refuse(),
+            Some(items) => self.enter_all(conn, items),
+        }
+    }
+
+    /// Cuts bytes into items, where they are taken.
+    fn read(&mut self, conn: ConnectionId, bytes: &[u8]) -> Result<Option<Vec<Item>>, AllocError>
+        ensures reads { IfOk result (λ read. (s : Scene) → Follows self.old s → IsRead conn bytes.now s (s.sockets conn.0) self.new (option_map (λ v. v.items) read)) }
+        ensures core { self.new.core ≡ self.old.core }
+    {
+        read_in(&mut self.sockets, conn.0, bytes)
+    }
+
+    /// The line of what is refused.
+    fn refuse(&mut self) -> Result<(), AllocError>
+        ensures said { OnOk result (Said self.old self.new (refused ∷ [])) }
+        ensures core { self.new.core ≡ self.old.core }
+    {
+        self.say(Line::Failed(CoreFault::NoConnection))
+    }
+
+    /// A connection is made.
+    fn up(&mut self, conn: ConnectionId, role: PeerRole) -> Result<(), AllocError>
+        ensures follows { OnOk result ((s : Scene) → Follows self.old s → Follows self.new (make conn role s)) }
+        ensures core { self.new.core ≡ self.old.core }
+    {
+        let rises = match self.newest {
+            None => true,
+            Some(newest) => newest < conn.0,
+        };
+        if !rises {
+            self.refuse()?;
+            return Ok(());
+        }
+        self.newest = Some(conn.0);
+        add(&mut self.sockets, conn.0, Socket::new(self.alloc, role))?;
+        Ok(())
+    }
+
+    /// A connection is lost.
+    fn down(&mut self, conn: ConnectionId) -> Result<(), AllocError>
+        ensures follows { OnOk result (is_failed self.new.core ≡ false → (s : Scene) → Follows self.old s → Follows self.new (lose conn s)) }
+        ensures stays { is_failed self.old.core ≡ true → is_failed self.new.core ≡ true }
+    {
+        match self.part(conn) {
+            Parted::Closed => self.refuse(),
+            Parted::Passed => self.hand(Event::Down(conn)),
+            Parted::AtDoor => Ok(()),
+        }
+    }
+
+    /// Closes a connection, and tells where it stood.
+    fn part(&mut self, conn: ConnectionId) -> Parted
+        ensures parted { (s : Scene) → Follows self.old s → (after : Scene) × Follows self.new after × (part_by conn result after ≡ lose conn s) }
+        ensures core { self.new.core ≡ self.old.core }
+    {
+        part_in(&mut self.sockets, conn.0)
+    }
+
+    /// A step.
+    fn step(&mut self, step: &Step) -> Result<(), AllocError>
+        ensures follows { OnOk result (is_failed self.new.core ≡ false → (s : Scene) → Follows self.old s → (u : Scene) × Takes step.now s u × Follows self.new u) }
+        ensures stays { is_failed self.old.core ≡ true → is_failed self.new.core ≡ true }
+    {
+        match step {
+            Step::Up { conn, role } => self.up(*conn, *role)?,
+            Step::In { conn, bytes } => self.bytes(*conn, bytes.as_slice())?,
+            Step::Down { conn } => self.down(*conn)?,
+            Step::Tick { ms } => self.hand(Event::Tick(*ms))?,
+        }
+        Ok(())
+    }
+
+    /// Empties all outboxes, by connection, unless the router failed.
+    fn flush(&mut self) -> Result<(), AllocError>
+        ensures follows { OnOk result (is_failed self.new.core ≡ false → (s : Scene) → Follows self.old s → (u : Scene) × Flushes s u × Follows self.new u) }
+        ensures stays { is_failed self.old.core ≡ true → is_failed self.new.core ≡ true }
+    {
+        for _turn in 0..u64::MAX {
+            if self.core.is_failed() {
+                return Ok(());
+            }
+            match self.core.ready() {
+                None => return Ok(()),
+                Some(conn) => self.take(conn)?,
+            }
+        }
+        Err(AllocError)
+    }
+
+    /// Takes items of an outbox that has some, or of a connection that is over.
+    fn take(&mut self, conn: ConnectionId) -> Result<(), AllocError>
+        ensures follows { OnOk result (is_failed self.new.core ≡ false → (s : Scene) → Follows self.old s → is_ready (known s.trace conn.0) ≡ true → Follows self.new (take_one (taking conn) s)) }
+        ensures stays { is_failed self.old.core ≡ true → is_failed self.new.core ≡ true }
+    {
+        match self.core.take(conn, MOST) {
+            Ok(batch) => self.send(conn, batch),
+            Err(fault) => self.say(Line::Failed(fault)),
+        }
+    }
+
+    /// The lines of a batch; a connection that is over is closed with its last.
+    fn send(&mut self, conn: ConnectionId, batch: Batch) -> Result<(), AllocError>
+        ensures follows { OnOk result ((s : Scene) → Follows self.old s → Follows self.new (close_if batch.ended conn (say_all (map (out_line conn) batch.items.items) s))) }
+        ensures core { self.new.core ≡ self.old.core }
+    {
+        self.say_all(conn, &batch.items)?;
+        self.close_if(conn, batch.ended)?;
+        Ok(())
+    }
+
+    /// Closes a connection, where it is over.
+    fn close_if(&mut self, conn: ConnectionId, ended: bool) -> Result<(), AllocError>
+        ensures follows { OnOk result ((s : Scene) → Follows self.old s → Follows self.new (close_if ended conn s)) }
+        ensures core { self.new.core ≡ self.old.core }
+    {
+        if ended {
+            close(&mut self.sockets, conn.0);
+            self.say(Line::End { conn })?;
+        }
+        Ok(())
+    }
+
+    /// Steps, one after the other.
+    fn play(&mut self, steps: &[Step]) -> Result<(), AllocError>
+        ensures follows { OnOk result (is_failed self.new.core ≡ false → (s : Scene) → Follows self.old s → (u : Scene) × Plays steps.now s u × Follows self.new u) }
+        ensures stays { is_failed self.old.core ≡ true → is_failed self.new.core ≡ true }
+    {
+        for step in steps {
+            self.step(step)?;
+            self.flush()?;
+        }
+        Ok(())
+    }
+
+    /// Asks who takes an item.
+    fn ask(&mut self, conn: ConnectionId, item: &Item) -> Result<Asked, AllocError>
+        ensures asks { IfOk result (λ asked. (s : Scene) → Follows self.old s → (after : Scene) × Follows self.new after × (follow conn item.now asked after ≡ enter conn item.now s)) }
+        ensures core { self.new.core ≡ self.old.core }
+    {
+        ask_in(&mut self.sockets, self.alloc, conn.0, item)
+    }
+
+    /// Gives an item to who takes it.
+    fn follow(&mut self, conn: ConnectionId, item: Item, asked: Asked) -> Result<(), AllocError>
+        ensures follows { OnOk result (is_failed self.new.core ≡ false → (s : Scene) → Follows self.old s → Follows self.new (follow conn item asked s)) }
+        ensures stays { is_failed self.old.core ≡ true → is_failed self.new.core ≡ true }
+    {
+        match asked {
+            Asked::Nobody => {
+                discard(item);
+                Ok(())
+            }
+            Asked::Router => self.hand(Event::Item(conn, item)),
+            Asked::Say(items) => {
+                discard(item);
+                self.say_all(conn, &items)
+            }
+            Asked::Pass(peer) => self.pass(conn, peer, item),
+            Asked::End(items) => {
+                discard(item);
+                self.say_end(conn, &items)
+            }
+        }
+    }
+
+    /// A connection comes up, and its first item goes to the router.
+    fn pass(&mut self, conn: ConnectionId, peer: Peer, item: Item) -> Result<(), AllocError>
+        ensures follows { OnOk result (is_failed self.new.core ≡ false → (s : Scene) → Follows self.old s → Follows self.new (hand (event.Item conn item) (hand (event.Up conn peer) s))) }
+        ensures stays { is_failed self.old.core ≡ true → is_failed self.new.core ≡ true }
+    {
+        self.hand(Event::Up(conn, peer))?;
+        self.hand(Event::Item(conn, item))
+    }
+
+    /// The last lines of a connection.
+    fn say_end(&mut self, conn: ConnectionId, items: &[Item]) -> Result<(), AllocError>
+        ensures said { OnOk result (Said self.old self.new (map (out_line conn) items.now ++ line.End conn ∷ [])) }
+        ensures core { self.new.core ≡ self.old.core }
+    {
+        self.say_all(conn, items)?;
+        self.say(Line::End { conn })
+    }
+}
+
+/// Lets go of an item.
+fn discard(_item: Item) {}

@@ -1,0 +1,51 @@
+//! A script: the steps of its runs, and what comes of playing it.
+use crate::line::Line;
+use amqp_perf::Binary;
+use router_trace::{ConnectionId, PeerRole};
+
+/// A step of a script.
+#[derive(Debug, Drop)]
+pub enum Step {
+    /// A connection is made.
+    Up {
+        /// Its number, above those of all before it.
+        conn: ConnectionId,
+        /// What the peer is to the router.
+        role: PeerRole,
+    },
+    /// Bytes come on a connection.
+    In {
+        /// The connection.
+        conn: ConnectionId,
+        /// The bytes.
+        bytes: Binary,
+    },
+    /// A connection is lost.
+    Down {
+        /// The connection.
+        conn: ConnectionId,
+    },
+    /// So many milliseconds have passed since a moment of the script's choice.
+    Tick {
+        /// The milliseconds.
+        ms: u64,
+    },
+}
+
+/// A run of the router: the steps of a script between two stops.
+#[derive(Debug, Drop)]
+pub struct Run {
+    /// The steps, in order.
+    pub steps: Vec<Step>,
+}
+
+/// What a play printed, and how it ended.
+#[derive(Debug, Drop)]
+pub struct Report {
+    /// The lines, in order.
+    pub lines: Vec<Line>,
+    /// Whether memory was refused to the play itself, which ended it there.
+    pub out_of_memory: bool,
+    /// Whether the router answered a fault of the disk or of memory, so that it answered nothing else behind it.
+    pub failed: bool,
+}

@@ -1,0 +1,67 @@
+//! A connection of a script: its door, and the reader of its bytes.
+ghost use Rattle.std.specs.Prelude.{◌≡◌, IfOk};
+ghost use Rattle.router_play.specs.Script.{new_socket};
+ghost use Rattle.router_play.specs.Asking.{IsAsked};
+
+use amqp_frames::{FrameReader, Item};
+use router_core::{Door, DoorAnswer};
+use router_trace::{Peer, PeerRole};
+use std::alloc::{AllocError, Global};
+
+/// A connection of a script: its door until it passes, and the reader of its bytes.
+#[derive(Drop)]
+pub struct Socket {
+    /// The door, until the connection passes.
+    pub door: Option<Door>,
+    /// The reader of the bytes that come.
+    pub reader: FrameReader,
+}
+
+impl Socket {
+    /// A connection of which nothing has come.
+    pub fn new(alloc: Global, role: PeerRole) -> Socket
+        ensures { result ≡ new_socket role }
+    {
+        Socket {
+            door: Some(Door::new(role)),
+            reader: FrameReader::new(alloc),
+        }
+    }
+
+    /// Asks the door, while the connection stands at it.
+    pub fn ask(&mut self, alloc: Global, item: &Item) -> Result<Asked, AllocError>
+        ensures { IfOk result (λ asked. IsAsked item.now self.old self.new asked) }
+    {
+        let Some(mut door) = self.door else {
+            return Ok(Asked::Router);
+        };
+        let answer = door.step(alloc, item)?;
+        self.door = Some(door);
+        match answer {
+            DoorAnswer::Say(items) => Ok(Asked::Say(items)),
+            DoorAnswer::Pass(user) => {
+                self.door = None;
+                Ok(Asked::Pass(Peer {
+                    user,
+                    role: door.role,
+                }))
+            }
+            DoorAnswer::End(items) => Ok(Asked::End(items)),
+        }
+    }
+}
+
+/// Who takes an item of a connection.
+#[derive(Drop)]
+pub enum Asked {
+    /// Nobody: the connection is over.
+    Nobody,
+    /// The router.
+    Router,
+    /// The door, which says these items.
+    Say(Vec<Item>),
+    /// The router, behind the event that the connection of this peer came up.
+    Pass(Peer),
+    /// The door, which says these items and ends the connection.
+    End(Vec<Item>),
+}

@@ -1,0 +1,67 @@
+//! Closes with an error, and the ends for full outboxes.
+ghost use Rattle.std.specs.Prelude.{◌∷◌, List, [], OnOk};
+ghost use Rattle.router_trace.specs.Trace.{Entry, puts};
+ghost use Rattle.router_state.specs.Tables.{TablesFit};
+ghost use Rattle.router_trace.specs.Frames.{closing, open_item, close_item};
+ghost use Rattle.router_reply.specs.Replies.{ends};
+
+use amqp_conn::Conn;
+use router_state::State;
+use router_trace::{Condition, RouterId};
+use std::alloc::AllocError;
+
+/// Closes a connection in this phase with an error; the router's open stands before the close where it isn't written
+/// yet.
+pub fn close_with(
+    state: &mut State,
+    id: &RouterId,
+    conn: u64,
+    phase: Conn,
+    condition: Condition,
+) -> Result<(), AllocError>
+    ensures { OnOk result ((t : List Entry) → TablesFit state.old t → TablesFit state.new (puts conn (closing id.now phase condition) t)) }
+{
+    if phase.opened {
+        write_close(state, id, conn, Some(condition))?;
+        return Ok(());
+    }
+    write_open(state, id, conn)?;
+    write_close(state, id, conn, Some(condition))?;
+    Ok(())
+}
+
+/// Writes the router's open.
+pub fn write_open(state: &mut State, id: &RouterId, conn: u64) -> Result<(), AllocError>
+    ensures { OnOk result ((t : List Entry) → TablesFit state.old t → TablesFit state.new (puts conn (open_item id.now ∷ []) t)) }
+{
+    let item = id.open_item()?;
+    state.put(conn, item)?;
+    Ok(())
+}
+
+/// Writes the router's close, with an error or none.
+pub fn write_close(
+    state: &mut State,
+    id: &RouterId,
+    conn: u64,
+    condition: Option<Condition>,
+) -> Result<(), AllocError>
+    ensures { OnOk result ((t : List Entry) → TablesFit state.old t → TablesFit state.new (puts conn (close_item condition ∷ []) t)) }
+{
+    let item = id.close_item(condition)?;
+    state.put(conn, item)?;
+    Ok(())
+}
+
+/// Closes these connections for their full outboxes, one after the other. They are over already, so that nothing else is
+/// put out for them.
+pub fn close_all(state: &mut State, id: &RouterId, due: &[u64]) -> Result<(), AllocError>
+    ensures { OnOk result ((t : List Entry) → TablesFit state.old t → TablesFit state.new (ends id.now due.now t)) }
+{
+    for conn in due {
+        if let Some(phase) = state.phase(*conn) {
+            close_with(state, id, *conn, phase, Condition::ResourceLimitExceeded)?;
+        }
+    }
+    Ok(())
+}

@@ -1,0 +1,6 @@
+//! The router's tables, changed together.
+#![tactic(auto)]
+
+mod tables;
+
+pub use tables::State;

@@ -1,0 +1,131 @@
+-- What a trace says of a connection (AMQP 1.0 part 2, section 2.4): its phase, and its outbox.
+use Rattle.std.specs.Prelude.{◌≡◌, ℕ, ◌+◌, Bool, true, false, not, if◌then◌else◌, ◌==◌, nat_eq, nat_lt, nat_le, is_some, is_none, List, [], ◌∷◌, ◌++◌, length, take, drop, filter, Option, Some, None, option_map, option_and_then}
+use Rattle.std.specs.List.{list_any}
+use Rattle.amqp_perf.specs.declared.perf.Perf.{Perf}
+use Rattle.amqp_perf.specs.declared.perf.Perf.TheVariants as perf
+use Rattle.amqp_frames.specs.declared.item.Item.{Item}
+use Rattle.amqp_frames.specs.declared.item.Item.TheVariants as item
+use Rattle.amqp_conn.specs.declared.conn.Conn.{Conn}
+use Rattle.router_trace.specs.declared.event.Event.{Event}
+use Rattle.router_trace.specs.declared.event.Event.TheVariants as event
+use Rattle.router_trace.specs.Trace.{Did, Out, Took, Trace, ups}
+
+-- a connection: whether its header and open are written and whether it is over, the items that wait in its outbox, and
+-- how many left it
+pub record Connection : Type 0 where
+  pub phase : Conn
+  pub waiting : List Item
+  pub taken : ℕ
+
+-- the phase behind a performative, and behind an item, that the router wrote
+abbrev pub behind_perf : Perf → Conn → Conn
+behind_perf (perf.Open o) p = record p { opened = true }
+behind_perf (perf.Close c) p = record p { closed = true }
+behind_perf _ p = p
+
+abbrev pub behind : Item → Conn → Conn
+behind (item.Header id major minor revision) p = record p { header = true }
+behind (item.Frame sasl channel body payload) p = behind_perf body p
+behind _ p = p
+
+-- an item more in the outbox
+abbrev pub with_item : Item → Connection → Connection
+with_item i v = record { phase = behind i v.phase; waiting = v.waiting ++ i ∷ []; taken = v.taken }
+
+-- the connection is over, with what waits in its outbox
+abbrev pub ended : Connection → Connection
+ended v = record { phase = record v.phase { closed = true }; waiting = v.waiting; taken = v.taken }
+
+-- so many items left the outbox
+abbrev pub drained : ℕ → Connection → Connection
+drained n v = record { phase = v.phase; waiting = drop n v.waiting; taken = v.taken + n }
+
+-- a connection that is over goes with the last item of its outbox
+abbrev pub unless_empty : Connection → List Item → Option Connection
+unless_empty v [] = None
+unless_empty v (i ∷ is) = Some v
+
+abbrev pub unless_gone : Connection → Option Connection
+unless_gone v = if v.phase.closed then unless_empty v v.waiting else Some v
+
+abbrev pub took : ℕ → Connection → Option Connection
+took n v = unless_gone (drained n v)
+
+-- what is taken of an outbox: its first items up to so many, numbered on from those that left before; and whether the
+-- connection goes with them
+pub record Batched (v : Connection) (most first : ℕ) (items : List Item) (ended : Bool) : Type 0 where
+  pub numbered : first ≡ v.taken
+  pub in_order : items ≡ take most v.waiting
+  pub gone : ended ≡ is_none (took (length items) v)
+
+-- a connection that comes up while so many others are live: beyond 64 it is over at once
+abbrev pub fresh : ℕ → Connection
+fresh live = record { phase = record { header = false; opened = false; closed = not (nat_lt live 64) }; waiting = []; taken = 0 }
+
+-- the phase of a connection that is live
+abbrev pub standing : Option Connection → Option Conn
+standing None = None
+standing (Some v) = if v.phase.closed then None else Some v.phase
+
+abbrev pub is_live : Option Connection → Bool
+is_live v = is_some (standing v)
+
+-- a live connection's outbox holds 4,096 items or more
+abbrev pub is_full : Option Connection → Bool
+is_full None = false
+is_full (Some v) = if v.phase.closed then false else nat_le 4096 (length v.waiting)
+
+-- something can be taken of it: an item waits, or it is over
+abbrev pub is_item : List Item → Bool
+is_item [] = false
+is_item (i ∷ is) = true
+
+abbrev pub is_ready : Option Connection → Bool
+is_ready None = false
+is_ready (Some v) = if v.phase.closed then true else is_item v.waiting
+
+-- an event ends this connection for its full outbox; not the one that it says is lost
+abbrev pub is_due : Event → ℕ → Option Connection → Bool
+is_due (event.Down d) c v = if d.0 == c then false else is_full v
+is_due _ c v = is_full v
+
+abbrev pub has : ℕ → List ℕ → Bool
+has c ks = list_any (λ k. nat_eq k c) ks
+
+-- of the connections that came up, with what is known of each: those that the event ends first, the others as the event
+-- finds them, and those that are live
+abbrev pub due_of : Event → List ℕ → (ℕ → Option Connection) → List ℕ
+due_of e ks known = filter (λ k. is_due e k (known k)) ks
+
+abbrev pub unless_due : List ℕ → (ℕ → Option Connection) → ℕ → Option Connection
+unless_due due known c = if has c due then option_map ended (known c) else known c
+
+abbrev pub live_of : List ℕ → (ℕ → Option Connection) → List ℕ
+live_of ks known = filter (λ k. is_live (known k)) ks
+
+-- what an event itself does to a connection, so many being live
+abbrev pub at_event : Event → ℕ → ℕ → Option Connection → Option Connection
+at_event (event.Up d p) c live v = if d.0 == c then Some (fresh live) else v
+at_event (event.Down d) c live v = if d.0 == c then None else v
+at_event _ c live v = v
+
+-- what is known of a connection; none before it comes up, behind its loss, and once it is over and its last item left
+abbrev pub conn : Trace → ℕ → Option Connection
+conn [] c = None
+conn (Did s ∷ t) c =
+    let found = unless_due (due_of s.event (ups t) (conn t)) (conn t)
+    in at_event s.event c (length (live_of (ups t) found)) (found c)
+conn (Out d i ∷ t) c = if d == c then option_map (with_item i) (conn t c) else conn t c
+conn (Took d n ∷ t) c = if d == c then option_and_then (took n) (conn t c) else conn t c
+
+-- the connections that an event ends for their full outboxes, by number
+abbrev pub due : Trace → Event → List ℕ
+due t e = due_of e (ups t) (conn t)
+
+-- a connection as an event finds it: those with full outboxes are over
+abbrev pub found : Trace → Event → ℕ → Option Connection
+found t e c = unless_due (due t e) (conn t) c
+
+-- the live connections, by number
+abbrev pub live : Trace → List ℕ
+live t = live_of (ups t) (conn t)
