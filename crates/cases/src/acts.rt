@@ -58,11 +58,7 @@ fn rising(next: &mut u64, word: Option<&str>) -> Result<u64, CaseFault> {
 }
 
 /// `NUMBER ROLE USER CONTAINER NAME ADDRESS`.
-fn make(
-    alloc: Global,
-    next: &mut u64,
-    words: &mut Split<'_, char>,
-) -> Result<Act, CaseFault> {
+fn make(alloc: Global, next: &mut u64, words: &mut Split<'_, char>) -> Result<Act, CaseFault> {
     let number = TerminusNumber(rising(next, words.next())?);
     let key = key_of(alloc, words)?;
     let address = text_of(alloc, words.next())?;
@@ -104,11 +100,7 @@ fn text_of(alloc: Global, word: Option<&str>) -> Result<Text, CaseFault> {
 }
 
 /// `ROW PRODUCER TAG CONSUMER FORMAT PAYLOAD`; the consumer `-` is none.
-fn admit(
-    alloc: Global,
-    next: &mut u64,
-    words: &mut Split<'_, char>,
-) -> Result<Act, CaseFault> {
+fn admit(alloc: Global, next: &mut u64, words: &mut Split<'_, char>) -> Result<Act, CaseFault> {
     let row = RowNumber(rising(next, words.next())?);
     let producer = TerminusNumber(number_of(words.next())?);
     let tag = tag_of(alloc, words.next())?;

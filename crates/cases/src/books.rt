@@ -85,12 +85,7 @@ fn kinds(alloc: Global, book: &Book, case: &Case<'_>) -> Result<String, CaseFaul
 }
 
 /// What a book has.
-fn told(
-    alloc: Global,
-    book: &Book,
-    question: Question,
-    words: &str,
-) -> Result<String, CaseFault> {
+fn told(alloc: Global, book: &Book, question: Question, words: &str) -> Result<String, CaseFault> {
     match question {
         Question::Row => row(alloc, book.row(RowNumber(number_of(Some(words))?))),
         Question::Rows => rows(alloc, book.rows()),

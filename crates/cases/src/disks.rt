@@ -39,9 +39,9 @@ enum Call {
     Sync,
 }
 
-/// What is asked in a scene.
+/// A disk that a scene may take.
 #[derive(Clone, Copy, Debug)]
-enum Question {
+enum Taken {
     /// A disk in memory with these bytes.
     Memory,
     /// The same behind a fuse.
@@ -52,6 +52,13 @@ enum Question {
     Open,
     /// The file of this name, which can't be written.
     Over,
+}
+
+/// What is asked in a scene.
+#[derive(Clone, Copy, Debug)]
+enum Question {
+    /// To take a disk.
+    Take(Taken),
     /// To put bytes into a file, past the disk.
     Put,
     /// The bytes of a file.
@@ -69,11 +76,11 @@ enum Question {
 /// The question of a case.
 fn question_of(case: &Case<'_>) -> Result<Question, CaseFault> {
     match case.question {
-        "memory" => Ok(Question::Memory),
-        "fused" => Ok(Question::Fused),
-        "create" => Ok(Question::Create),
-        "open" => Ok(Question::Open),
-        "over" => Ok(Question::Over),
+        "memory" => Ok(Question::Take(Taken::Memory)),
+        "fused" => Ok(Question::Take(Taken::Fused)),
+        "create" => Ok(Question::Take(Taken::Create)),
+        "open" => Ok(Question::Take(Taken::Open)),
+        "over" => Ok(Question::Take(Taken::Over)),
         "put" => Ok(Question::Put),
         "get" => Ok(Question::Get),
         "fuse" => Ok(Question::Fuse),
@@ -100,24 +107,7 @@ pub fn answer(
 ) -> Result<String, CaseFault> {
     let alloc = rt.alloc();
     match question_of(case)? {
-        Question::Memory => {
-            let bytes = bytes_of(alloc, case.words)?;
-            *scene = Some(AnyDisk::Memory(MemDisk::holding(alloc, bytes)?));
-            Ok(String::new(alloc))
-        }
-        Question::Fused => {
-            let bytes = bytes_of(alloc, case.words)?;
-            *scene = Some(AnyDisk::Fused(FuseDisk::new(MemDisk::holding(
-                alloc, bytes,
-            )?)));
-            Ok(String::new(alloc))
-        }
-        Question::Create => set_file(alloc, scene, FileDisk::create(rt, alloc, case.words)),
-        Question::Open => set_file(alloc, scene, FileDisk::open(rt, alloc, case.words)),
-        Question::Over => {
-            let file = fs::open(rt, case.words)?;
-            set_file(alloc, scene, FileDisk::over(alloc, file))
-        }
+        Question::Take(taken) => take(rt, scene, taken, case.words),
         Question::Put => put(rt, case.words),
         Question::Get => digits_of(alloc, fs::read(rt, case.words)?.as_slice()),
         Question::Fuse => fuse(alloc, scene, number_of(Some(case.words))?),
@@ -125,6 +115,38 @@ pub fn answer(
         Question::Bytes => bytes(alloc, scene),
         Question::Call(call) => called(alloc, scene, call, case.words),
     }
+}
+
+/// Takes a disk: nothing, or the fault.
+fn take(
+    rt: &HostRuntime,
+    scene: &mut Option<AnyDisk>,
+    taken: Taken,
+    words: &str,
+) -> Result<String, CaseFault> {
+    let alloc = rt.alloc();
+    match taken {
+        Taken::Memory => {
+            *scene = Some(AnyDisk::Memory(disk_of(alloc, words)?));
+            Ok(String::new(alloc))
+        }
+        Taken::Fused => {
+            *scene = Some(AnyDisk::Fused(FuseDisk::new(disk_of(alloc, words)?)));
+            Ok(String::new(alloc))
+        }
+        Taken::Create => set_file(alloc, scene, FileDisk::create(rt, alloc, words)),
+        Taken::Open => set_file(alloc, scene, FileDisk::open(rt, alloc, words)),
+        Taken::Over => {
+            let file = fs::open(rt, words)?;
+            set_file(alloc, scene, FileDisk::over(alloc, file))
+        }
+    }
+}
+
+/// A disk in memory with the bytes of a word.
+fn disk_of(alloc: Global, word: &str) -> Result<MemDisk, CaseFault> {
+    let bytes = bytes_of(alloc, word)?;
+    Ok(MemDisk::holding(alloc, bytes)?)
 }
 
 /// The disk over a file, from here on; or the number of the fault.

@@ -163,19 +163,30 @@ fn pieces(alloc: Global, words: &str) -> Result<String, CaseFault> {
     let mut reader = FrameReader::new(alloc);
     let mut lines = String::new(alloc);
     for word in words.split(' ') {
-        let piece = bytes_of(alloc, word)?;
-        match reader.feed(piece.as_slice()) {
-            Ok(items) => put_piece(&mut lines, items.as_slice())?,
-            Err(fault) => {
-                let number = fault.number();
-                write!(lines, "fault {number}")?;
-            }
-        }
-        lines.push('\n')?;
+        feed_piece(alloc, &mut reader, &mut lines, word)?;
     }
     let rest = digits_of(alloc, reader.rest())?;
     writeln!(lines, "rest {rest}")?;
     Ok(lines)
+}
+
+/// Feeds the piece that a word is, and appends its line.
+fn feed_piece(
+    alloc: Global,
+    reader: &mut FrameReader,
+    lines: &mut String,
+    word: &str,
+) -> Result<(), CaseFault> {
+    let piece = bytes_of(alloc, word)?;
+    match reader.feed(piece.as_slice()) {
+        Ok(items) => put_piece(lines, items.as_slice())?,
+        Err(fault) => {
+            let number = fault.number();
+            write!(lines, "fault {number}")?;
+        }
+    }
+    lines.push('\n')?;
+    Ok(())
 }
 
 /// Appends the items of a piece in one line.

@@ -1,9 +1,12 @@
 //! Questions on journals: what batches, stops and faults leave, and what is listed.
+ghost use Rattle.std.specs.Prelude.{◌≡◌};
+
 use crate::batches::{append_batches, twins};
 use crate::case::Case;
 use crate::disks::fault_text;
 use crate::fault::CaseFault;
 use crate::text::{bytes_of, digits_of, number_of, size_of};
+use book_core::Book;
 use disk_core::{Crash, Disk, FuseDisk, MemDisk};
 use gate_journal::{Journal, Listing, OpenFault, format, list};
 use std::alloc::Global;
@@ -145,28 +148,67 @@ fn appended(
     disk: StopDisk,
     case: &Case<'_>,
 ) -> Result<(Option<StopDisk>, String), CaseFault> {
-    let mut disk = disk;
     let text = case.lines_text(alloc)?;
-    let (mut book, mut trial) = match list(alloc, &mut disk) {
-        Ok(listing) => twins(alloc, listing.entries.as_slice())?,
-        Err(fault) => return Ok((Some(disk), format!(in alloc; "{fault}")?)),
+    let calls = match case.words {
+        "" => None,
+        words => Some(number_of(Some(words))?),
     };
+    append_text(alloc, disk, calls, text.as_str())
+}
+
+/// Appends the batches of a text to the journal on a disk.
+fn append_text(
+    alloc: Global,
+    disk: StopDisk,
+    calls: Option<u64>,
+    text: &str,
+) -> Result<(Option<StopDisk>, String), CaseFault> {
+    let mut disk = disk;
+    match list(alloc, &mut disk) {
+        Ok(listing) => {
+            let books = twins(alloc, listing.entries.as_slice())?;
+            append_with(alloc, disk, books, calls, text)
+        }
+        Err(fault) => Ok((Some(disk), format!(in alloc; "{fault}")?)),
+    }
+}
+
+/// Appends batches to the journal on a disk, with its book twice.
+fn append_with(
+    alloc: Global,
+    disk: StopDisk,
+    books: (Book, Book),
+    calls: Option<u64>,
+    text: &str,
+) -> Result<(Option<StopDisk>, String), CaseFault>
+    requires { books.0 ≡ books.1 }
+{
     match Journal::open(alloc, disk) {
-        Ok((mut journal, _)) => {
-            if !case.words.is_empty() {
-                journal.fuse(number_of(Some(case.words))?);
-            }
-            let lines = append_batches(
-                alloc,
-                &mut journal,
-                &mut book,
-                &mut trial,
-                text.as_str(),
-            )?;
-            Ok((Some(journal.into_disk()), lines))
+        Ok((journal, _)) => {
+            let (mut book, mut trial) = books;
+            append_in(alloc, journal, &mut book, &mut trial, calls, text)
         }
         Err(fault) => Ok((None, format!(in alloc; "{fault}")?)),
     }
+}
+
+/// Appends batches to a journal, and closes it.
+fn append_in(
+    alloc: Global,
+    journal: Journal<StopDisk>,
+    book: &mut Book,
+    trial: &mut Book,
+    calls: Option<u64>,
+    text: &str,
+) -> Result<(Option<StopDisk>, String), CaseFault>
+    requires { book.old ≡ trial.old }
+{
+    let mut journal = journal;
+    if let Some(calls) = calls {
+        journal.fuse(calls);
+    }
+    let lines = append_batches(alloc, &mut journal, book, trial, text)?;
+    Ok((Some(journal.into_disk()), lines))
 }
 
 /// Stops the disk: 0 leaves what the last sync left, 1 all writes since. A fuse is gone then.

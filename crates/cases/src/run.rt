@@ -60,15 +60,36 @@ pub fn try_file(rt: &HostRuntime, path: &str, tally: &mut Tally) -> Result<(), C
     };
     let text = fs::read_to_string(rt, path)?;
     let cases = read_cases(rt.alloc(), text.as_str())?;
+    try_cases(rt, path, subject, cases.as_slice(), tally)
+}
+
+/// Tries the cases of a file.
+fn try_cases(
+    rt: &HostRuntime,
+    path: &str,
+    subject: Subject,
+    cases: &[Case<'_>],
+    tally: &mut Tally,
+) -> Result<(), CaseFault> {
     let mut scene = Scene::new(rt.alloc(), subject);
-    for case in &cases {
+    for case in cases {
         if case.begins {
             scene = Scene::new(rt.alloc(), subject);
         }
-        let answer = scene.answer(rt, case);
-        tally.count(differs(rt, path, case, answer)?);
+        tally.count(is_wrong(rt, path, &mut scene, case)?);
     }
     Ok(())
+}
+
+/// Whether a scene answers a case otherwise than is wanted.
+fn is_wrong(
+    rt: &HostRuntime,
+    path: &str,
+    scene: &mut Scene,
+    case: &Case<'_>,
+) -> Result<bool, CaseFault> {
+    let answer = scene.answer(rt, case);
+    differs(rt, path, case, answer)
 }
 
 /// Whether the answer to a case isn't the one that is wanted; both are printed then.

@@ -1,13 +1,9 @@
 //! Scenes: what the questions of a case file are asked of.
-use crate::books;
 use crate::case::Case;
-use crate::configurations;
 use crate::disks::{self, AnyDisk};
 use crate::fault::CaseFault;
-use crate::frames;
 use crate::journals::{self, StopDisk};
-use crate::performatives;
-use crate::values;
+use crate::{books, configurations, frames, performatives, values};
 use book_core::Book;
 use route_table::Config;
 use std::alloc::Global;
