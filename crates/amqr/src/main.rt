@@ -1,18 +1,7 @@
 //! A message router for AMQP 1.0: the program.
 #![tactic(auto)]
 
-pub mod input;
-pub mod journal;
-pub mod listing;
-pub mod print;
-pub mod run;
-pub mod script;
-pub mod status;
-pub mod words;
-
-use crate::print::refuse;
-use crate::run::run;
-use crate::status::{Refusal, Status};
+use amqr_commands::{Refusal, Status, refuse, run};
 use std::env;
 use std::io::{self, BufWriter, Write};
 use std::process::ExitCode;
@@ -49,6 +38,3 @@ fn run_over(rt: &HostRuntime) -> io::Result<Status> {
     output.flush()?;
     Ok(status)
 }
-
-#[cfg(test)]
-mod tests;

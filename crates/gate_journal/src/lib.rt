@@ -20,6 +20,3 @@ pub use fresh::format;
 pub use journal::Journal;
 pub use listing::{Entry, Listing, list};
 pub use spell::acts_len;
-
-#[cfg(test)]
-mod tests;

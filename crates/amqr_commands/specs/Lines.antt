@@ -1,0 +1,59 @@
+-- What one line of a script says.
+use Rattle.std.specs.Prelude.{◌≡◌, ℕ, ◌==◌, ◌||◌, if◌then◌else◌, Bool, List, [], ◌∷◌, slice_index, codes, Option, Some, None, Result, Ok, Err, ⊤}
+use Rattle.std.specs.List.{list_all}
+use Rattle.std.specs.Str.{bytes_eq}
+use Rattle.amqr_commands.specs.Words.{Text, cut_at, number_of, bytes_of}
+use Rattle.router_play.specs.declared.script.Step.{Step}
+use Rattle.router_play.specs.declared.script.Step.TheVariants.{Up, In, Down, Tick}
+use Rattle.router_trace.specs.declared.event.PeerRole.TheVariants.{Normal}
+use Rattle.amqr_commands.specs.declared.script.line.LineFault.{LineFault}
+use Rattle.amqr_commands.specs.declared.script.line.LineFault.TheVariants.{Wrong, Memory}
+
+-- a line says nothing, or a step, or nothing that a script may say
+pub data Saying : Type 0 where
+  nothing : Saying
+  step : Step → Saying
+  wrong : Saying
+
+-- a comment, whose first character is `#`
+abbrev pub is_comment : Text → Bool
+is_comment line = slice_index line 0 == 35
+
+-- spaces and tabs alone, or not even these
+abbrev pub is_blank : Text → Bool
+is_blank line = list_all (λ byte. byte == 32 || byte == 9) line
+
+abbrev pub said : Option Step → Saying
+said (Some x) = step x
+said None = wrong
+
+-- of two words, a verb and a number: `up N`, `down N`, `tick MS`
+abbrev pub with_number : Text → Option ℕ → Option Step
+with_number verb None = None
+with_number verb (Some n) =
+    if bytes_eq verb (codes "up") then Some (Up (record { 0 = n }) Normal)
+    else if bytes_eq verb (codes "down") then Some (Down (record { 0 = n }))
+    else if bytes_eq verb (codes "tick") then Some (Tick n)
+    else None
+
+-- of three words: `in N HEX`
+abbrev pub with_bytes : Text → Option ℕ → Option Text → Option Step
+with_bytes verb (Some n) (Some bytes) = if bytes_eq verb (codes "in") then Some (In (record { 0 = n }) bytes) else None
+with_bytes verb _ _ = None
+
+-- the step that so many words say
+abbrev pub step_by : List Text → Option Step
+step_by (verb ∷ number ∷ []) = with_number verb (number_of number)
+step_by (verb ∷ number ∷ bytes ∷ []) = with_bytes verb (number_of number) (bytes_of bytes)
+step_by _ = None
+
+-- what a line says; its words stand one space apart, with none before or behind them
+unfoldable pub saying_of : Text → Saying
+saying_of line = if is_comment line || is_blank line then nothing else said (step_by (cut_at 32 line))
+
+-- what a function read of a line is what it says, unless memory ran out
+abbrev pub Says : Result (Option Step) LineFault → Saying → Type 0
+Says (Ok None) saying = saying ≡ nothing
+Says (Ok (Some x)) saying = saying ≡ step x
+Says (Err Wrong) saying = saying ≡ wrong
+Says (Err Memory) saying = ⊤

@@ -1,0 +1,177 @@
+//! The program, over any files, reader and writers.
+ghost use Rattle.std.specs.Prelude.{◌≡◌, ◌<◌, false, Some, length, IfOk, OnOk, IfSome};
+ghost use Rattle.std.specs.List.{list_any};
+ghost use Rattle.std.specs.Io.KnownBytes.{Appends};
+ghost use Rattle.router_play.specs.Printing.{line_text};
+ghost use Rattle.amqr_commands.specs.Print.{printed};
+ghost use Rattle.amqr_commands.specs.Running.{Lists, Plays, PlaysInput, PlaysSteps, end_of, is_bad};
+
+use crate::input::{InputFault, read_whole};
+use crate::journal::{format_disk, list_journal};
+use crate::listing::{ListingLine, list_stream};
+use crate::print::{print_lines, refuse};
+use crate::script::{ScriptFault, read_script};
+use crate::status::{Refusal, Status};
+use crate::words::{Task, read_words};
+use clap::Error;
+use clap::error::ErrorKind;
+use disk_core::{DiskFault, FileDisk};
+use router_play::{Config, Report, Run, Step, play_runs};
+use std::alloc::Global;
+use std::convert::AsStr;
+use std::fs::{self, File};
+use std::io::{self, Read, Write};
+use std::rt::Files;
+
+/// Does what the words ask for, the first of which is the program's name. Lines go to the output, faults of the words to
+/// the errors.
+///
+/// # Errors
+///
+/// An error of the output or of the errors, which could not be written.
+pub fn run<R: Files<File = File> + AllocGlobal, S: AsStr, I: Read, O: Write, E: Write>(
+    rt: &R,
+    words: &[S],
+    input: &mut I,
+    output: &mut O,
+    errors: &mut E,
+) -> io::Result<Status>
+    ensures input { length words.now < 2 → IfOk result (λ status. PlaysInput (I.remaining input.old) status (O.contents output.old) (O.contents output.new)) }
+{
+    let alloc = rt.alloc();
+    match read_words(alloc, words) {
+        Ok(Task::PlayInput) => play(alloc, input, output),
+        Ok(Task::Play { script }) => match fs::open(rt, script) {
+            Ok(mut file) => play(alloc, &mut file, output),
+            Err(_) => refuse(output, Refusal::File),
+        },
+        Ok(Task::Frames { file }) => match fs::open(rt, file) {
+            Ok(mut file) => frames(alloc, &mut file, output),
+            Err(_) => refuse(output, Refusal::File),
+        },
+        Ok(Task::Format { file }) => make(FileDisk::create(rt, alloc, file), output),
+        Ok(Task::Journal { file }) => match fs::open(rt, file) {
+            Ok(file) => show(alloc, FileDisk::over(alloc, file), output),
+            Err(_) => refuse(output, Refusal::File),
+        },
+        Err(fault) => explain(&fault, output, errors),
+    }
+}
+
+/// Writes what is wrong with the words, or the help that they ask for.
+fn explain<O: Write, E: Write>(
+    fault: &Error,
+    output: &mut O,
+    errors: &mut E,
+) -> io::Result<Status> {
+    if fault.kind() == ErrorKind::OutOfMemory {
+        return refuse(output, Refusal::Memory);
+    }
+    if fault.use_stderr() {
+        write!(errors, "{fault}")?;
+        return Ok(Status::BadWords);
+    }
+    write!(output, "{fault}")?;
+    Ok(Status::Done)
+}
+
+/// Lists the frames of an input.
+fn frames<I: Read, O: Write>(alloc: Global, input: &mut I, output: &mut O) -> io::Result<Status> {
+    match read_whole(alloc, input) {
+        Ok(stream) => list(alloc, stream.as_slice(), output),
+        Err(InputFault::Unread) => refuse(output, Refusal::File),
+        Err(InputFault::Memory) => refuse(output, Refusal::Memory),
+    }
+}
+
+/// Writes the listing of a stream.
+pub fn list<O: Write>(alloc: Global, stream: &[u8], output: &mut O) -> io::Result<Status>
+    ensures { IfOk result (λ status. Lists stream.now status (O.contents output.old) (O.contents output.new)) }
+{
+    let Ok(lines) = list_stream(alloc, stream) else {
+        return refuse(output, Refusal::Memory);
+    };
+    print_lines(output, lines.as_slice())?;
+    if has_bad(lines.as_slice()) {
+        return Ok(Status::BadInput);
+    }
+    Ok(Status::Done)
+}
+
+/// Whether a listing tells bytes that begin no item.
+fn has_bad(lines: &[ListingLine]) -> bool
+    ensures { result ≡ list_any is_bad lines.now }
+{
+    lines
+        .iter()
+        .any(|line| matches!(line, ListingLine::Bad { .. }))
+}
+
+/// Makes a journal on the disk over a file.
+fn make<O: Write>(disk: Result<FileDisk, DiskFault>, output: &mut O) -> io::Result<Status> {
+    match disk {
+        Ok(mut disk) => format_disk(&mut disk, output),
+        Err(fault) => refuse(output, Refusal::from(fault)),
+    }
+}
+
+/// Lists the journal on the disk over a file.
+fn show<O: Write>(
+    alloc: Global,
+    disk: Result<FileDisk, DiskFault>,
+    output: &mut O,
+) -> io::Result<Status> {
+    match disk {
+        Ok(mut disk) => list_journal(alloc, &mut disk, output),
+        Err(fault) => refuse(output, Refusal::from(fault)),
+    }
+}
+
+/// Plays the script that an input is.
+fn play<I: Read, O: Write>(alloc: Global, input: &mut I, output: &mut O) -> io::Result<Status>
+    ensures { IfOk result (λ status. PlaysInput (I.remaining input.old) status (O.contents output.old) (O.contents output.new)) }
+{
+    match read_whole(alloc, input) {
+        Ok(text) => play_text(alloc, text.as_slice(), output),
+        Err(InputFault::Unread) => refuse(output, Refusal::File),
+        Err(InputFault::Memory) => refuse(output, Refusal::Memory),
+    }
+}
+
+/// Plays a script. The whole of it is judged before anything is played.
+pub fn play_text<O: Write>(alloc: Global, text: &[u8], output: &mut O) -> io::Result<Status>
+    ensures { IfOk result (λ status. Plays text.now status (O.contents output.old) (O.contents output.new)) }
+{
+    match read_script(alloc, text) {
+        Ok(steps) => play_steps(alloc, steps, output),
+        Err(ScriptFault::Line { line }) => refuse(output, Refusal::Script { line }),
+        Err(ScriptFault::Memory) => refuse(output, Refusal::Memory),
+    }
+}
+
+/// Plays the steps of a script.
+fn play_steps<O: Write>(alloc: Global, steps: Vec<Step>, output: &mut O) -> io::Result<Status>
+    ensures { IfOk result (λ status. PlaysSteps steps.items status (O.contents output.old) (O.contents output.new)) }
+{
+    let Ok(config) = Config::standard(alloc) else {
+        return refuse(output, Refusal::Memory);
+    };
+    let runs = [Run { steps }];
+    let report = play_runs(alloc, config, runs.as_slice());
+    print_report(&report, output)
+}
+
+/// Writes the lines of a report, and that memory was refused to the play where it was.
+fn print_report<O: Write>(report: &Report, output: &mut O) -> io::Result<Status>
+    ensures status { IfOk result (λ status. status ≡ end_of report.now) }
+    ensures lines { report.now.out_of_memory ≡ false → OnOk result (IfSome (printed (λ line. Some (line_text line)) report.now.lines.items) (Appends (O.contents output.old) (O.contents output.new))) }
+{
+    print_lines(output, report.lines.as_slice())?;
+    if report.out_of_memory {
+        return refuse(output, Refusal::Memory);
+    }
+    if report.failed {
+        return Ok(Status::Failed);
+    }
+    Ok(Status::Done)
+}

@@ -1,0 +1,104 @@
+//! What one line of a script says.
+ghost use Rattle.std.specs.Prelude.{◌≡◌, ◌==◌, ◌||◌, IfOk, Some, OnErr};
+ghost use Rattle.amqr_commands.specs.Lines.{Says, saying_of, is_blank, is_comment, step_by, with_number, with_bytes};
+ghost use Rattle.amqr_commands.specs.Words.{cut_at, number_of, bytes_of};
+
+use crate::script::word::{bytes, cut, number};
+use router_play::{ConnectionId, PeerRole, Step};
+use std::alloc::{AllocError, Global};
+
+/// Why a line gives no step.
+#[derive(Clone, Copy, Debug, PartialEq, Eq)]
+pub(crate) enum LineFault {
+    /// It says nothing that a script may say.
+    Wrong,
+    /// Memory was refused.
+    Memory,
+}
+
+/// What a line says: a step, or none where it is blank or a comment.
+#[tactic(auto, unfolding(crate::specs::Lines::saying_of))]
+pub(crate) fn read_line(alloc: Global, line: &str) -> Result<Option<Step>, LineFault>
+    ensures { Says result (saying_of line.now) }
+{
+    if is_comment(line) || is_blank(line) {
+        return Ok(None);
+    }
+    match read_step(alloc, line) {
+        Ok(Some(step)) => Ok(Some(step)),
+        Ok(None) => Err(LineFault::Wrong),
+        Err(_) => Err(LineFault::Memory),
+    }
+}
+
+/// Whether a line is a comment.
+fn is_comment(line: &str) -> bool
+    ensures { result ≡ is_comment line.now }
+{
+    line.starts_with('#')
+}
+
+/// Whether a line is spaces and tabs alone.
+fn is_blank(line: &str) -> bool
+    ensures { result ≡ is_blank line.now }
+{
+    line.bytes().all(|byte| byte == b' ' || byte == b'\t')
+}
+
+/// The step that the words of a line say, if they say one.
+fn read_step(alloc: Global, line: &str) -> Result<Option<Step>, AllocError>
+    ensures { IfOk result (λ step. step ≡ step_by (cut_at 32 line.now)) }
+{
+    let (verb, Some(behind)) = cut(line, ' ') else {
+        return Ok(None);
+    };
+    match cut(behind, ' ') {
+        (word, None) => Ok(step_with_number(verb, word)),
+        (word, Some(behind)) => match cut(behind, ' ') {
+            (pairs, None) => step_with_bytes(alloc, verb, word, pairs),
+            (_, Some(_)) => Ok(None),
+        },
+    }
+}
+
+/// The step that a verb and a number say.
+fn step_with_number(verb: &str, word: &str) -> Option<Step>
+    ensures { result ≡ with_number verb.now (number_of word.now) }
+{
+    let number = number(word)?;
+    match verb {
+        "up" => Some(Step::Up {
+            conn: ConnectionId(number),
+            role: PeerRole::Normal,
+        }),
+        "down" => Some(Step::Down {
+            conn: ConnectionId(number),
+        }),
+        "tick" => Some(Step::Tick { ms: number }),
+        _ => None,
+    }
+}
+
+/// The step that a verb, a number and bytes say.
+fn step_with_bytes(
+    alloc: Global,
+    verb: &str,
+    word: &str,
+    pairs: &str,
+) -> Result<Option<Step>, AllocError>
+    ensures { IfOk result (λ step. step ≡ with_bytes verb.now (number_of word.now) (bytes_of pairs.now)) }
+{
+    if verb != "in" {
+        return Ok(None);
+    }
+    let Some(number) = number(word) else {
+        return Ok(None);
+    };
+    match bytes(alloc, pairs)? {
+        Some(bytes) => Ok(Some(Step::In {
+            conn: ConnectionId(number),
+            bytes,
+        })),
+        None => Ok(None),
+    }
+}

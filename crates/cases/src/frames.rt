@@ -1,0 +1,290 @@
+//! Questions on streams: which items their bytes are cut into, and how these are written.
+ghost use Rattle.std.specs.Prelude.{◌<◌};
+
+use crate::case::Case;
+use crate::fault::CaseFault;
+use crate::performatives::fault_text;
+use crate::text::{bytes_of, digits_of};
+use amqp_frames::{FrameFault, FrameReader, Item, write_item};
+use amqp_perf::Perf;
+use std::alloc::Global;
+use std::fmt::Write;
+
+/// The largest pieces, beside the whole, that a stream is fed in.
+const LARGEST_PIECE: usize = 64;
+
+/// What is asked of a stream.
+#[derive(Clone, Copy, Debug)]
+enum Question {
+    /// Its items, fed whole and in pieces of every size.
+    Feed,
+    /// Its items, piece by piece.
+    Pieces,
+    /// The bytes that its items are written as.
+    Rewrite,
+    /// The payloads of its frames.
+    Payloads,
+    /// What is wrong with what begins no item.
+    Fault,
+    /// Whether it is answered, fed whole and in pieces of every size.
+    Told,
+}
+
+/// The question of a case.
+fn question_of(case: &Case<'_>) -> Result<Question, CaseFault> {
+    match case.question {
+        "feed" => Ok(Question::Feed),
+        "pieces" => Ok(Question::Pieces),
+        "rewrite" => Ok(Question::Rewrite),
+        "payloads" => Ok(Question::Payloads),
+        "fault" => Ok(Question::Fault),
+        "told" => Ok(Question::Told),
+        _ => Err(CaseFault::Question),
+    }
+}
+
+/// The answer to a question on streams.
+///
+/// # Errors
+///
+/// `Question` and `Bytes` where the case isn't written so; `Memory`.
+pub fn answer(alloc: Global, case: &Case<'_>) -> Result<String, CaseFault> {
+    let question = question_of(case)?;
+    if let Question::Pieces = question {
+        return pieces(alloc, case.words);
+    }
+    let stream = bytes_of(alloc, case.words)?;
+    match question {
+        Question::Feed | Question::Pieces => fed(alloc, stream.as_slice()),
+        Question::Rewrite => rewritten(alloc, stream.as_slice()),
+        Question::Payloads => payloads(alloc, stream.as_slice()),
+        Question::Fault => fault(alloc, stream.as_slice()),
+        Question::Told => told(alloc, stream.as_slice()),
+    }
+}
+
+/// The standard's number of a performative, in hexadecimal digits.
+fn code_of(perf: &Perf) -> &'static str {
+    match perf {
+        Perf::Open(_) => "10",
+        Perf::Begin(_) => "11",
+        Perf::Attach(_) => "12",
+        Perf::Flow(_) => "13",
+        Perf::Transfer(_) => "14",
+        Perf::Disposition(_) => "15",
+        Perf::Detach(_) => "16",
+        Perf::End(_) => "17",
+        Perf::Close(_) => "18",
+        Perf::SaslMechanisms(_) => "40",
+        Perf::SaslInit(_) => "41",
+        Perf::SaslChallenge(_) => "42",
+        Perf::SaslResponse(_) => "43",
+        Perf::SaslOutcome(_) => "44",
+    }
+}
+
+/// Appends an item as `amqr frames` prints it, without the LF.
+fn put_item(lines: &mut String, item: &Item) -> Result<(), CaseFault> {
+    match item {
+        Item::Header { id, .. } => write!(lines, "header {id}")?,
+        Item::Beat { channel } => write!(lines, "beat {channel}")?,
+        Item::Bad(fault) => {
+            let number = fault.number();
+            write!(lines, "bad {number}")?
+        }
+        Item::Frame {
+            sasl,
+            channel,
+            perf,
+            payload,
+        } => {
+            let code = code_of(perf);
+            let length = payload.len();
+            if *sasl {
+                write!(lines, "sasl {code}")?
+            } else {
+                write!(lines, "frame {channel} {code} {length}")?
+            }
+        }
+    }
+    Ok(())
+}
+
+/// Appends a line for each item.
+fn put_items(lines: &mut String, items: &[Item]) -> Result<(), CaseFault> {
+    for item in items {
+        put_item(lines, item)?;
+        lines.push('\n')?;
+    }
+    Ok(())
+}
+
+/// A line for each item of a stream that comes in pieces of this size, and one for the rest.
+fn lines_of(alloc: Global, stream: &[u8], size: usize) -> Result<String, CaseFault>
+    requires { 0 < size }
+{
+    let mut reader = FrameReader::new(alloc);
+    let mut lines = String::new(alloc);
+    let mut unread = stream.len();
+    for piece in stream.chunks(size) {
+        match reader.feed(piece) {
+            Ok(items) => {
+                unread = unread.saturating_sub(piece.len());
+                put_items(&mut lines, items.as_slice())?;
+            }
+            Err(FrameFault::Failed) => break,
+            Err(_) => return Err(CaseFault::Memory),
+        }
+    }
+    let rest = unread.saturating_add(reader.rest().len());
+    writeln!(lines, "rest {rest}")?;
+    Ok(lines)
+}
+
+/// The lines of a stream, where it has the same in pieces of every size, and its items are read again from what is written
+/// of them.
+fn fed(alloc: Global, stream: &[u8]) -> Result<String, CaseFault> {
+    let whole = lines_of(alloc, stream, usize::MAX)?;
+    for below in 0..LARGEST_PIECE {
+        let size = below + 1;
+        let lines = lines_of(alloc, stream, size)?;
+        if lines.as_str() != whole.as_str() {
+            return Ok(format!(in alloc; "in pieces of {size} bytes:\n{lines}")?);
+        }
+    }
+    if !is_read_again(alloc, stream)? {
+        return Ok(format!(in alloc; "not read again:\n{whole}")?);
+    }
+    Ok(whole)
+}
+
+/// For each piece the line of the items that it completes, and a line for the rest.
+fn pieces(alloc: Global, words: &str) -> Result<String, CaseFault> {
+    let mut reader = FrameReader::new(alloc);
+    let mut lines = String::new(alloc);
+    for word in words.split(' ') {
+        feed_piece(alloc, &mut reader, &mut lines, word)?;
+    }
+    let rest = digits_of(alloc, reader.rest())?;
+    writeln!(lines, "rest {rest}")?;
+    Ok(lines)
+}
+
+/// Feeds the piece that a word is, and appends its line.
+fn feed_piece(
+    alloc: Global,
+    reader: &mut FrameReader,
+    lines: &mut String,
+    word: &str,
+) -> Result<(), CaseFault> {
+    let piece = bytes_of(alloc, word)?;
+    match reader.feed(piece.as_slice()) {
+        Ok(items) => put_piece(lines, items.as_slice())?,
+        Err(fault) => {
+            let number = fault.number();
+            write!(lines, "fault {number}")?;
+        }
+    }
+    lines.push('\n')?;
+    Ok(())
+}
+
+/// Appends the items of a piece in one line.
+fn put_piece(lines: &mut String, items: &[Item]) -> Result<(), CaseFault> {
+    if items.is_empty() {
+        lines.push_str("nothing")?;
+    }
+    for (at, item) in items.iter().enumerate() {
+        if at > 0 {
+            lines.push_str(", ")?;
+        }
+        put_item(lines, item)?;
+    }
+    Ok(())
+}
+
+/// The items of a stream that is fed whole.
+fn items_of(alloc: Global, stream: &[u8]) -> Result<Vec<Item>, CaseFault> {
+    let mut reader = FrameReader::new(alloc);
+    reader.feed(stream).or(Err(CaseFault::Memory))
+}
+
+/// The bytes that items are written as.
+fn written(alloc: Global, items: &[Item]) -> Result<Vec<u8>, CaseFault> {
+    let mut bytes = Vec::new(alloc);
+    for item in items {
+        write_item(alloc, item, &mut bytes)?;
+    }
+    Ok(bytes)
+}
+
+/// `same` where the items of a stream are written as they came, else the digits of what is written.
+fn rewritten(alloc: Global, stream: &[u8]) -> Result<String, CaseFault> {
+    let items = items_of(alloc, stream)?;
+    let bytes = written(alloc, items.as_slice())?;
+    if bytes.as_slice() == stream {
+        return Ok(String::from_str(alloc, "same")?);
+    }
+    digits_of(alloc, bytes.as_slice())
+}
+
+/// The items but what begins none, as text.
+fn shown(alloc: Global, items: &[Item]) -> Result<String, CaseFault> {
+    let mut text = String::new(alloc);
+    for item in items {
+        if !matches!(item, Item::Bad(_)) {
+            writeln!(text, "{item:?}")?;
+        }
+    }
+    Ok(text)
+}
+
+/// Whether the items of a stream are read again from what is written of them.
+fn is_read_again(alloc: Global, stream: &[u8]) -> Result<bool, CaseFault> {
+    let items = items_of(alloc, stream)?;
+    let bytes = written(alloc, items.as_slice())?;
+    let read = items_of(alloc, bytes.as_slice())?;
+    let wanted = shown(alloc, items.as_slice())?;
+    let found = shown(alloc, read.as_slice())?;
+    Ok(found.as_str() == wanted.as_str())
+}
+
+/// A line for the payload of each frame.
+fn payloads(alloc: Global, stream: &[u8]) -> Result<String, CaseFault> {
+    let mut lines = String::new(alloc);
+    for item in &items_of(alloc, stream)? {
+        if let Item::Frame { payload, .. } = item {
+            let digits = digits_of(alloc, payload.as_slice())?;
+            writeln!(lines, "{digits}")?;
+        }
+    }
+    Ok(lines)
+}
+
+/// The number of the fault of what begins no item, and behind it those of the performative's fault.
+fn fault(alloc: Global, stream: &[u8]) -> Result<String, CaseFault> {
+    for item in &items_of(alloc, stream)? {
+        match item {
+            Item::Bad(FrameFault::Perf(inner)) => {
+                let inside = fault_text(alloc, *inner)?;
+                return Ok(format!(in alloc; "bad 5, {inside}")?);
+            }
+            Item::Bad(other) => {
+                let number = other.number();
+                return Ok(format!(in alloc; "bad {number}")?);
+            }
+            _ => {}
+        }
+    }
+    Ok(String::from_str(alloc, "none")?)
+}
+
+/// That a stream is answered by items and at most one that tells what begins none, the same in pieces of every size.
+fn told(alloc: Global, stream: &[u8]) -> Result<String, CaseFault> {
+    let lines = fed(alloc, stream)?;
+    let bad = lines.lines().filter(|line| line.starts_with("bad")).count();
+    if bad > 1 || lines.starts_with("in pieces") || lines.starts_with("not") {
+        return Ok(lines);
+    }
+    Ok(String::from_str(alloc, "items and at most one bad")?)
+}

@@ -1,0 +1,40 @@
+//! Tries cases that stand in plain files: what each asks, and what it wants. `docs/cases.md` tells their form.
+#![tactic(auto)]
+
+mod acts;
+mod batches;
+mod books;
+mod case;
+mod configurations;
+mod disks;
+mod fault;
+mod frames;
+mod journals;
+mod performatives;
+mod run;
+mod scene;
+mod text;
+mod values;
+
+use crate::fault::CaseFault;
+use crate::run::{Tally, try_file, try_folder};
+use std::env;
+
+fn main(rt: HostRuntime) -> anyhow::Result<()> {
+    let tally = try_words(&rt)?;
+    println!(rt; "{} cases, {} differ", tally.cases, tally.differing)?;
+    Ok(())
+}
+
+/// Tries the case files that the words behind the program's name are; with no word, those of the folder that it runs in.
+fn try_words(rt: &HostRuntime) -> Result<Tally, CaseFault> {
+    let words: Vec<String> = env::args(rt)?.collect(rt.alloc())?;
+    if words.len() < 2 {
+        return try_folder(rt, ".");
+    }
+    let mut tally = Tally::default();
+    for word in words.iter().skip(1) {
+        try_file(rt, word.as_str(), &mut tally)?;
+    }
+    Ok(tally)
+}

@@ -1,0 +1,91 @@
+//! Questions on performatives, SASL bodies and delivery states: what bytes spell, and how it is written.
+use crate::case::Case;
+use crate::fault::CaseFault;
+use crate::text::{bytes_of, digits_of};
+use amqp_perf::{PerfFault, read_perf, read_state, write_perf, write_state};
+use std::alloc::Global;
+
+/// What is asked of bytes.
+#[derive(Clone, Copy, Debug)]
+enum Question {
+    /// The performative or SASL body at their front.
+    Performative,
+    /// The delivery state at their front.
+    State,
+}
+
+/// The question of a case.
+fn question_of(case: &Case<'_>) -> Result<Question, CaseFault> {
+    match case.question {
+        "performative" => Ok(Question::Performative),
+        "state" => Ok(Question::State),
+        _ => Err(CaseFault::Question),
+    }
+}
+
+/// The answer to a question on performatives: the shortest spelling of what stands at the front, and the length of the
+/// spelling there.
+///
+/// # Errors
+///
+/// `Question` and `Bytes` where the case isn't written so; `Memory`.
+pub fn answer(alloc: Global, case: &Case<'_>) -> Result<String, CaseFault> {
+    let question = question_of(case)?;
+    let bytes = bytes_of(alloc, case.words)?;
+    match question {
+        Question::Performative => performative(alloc, bytes.as_slice()),
+        Question::State => state(alloc, bytes.as_slice()),
+    }
+}
+
+/// How the performative at the front is written, and where its payload begins.
+fn performative(alloc: Global, bytes: &[u8]) -> Result<String, CaseFault> {
+    let mut written = Vec::new(alloc);
+    match read_perf(alloc, bytes) {
+        Ok((perf, length)) => {
+            write_perf(alloc, &perf, &mut written)?;
+            drop(perf);
+            spelling(alloc, bytes, written.as_slice(), length)
+        }
+        Err(fault) => fault_text(alloc, fault),
+    }
+}
+
+/// How the delivery state at the front is written, and its length there.
+fn state(alloc: Global, bytes: &[u8]) -> Result<String, CaseFault> {
+    let mut written = Vec::new(alloc);
+    match read_state(alloc, bytes) {
+        Ok((state, length)) => {
+            write_state(alloc, &state, &mut written)?;
+            drop(state);
+            spelling(alloc, bytes, written.as_slice(), length)
+        }
+        Err(fault) => fault_text(alloc, fault),
+    }
+}
+
+/// `same` where what was read is written as it stood, else the digits of what is written; and the length of what was read.
+fn spelling(
+    alloc: Global,
+    bytes: &[u8],
+    written: &[u8],
+    length: usize,
+) -> Result<String, CaseFault> {
+    if bytes.get(..length) == Some(written) {
+        return Ok(format!(in alloc; "same {length}")?);
+    }
+    let digits = digits_of(alloc, written)?;
+    Ok(format!(in alloc; "{digits} {length}")?)
+}
+
+/// A fault's number, and behind it that of the value's fault where a value is misspelt.
+pub fn fault_text(alloc: Global, fault: PerfFault) -> Result<String, CaseFault> {
+    let number = fault.number();
+    match fault {
+        PerfFault::Spelling(inner) => {
+            let inside = inner.number();
+            Ok(format!(in alloc; "fault {number} {inside}")?)
+        }
+        _ => Ok(format!(in alloc; "fault {number}")?),
+    }
+}

@@ -1,0 +1,162 @@
+//! Questions on values: which value bytes spell, and how it is written.
+use crate::case::Case;
+use crate::fault::CaseFault;
+use crate::text::{bytes_of, digits_of};
+use amqp_types::{decode, encode, front_of, opening_of, skip};
+use std::alloc::Global;
+
+/// Levels of values around one another (AMQP 1.0 sets no limit; this one is the router's).
+const DEPTH: u32 = 32;
+
+/// What is asked of bytes.
+#[derive(Clone, Copy, Debug)]
+enum Question {
+    /// The value at their front, and its length.
+    Decode,
+    /// The shortest spelling of the value that they are.
+    Rewrite,
+    /// The values that they are, one behind the other.
+    Each,
+    /// Whether they are answered.
+    Told,
+    /// The plain value at their front, and what stands behind it.
+    Front,
+    /// How the value at their front begins.
+    Opening,
+}
+
+/// The question of a case.
+fn question_of(case: &Case<'_>) -> Result<Question, CaseFault> {
+    match case.question {
+        "decode" => Ok(Question::Decode),
+        "rewrite" => Ok(Question::Rewrite),
+        "each" => Ok(Question::Each),
+        "told" => Ok(Question::Told),
+        "front" => Ok(Question::Front),
+        "opening" => Ok(Question::Opening),
+        _ => Err(CaseFault::Question),
+    }
+}
+
+/// The answer to a question on values. Whatever is decoded is skipped, too, with the same length or fault.
+///
+/// # Errors
+///
+/// `Question` and `Bytes` where the case isn't written so; `Memory`.
+pub fn answer(alloc: Global, case: &Case<'_>) -> Result<String, CaseFault> {
+    let question = question_of(case)?;
+    let bytes = bytes_of(alloc, case.words)?;
+    match question {
+        Question::Decode => decoded(alloc, bytes.as_slice()),
+        Question::Rewrite => rewritten(alloc, bytes.as_slice()),
+        Question::Each => each(alloc, bytes.as_slice()),
+        Question::Told => told(alloc, bytes.as_slice()),
+        Question::Front => front(alloc, bytes.as_slice()),
+        Question::Opening => opening(alloc, bytes.as_slice()),
+    }
+}
+
+/// Whether `skip` tells the length that `decode` tells, or its fault.
+fn is_skipped_alike(alloc: Global, bytes: &[u8]) -> bool {
+    match (decode(alloc, bytes), skip(bytes)) {
+        (Ok((_, length)), Ok(skipped)) => length == skipped,
+        (Err(fault), Err(skipped)) => fault == skipped,
+        _ => false,
+    }
+}
+
+/// The value at the front and its length, or the fault.
+fn decoded(alloc: Global, bytes: &[u8]) -> Result<String, CaseFault> {
+    if !is_skipped_alike(alloc, bytes) {
+        return Ok(String::from_str(alloc, "skip differs")?);
+    }
+    match decode(alloc, bytes) {
+        Ok((value, length)) => Ok(format!(in alloc; "{value:?} {length}")?),
+        Err(fault) => {
+            let number = fault.number();
+            Ok(format!(in alloc; "fault {number}")?)
+        }
+    }
+}
+
+/// The shortest spelling of the value that the bytes are, and the value, which is decoded from it again.
+fn rewritten(alloc: Global, bytes: &[u8]) -> Result<String, CaseFault> {
+    let Ok((value, length)) = decode(alloc, bytes) else {
+        return decoded(alloc, bytes);
+    };
+    let mut written = Vec::new(alloc);
+    encode(alloc, &value, &mut written)?;
+    let digits = digits_of(alloc, written.as_slice())?;
+    let again = decoded(alloc, written.as_slice())?;
+    let wanted_again = format!(in alloc; "{value:?} {}", written.len())?;
+    if again.as_str() != wanted_again.as_str() {
+        return Ok(format!(in alloc; "{digits} read as {again}")?);
+    }
+    if length != bytes.len() || !is_skipped_alike(alloc, bytes) {
+        return Ok(format!(in alloc; "{digits} from {length} bytes")?);
+    }
+    Ok(format!(in alloc; "{digits} {value:?}")?)
+}
+
+/// A line for each value, and one for the fault of what begins none.
+fn each(alloc: Global, bytes: &[u8]) -> Result<String, CaseFault> {
+    let mut lines = String::new(alloc);
+    let mut rest = bytes;
+    for _turn in 0..bytes.len() {
+        let length = put_value(alloc, &mut lines, rest)?;
+        rest = rest.get(length..).unwrap_or_default();
+        if rest.is_empty() {
+            break;
+        }
+    }
+    Ok(lines)
+}
+
+/// Appends the line of the value at the front, which is decoded again from what is encoded of it, and answers its length;
+/// where none begins there, its fault, and the length of all.
+fn put_value(alloc: Global, lines: &mut String, bytes: &[u8]) -> Result<usize, CaseFault> {
+    let length = skip(bytes).unwrap_or(bytes.len());
+    let value = bytes.get(..length).unwrap_or(bytes);
+    let answer = rewritten(alloc, value)?;
+    match answer.split_once(' ') {
+        Some((spelling, value)) if spelling != "fault" => lines.push_str(value)?,
+        _ => lines.push_str(answer.as_str())?,
+    }
+    lines.push('\n')?;
+    Ok(length)
+}
+
+/// That the bytes are answered, by a value or a fault, and `skip` answers alike.
+fn told(alloc: Global, bytes: &[u8]) -> Result<String, CaseFault> {
+    let answer = if is_skipped_alike(alloc, bytes) {
+        "a value or a fault"
+    } else {
+        "skip differs"
+    };
+    Ok(String::from_str(alloc, answer)?)
+}
+
+/// The plain value at the front, where it is one, and the bytes behind it.
+fn front(alloc: Global, bytes: &[u8]) -> Result<String, CaseFault> {
+    match front_of(DEPTH, bytes) {
+        Ok((value, rest)) => {
+            let digits = digits_of(alloc, rest)?;
+            Ok(format!(in alloc; "{value:?} {digits}")?)
+        }
+        Err(fault) => {
+            let number = fault.number();
+            Ok(format!(in alloc; "fault {number}")?)
+        }
+    }
+}
+
+/// How the value at the front begins.
+fn opening(alloc: Global, bytes: &[u8]) -> Result<String, CaseFault> {
+    match opening_of(DEPTH, bytes) {
+        Ok(opening) => Ok(format!(in alloc; "{opening:?}")?),
+        Err(fault) => {
+            let number = fault.number();
+            Ok(format!(in alloc; "fault {number}")?)
+        }
+    }
+}
