@@ -15,12 +15,3 @@ pub use fault::FrameFault;
 pub use item::Item;
 pub use reader::FrameReader;
 pub use write::write_item;
-
-#[cfg(test)]
-mod frame_tests;
-#[cfg(test)]
-mod stream_tables;
-#[cfg(test)]
-mod stream_tests;
-#[cfg(test)]
-mod tests;

@@ -24,6 +24,3 @@ pub use plain::Plain;
 pub use reader::{code_of, size_of, sized_of};
 pub use skipper::{skip, skip_at};
 pub use value::Value;
-
-#[cfg(test)]
-mod tests;

@@ -26,8 +26,3 @@ pub use fault::BookFault;
 pub use row::{Row, RowNumber};
 pub use rows::Rows;
 pub use terminus::{LinkKey, LinkRole, Terminus, TerminusNumber};
-
-#[cfg(test)]
-mod limit_tests;
-#[cfg(test)]
-mod tests;

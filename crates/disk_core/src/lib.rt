@@ -17,6 +17,3 @@ pub use fault::DiskFault;
 pub use file::FileDisk;
 pub use fuse::FuseDisk;
 pub use memory::MemDisk;
-
-#[cfg(test)]
-mod tests;

@@ -16,8 +16,6 @@ mod parts;
 mod prefixes;
 mod sections;
 mod tables;
-#[cfg(test)]
-mod tests;
 mod texts;
 mod values;
 
