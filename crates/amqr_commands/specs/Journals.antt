@@ -6,7 +6,7 @@ use Rattle.book_core.specs.Book.{BookView}
 use Rattle.book_core.specs.declared.act.ActKind.{ActKind}
 use Rattle.book_core.specs.declared.act.ActKind.TheVariants as kind
 use Rattle.disk_core.specs.Disk.{Only}
-use Rattle.gate_journal.specs.Batches.{Holds}
+use Rattle.gate_journal.specs.Format.{fresh}
 use Rattle.gate_journal.specs.Listed.{IsListed}
 use Rattle.gate_journal.specs.Opening.{Explains}
 use Rattle.gate_journal.specs.declared.fault.OpenFault.TheVariants as opening
@@ -73,10 +73,10 @@ RefusesFor Reason status old new = (r : Refusal) × Reason r × (status ≡ stat
 abbrev pub ListsJournal : List ℕ → Type 0 → Status → Option (List ℕ) → Option (List ℕ) → Type 0
 ListsJournal file failed status old new = ((status ≡ Done) × WritesJournal file old new) ⊎ RefusesFor (IsNotListed file failed) status old new
 
--- an empty file became the journal of no batches, and a crash leaves just that
+-- an empty file became the nine bytes of a journal of no batches, and a crash leaves just these
 pub record IsMade (before after : List ℕ) (may_leave : List ℕ → Type 0) : Type 0 where
   pub empty : before ≡ []
-  pub journal : Holds after []
+  pub journal : after ≡ fresh
   pub durable : Only after may_leave
 
 -- how the making of a journal ends

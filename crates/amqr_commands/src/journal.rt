@@ -1,5 +1,5 @@
 //! The words on journals: the lines of a journal, and the making of one.
-ghost use Rattle.std.specs.Prelude.{◌≡◌, ◌≢◌, ◌<◌, ◌++◌, ◌∷◌, [], map, IfOk, IfErr, OnOk};
+ghost use Rattle.std.specs.Prelude.{◌≡◌, ◌≢◌, ◌<◌, ◌++◌, ◌∷◌, [], map, IfOk, IfErr, IsErrOf, OnOk};
 ghost use Rattle.disk_core.specs.Disk.{NoMore};
 ghost use Rattle.amqr_commands.specs.Journals.{kind_name, act_line, end_line, IsJournal, IsNotListed, IsNotMade, IsMade, ListsJournal, Formats};
 
@@ -109,6 +109,8 @@ fn lines_of(alloc: Global, listing: &Listing) -> Result<Vec<JournalLine>, AllocE
 fn journal_lines<D: Disk>(alloc: Global, disk: &mut D) -> Result<Vec<JournalLine>, Refusal>
     ensures lines { IfOk result (λ lines. IsJournal (D.seen disk.old) lines.items) }
     ensures refusal { IfErr result (IsNotListed (D.seen disk.old) (D.failures disk.old < D.failures disk.new)) }
+    ensures unchanged { (IsErrOf result Refusal.Disk → ⊥) → (IsErrOf result Refusal.Memory → ⊥) → D.seen disk.new ≡ D.seen disk.old }
+    ensures crash { NoMore (D.may_leave disk.old) (D.may_leave disk.new) }
 {
     match list(alloc, disk) {
         Ok(listing) => match lines_of(alloc, &listing) {
@@ -122,7 +124,7 @@ fn journal_lines<D: Disk>(alloc: Global, disk: &mut D) -> Result<Vec<JournalLine
     }
 }
 
-/// Writes the list of the journal on a disk, or why it has none.
+/// Writes the list of the journal on a disk, or why it has none. The disk stays as it is.
 ///
 /// # Errors
 ///
@@ -132,7 +134,9 @@ pub fn list_journal<D: Disk, O: Write>(
     disk: &mut D,
     output: &mut O,
 ) -> io::Result<Status>
-    ensures { IfOk result (λ status. ListsJournal (D.seen disk.old) (D.failures disk.old < D.failures disk.new) status (O.contents output.old) (O.contents output.new)) }
+    ensures lists { IfOk result (λ status. ListsJournal (D.seen disk.old) (D.failures disk.old < D.failures disk.new) status (O.contents output.old) (O.contents output.new)) }
+    ensures unchanged { IfOk result (λ status. status ≢ Status.Failed → D.seen disk.new ≡ D.seen disk.old) }
+    ensures crash { NoMore (D.may_leave disk.old) (D.may_leave disk.new) }
 {
     match journal_lines(alloc, disk) {
         Ok(lines) => {

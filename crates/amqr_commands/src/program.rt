@@ -6,7 +6,7 @@ ghost use Rattle.router_play.specs.Printing.{line_text};
 ghost use Rattle.amqr_commands.specs.Print.{printed};
 ghost use Rattle.amqr_commands.specs.Running.{Lists, Plays, PlaysInput, PlaysSteps, end_of, is_bad};
 
-use crate::input::{InputFault, read_whole};
+use crate::input::{InputFault, MOST_BYTES, read_whole};
 use crate::journal::{format_disk, list_journal};
 use crate::listing::{ListingLine, list_stream};
 use crate::print::{print_lines, refuse};
@@ -22,6 +22,9 @@ use std::convert::AsStr;
 use std::fs::{self, File};
 use std::io::{self, Read, Write};
 use std::rt::Files;
+
+/// The most bytes that a journal's file may have to be listed: a journal's, and one gate.
+const MOST_JOURNAL: usize = MOST_BYTES + 1;
 
 /// Does what the words ask for, the first of which is the program's name. Lines go to the output, faults of the words to
 /// the errors.
@@ -50,10 +53,10 @@ pub fn run<R: Files<File = File> + AllocGlobal, S: AsStr, I: Read, O: Write, E: 
             Err(_) => refuse(output, Refusal::File),
         },
         Ok(Task::Format { file }) => make(FileDisk::create(rt, alloc, file), output),
-        Ok(Task::Journal { file }) => match fs::open(rt, file) {
-            Ok(file) => show(alloc, FileDisk::over(alloc, file), output),
-            Err(_) => refuse(output, Refusal::File),
-        },
+        Ok(Task::Journal { file }) => {
+            let disk = FileDisk::open_to_read(rt, alloc, file, MOST_JOURNAL);
+            show(alloc, disk, output)
+        }
         Err(fault) => explain(&fault, output, errors),
     }
 }
@@ -111,7 +114,18 @@ fn has_bad(lines: &[ListingLine]) -> bool
 fn make<O: Write>(disk: Result<FileDisk, DiskFault>, output: &mut O) -> io::Result<Status> {
     match disk {
         Ok(mut disk) => format_disk(&mut disk, output),
-        Err(fault) => refuse(output, Refusal::from(fault)),
+        Err(fault) => refuse(output, not_opened(fault)),
+    }
+}
+
+/// What is told where a file could not be opened or made as a disk.
+fn not_opened(fault: DiskFault) -> Refusal
+    ensures failed { fault ≡ DiskFault.Failed → result ≡ Refusal.File }
+    ensures memory { fault ≡ DiskFault.Memory → result ≡ Refusal.Memory }
+{
+    match fault {
+        DiskFault::Failed => Refusal::File,
+        DiskFault::Memory => Refusal::Memory,
     }
 }
 
@@ -123,7 +137,7 @@ fn show<O: Write>(
 ) -> io::Result<Status> {
     match disk {
         Ok(mut disk) => list_journal(alloc, &mut disk, output),
-        Err(fault) => refuse(output, Refusal::from(fault)),
+        Err(fault) => refuse(output, not_opened(fault)),
     }
 }
 

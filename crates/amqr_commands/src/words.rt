@@ -6,6 +6,9 @@ use clap::{Arg, ArgAction, Command, Error};
 use std::alloc::{AllocError, Global};
 use std::convert::AsStr;
 
+/// The version that `--version` tells.
+const VERSION: &str = "0.1.0";
+
 /// What the words ask for.
 #[derive(Clone, Copy, Debug)]
 pub enum Task<'a> {
@@ -75,6 +78,7 @@ pub fn read_words<'a, S: AsStr>(alloc: Global, words: &'a [S]) -> Result<Task<'a
 /// The program and its commands, as the help tells them.
 fn program<'a>(alloc: Global) -> Result<Command<'a>, AllocError> {
     Command::new(alloc, "amqr")
+        .version(VERSION)
         .about(
             "A message router for AMQP 1.0. Without a word it plays the script on standard input.",
         )
