@@ -1,6 +1,5 @@
 -- Runs go by moves: their traces are traces of the router.
-use Rattle.std.proofs.Common.{◌≡◌, ◌∙◌, sym, ap, refl, subst, ℕ, Bool, true, false, List, [], ◌∷◌, ◌++◌, ◌+◌, inl, inr}
-use Rattle.std.specs.Prelude.{map, length, Option, Some, None, if◌then◌else◌}
+use Rattle.std.proofs.Common.{◌≡◌, sym, refl, subst, ℕ, false, List, [], ◌∷◌, ◌++◌, ◌+◌, inl, inr}
 use Rattle.router_trace.specs.declared.event.Event.{Event}
 use Rattle.router_core.specs.declared.driving.Sent.{Sent}
 use Rattle.router_trace.specs.Trace.{Entry, step_of}

@@ -1,7 +1,7 @@
 -- Numbers that rise, and lists with no number twice.
-use Rattle.std.proofs.Common.{◌≡◌, ◌∙◌, sym, ap, refl, subst, true≢false, ℕ, Bool, true, false, not, ◌||◌, ◌<◌, ◌≤◌, List, [], ◌∷◌, ◌++◌, drop, arith}
-use Rattle.std.specs.Prelude.{◌==◌, nat_eq, nat_lt, filter, Option, Some, None, is_some, option_map, option_and_then, if◌then◌else◌, length, Ok, Err}
-use Rattle.std.proofs.lemmas.Bool.{eqb-true, eq-eqb, ltb-true, leb-true, le-leb}
+use Rattle.std.proofs.Common.{◌≡◌, ◌∙◌, sym, refl, subst, true≢false, ℕ, Bool, true, false, not, ◌||◌, ◌<◌, ◌≤◌, List, [], ◌∷◌, ◌++◌, arith}
+use Rattle.std.specs.Prelude.{nat_eq, filter, Option, Some, None}
+use Rattle.std.proofs.lemmas.Bool.{eqb-true, eq-eqb, ltb-true, leb-true}
 use Rattle.router_trace.specs.Connection.{has}
 use Rattle.router_trace.specs.Refusing.{reaches, rises}
 use Rattle.router_conns.proofs.Lists.{by_test, from_push}

@@ -1,7 +1,7 @@
 -- A script's lines carry each of its connections.
-use Rattle.std.proofs.Common.{◌≡◌, ◌∙◌, sym, ap, refl, subst, true≢false, ℕ, Bool, true, false, ◌<◌, ◌≤◌, List, [], ◌∷◌, ◌++◌, append_assoc, append-nil, arith}
-use Rattle.std.specs.Prelude.{◌==◌, Option, Some, None, is_some}
-use Rattle.std.proofs.lemmas.Bool.{eqb-true, ltb-true, leb-true, le-leb}
+use Rattle.std.proofs.Common.{◌≡◌, ◌∙◌, sym, ap, refl, subst, true≢false, ℕ, false, List, [], ◌∷◌, ◌++◌, append_assoc, append-nil}
+use Rattle.std.specs.Prelude.{◌==◌, Option, Some}
+use Rattle.std.proofs.lemmas.Bool.{eqb-true}
 use Rattle.amqp_frames.proofs.Steps.{front_nothing}
 use Rattle.router_trace.specs.declared.event.Event.TheVariants as event
 use Rattle.router_play.specs.declared.line.Line.{Line}

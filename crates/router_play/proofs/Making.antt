@@ -1,6 +1,6 @@
 -- Connections are made: what it is to one that is made, and to the others.
-use Rattle.std.proofs.Common.{◌≡◌, ◌∙◌, sym, ap, refl, subst, true≢false, ℕ, Bool, true, false, ◌<◌, ◌≤◌, List, [], ◌∷◌, ◌++◌, append_assoc, append-nil, arith}
-use Rattle.std.specs.Prelude.{◌==◌, Option, Some, None, is_some}
+use Rattle.std.proofs.Common.{◌≡◌, sym, ap, refl, subst, true≢false, ℕ, true, false, ◌<◌, ◌≤◌, List, [], ◌∷◌, ◌++◌, arith}
+use Rattle.std.specs.Prelude.{◌==◌, Option, Some, None}
 use Rattle.std.proofs.lemmas.Bool.{eqb-true, ltb-true, leb-true, le-leb}
 use Rattle.amqp_frames.specs.declared.item.Item.{Item}
 use Rattle.amqp_frames.proofs.Steps.{front_nothing}

@@ -1,7 +1,6 @@
 -- Each row of the reply table keeps the order on a live connection.
-use Rattle.std.proofs.Common.{◌≡◌, ◌∙◌, sym, ap, refl, subst, true≢false, ℕ, Bool, true, false, not, ◌||◌, ◌<◌, ◌≤◌, List, [], ◌∷◌, ◌++◌, drop, arith}
-use Rattle.std.specs.Prelude.{◌==◌, nat_eq, nat_lt, filter, Option, Some, None, is_some, option_map, option_and_then, if◌then◌else◌, length, Ok, Err}
-use Rattle.std.proofs.lemmas.Bool.{eqb-true, eq-eqb, ltb-true, leb-true, le-leb}
+use Rattle.std.proofs.Common.{◌≡◌, sym, ap, refl, subst, ℕ, Bool, true, false, List, []}
+use Rattle.std.specs.Prelude.{nat_lt, if◌then◌else◌, length, Ok, Err}
 use Rattle.amqp_perf.specs.declared.perf.Perf.{Perf}
 use Rattle.amqp_perf.specs.declared.perf.Perf.TheVariants as perf
 use Rattle.amqp_perf.specs.declared.perf.Open.{Open}
