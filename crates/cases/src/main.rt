@@ -13,6 +13,7 @@ mod journals;
 mod performatives;
 mod run;
 mod scene;
+mod scripts;
 mod text;
 mod values;
 

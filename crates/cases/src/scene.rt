@@ -3,7 +3,7 @@ use crate::case::Case;
 use crate::disks::{self, AnyDisk};
 use crate::fault::CaseFault;
 use crate::journals::{self, StopDisk};
-use crate::{books, configurations, frames, performatives, values};
+use crate::{books, configurations, frames, performatives, scripts, values};
 use book_core::Book;
 use route_table::Config;
 use std::alloc::Global;
@@ -25,6 +25,8 @@ pub enum Subject {
     Disks,
     /// Journals.
     Journals,
+    /// What the program does.
+    Scripts,
 }
 
 impl Subject {
@@ -39,6 +41,7 @@ impl Subject {
             "books" => Some(Subject::Books),
             "disks" => Some(Subject::Disks),
             "journals" => Some(Subject::Journals),
+            "scripts" => Some(Subject::Scripts),
             _ => None,
         }
     }
@@ -61,6 +64,8 @@ pub enum Scene {
     Disk(Option<AnyDisk>),
     /// The disk of a journal, where one was taken.
     Journal(Option<StopDisk>),
+    /// Nothing but files is kept between questions on the program.
+    Scripts,
 }
 
 impl Scene {
@@ -74,6 +79,7 @@ impl Scene {
             Subject::Books => Scene::Book(Book::empty(alloc)),
             Subject::Disks => Scene::Disk(None),
             Subject::Journals => Scene::Journal(None),
+            Subject::Scripts => Scene::Scripts,
         }
     }
 
@@ -92,6 +98,7 @@ impl Scene {
             Scene::Book(book) => books::answer(alloc, book, case),
             Scene::Disk(scene) => disks::answer(rt, scene, case),
             Scene::Journal(scene) => journals::answer(alloc, scene, case),
+            Scene::Scripts => scripts::answer(rt, case),
         }
     }
 }
