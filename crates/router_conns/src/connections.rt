@@ -1,5 +1,5 @@
 //! The table of connections, with their outboxes.
-ghost use Rattle.std.specs.Prelude.{◌≡◌, ◌==◌, ◌∷◌, ◌++◌, ℕ, List, [], Some, None, length, nat_eq, nat_lt, true, false, not, filter, option_map, option_and_then, OnOk, IfOk, if◌then◌else◌};
+ghost use Rattle.std.specs.Prelude.{◌≡◌, ◌==◌, ◌≤◌, ◌∷◌, ◌++◌, ℕ, List, [], Some, None, length, nat_eq, nat_lt, true, false, not, filter, option_map, option_and_then, OnOk, IfOk, if◌then◌else◌};
 ghost use Rattle.std.specs.Ordering.{nat_cmp};
 ghost use Rattle.std.specs.BTreeMap.{get};
 ghost use Rattle.router_trace.specs.Trace.{Entry, Out, Took, did, newest};
@@ -204,6 +204,7 @@ impl Connections {
     pub fn take(&mut self, conn: u64, most: usize) -> Result<Option<Taken>, AllocError>
         ensures batched { IfOk result (λ taken. (t : List Entry) → ConnectionsFit self.old t → IsBatch most (known t conn) taken) }
         ensures fits { IfOk result (λ taken. (t : List Entry) → ConnectionsFit self.old t → ConnectionsFit self.new (Took conn (count taken) ∷ t)) }
+        ensures most { IfOk result (λ taken. count taken ≤ most) }
     {
         take_from(self.alloc, &mut self.rows, conn, most)
     }
@@ -227,6 +228,7 @@ fn take_from(
 ) -> Result<Option<Taken>, AllocError>
     ensures batched { IfOk result (λ taken. IsBatch most (get nat_cmp rows.old conn) taken) }
     ensures rows { IfOk result (λ taken. (c : ℕ) → get nat_cmp rows.new c ≡ (if conn == c then option_and_then (took (count taken)) (get nat_cmp rows.old c) else get nat_cmp rows.old c)) }
+    ensures most { IfOk result (λ taken. count taken ≤ most) }
 {
     let taken = match rows.get_mut(&conn) {
         None => return Ok(None),

@@ -145,6 +145,7 @@ impl Row {
     pub fn take(&mut self, alloc: Global, most: usize) -> Result<Taken, AllocError>
         ensures batched { IfOk result (λ taken. Batched self.old most taken.first taken.items.items taken.ended) }
         ensures rest { IfOk result (λ taken. took (length taken.items.items) self.old ≡ (if taken.ended then None else Some self.new)) }
+        ensures most { IfOk result (λ taken. length taken.items.items ≤ most) }
     {
         let count = self.waiting.len().min(most);
         let first = self.taken;

@@ -1,12 +1,14 @@
 -- Lemmas on takes and runs.
-use Rattle.std.proofs.Common.{◌≡◌, ◌∙◌, sym, ap, refl, subst, ℕ, List, [], ◌∷◌, ◌++◌, append_assoc, append-nil, suc, length, arith}
+use Rattle.std.proofs.Common.{◌≡◌, ◌∙◌, sym, ap, refl, subst, ℕ, ◌+◌, List, [], ◌∷◌, ◌++◌, append_assoc, append-nil, suc, length, length-append, arith, true, Some, ◌⊎◌, inl, inr}
 use Rattle.std.specs.Prelude.{map}
 use Rattle.router_core.specs.declared.driving.Sent.{Sent}
 use Rattle.router_trace.specs.declared.event.Event.{Event}
 use Rattle.router_core.specs.declared.router.Core.{Core}
 use Rattle.router_trace.specs.Trace.{Entry}
-use Rattle.router_core.specs.Handling.{Fits}
-use Rattle.router_core.specs.Runs.{Taking, took_all, took_one, sent, as_sent, items_of, Run}
+use Rattle.router_trace.specs.Connection.{conn as known, is_ready}
+use Rattle.router_conns.specs.Fits.{IsLeast}
+use Rattle.router_core.specs.Handling.{Fits, is_failed}
+use Rattle.router_core.specs.Runs.{Taking, took_all, took_one, sent, as_sent, items_of, Steps, Run, Waits}
 
 took_more : (xs : List Taking) (x : Taking) (t : List Entry) → took_all (xs ++ x ∷ []) t ≡ took_one x (took_all xs t)
 took_more [] x t = refl
@@ -33,12 +35,49 @@ one_more core place t before mid after xs x fit was now = (
 )
 
 -- nothing is left to run
-pub run_done : (id : List ℕ) (place : ℕ) (m : List Entry) (rest : List Event) → length rest ≡ 0 → Run id place m rest [] m
-run_done id place m [] e = (refl, refl)
-run_done id place m (x ∷ xs) e = absurd (suc_zero (length xs) e)
+pub all_run : (id : List ℕ) (t : List Entry) (es first rest : List Event) (xs : List Sent) (m : List Entry)
+    → es ≡ first ++ rest → length rest ≡ 0 → Run id 0 t first xs m → Run id 0 t es xs m
+all_run id t es first [] xs m is none run = subst (λ (fs : List Event). Run id 0 t fs xs m) (sym (is ∙ append-nil first)) run
+all_run id t es first (x ∷ rest) xs m is none run = absurd (suc_zero (length rest) none)
   where
     suc_zero : (n : ℕ) → suc n ≡ 0 → ⊥
     suc_zero n h = omega arith
 
-pub same_items : (id : List ℕ) (place : ℕ) (t : List Entry) (es : List Event) (xs : List Sent) (u : List Entry) → Run id place t es (xs ++ []) u → Run id place t es xs u
-same_items id place t es xs u run = subst (λ (ys : List Sent). Run id place t es ys u) (append-nil xs) run
+-- one event more
+pub run_more : (id : List ℕ) (place at : ℕ) (t : List Entry) (first : List Event) (xs : List Sent) (m : List Entry) (e : Event) (ys : List Sent) (u : List Entry)
+    → at ≡ place + length first → Run id place t first xs m → Steps id at m e ys u → Run id place t (first ++ e ∷ []) (xs ++ ys) u
+run_more id place at t [] xs m e ys u is run st = (
+  u,
+  ys,
+  [],
+  subst (λ (p : ℕ). Steps id p t e ys u) (is ∙ omega arith) (subst (λ (v : List Entry). Steps id at v e ys u) run.0 st),
+  (refl, refl),
+  ap (λ (zs : List Sent). zs ++ ys) run.1 ∙ sym (append-nil ys),
+)
+run_more id place at t (x ∷ first) xs m e ys u is (mid, before, after, steps, run, all) st = (
+  mid,
+  before,
+  after ++ ys,
+  steps,
+  run_more id (place + 1) at mid first after m e ys u (is ∙ omega arith) run st,
+  ap (λ (zs : List Sent). zs ++ ys) all ∙ append_assoc before after ys,
+)
+
+one_longer : (n : ℕ) (first : List Event) (e : Event) → n ≡ length first → n + 1 ≡ length (first ++ e ∷ [])
+one_longer n first e is = ap (λ (k : ℕ). k + 1) is ∙ sym (length-append first (e ∷ []))
+
+pub past_more : (id other : List ℕ) (handled : ℕ) (t m u : List Entry) (es first rest behind : List Event) (e : Event) (xs ys zs : List Sent)
+    → other ≡ id → rest ≡ e ∷ behind → zs ≡ xs ++ ys → es ≡ first ++ rest → handled ≡ length first → Run id 0 t first xs m → Steps other handled m e ys u
+    → (es ≡ (first ++ e ∷ []) ++ behind) × (handled + 1 ≡ length (first ++ e ∷ [])) × Run id 0 t (first ++ e ∷ []) zs u
+past_more id other handled t m u es first rest behind e xs ys zs same next taken all count run steps = (
+  all ∙ ap (λ (fs : List Event). first ++ fs) next ∙ sym (append_assoc first (e ∷ []) behind),
+  one_longer handled first e count,
+  subst (λ (ts : List Sent). Run id 0 t (first ++ e ∷ []) ts u) (sym taken)
+      (run_more id 0 handled t first xs m e ys u (count ∙ omega arith) run (subst (λ (i : List ℕ). Steps i handled m e ys u) same steps)),
+)
+
+-- memory was refused for the items of a connection of which something can be taken
+pub still_waits : (old new : Core) (c : ℕ) → ((t : List Entry) → Fits old t → IsLeast (λ c. is_ready (known t c)) (Some c))
+    → (new ≡ old) ⊎ (is_failed new ≡ true) → ((t : List Entry) → Fits new t → Waits t) ⊎ (is_failed new ≡ true)
+still_waits old new c least (inl same) = inl (λ t f. (c, (least t (subst (λ (x : Core). Fits x t) same f)).0))
+still_waits old new c least (inr failed) = inr failed

@@ -64,3 +64,25 @@ abbrev pub Run : List ℕ → ℕ → Trace → List Event → List Sent → Tra
 Run id place t [] xs u = (u ≡ t) × (xs ≡ [])
 Run id place t (e ∷ es) xs u = (mid : Trace) × (ys : List Sent) × (zs : List Sent)
     × Steps id place t e ys mid × Run id (place + 1) mid es zs u × (xs ≡ ys ++ zs)
+
+-- what was taken behind an event that came to a fault: nothing where it wasn't handled, else what takes behind it gave
+abbrev pub Broken : List ℕ → ℕ → Trace → Event → List Sent → Type 0
+Broken id place t e ys = (ys ≡ []) ⊎ ((behind : Trace) × (takes : List Taking) × MayStep id t e behind × (ys ≡ sent place takes behind))
+
+-- of these events so many were handled, the next one came to a fault, and xs are the items taken
+pub record Stopped (id : List ℕ) (t : Trace) (es : List Event) (handled : ℕ) (xs : List Sent) : Type 0 where
+  pub first : List Event
+  pub event : Event
+  pub rest : List Event
+  pub events : es ≡ first ++ event ∷ rest
+  pub count : handled ≡ length first
+  pub mid : Trace
+  pub before : List Sent
+  pub run : Run id 0 t first before mid
+  pub last : List Sent
+  pub broken : Broken id handled mid event last
+  pub items : xs ≡ before ++ last
+
+-- something can be taken of a connection
+abbrev pub Waits : Trace → Type 0
+Waits t = (c : ℕ) × (is_ready (conn t c) ≡ true)

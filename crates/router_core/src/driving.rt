@@ -1,9 +1,9 @@
 //! A list of events, handled one after the other.
-ghost use Rattle.std.specs.Prelude.{◌≡◌, ◌∷◌, ◌++◌, ℕ, List, map, length, false, None, OnOk, IfErr};
+ghost use Rattle.std.specs.Prelude.{◌≡◌, ◌≢◌, ◌≤◌, ◌⊎◌, ◌+◌, ◌∷◌, ◌++◌, ℕ, List, map, length, true, false, None, vec_len, vec_capacity, OnOk, OnErr, IfErr, IfSome};
 ghost use Rattle.router_trace.specs.Trace.{Entry};
 ghost use Rattle.router_trace.specs.Connection.{conn as known, is_ready};
-ghost use Rattle.router_core.specs.Handling.{Fits, id_of};
-ghost use Rattle.router_core.specs.Runs.{Emptied, Steps, Run, MayStep, as_sent, taking, items_of, took_one};
+ghost use Rattle.router_core.specs.Handling.{Fits, id_of, is_failed};
+ghost use Rattle.router_core.specs.Runs.{Emptied, Steps, Run, MayStep, Taking, Broken, Stopped, Waits, as_sent, sent, taking, items_of, took_one};
 ghost use Rattle.router_core.specs.declared.driving.Sent.{Sent as ASent};
 
 use crate::fault::CoreFault;
@@ -37,23 +37,14 @@ pub struct Driven {
     pub taken: Vec<Sent>,
 }
 
-/// Puts items behind those that were taken before.
-fn append(
-    taken: &mut Vec<Sent>,
-    event: usize,
-    conn: ConnectionId,
-    items: Vec<Item>,
-) -> Result<(), CoreFault>
-    ensures ok { OnOk result (taken.new.items ≡ taken.old.items ++ map (as_sent event conn) items.items) }
-    ensures faults { IfErr result (λ f. f ≡ CoreFault.Memory) }
+/// Puts items behind those that were taken before, for which there is room.
+fn append(taken: &mut Vec<Sent>, event: usize, conn: ConnectionId, items: Vec<Item>)
+    requires { vec_len taken.old + length items.items ≤ vec_capacity taken.old }
+    ensures { taken.new.items ≡ taken.old.items ++ map (as_sent event conn) items.items }
 {
     for item in items {
-        match taken.push(Sent { event, conn, item }) {
-            Ok(()) => {}
-            Err(_) => return Err(CoreFault::Memory),
-        }
+        taken.push_reserved(Sent { event, conn, item });
     }
-    Ok(())
 }
 
 /// Takes items of one outbox. Room for them is made before they are taken.
@@ -65,19 +56,36 @@ fn take_one(
 ) -> Result<(), CoreFault>
     ensures fits { OnOk result ((t : List Entry) → Fits core.old t → Fits core.new (took_one (taking conn) t)) }
     ensures items { OnOk result ((t : List Entry) → Fits core.old t → taken.new.items ≡ taken.old.items ++ map (as_sent event conn) (items_of (taking conn) t)) }
+    ensures works { OnOk result (is_failed core.new ≡ false) }
     ensures named { id_of core.new ≡ id_of core.old }
+
+    // What a fault leaves, and why it comes.
+    ensures kept { OnErr result (taken.new.items ≡ taken.old.items) }
+    ensures known { IfErr result (λ f. f ≡ CoreFault.NoConnection → (t : List Entry) → Fits core.old t → known t conn.0 ≡ None) }
+    ensures failed { IfErr result (λ f. f ≡ CoreFault.Failed → is_failed core.old ≡ true) }
+    ensures memory { IfErr result (λ f. f ≡ CoreFault.Memory → (core.new ≡ core.old) ⊎ (is_failed core.new ≡ true)) }
+    ensures no_disk { IfErr result (λ f. f ≡ CoreFault.Disk → ⊥) }
 {
     if taken.try_reserve(MOST).is_err() {
         return Err(CoreFault::Memory);
     }
     let batch = core.take(conn, MOST)?;
-    append(taken, event, conn, batch.items)
+    append(taken, event, conn, batch.items);
+    Ok(())
 }
 
 /// Empties all outboxes, by connection.
 fn empty(core: &mut Core, event: usize, taken: &mut Vec<Sent>) -> Result<(), CoreFault>
     ensures fits { OnOk result ((t : List Entry) → Fits core.old t → (ys : List ASent) × (u : List Entry) × Emptied event t ys u × Fits core.new u × (taken.new.items ≡ taken.old.items ++ ys)) }
+    ensures works { OnOk result (is_failed core.new ≡ true → is_failed core.old ≡ true) }
     ensures named { id_of core.new ≡ id_of core.old }
+
+    // What a fault leaves, and why it comes.
+    ensures broken { OnErr result ((t : List Entry) → Fits core.old t → (takes : List Taking) × (taken.new.items ≡ taken.old.items ++ sent event takes t)) }
+    ensures known { IfErr result (λ f. (t : List Entry) → Fits core.old t → f ≢ CoreFault.NoConnection) }
+    ensures failed { IfErr result (λ f. f ≡ CoreFault.Failed → is_failed core.old ≡ true) }
+    ensures memory { IfErr result (λ f. f ≡ CoreFault.Memory → ((t : List Entry) → Fits core.new t → Waits t) ⊎ (is_failed core.new ≡ true)) }
+    ensures no_disk { IfErr result (λ f. f ≡ CoreFault.Disk → ⊥) }
 {
     for _turn in 0..u64::MAX {
         match core.ready() {
@@ -85,13 +93,24 @@ fn empty(core: &mut Core, event: usize, taken: &mut Vec<Sent>) -> Result<(), Cor
             Some(conn) => take_one(core, event, conn, taken)?,
         }
     }
-    Err(CoreFault::Memory)
+    match core.ready() {
+        None => Ok(()),
+        Some(_) => Err(CoreFault::Memory),
+    }
 }
 
 /// Handles an event, which may be refused, and empties all outboxes.
 fn step(core: &mut Core, place: usize, event: Event, taken: &mut Vec<Sent>) -> Result<(), CoreFault>
     ensures fits { OnOk result ((t : List Entry) → Fits core.old t → (ys : List ASent) × (u : List Entry) × Steps (id_of core.old) place t event ys u × Fits core.new u × (taken.new.items ≡ taken.old.items ++ ys)) }
+    ensures works { OnOk result (is_failed core.new ≡ true → is_failed core.old ≡ true) }
     ensures named { id_of core.new ≡ id_of core.old }
+
+    // What a fault leaves, and why it comes.
+    ensures broken { OnErr result ((t : List Entry) → Fits core.old t → (ys : List ASent) × Broken (id_of core.old) place t event ys × (taken.new.items ≡ taken.old.items ++ ys)) }
+    ensures known { IfErr result (λ f. (t : List Entry) → Fits core.old t → f ≢ CoreFault.NoConnection) }
+    ensures failed { IfErr result (λ f. f ≡ CoreFault.Failed → is_failed core.old ≡ true) }
+    ensures memory { IfErr result (λ f. f ≡ CoreFault.Memory → ((t : List Entry) → Fits core.new t → Waits t) ⊎ (is_failed core.new ≡ true)) }
+    ensures no_disk { IfErr result (λ f. f ≡ CoreFault.Disk → ⊥) }
 {
     hear(core, event)?;
     empty(core, place, taken)
@@ -100,20 +119,37 @@ fn step(core: &mut Core, place: usize, event: Event, taken: &mut Vec<Sent>) -> R
 /// Handles an event, which may be refused.
 fn hear(core: &mut Core, event: Event) -> Result<(), CoreFault>
     ensures fits { OnOk result ((t : List Entry) → Fits core.old t → (u : List Entry) × MayStep (id_of core.old) t event u × Fits core.new u) }
+    ensures works { OnOk result (is_failed core.new ≡ true → is_failed core.old ≡ true) }
     ensures named { id_of core.new ≡ id_of core.old }
+
+    // Why a fault comes.
+    ensures known { IfErr result (λ f. f ≢ CoreFault.NoConnection) }
+    ensures failed { IfErr result (λ f. f ≡ CoreFault.Failed → is_failed core.old ≡ true) }
+    ensures memory { IfErr result (λ f. f ≡ CoreFault.Memory → is_failed core.new ≡ true) }
+    ensures no_disk { IfErr result (λ f. f ≡ CoreFault.Disk → ⊥) }
 {
     match core.handle(event) {
-        Ok(_) => Ok(()),
-        Err(CoreFault::NoConnection) => Ok(()),
-        Err(fault) => Err(fault),
+        Ok(_) | Err(CoreFault::NoConnection) => Ok(()),
+        Err(CoreFault::Memory) => Err(CoreFault::Memory),
+        Err(CoreFault::Failed) => Err(CoreFault::Failed),
+        Err(CoreFault::Disk) => Err(CoreFault::Disk),
     }
 }
 
 /// Handles events one after the other, and takes all that is put out behind each. It ends at the first answer `Disk`,
-/// `Memory` or `Failed`, and with `Memory` where the list of items can't grow, before they are taken.
+/// `Memory` or `Failed`, and with `Memory` where the list of items can't grow, before they are taken: the core is then as
+/// its last call left it. A refused event (`NoConnection`) never ends it.
 pub fn drive(alloc: Global, core: &mut Core, events: Vec<Event>) -> Driven
+    // Without a fault all events were handled.
     ensures ran { result.fault ≡ None → (t : List Entry) → Fits core.old t → (u : List Entry) × Run (id_of core.old) 0 t events.items result.taken.items u × Fits core.new u }
     ensures all { result.fault ≡ None → result.handled ≡ length events.items }
+
+    // With one, those before it were, and what was taken stands behind them and behind the event that came to it.
+    ensures stopped { IfSome result.fault (λ f. (t : List Entry) → Fits core.old t → Stopped (id_of core.old) t events.items result.handled result.taken.items) }
+    ensures known { IfSome result.fault (λ f. (t : List Entry) → Fits core.old t → f ≢ CoreFault.NoConnection) }
+    ensures failed { IfSome result.fault (λ f. f ≡ CoreFault.Failed → is_failed core.old ≡ true) }
+    ensures memory { IfSome result.fault (λ f. f ≡ CoreFault.Memory → ((t : List Entry) → Fits core.new t → Waits t) ⊎ (is_failed core.new ≡ true)) }
+    ensures no_disk { IfSome result.fault (λ f. f ≡ CoreFault.Disk → ⊥) }
 {
     let mut taken = Vec::new(alloc);
     let mut handled = 0;

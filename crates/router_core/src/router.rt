@@ -1,5 +1,5 @@
 //! The router: one event or one take at a time.
-ghost use Rattle.std.specs.Prelude.{◌≡◌, ◌∷◌, ℕ, List, [], length, true, false, Ok, Err, None, option_map, OnOk, IfOk, IfErr};
+ghost use Rattle.std.specs.Prelude.{◌≡◌, ◌≤◌, ◌∷◌, ℕ, List, [], length, true, false, Ok, Err, None, option_map, OnOk, IfOk, IfErr};
 ghost use Rattle.router_trace.specs.Trace.{Entry, Took, step_of};
 ghost use Rattle.router_trace.specs.Connection.{conn as known, is_ready};
 ghost use Rattle.router_trace.specs.Refusing.{refuses};
@@ -104,6 +104,7 @@ impl Core {
         ensures fits { IfOk result (λ b. (t : List Entry) → Fits self.old t → Fits self.new (Took conn.0 (length b.items.items) ∷ t)) }
         ensures batch { IfOk result (λ b. (t : List Entry) → Fits self.old t → IsBatchOf (known t conn.0) most b) }
         ensures whose { IfOk result (λ b. b.conn ≡ conn) }
+        ensures most { IfOk result (λ b. length b.items.items ≤ most) }
         ensures works { OnOk result (is_failed self.new ≡ false) }
         ensures named { id_of self.new ≡ id_of self.old }
 

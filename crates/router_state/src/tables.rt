@@ -1,5 +1,5 @@
 //! All tables, changed together.
-ghost use Rattle.std.specs.Prelude.{◌≡◌, ◌==◌, if◌then◌else◌, ◌∷◌, ℕ, List, [], true, option_map, OnOk, IfOk};
+ghost use Rattle.std.specs.Prelude.{◌≡◌, ◌==◌, ◌≤◌, if◌then◌else◌, ◌∷◌, ℕ, List, [], true, option_map, OnOk, IfOk};
 ghost use Rattle.std.specs.Ordering.{nat_cmp};
 ghost use Rattle.std.specs.BTreeMap.{get};
 ghost use Rattle.std.specs.BTreeSet.{contains};
@@ -95,6 +95,7 @@ impl State {
     pub fn take(&mut self, conn: u64, most: usize) -> Result<Option<Taken>, AllocError>
         ensures batched { IfOk result (λ taken. (t : List Entry) → TablesFit self.old t → IsBatch most (known t conn) taken) }
         ensures fits { IfOk result (λ taken. (t : List Entry) → TablesFit self.old t → TablesFit self.new (Took conn (count taken) ∷ t)) }
+        ensures most { IfOk result (λ taken. count taken ≤ most) }
     {
         let taken = self.connections.take(conn, most)?;
         note(&mut self.ready, &self.connections, conn)?;

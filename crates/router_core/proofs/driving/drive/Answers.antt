@@ -1,15 +1,49 @@
-use Rattle.std.proofs.Common.{[], ◌∙◌, sym}
+use Rattle.std.proofs.Common.{◌∙◌, ◌∷◌, ◌++◌, [], List, ℕ, ap, subst, sym, rules, arith}
 use Rattle.std.specs.Vec.Iter.{into_iter_items}
+use Rattle.router_trace.specs.declared.event.Event.{Event}
 use Rattle.router_core.specs.Handling.{id_of}
-use Rattle.router_core.proofs.RunLemmas.{run_done, same_items}
+use Rattle.router_core.specs.Runs.{Broken}
+use Rattle.router_core.proofs.RunLemmas.{all_run, past_more}
 use Rattle.router_core.proofs.driving.drive.Goals as goal
 
 pub returns-clause-ran : goal.returns-clause-ran
 returns-clause-ran c = λ none t f.
-    let w = c.loop-event.invariant.fits t f
+    let w = c.loop-event.invariant.past t f
     in (
-      w.0,
-      same_items (id_of c.args.core.now) 0 t c.args.events.items c.loop-event.taken.items w.0
-          (w.2 [] w.0 (run_done (id_of c.args.core.now) c.loop-event.handled w.0 (into_iter_items c.loop-event.event-iterator) (sym c.loop-event.event-iterator.rest.ok.0 ∙ c.in-None.ensures.steps.0))),
       w.1,
+      all_run (id_of c.args.core.now) t c.args.events.items w.0 (into_iter_items c.loop-event.event-iterator) c.loop-event.taken.items w.1
+          w.2 (sym c.loop-event.event-iterator.rest.ok.0 ∙ c.in-None.ensures.steps.0) w.4,
+      w.5,
     )
+
+pub loop-event-preserved : goal.loop-event-preserved
+loop-event-preserved c = record {
+  past = λ t f.
+      let w = c.loop-event.invariant.past t f in
+      let s = c.in-Ok.ensures.fits w.1 w.5 in
+      let p = past_more (id_of c.args.core.now) (id_of c.loop-event.core) c.loop-event.handled t w.1 s.1 c.args.events.items w.0
+      (into_iter_items c.loop-event.event-iterator) (into_iter_items c.next.new.self) c.in-Some.event c.loop-event.taken.items s.0 c.step.new.taken.items
+      c.loop-event.invariant.named c.in-Some.ensures.steps.0 s.4 w.2 w.3 w.4 s.2
+      in (w.0 ++ c.in-Some.event ∷ [], s.1, p.0, p.1, p.2, s.3);
+  works = search rules;
+  named = search rules;
+  count = let h = c.in-Some.ensures.steps in grind (arith, h, rules);
+}
+
+pub returns-in-Err-clause-stopped : goal.returns-in-Err-clause-stopped
+returns-in-Err-clause-stopped c = λ t f.
+    let w = c.loop-event.invariant.past t f in
+    let b = c.in-Err.ensures.broken w.1 w.5 in
+    record {
+      first = w.0;
+      event = c.in-Some.event;
+      rest = into_iter_items c.next.new.self;
+      events = w.2 ∙ ap (λ (fs : List Event). w.0 ++ fs) c.in-Some.ensures.steps.0;
+      count = w.3;
+      mid = w.1;
+      before = c.loop-event.taken.items;
+      run = w.4;
+      last = b.0;
+      broken = subst (λ (i : List ℕ). Broken i c.loop-event.handled w.1 c.in-Some.event b.0) c.loop-event.invariant.named b.1;
+      items = b.2;
+    }

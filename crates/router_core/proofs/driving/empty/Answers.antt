@@ -1,6 +1,9 @@
-use Rattle.std.proofs.Common.{◌∙◌}
-use Rattle.router_core.specs.Runs.{taking}
-use Rattle.router_core.proofs.RunLemmas.{one_more}
+use Rattle.std.proofs.Common.{◌∙◌, ◌≡◌, ◌⊎◌, List, true, rules}
+use Rattle.router_trace.specs.Trace.{Entry}
+use Rattle.router_core.specs.Handling.{Fits, is_failed}
+use Rattle.router_core.specs.Runs.{taking, Waits}
+use Rattle.router_core.specs.declared.fault.CoreFault.TheVariants.{Memory}
+use Rattle.router_core.proofs.RunLemmas.{one_more, still_waits}
 use Rattle.router_core.proofs.driving.empty.Goals as goal
 
 pub loop-turn-preserved : goal.loop-turn-preserved
@@ -8,5 +11,13 @@ loop-turn-preserved c = record {
   fits = λ t f. let w = c.loop-turn.invariant.fits t f
       in one_more c.take_one.new.core c.args.event t c.args.taken.now.items c.loop-turn.taken.items c.take_one.new.taken.items w.0 (taking c.in-Some.conn)
       (c.in_ok-take_one-in-Some.ensures.fits _ w.1) w.2 (c.in_ok-take_one-in-Some.ensures.items _ w.1);
+  works = search rules;
   named = c.in_ok-take_one-in-Some.ensures.named ∙ c.loop-turn.invariant.named;
 }
+
+pub returns-in_err-take_one-in-Some-clause-memory : goal.returns-in_err-take_one-in-Some-clause-memory
+returns-in_err-take_one-in-Some-clause-memory c =
+    let waits = still_waits c.loop-turn.core c.take_one.new.core c.in-Some.conn.0 c.in-Some.ensures in
+    let memory : c.in_err-take_one-in-Some.field-0.0 ≡ Memory → ((t : List Entry) → Fits c.take_one.new.core t → Waits t) ⊎ (is_failed c.take_one.new.core ≡ true)
+    = λ is. waits (c.in_err-take_one-in-Some.ensures.memory is) in
+    search (memory, rules)
