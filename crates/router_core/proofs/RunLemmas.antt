@@ -8,7 +8,7 @@ use Rattle.router_trace.specs.Trace.{Entry}
 use Rattle.router_trace.specs.Connection.{conn as known, is_ready}
 use Rattle.router_conns.specs.Fits.{IsLeast}
 use Rattle.router_core.specs.Handling.{Fits, is_failed}
-use Rattle.router_core.specs.Runs.{Taking, took_all, took_one, sent, as_sent, items_of, Steps, Run, Waits}
+use Rattle.router_core.specs.Runs.{Taking, IsNext, InTurn, took_all, took_one, sent, as_sent, items_of, Steps, Run, Waits}
 
 took_more : (xs : List Taking) (x : Taking) (t : List Entry) → took_all (xs ++ x ∷ []) t ≡ took_one x (took_all xs t)
 took_more [] x t = refl
@@ -21,13 +21,19 @@ sent_more place (y ∷ ys) x t =
     ap (λ zs. map (as_sent place y.conn) (items_of y t) ++ zs) (sent_more place ys x (took_one y t))
     ∙ sym (append_assoc (map (as_sent place y.conn) (items_of y t)) (sent place ys (took_one y t)) (map (as_sent place x.conn) (items_of x (took_all ys (took_one y t)))))
 
+turns_more : (xs : List Taking) (x : Taking) (t : List Entry) → InTurn xs t → IsNext (took_all xs t) x → InTurn (xs ++ x ∷ []) t
+turns_more [] x t turns next = (next, turns)
+turns_more (y ∷ ys) x t turns next = (turns.0, turns_more ys x (took_one y t) turns.1 next)
+
 -- one take more
 pub one_more : (core : Core) (place : ℕ) (t : List Entry) (before mid after : List Sent) (xs : List Taking) (x : Taking)
+    → InTurn xs t → IsNext (took_all xs t) x
     → Fits core (took_one x (took_all xs t)) → mid ≡ before ++ sent place xs t
     → after ≡ mid ++ map (as_sent place x.conn) (items_of x (took_all xs t))
-    → (takes : List Taking) × Fits core (took_all takes t) × (after ≡ before ++ sent place takes t)
-one_more core place t before mid after xs x fit was now = (
+    → (takes : List Taking) × InTurn takes t × Fits core (took_all takes t) × (after ≡ before ++ sent place takes t)
+one_more core place t before mid after xs x turns next fit was now = (
   xs ++ x ∷ [],
+  turns_more xs x t turns next,
   subst (λ (u : List Entry). Fits core u) (sym (took_more xs x t)) fit,
   now ∙ ap (λ ys. ys ++ map (as_sent place x.conn) (items_of x (took_all xs t))) was
       ∙ append_assoc before (sent place xs t) (map (as_sent place x.conn) (items_of x (took_all xs t)))

@@ -7,6 +7,7 @@ use Rattle.router_core.specs.declared.driving.Sent.{Sent}
 use Rattle.router_trace.specs.Trace.{Trace, Took, step_of}
 use Rattle.router_trace.specs.Connection.{Connection, conn, is_ready}
 use Rattle.router_trace.specs.Refusing.{refuses}
+use Rattle.router_conns.specs.Fits.{IsLeast}
 use Rattle.router_reply.specs.Replies.{Replies}
 
 -- the items that wait in an outbox
@@ -42,9 +43,20 @@ abbrev pub sent : ℕ → List Taking → Trace → List Sent
 sent place [] t = []
 sent place (x ∷ xs) t = map (as_sent place x.conn) (items_of x t) ++ sent place xs (took_one x t)
 
--- u is t with takes of these items, behind which no outbox has anything left
+-- the next take: 64 items of the lowest connection of which something can be taken
+pub record IsNext (t : Trace) (x : Taking) : Type 0 where
+  pub most : x.most ≡ 64
+  pub lowest : IsLeast (λ c. is_ready (conn t c)) (Some x.conn.0)
+
+-- takes that go so, one after the other
+abbrev pub InTurn : List Taking → Trace → Type 0
+InTurn [] t = Unit {0}
+InTurn (x ∷ xs) t = IsNext t x × InTurn xs (took_one x t)
+
+-- u is t with takes of these items, in turn, behind which no outbox has anything left
 pub record Emptied (place : ℕ) (t : Trace) (ys : List Sent) (u : Trace) : Type 0 where
   pub takes : List Taking
+  pub turns : InTurn takes t
   pub trace : u ≡ took_all takes t
   pub items : ys ≡ sent place takes t
   pub empty : (c : ℕ) → is_ready (conn u c) ≡ false
@@ -65,9 +77,9 @@ Run id place t [] xs u = (u ≡ t) × (xs ≡ [])
 Run id place t (e ∷ es) xs u = (mid : Trace) × (ys : List Sent) × (zs : List Sent)
     × Steps id place t e ys mid × Run id (place + 1) mid es zs u × (xs ≡ ys ++ zs)
 
--- what was taken behind an event that came to a fault: nothing where it wasn't handled, else what takes behind it gave
+-- what was taken behind an event that came to a fault: nothing where it wasn't handled, else what takes behind it gave, in turn
 abbrev pub Broken : List ℕ → ℕ → Trace → Event → List Sent → Type 0
-Broken id place t e ys = (ys ≡ []) ⊎ ((behind : Trace) × (takes : List Taking) × MayStep id t e behind × (ys ≡ sent place takes behind))
+Broken id place t e ys = (ys ≡ []) ⊎ ((behind : Trace) × (takes : List Taking) × MayStep id t e behind × InTurn takes behind × (ys ≡ sent place takes behind))
 
 -- of these events so many were handled, the next one came to a fault, and xs are the items taken
 pub record Stopped (id : List ℕ) (t : Trace) (es : List Event) (handled : ℕ) (xs : List Sent) : Type 0 where

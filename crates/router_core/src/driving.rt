@@ -3,7 +3,7 @@ ghost use Rattle.std.specs.Prelude.{◌≡◌, ◌≢◌, ◌≤◌, ◌⊎◌, 
 ghost use Rattle.router_trace.specs.Trace.{Entry};
 ghost use Rattle.router_trace.specs.Connection.{conn as known, is_ready};
 ghost use Rattle.router_core.specs.Handling.{Fits, id_of, is_failed};
-ghost use Rattle.router_core.specs.Runs.{Emptied, Steps, Run, MayStep, Taking, Broken, Stopped, Waits, as_sent, sent, taking, items_of, took_one};
+ghost use Rattle.router_core.specs.Runs.{Emptied, Steps, Run, MayStep, Taking, InTurn, Broken, Stopped, Waits, as_sent, sent, taking, items_of, took_one};
 ghost use Rattle.router_core.specs.declared.driving.Sent.{Sent as ASent};
 
 use crate::fault::CoreFault;
@@ -81,7 +81,7 @@ fn empty(core: &mut Core, event: usize, taken: &mut Vec<Sent>) -> Result<(), Cor
     ensures named { id_of core.new ≡ id_of core.old }
 
     // What a fault leaves, and why it comes.
-    ensures broken { OnErr result ((t : List Entry) → Fits core.old t → (takes : List Taking) × (taken.new.items ≡ taken.old.items ++ sent event takes t)) }
+    ensures broken { OnErr result ((t : List Entry) → Fits core.old t → (takes : List Taking) × InTurn takes t × (taken.new.items ≡ taken.old.items ++ sent event takes t)) }
     ensures known { IfErr result (λ f. (t : List Entry) → Fits core.old t → f ≢ CoreFault.NoConnection) }
     ensures failed { IfErr result (λ f. f ≡ CoreFault.Failed → is_failed core.old ≡ true) }
     ensures memory { IfErr result (λ f. f ≡ CoreFault.Memory → ((t : List Entry) → Fits core.new t → Waits t) ⊎ (is_failed core.new ≡ true)) }

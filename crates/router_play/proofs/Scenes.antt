@@ -21,8 +21,8 @@ use Rattle.amqp_frames.specs.declared.item.Item.{Item}
 use Rattle.router_trace.specs.Trace.{Entry, Took}
 use Rattle.router_trace.specs.Connection.{Connection, conn}
 use Rattle.router_core.specs.Handling.{Fits, id_of, IsBatchOf}
-use Rattle.router_core.specs.Runs.{Taking, taking, took_one, waiting_of}
-use Rattle.router_play.specs.Script.{Scene, with_socket, with_trace, say_all, out_line, lose, lose_by, told, is_last, close_if, take_one, take_all, opening, Takes, Flushes, Plays, PlaysAll}
+use Rattle.router_core.specs.Runs.{Taking, IsNext, taking, took_one, waiting_of}
+use Rattle.router_play.specs.Script.{Scene, with_socket, with_trace, say_all, out_line, lose, lose_by, told, is_last, close_if, take_one, take_all, AllInTurn, opening, Takes, Flushes, Plays, PlaysAll}
 use Rattle.router_play.specs.Playing.{Follows, PartsAt, part_by}
 use Rattle.router_conns.proofs.Lists.{by_test}
 
@@ -126,6 +126,10 @@ taken_scene c b s is =
 pub take_all_more : (xs : List Taking) (x : Taking) (s : Scene) → take_all (xs ++ x ∷ []) s ≡ take_one x (take_all xs s)
 take_all_more [] x s = refl
 take_all_more (y ∷ ys) x s = take_all_more ys x (take_one y s)
+
+pub turns_more : (xs : List Taking) (x : Taking) (s : Scene) → AllInTurn xs s → IsNext (take_all xs s).trace x → AllInTurn (xs ++ x ∷ []) s
+turns_more [] x s turns next = (next, turns)
+turns_more (y ∷ ys) x s turns next = (turns.0, turns_more ys x (take_one y s) turns.1 next)
 
 -- a step more, and then the rest
 pub plays_more : (steps : List Step) (i : ℕ) (x : Step) (m mid next u : Scene) → x ≡ get_or steps i x → i < length steps

@@ -18,7 +18,7 @@ use Rattle.router_trace.specs.Trace.{Trace, step_of}
 use Rattle.router_trace.specs.Connection.{Connection, conn, took, is_ready}
 use Rattle.router_trace.specs.Refusing.{refuses, rises}
 use Rattle.router_reply.specs.Replies.{answered}
-use Rattle.router_core.specs.Runs.{Taking, items_of, took_one}
+use Rattle.router_core.specs.Runs.{Taking, IsNext, items_of, took_one}
 use Rattle.router_core.specs.Door.{Verdict, says, passes, ends, door}
 
 -- where a script stands: the router's id and its trace, the number of the last connection made, the connections that are
@@ -150,9 +150,15 @@ abbrev pub take_all : List Taking → Scene → Scene
 take_all [] s = s
 take_all (x ∷ xs) s = take_all xs (take_one x s)
 
--- all outboxes are emptied
+-- takes in turn: 64 items of the lowest connection of which something can be taken, and so on
+abbrev pub AllInTurn : List Taking → Scene → Type 0
+AllInTurn [] s = Unit {0}
+AllInTurn (x ∷ xs) s = IsNext s.trace x × AllInTurn xs (take_one x s)
+
+-- all outboxes are emptied, in turn
 pub record Flushes (s u : Scene) : Type 0 where
   pub takes : List Taking
+  pub turns : AllInTurn takes s
   pub scene : u ≡ take_all takes s
   pub empty : (c : ℕ) → is_ready (conn u.trace c) ≡ false
 

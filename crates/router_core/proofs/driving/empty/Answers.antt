@@ -1,4 +1,4 @@
-use Rattle.std.proofs.Common.{◌∙◌, ◌≡◌, ◌⊎◌, List, true, rules}
+use Rattle.std.proofs.Common.{◌∙◌, ◌≡◌, refl, ◌⊎◌, List, true, rules}
 use Rattle.router_trace.specs.Trace.{Entry}
 use Rattle.router_core.specs.Handling.{Fits, is_failed}
 use Rattle.router_core.specs.Runs.{taking, Waits}
@@ -10,7 +10,8 @@ pub loop-turn-preserved : goal.loop-turn-preserved
 loop-turn-preserved c = record {
   fits = λ t f. let w = c.loop-turn.invariant.fits t f
       in one_more c.take_one.new.core c.args.event t c.args.taken.now.items c.loop-turn.taken.items c.take_one.new.taken.items w.0 (taking c.in-Some.conn)
-      (c.in_ok-take_one-in-Some.ensures.fits _ w.1) w.2 (c.in_ok-take_one-in-Some.ensures.items _ w.1);
+      w.1 (record { most = refl; lowest = c.in-Some.ensures _ w.2 })
+      (c.in_ok-take_one-in-Some.ensures.fits _ w.2) w.3 (c.in_ok-take_one-in-Some.ensures.items _ w.2);
   works = search rules;
   named = c.in_ok-take_one-in-Some.ensures.named ∙ c.loop-turn.invariant.named;
 }
