@@ -124,7 +124,8 @@ fn journal_lines<D: Disk>(alloc: Global, disk: &mut D) -> Result<Vec<JournalLine
     }
 }
 
-/// Writes the list of the journal on a disk, or why it has none. The disk stays as it is.
+/// Writes the list of the journal on a disk, or why it has none. Unless the disk or memory failed, a read of the disk gives
+/// what it gave.
 ///
 /// # Errors
 ///
