@@ -7,7 +7,7 @@ use Rattle.amqp_session.specs.Figures.{Fits, window_of}
 abbrev pub made_of : ℕ → ℕ → ℕ → ℕ → ℕ → Window
 made_of a b c d e = record { first_outgoing = a; next_outgoing = b; next_incoming = c; remote_window = d; allowance = e }
 
-same_parts : (a b c d e f g h i j : ℕ) → a ≡ f → b ≡ g → c ≡ h → d ≡ i → e ≡ j → made_of a b c d e ≡ made_of f g h i j
+pub same_parts : (a b c d e f g h i j : ℕ) → a ≡ f → b ≡ g → c ≡ h → d ≡ i → e ≡ j → made_of a b c d e ≡ made_of f g h i j
 same_parts a b c d e f g h i j p q r s u = rw (p, q, r, s, u) refl
 
 pub is_window_of : (w : Window) (t : Session) → Fits w t → w ≡ window_of t

@@ -1,5 +1,8 @@
 -- A window's figures are those of what happened on its session.
-use Rattle.std.specs.Prelude.{◌≡◌, ◌<◌}
+use Rattle.std.specs.Prelude.{◌≡◌, ◌<◌, ℕ, ◌+◌, ◌-◌, ◌%◌, ◌^◌, nat_eq, if◌then◌else◌, unwrap_or}
+use Rattle.amqp_session.specs.declared.states.BeginState.{BeginState}
+use Rattle.amqp_session.specs.declared.states.FlowState.{FlowState}
+use Rattle.amqp_session.specs.Serials.{distance}
 use Rattle.amqp_session.specs.declared.window.Window.{Window}
 use Rattle.amqp_session.specs.Session as session
 use Rattle.amqp_session.specs.Session.{Session}
@@ -24,3 +27,32 @@ window_of t = record {
   remote_window = session.remote_window t;
   allowance = session.allowance t;
 }
+
+-- What becomes of a window's figures, for a table of windows: that of a session that both ends begin, ...
+abbrev pub begun : BeginState → BeginState → Window
+begun ours asked = record {
+  first_outgoing = ours.next_outgoing;
+  next_outgoing = ours.next_outgoing % 2 ^ 32;
+  next_incoming = asked.next_outgoing % 2 ^ 32;
+  remote_window = asked.incoming_window;
+  allowance = ours.incoming_window;
+}
+
+-- ... behind a flow of the peer, ...
+abbrev pub behind_their_flow : FlowState → Window → Window
+behind_their_flow f w = record w {
+  remote_window = f.incoming_window - distance (unwrap_or f.next_incoming w.first_outgoing) w.next_outgoing;
+  next_incoming = f.next_outgoing % 2 ^ 32;
+}
+
+-- ... a transfer of the peer, which is none of the session's beyond what the peer may send, ...
+abbrev pub behind_their_transfer : Window → Window
+behind_their_transfer w =
+    if nat_eq w.allowance 0 then w else record w { next_incoming = (w.next_incoming + 1) % 2 ^ 32; allowance = w.allowance - 1 }
+
+-- ... a flow of this end, and a transfer of it
+abbrev pub behind_our_flow : ℕ → Window → Window
+behind_our_flow allowance w = record w { allowance = allowance }
+
+abbrev pub behind_our_transfer : Window → Window
+behind_our_transfer w = record w { next_outgoing = (w.next_outgoing + 1) % 2 ^ 32; remote_window = w.remote_window - 1 }

@@ -1,5 +1,7 @@
--- The items that the router writes (AMQP 1.0 part 2, sections 2.2, 2.7.1 and 2.7.9).
+-- The items that the router writes (AMQP 1.0 part 2, sections 2.2, 2.4.5, 2.7.1, 2.7.2, 2.7.4, 2.7.8 and 2.7.9).
 use Rattle.std.specs.Prelude.{ℕ, false, List, [], ◌∷◌, Option, Some, None, option_map, codes, if◌then◌else◌}
+use Rattle.amqp_perf.specs.declared.perf.Begin.{Begin}
+use Rattle.amqp_perf.specs.declared.perf.Flow.{Flow}
 use Rattle.amqp_perf.specs.declared.perf.Open.{Open}
 use Rattle.amqp_perf.specs.declared.state.Fault.{Fault}
 use Rattle.amqp_perf.specs.declared.perf.Perf.{Perf}
@@ -7,8 +9,10 @@ use Rattle.amqp_perf.specs.declared.perf.Perf.TheVariants as perf
 use Rattle.amqp_frames.specs.declared.item.Item.{Item}
 use Rattle.amqp_frames.specs.declared.item.Item.TheVariants as item
 use Rattle.amqp_conn.specs.declared.conn.Conn.{Conn}
+use Rattle.amqp_session.specs.declared.states.FlowState.{FlowState}
+use Rattle.amqp_session.specs.Session.{Session, next_incoming, next_outgoing}
 use Rattle.router_trace.specs.declared.condition.Condition.{Condition}
-use Rattle.router_trace.specs.declared.condition.Condition.TheVariants.{NotAllowed, FramingError, DecodeError, ResourceLimitExceeded, NotImplemented}
+use Rattle.router_trace.specs.declared.condition.Condition.TheVariants.{NotAllowed, FramingError, DecodeError, ResourceLimitExceeded, NotImplemented, UnattachedHandle}
 
 -- the symbol of an error condition (2.8.15, 2.8.16)
 abbrev pub text_of : Condition → List ℕ
@@ -17,14 +21,22 @@ text_of FramingError = codes "amqp:connection:framing-error"
 text_of DecodeError = codes "amqp:decode-error"
 text_of ResourceLimitExceeded = codes "amqp:resource-limit-exceeded"
 text_of NotImplemented = codes "amqp:not-implemented"
+text_of UnattachedHandle = codes "amqp:session:unattached-handle"
 
 -- the protocol header of AMQP 1.0.0
 abbrev pub header_item : Item
 header_item = item.Header 0 1 0 0
 
--- a frame on channel 0
+-- a frame on a channel, and one on channel 0
+abbrev pub frame_on : ℕ → Perf → Item
+frame_on channel p = item.Frame false channel p []
+
 abbrev pub frame_of : Perf → Item
-frame_of p = item.Frame false 0 p []
+frame_of p = frame_on 0 p
+
+-- a heartbeat
+abbrev pub beat_item : Item
+beat_item = item.Beat 0
 
 -- the router's open: its id, frames of at most 16,384 bytes, channels to 14
 abbrev pub router_open : List ℕ → Open
@@ -55,3 +67,47 @@ close_item x = frame_of (perf.Close (record { error = option_map error_of x }))
 -- a close with an error; the router's open stands before it where it isn't written yet
 abbrev pub closing : List ℕ → Conn → Condition → List Item
 closing id p x = if p.opened then close_item (Some x) ∷ [] else open_item id ∷ close_item (Some x) ∷ []
+
+-- the router's begin, on this channel of its own, which answers the peer's on this one: its first transfer has the id 0, it
+-- takes 2,048 transfers, and handles to 63
+abbrev pub router_begin : ℕ → Begin
+router_begin theirs = record {
+  remote_channel = Some theirs;
+  next_outgoing_id = 0;
+  incoming_window = 2048;
+  outgoing_window = 2048;
+  handle_max = 63;
+  offered_capabilities = [];
+  desired_capabilities = [];
+  properties = None;
+}
+
+abbrev pub begin_item : ℕ → ℕ → Item
+begin_item own theirs = frame_on own (perf.Begin (router_begin theirs))
+
+-- the router's end, with an error or none
+abbrev pub end_item : ℕ → Option Condition → Item
+end_item own x = frame_on own (perf.End (record { error = option_map error_of x }))
+
+-- what a flow of the router tells of a session: the figures of what happened on it, and that 2,048 transfers can come
+abbrev pub told_of : Session → FlowState
+told_of h = record { next_incoming = Some (next_incoming h); incoming_window = 2048; next_outgoing = next_outgoing h }
+
+-- a flow without handle
+abbrev pub session_flow : FlowState → Flow
+session_flow told = record {
+  next_incoming_id = told.next_incoming;
+  incoming_window = told.incoming_window;
+  next_outgoing_id = told.next_outgoing;
+  outgoing_window = 2048;
+  handle = None;
+  delivery_count = None;
+  link_credit = None;
+  available = None;
+  drain = false;
+  echo = false;
+  properties = None;
+}
+
+abbrev pub flow_item : ℕ → FlowState → Item
+flow_item own told = frame_on own (perf.Flow (session_flow told))

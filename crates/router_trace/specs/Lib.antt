@@ -3,4 +3,8 @@ pub mod Connection
 pub mod Refusing
 pub mod Order
 pub mod Frames
+pub mod Sessions
+pub mod Clocks
 pub use Rattle.amqp_conn.specs.Phase
+pub use Rattle.amqp_conn.specs.Heartbeats
+pub use Rattle.amqp_session.specs.Session

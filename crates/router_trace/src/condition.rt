@@ -15,6 +15,8 @@ pub enum Condition {
     ResourceLimitExceeded,
     /// The peer asks for what the router doesn't do.
     NotImplemented,
+    /// A frame names a handle on which no link is attached.
+    UnattachedHandle,
 }
 
 impl Condition {
@@ -28,6 +30,7 @@ impl Condition {
             Condition::DecodeError => "amqp:decode-error",
             Condition::ResourceLimitExceeded => "amqp:resource-limit-exceeded",
             Condition::NotImplemented => "amqp:not-implemented",
+            Condition::UnattachedHandle => "amqp:session:unattached-handle",
         }
     }
 }

@@ -1,10 +1,14 @@
 //! What the router is told and what it writes: events, and the items of its own.
 #![tactic(auto)]
 
+mod channel;
 mod condition;
 mod event;
 mod router_id;
+mod terms;
 
+pub use channel::PeerChannel;
 pub use condition::Condition;
 pub use event::{ConnectionId, Event, Peer, PeerRole};
-pub use router_id::{MAX_FRAME_SIZE, RouterId, header_item};
+pub use router_id::{HANDLE_MAX, MAX_FRAME_SIZE, RouterId, SESSION_WINDOW, beat_item, flow_item, header_item};
+pub use terms::Terms;

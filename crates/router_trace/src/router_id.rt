@@ -1,16 +1,23 @@
 //! The items that the router writes.
 ghost use Rattle.std.specs.Prelude.{◌≡◌, IfOk, option_map};
-ghost use Rattle.router_trace.specs.Frames.{header_item, frame_of, open_item, close_item, error_of};
+ghost use Rattle.router_trace.specs.Frames.{header_item, beat_item, frame_on, frame_of, open_item, close_item, error_of, begin_item, end_item, flow_item};
 
 use crate::condition::Condition;
 use amqp_frames::Item;
-use amqp_perf::{Close, Fault, Open, Perf, Symbol, Symbols, Text};
+use amqp_perf::{Begin, Close, End, Fault, Flow, Open, Perf, Symbol, Symbols, Text};
+use amqp_session::{FlowState, Serial};
 use bytes::Bytes;
 use std::alloc::{AllocError, Global};
 use std::marker::Model;
 
 /// The largest frame that the router takes, as its open tells, in bytes.
 pub const MAX_FRAME_SIZE: u32 = 16_384;
+
+/// How many transfers a session takes at once, as the router's begins and flows tell; and how many it tells to send.
+pub const SESSION_WINDOW: u32 = 2_048;
+
+/// The highest handle that the router takes, as its begin tells.
+pub const HANDLE_MAX: u32 = 63;
 
 /// The router's id, which its open tells.
 #[derive(Debug, Drop)]
@@ -39,16 +46,52 @@ pub fn header_item() -> Item
     }
 }
 
+/// A heartbeat (AMQP 1.0 part 2, section 2.4.5).
+pub fn beat_item() -> Item
+    ensures { result ≡ beat_item }
+{
+    Item::Beat { channel: 0 }
+}
+
+/// A flow without handle, on this channel of the router (AMQP 1.0 part 2, section 2.7.4).
+pub fn flow_item(own: u16, told: FlowState) -> Item
+    ensures { result ≡ flow_item own told }
+{
+    frame_on(
+        own,
+        Perf::Flow(Flow {
+            next_incoming_id: told.next_incoming.map(Serial::number),
+            incoming_window: told.incoming_window,
+            next_outgoing_id: told.next_outgoing.number(),
+            outgoing_window: SESSION_WINDOW,
+            handle: None,
+            delivery_count: None,
+            link_credit: None,
+            available: None,
+            drain: false,
+            echo: false,
+            properties: None,
+        }),
+    )
+}
+
+/// A frame on a channel.
+fn frame_on(channel: u16, perf: Perf) -> Item
+    ensures { result ≡ frame_on channel perf }
+{
+    Item::Frame {
+        sasl: false,
+        channel,
+        perf,
+        payload: Bytes::new(),
+    }
+}
+
 /// A frame on channel 0.
 fn frame_of(perf: Perf) -> Item
     ensures { result ≡ frame_of perf }
 {
-    Item::Frame {
-        sasl: false,
-        channel: 0,
-        perf,
-        payload: Bytes::new(),
-    }
+    frame_on(0, perf)
 }
 
 impl RouterId {
@@ -90,6 +133,36 @@ impl RouterId {
             Some(condition) => Some(self.error_of(condition)?),
         };
         Ok(frame_of(Perf::Close(Close { error })))
+    }
+
+    /// The router's begin on a channel of its own, which answers the peer's on this one (AMQP 1.0 part 2, section 2.7.2).
+    pub fn begin_item(&self, own: u16, theirs: u16) -> Item
+        ensures { result ≡ begin_item own theirs }
+    {
+        frame_on(
+            own,
+            Perf::Begin(Begin {
+                remote_channel: Some(theirs),
+                next_outgoing_id: 0,
+                incoming_window: SESSION_WINDOW,
+                outgoing_window: SESSION_WINDOW,
+                handle_max: HANDLE_MAX,
+                offered_capabilities: Symbols::new(Vec::new(self.alloc)),
+                desired_capabilities: Symbols::new(Vec::new(self.alloc)),
+                properties: None,
+            }),
+        )
+    }
+
+    /// The router's end on a channel of its own, with an error or none (AMQP 1.0 part 2, section 2.7.8).
+    pub fn end_item(&self, own: u16, condition: Option<Condition>) -> Result<Item, AllocError>
+        ensures { IfOk result (λ item. item ≡ end_item own condition) }
+    {
+        let error = match condition {
+            None => None,
+            Some(condition) => Some(self.error_of(condition)?),
+        };
+        Ok(frame_on(own, Perf::End(End { error })))
     }
 
     /// An error that has its condition alone.

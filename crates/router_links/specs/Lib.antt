@@ -1,0 +1,3 @@
+pub mod Fits
+pub use Rattle.router_trace.specs.Trace
+pub use Rattle.router_trace.specs.Sessions

@@ -1,0 +1,9 @@
+//! The tables of sessions, by connection and channel.
+#![tactic(auto)]
+
+mod links;
+mod place;
+mod sessions;
+
+pub use links::Links;
+pub use place::Place;

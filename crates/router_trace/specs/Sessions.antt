@@ -1,0 +1,179 @@
+-- What a trace says of the sessions of a connection (AMQP 1.0 part 2, section 2.5): the router's begin and the begin that it
+-- answers make one, on a channel of the router and one of the peer.
+use Rattle.std.specs.Prelude.{ℕ, Bool, false, ◌==◌, nat_eq, nat_le, if◌then◌else◌, ◌∷◌, [], Option, Some, None, option_map}
+use Rattle.amqp_perf.specs.declared.perf.Begin.{Begin}
+use Rattle.amqp_perf.specs.declared.perf.Flow.{Flow}
+use Rattle.amqp_perf.specs.declared.perf.Perf.{Perf}
+use Rattle.amqp_perf.specs.declared.perf.Perf.TheVariants as perf
+use Rattle.amqp_frames.specs.declared.item.Item.{Item}
+use Rattle.amqp_frames.specs.declared.item.Item.TheVariants as item
+use Rattle.amqp_session.specs.declared.states.BeginState.{BeginState}
+use Rattle.amqp_session.specs.declared.states.FlowState.{FlowState}
+use Rattle.amqp_session.specs.Session.{Session, OurBegin, TheirBegin, OurFlow, TheirFlow, OurTransfer, TheirTransfer, allowance}
+use Rattle.router_trace.specs.declared.event.Event.{Event}
+use Rattle.router_trace.specs.declared.event.Event.TheVariants as event
+use Rattle.router_trace.specs.declared.channel.PeerChannel.{PeerChannel}
+use Rattle.router_trace.specs.declared.channel.PeerChannel.TheVariants.{Mapped, Ending}
+use Rattle.router_trace.specs.Trace.{Did, Out, Took, Trace}
+
+-- what a begin and a flow tell of their sender's end
+abbrev pub begin_state : Begin → BeginState
+begin_state b = record { next_outgoing = b.next_outgoing_id; incoming_window = b.incoming_window }
+
+abbrev pub flow_state : Flow → FlowState
+flow_state f = record { next_incoming = f.next_incoming_id; incoming_window = f.incoming_window; next_outgoing = f.next_outgoing_id }
+
+-- The begin that came last on a connection; none where the connection is closed or lost.
+abbrev pub offered_in : Perf → Option BeginState → Option BeginState
+offered_in (perf.Begin b) last = Some (begin_state b)
+offered_in _ last = last
+
+abbrev pub offered_by : Item → Option BeginState → Option BeginState
+offered_by (item.Frame sasl channel body payload) last = if sasl then last else offered_in body last
+offered_by _ last = last
+
+abbrev pub offered_at : Event → ℕ → Option BeginState → Option BeginState
+offered_at (event.Item d i) c last = if d.0 == c then offered_by i last else last
+offered_at (event.Down d) c last = if d.0 == c then None else last
+offered_at _ c last = last
+
+-- what a close takes away
+abbrev pub unless_close_in : {A : Type 0} → Perf → Option A → Option A
+unless_close_in (perf.Close x) v = None
+unless_close_in _ v = v
+
+abbrev pub unless_close : {A : Type 0} → Item → Option A → Option A
+unless_close (item.Frame sasl channel body payload) v = unless_close_in body v
+unless_close _ v = v
+
+abbrev pub offered : Trace → ℕ → Option BeginState
+offered [] c = None
+offered (Did s ∷ t) c = offered_at s.event c (offered t c)
+offered (Out d i ∷ t) c = if d == c then unless_close i (offered t c) else offered t c
+offered (Took d n ∷ t) c = offered t c
+
+-- What a channel of the peer stands for: a session, on a channel of the router; one that the router ended, until the peer's
+-- end; or nothing.
+abbrev pub behind_their_end : Perf → ℕ → ℕ → Option PeerChannel → Option PeerChannel
+behind_their_end (perf.End x) channel p v = if channel == p then None else v
+behind_their_end _ channel p v = v
+
+abbrev pub theirs_by : Item → ℕ → Option PeerChannel → Option PeerChannel
+theirs_by (item.Frame sasl channel body payload) p v = if sasl then v else behind_their_end body channel p v
+theirs_by _ p v = v
+
+abbrev pub theirs_at : Event → ℕ → ℕ → Option PeerChannel → Option PeerChannel
+theirs_at (event.Item d i) c p v = if d.0 == c then theirs_by i p v else v
+theirs_at (event.Down d) c p v = if d.0 == c then None else v
+theirs_at _ c p v = v
+
+-- The channel of the peer whose begin the router's begin on a channel of its own answers.
+abbrev pub answered_by_perf : Perf → ℕ → ℕ → Option ℕ → Option ℕ
+answered_by_perf (perf.Begin b) own o p = if own == o then b.remote_channel else p
+answered_by_perf (perf.End x) own o p = if own == o then None else p
+answered_by_perf (perf.Close x) own o p = None
+answered_by_perf _ own o p = p
+
+abbrev pub answered_by : Item → ℕ → Option ℕ → Option ℕ
+answered_by (item.Frame sasl own body payload) o p = answered_by_perf body own o p
+answered_by _ o p = p
+
+abbrev pub answered_at : Event → ℕ → Option ℕ → Option ℕ
+answered_at (event.Down d) c p = if d.0 == c then None else p
+answered_at _ c p = p
+
+abbrev pub answered_channel : Trace → ℕ → ℕ → Option ℕ
+answered_channel [] c o = None
+answered_channel (Did s ∷ t) c o = answered_at s.event c (answered_channel t c o)
+answered_channel (Out d i ∷ t) c o = if d == c then answered_by i o (answered_channel t c o) else answered_channel t c o
+answered_channel (Took d n ∷ t) c o = answered_channel t c o
+
+-- the peer's channel stands for the session on this channel of the router
+abbrev pub maps : Option PeerChannel → ℕ → Bool
+maps (Some (Mapped own)) o = own == o
+maps _ o = false
+
+abbrev pub is_channel : Option ℕ → ℕ → Bool
+is_channel None p = false
+is_channel (Some channel) p = channel == p
+
+abbrev pub theirs_behind_perf : Perf → ℕ → ℕ → (ℕ → Option ℕ) → Option PeerChannel → Option PeerChannel
+theirs_behind_perf (perf.Begin b) own p known v = if is_channel b.remote_channel p then Some (Mapped own) else v
+theirs_behind_perf (perf.End x) own p known v = if is_channel (known own) p then option_map (λ w. Ending) v else v
+theirs_behind_perf (perf.Close x) own p known v = None
+theirs_behind_perf _ own p known v = v
+
+abbrev pub theirs_behind : Item → ℕ → (ℕ → Option ℕ) → Option PeerChannel → Option PeerChannel
+theirs_behind (item.Frame sasl own body payload) p known v = theirs_behind_perf body own p known v
+theirs_behind _ p known v = v
+
+abbrev pub theirs : Trace → ℕ → ℕ → Option PeerChannel
+theirs [] c p = None
+theirs (Did s ∷ t) c p = theirs_at s.event c p (theirs t c p)
+theirs (Out d i ∷ t) c p = if d == c then theirs_behind i p (answered_channel t c) (theirs t c p) else theirs t c p
+theirs (Took d n ∷ t) c p = theirs t c p
+
+-- What happened on the session of a channel of the router, from its begins on; none where no session stands on it. A transfer
+-- beyond what the peer was told that it may send is none of the session's.
+abbrev pub with_transfer : Session → Session
+with_transfer h = if nat_eq (allowance h) 0 then h else TheirTransfer ∷ h
+
+abbrev pub heard_in : Perf → Session → Session
+heard_in (perf.Flow f) h = TheirFlow (flow_state f) ∷ h
+heard_in (perf.Transfer x) h = with_transfer h
+heard_in _ h = h
+
+abbrev pub heard_by : Item → ℕ → (ℕ → Option PeerChannel) → Option Session → Option Session
+heard_by (item.Frame sasl channel body payload) o known v =
+    if sasl then v else (if maps (known channel) o then option_map (heard_in body) v else v)
+heard_by _ o known v = v
+
+abbrev pub session_at : Event → ℕ → ℕ → (ℕ → Option PeerChannel) → Option Session → Option Session
+session_at (event.Item d i) c o known v = if d.0 == c then heard_by i o known v else v
+session_at (event.Down d) c o known v = if d.0 == c then None else v
+session_at _ c o known v = v
+
+abbrev pub begun : Option BeginState → Begin → Option Session
+begun None ours = None
+begun (Some asked) ours = Some (OurBegin (begin_state ours) ∷ TheirBegin asked ∷ [])
+
+abbrev pub behind_perf : Perf → ℕ → ℕ → Option BeginState → Option Session → Option Session
+behind_perf (perf.Begin b) own o asked v = if own == o then begun asked b else v
+behind_perf (perf.Flow f) own o asked v = if own == o then option_map (λ h. OurFlow (flow_state f) ∷ h) v else v
+behind_perf (perf.Transfer x) own o asked v = if own == o then option_map (λ h. OurTransfer ∷ h) v else v
+behind_perf (perf.End x) own o asked v = if own == o then None else v
+behind_perf (perf.Close x) own o asked v = None
+behind_perf _ own o asked v = v
+
+abbrev pub behind_item : Item → ℕ → Option BeginState → Option Session → Option Session
+behind_item (item.Frame sasl own body payload) o asked v = behind_perf body own o asked v
+behind_item _ o asked v = v
+
+abbrev pub session : Trace → ℕ → ℕ → Option Session
+session [] c o = None
+session (Did s ∷ t) c o = session_at s.event c o (theirs t c) (session t c o)
+session (Out d i ∷ t) c o = if d == c then behind_item i o (offered t c) (session t c o) else session t c o
+session (Took d n ∷ t) c o = session t c o
+
+-- What stands on a channel of the peer: nothing, a session that the router ended, or a session, on a channel of the router.
+pub data Place : Type 0 where
+  nowhere : Place
+  ending : Place
+  on : (own : ℕ) (session : Session) → Place
+
+abbrev pub on_session : ℕ → Option Session → Place
+on_session own None = nowhere
+on_session own (Some h) = on own h
+
+abbrev pub place_by : Option PeerChannel → (ℕ → Option Session) → Place
+place_by None known = nowhere
+place_by (Some Ending) known = ending
+place_by (Some (Mapped own)) known = on_session own (known own)
+
+abbrev pub place : Trace → ℕ → ℕ → Place
+place t c p = place_by (theirs t c p) (session t c)
+
+-- The peer of a session may send so few transfers more that it is told of the window anew: half of it is used up.
+abbrev pub is_narrow : Option Session → Bool
+is_narrow None = false
+is_narrow (Some h) = nat_le (allowance h) 1024

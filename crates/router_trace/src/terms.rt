@@ -1,0 +1,26 @@
+//! What a peer's open tells.
+ghost use Rattle.std.specs.Prelude.{◌≡◌};
+ghost use Rattle.router_trace.specs.Clocks.{terms_of};
+
+use amqp_perf::Open;
+
+/// What a peer's open tells of its end (AMQP 1.0 part 2, section 2.7.1).
+#[derive(Clone, Copy, Debug, PartialEq, Eq)]
+pub struct Terms {
+    /// The highest channel that the peer takes.
+    pub channel_max: u16,
+    /// How long the peer waits for a frame, in milliseconds; none where it tells nothing.
+    pub idle_time_out: Option<u32>,
+}
+
+impl Terms {
+    /// What an open tells.
+    pub fn of(open: &Open) -> Terms
+        ensures { result ≡ terms_of «open».now }
+    {
+        Terms {
+            channel_max: open.channel_max,
+            idle_time_out: open.idle_time_out,
+        }
+    }
+}
