@@ -96,6 +96,11 @@ impl Window {
           next_outgoing = next_outgoing t;
         } }
         ensures figures { self.new ≡ behind_our_flow incoming_window self.old }
+        ensures tells { result ≡ record {
+          next_incoming = Some self.old.next_incoming;
+          incoming_window = incoming_window;
+          next_outgoing = self.old.next_outgoing;
+        } }
     {
         self.allowance = incoming_window;
         FlowState {
@@ -107,7 +112,8 @@ impl Window {
 
     /// How many transfers the peer may still send.
     pub fn allowance(&self) -> u32
-        ensures { (t : Session) → Fits self.now t → result ≡ allowance t }
+        ensures fits { (t : Session) → Fits self.now t → result ≡ allowance t }
+        ensures figure { result ≡ self.now.allowance }
     {
         self.allowance
     }

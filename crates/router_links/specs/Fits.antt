@@ -1,7 +1,8 @@
 -- When the table of sessions is that which a trace gives.
-use Rattle.std.specs.Prelude.{◌≡◌, ◌==◌, ℕ, Bool, if◌then◌else◌, Option, Some, None, option_map}
+use Rattle.std.specs.Prelude.{◌≡◌, ◌<◌, ◌==◌, ℕ, Bool, true, false, if◌then◌else◌, List, [], ◌∷◌, Option, Some, None, option_map}
 use Rattle.std.specs.Ordering.{nat_cmp}
 use Rattle.std.specs.BTreeMap.{get}
+use Rattle.std.specs.BTreeSet.{contains}
 use Rattle.amqp_perf.specs.declared.perf.Begin.{Begin}
 use Rattle.amqp_perf.specs.declared.perf.Perf.{Perf}
 use Rattle.amqp_perf.specs.declared.perf.Perf.TheVariants as perf
@@ -15,6 +16,7 @@ use Rattle.router_links.specs.declared.links.Links.{Links}
 use Rattle.router_links.specs.declared.place.Place.{Place as Found}
 use Rattle.router_links.specs.declared.place.Place.TheVariants as found
 use Rattle.router_trace.specs.Trace.{Trace}
+use Rattle.router_links.specs.Windows.{is_narrow_window}
 use Rattle.router_trace.specs.Sessions.{Place, nowhere, ending, on, begin_state, flow_state, maps, offered, answered_channel, theirs, session}
 
 -- what a table of sessions knows of a connection, where it knows anything
@@ -44,6 +46,10 @@ heard_in_window (perf.Flow f) w = behind_their_flow (flow_state f) w
 heard_in_window (perf.Transfer x) w = behind_their_transfer w
 heard_in_window _ w = w
 
+-- the marks behind the touch of a window
+abbrev pub with_mark : ℕ → Bool → (ℕ → Bool) → ℕ → Bool
+with_mark conn narrow marked c = if conn == c then (if narrow then true else marked c) else marked c
+
 abbrev pub heard_window : Perf → Bool → Option Window → Option Window
 heard_window body here v = if here then option_map (heard_in_window body) v else v
 
@@ -52,12 +58,26 @@ abbrev pub begun_window : Option BeginState → Begin → Option Window
 begun_window None ours = None
 begun_window (Some asked) ours = Some (begun (begin_state ours) asked)
 
+-- a connection that isn't marked has no narrow window on the router's channels
+abbrev pub Marked : (ℕ → Option Sessions) → (ℕ → Bool) → Type 0
+Marked known marked = (c o : ℕ) → marked c ≡ false → o < 15 → is_narrow_window (window_in (known c) o) ≡ false
+
+-- these rows are those of the trace
+pub record RowsFit (known : ℕ → Option Sessions) (t : Trace) : Type 0 where
+  pub offered : (c : ℕ) → offered_in (known c) ≡ offered t c
+  pub answered : (c o : ℕ) → answered_in (known c) o ≡ answered_channel t c o
+  pub theirs : (c p : ℕ) → theirs_in (known c) p ≡ theirs t c p
+  pub windows : (c o : ℕ) → window_in (known c) o ≡ window_by (session t c o)
+
 -- the table of sessions is that of the trace
 pub record LinksFit (s : Links) (t : Trace) : Type 0 where
-  pub offered : (c : ℕ) → offered_in (get nat_cmp s.rows c) ≡ offered t c
-  pub answered : (c o : ℕ) → answered_in (get nat_cmp s.rows c) o ≡ answered_channel t c o
-  pub theirs : (c p : ℕ) → theirs_in (get nat_cmp s.rows c) p ≡ theirs t c p
-  pub windows : (c o : ℕ) → window_in (get nat_cmp s.rows c) o ≡ window_by (session t c o)
+  pub rows : RowsFit (get nat_cmp s.rows) t
+  pub marks : Marked (get nat_cmp s.rows) (contains nat_cmp s.narrow)
+
+-- a list of one, where there is one
+abbrev pub listed : {A : Type 0} → Option A → List A
+listed None = []
+listed (Some a) = a ∷ []
 
 -- what was found on a channel of the peer
 abbrev pub found_of : Place → Found
@@ -71,3 +91,8 @@ pub record SameRows (old new : ℕ → Option Sessions) : Type 0 where
   pub answered : (c o : ℕ) → answered_in (new c) o ≡ answered_in (old c) o
   pub theirs : (c p : ℕ) → theirs_in (new c) p ≡ theirs_in (old c) p
   pub windows : (c o : ℕ) → window_in (new c) o ≡ window_in (old c) o
+
+-- a begin
+abbrev pub is_begin : Perf → Bool
+is_begin (perf.Begin b) = true
+is_begin _ = false

@@ -3,6 +3,7 @@
 
 mod links;
 mod place;
+mod rows;
 mod sessions;
 
 pub use links::Links;

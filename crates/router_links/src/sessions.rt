@@ -1,17 +1,23 @@
 //! The sessions of one connection.
-ghost use Rattle.std.specs.Prelude.{◌≡◌, ◌==◌, ℕ, None, Some, option_map, if◌then◌else◌, OnOk};
+ghost use Rattle.std.specs.Prelude.{◌≡◌, ◌==◌, ℕ, Option, None, Some, option_map, if◌then◌else◌, OnOk, IfOk};
+ghost use Rattle.amqp_session.specs.Session.{Session};
 ghost use Rattle.std.specs.Ordering.{nat_cmp};
 ghost use Rattle.std.specs.BTreeMap.{get};
 ghost use Rattle.amqp_session.specs.Figures.{behind_our_flow, behind_our_transfer};
-ghost use Rattle.router_trace.specs.Sessions.{begin_state, flow_state, offered_in, behind_their_end, theirs_behind_perf, answered_by_perf, is_channel, maps};
-ghost use Rattle.router_links.specs.Fits.{heard_in_window, heard_window, begun_window};
+ghost use Rattle.router_trace.specs.Sessions.{begin_state, flow_state, offered_in, behind_their_end, place_by, is_channel, maps};
+ghost use Rattle.router_links.specs.Windows.{is_narrow_window, is_narrow_at, flow_due};
+ghost use Rattle.router_links.specs.Fits.{listed, heard_in_window, heard_window, begun_window, window_by, found_of};
 ghost use Rattle.router_trace.specs.declared.channel.PeerChannel.TheVariants.{Mapped, Ending};
 
+use crate::place::Place;
 use amqp_perf::{Begin, Flow, Perf};
 use amqp_session::{BeginState, FlowState, Serial, Window};
-use router_trace::PeerChannel;
+use router_trace::{ConnectionId, Outgoing, PeerChannel, SESSION_WINDOW, flow_item};
 use std::alloc::{AllocError, Global};
 use std::collections::BTreeMap;
+
+/// A window is narrow where its peer may send so many transfers or fewer: half of it is used up.
+pub const NARROW: u32 = 1_024;
 
 /// The sessions of one connection.
 #[derive(Debug, Drop)]
@@ -98,8 +104,34 @@ impl Sessions {
         }
     }
 
-    /// Takes a performative of the peer on this channel of its own.
-    pub fn hear(&mut self, channel: u16, perf: &Perf)
+    /// What stands on a channel of the peer.
+    pub fn place(&self, channel: u16) -> Place
+        ensures { (known : ℕ → Option Session) → ((o : ℕ) → get nat_cmp self.now.windows o ≡ window_by (known o))
+            → result ≡ found_of (place_by (get nat_cmp self.now.theirs channel) known) }
+    {
+        match self.theirs.get(&channel) {
+            None => Place::Nowhere,
+            Some(PeerChannel::Ending) => Place::Ending,
+            Some(PeerChannel::Mapped(own)) => match self.windows.get(own) {
+                None => Place::Nowhere,
+                Some(window) => Place::On {
+                    own: *own,
+                    window: *window,
+                },
+            },
+        }
+    }
+
+    /// The windows of the session on a channel of the router.
+    pub fn window(&self, own: u16) -> Option<Window>
+        ensures { result ≡ get nat_cmp self.now.windows own }
+    {
+        self.windows.get(&own).copied()
+    }
+
+    /// Takes a performative of the peer on this channel of its own. Tells whether the window of its session is narrow now.
+    pub fn hear(&mut self, channel: u16, perf: &Perf) -> bool
+        ensures narrow { result ≡ is_narrow_at (get nat_cmp self.old.theirs channel) (get nat_cmp self.new.windows) }
         ensures offered { self.new.offered ≡ offered_in perf.now self.old.offered }
         ensures answered { self.new.answered ≡ self.old.answered }
         ensures theirs { (p : ℕ) → get nat_cmp self.new.theirs p ≡ behind_their_end perf.now channel p (get nat_cmp self.old.theirs p) }
@@ -114,10 +146,40 @@ impl Sessions {
             }
             _ => {}
         }
+        match own {
+            None => false,
+            Some(own) => self.is_narrow(own),
+        }
     }
 
-    /// The router begins a session on this channel of its own.
-    pub fn begin(&mut self, own: u16, begin: &Begin) -> Result<(), AllocError>
+    /// Whether the window of a session is narrow: half of what its peer may send is used up.
+    pub fn is_narrow(&self, own: u16) -> bool
+        ensures { result ≡ is_narrow_window (get nat_cmp self.now.windows own) }
+    {
+        match self.windows.get(&own) {
+            None => false,
+            Some(window) => window.allowance() <= NARROW,
+        }
+    }
+
+    /// The flow that is due on a session whose window is narrow.
+    pub fn due(&self, conn: ConnectionId, own: u16) -> Option<Outgoing>
+        ensures { (known : ℕ → Option Session) → ((o : ℕ) → get nat_cmp self.now.windows o ≡ window_by (known o))
+            → flow_due conn own (known own) ≡ listed result }
+    {
+        let mut window = *self.windows.get(&own)?;
+        if window.allowance() > NARROW {
+            return None;
+        }
+        Some(Outgoing {
+            conn,
+            item: flow_item(own, window.flow_state(SESSION_WINDOW)),
+        })
+    }
+
+    /// The router begins a session on this channel of its own. Tells whether its window is narrow.
+    pub fn begin(&mut self, own: u16, begin: &Begin) -> Result<bool, AllocError>
+        ensures narrow { IfOk result (λ narrow. narrow ≡ is_narrow_window (get nat_cmp self.new.windows own)) }
         ensures offered { self.new.offered ≡ self.old.offered }
         ensures answered { OnOk result ((o : ℕ) → get nat_cmp self.new.answered o ≡ (if own == o then begin.now.remote_channel else get nat_cmp self.old.answered o)) }
         ensures theirs { OnOk result ((p : ℕ) → get nat_cmp self.new.theirs p ≡ (if is_channel begin.now.remote_channel p then Some (Mapped own) else get nat_cmp self.old.theirs p)) }
@@ -131,7 +193,8 @@ impl Sessions {
             None => None,
             Some(asked) => Some(Window::new(begin_state(begin), asked)),
         };
-        set(&mut self.windows, own, window)
+        set(&mut self.windows, own, window)?;
+        Ok(self.is_narrow(own))
     }
 
     /// The router ends the session on this channel of its own.
@@ -150,8 +213,9 @@ impl Sessions {
         }
     }
 
-    /// The router tells its window on this channel of its own.
-    pub fn tell(&mut self, own: u16, flow: &Flow)
+    /// The router tells its window on this channel of its own. Tells whether it is narrow.
+    pub fn tell(&mut self, own: u16, flow: &Flow) -> bool
+        ensures narrow { result ≡ is_narrow_window (get nat_cmp self.new.windows own) }
         ensures offered { self.new.offered ≡ self.old.offered }
         ensures answered { self.new.answered ≡ self.old.answered }
         ensures theirs { self.new.theirs ≡ self.old.theirs }
@@ -160,6 +224,7 @@ impl Sessions {
         if let Some(window) = self.windows.get_mut(&own) {
             let _ = window.flow_state(flow.incoming_window);
         }
+        self.is_narrow(own)
     }
 
     /// The router sends a transfer on this channel of its own.

@@ -1,6 +1,7 @@
 -- What a trace says of the sessions of a connection (AMQP 1.0 part 2, section 2.5): the router's begin and the begin that it
 -- answers make one, on a channel of the router and one of the peer.
-use Rattle.std.specs.Prelude.{ℕ, Bool, false, ◌==◌, nat_eq, nat_le, if◌then◌else◌, ◌∷◌, [], Option, Some, None, option_map}
+use Rattle.std.specs.Prelude.{ℕ, Bool, false, ◌==◌, nat_eq, nat_le, if◌then◌else◌, is_none, List, ◌∷◌, [], Option, Some, None, option_map}
+use Rattle.std.specs.List.{find}
 use Rattle.amqp_perf.specs.declared.perf.Begin.{Begin}
 use Rattle.amqp_perf.specs.declared.perf.Flow.{Flow}
 use Rattle.amqp_perf.specs.declared.perf.Perf.{Perf}
@@ -173,7 +174,12 @@ place_by (Some (Mapped own)) known = on_session own (known own)
 abbrev pub place : Trace → ℕ → ℕ → Place
 place t c p = place_by (theirs t c p) (session t c)
 
--- The peer of a session may send so few transfers more that it is told of the window anew: half of it is used up.
-abbrev pub is_narrow : Option Session → Bool
-is_narrow None = false
-is_narrow (Some h) = nat_le (allowance h) 1024
+-- The channels that the router takes, and the lowest of them that the peer takes too and on which no session stands.
+abbrev pub channels : List ℕ
+channels = 0 ∷ 1 ∷ 2 ∷ 3 ∷ 4 ∷ 5 ∷ 6 ∷ 7 ∷ 8 ∷ 9 ∷ 10 ∷ 11 ∷ 12 ∷ 13 ∷ 14 ∷ []
+
+abbrev pub is_free : ℕ → (ℕ → Option Session) → ℕ → Bool
+is_free channel_max known o = if nat_le o channel_max then is_none (known o) else false
+
+abbrev pub free_channel : Trace → ℕ → ℕ → Option ℕ
+free_channel t c channel_max = find (is_free channel_max (session t c)) channels

@@ -1,7 +1,8 @@
 -- What happened, as a list of entries, the newest first. All definitions search it; the router keeps none of it.
-use Rattle.std.specs.Prelude.{ℕ, List, [], ◌∷◌, ◌++◌, Option, Some, None}
+use Rattle.std.specs.Prelude.{ℕ, List, [], ◌∷◌, ◌++◌, map, Option, Some, None}
 use Rattle.amqp_frames.specs.declared.item.Item.{Item}
 use Rattle.router_trace.specs.declared.event.Event.{Event}
+use Rattle.router_trace.specs.declared.outgoing.Outgoing.{Outgoing}
 use Rattle.router_trace.specs.declared.event.Event.TheVariants as event
 
 -- what an event's entry holds
@@ -36,6 +37,13 @@ did e = Did (step_of e)
 abbrev pub goes : List Put → Trace → Trace
 goes [] t = t
 goes (p ∷ ps) t = goes ps (Out p.conn p.item ∷ t)
+
+-- items on their way out
+abbrev pub put_of : Outgoing → Put
+put_of x = record { conn = x.conn.0; item = x.item }
+
+abbrev pub puts_of : List Outgoing → List Put
+puts_of xs = map put_of xs
 
 -- these items for one connection
 abbrev pub each_to : ℕ → List Item → List Put

@@ -4,11 +4,13 @@
 mod channel;
 mod condition;
 mod event;
+mod outgoing;
 mod router_id;
 mod terms;
 
 pub use channel::PeerChannel;
 pub use condition::Condition;
 pub use event::{ConnectionId, Event, Peer, PeerRole};
+pub use outgoing::Outgoing;
 pub use router_id::{HANDLE_MAX, MAX_FRAME_SIZE, RouterId, SESSION_WINDOW, beat_item, flow_item, header_item};
 pub use terms::Terms;

@@ -1,0 +1,16 @@
+use Rattle.std.proofs.Common.{◌≡◌, ◌∙◌, ◌++◌, ◌<◌, ◌≤◌, ℕ, false, sym, ap, subst, arith}
+use Rattle.std.specs.Prelude.{Option}
+use Rattle.std.proofs.lemmas.List.{append-nil}
+use Rattle.amqp_session.specs.declared.window.Window.{Window}
+use Rattle.router_trace.specs.Sessions.{session}
+use Rattle.router_links.specs.Windows.{is_narrow_window}
+use Rattle.router_links.specs.Fits.{window_by}
+use Rattle.router_links.proofs.Quiet.{quiet}
+use Rattle.router_links.proofs.links.Links.due_on.Goals as goal
+
+pub returns-else-contains : goal.returns-else-contains
+returns-else-contains c = λ t fit.
+    let wide : (o : ℕ) → o < 15 → is_narrow_window (window_by (session t c.args.conn.0 o)) ≡ false
+    = λ o below. ap (λ (v : Option Window). is_narrow_window v) (sym (fit.rows.windows c.args.conn.0 o)) ∙ fit.marks c.args.conn.0 o c.if-contains.false below in
+    let within : 15 ≤ 15 = omega arith in
+    sym (ap (λ xs. c.args.flows.now.items ++ xs) (quiet c.args.conn (session t c.args.conn.0) wide 15 within) ∙ append-nil c.args.flows.now.items)

@@ -1,0 +1,32 @@
+-- The flows that tell windows anew (AMQP 1.0 part 2, section 2.5.6).
+use Rattle.std.specs.Prelude.{ℕ, zero, suc, Bool, false, nat_le, if◌then◌else◌, List, [], ◌∷◌, ◌++◌, Option, Some, None}
+use Rattle.amqp_session.specs.declared.states.FlowState.{FlowState}
+use Rattle.amqp_session.specs.declared.window.Window.{Window}
+use Rattle.amqp_session.specs.Session.{Session, allowance}
+use Rattle.router_trace.specs.declared.event.ConnectionId.{ConnectionId}
+use Rattle.router_trace.specs.declared.channel.PeerChannel.{PeerChannel}
+use Rattle.router_trace.specs.declared.channel.PeerChannel.TheVariants.{Mapped}
+use Rattle.router_trace.specs.declared.outgoing.Outgoing.{Outgoing}
+use Rattle.router_trace.specs.Frames.{flow_item, told_of}
+
+-- the peer of a session may send so few transfers more that it is told anew: half of the window is used up
+abbrev pub is_narrow : Session → Bool
+is_narrow h = nat_le (allowance h) 1024
+
+abbrev pub flow_due : ConnectionId → ℕ → Option Session → List Outgoing
+flow_due c o None = []
+flow_due c o (Some h) = if is_narrow h then record { conn = c; item = flow_item o (told_of h) } ∷ [] else []
+
+-- the flows that are due on a connection, by the router's channel, on channels below a number
+unfoldable pub flows_below : ConnectionId → (ℕ → Option Session) → ℕ → List Outgoing
+flows_below c known zero = []
+flows_below c known (suc n) = flows_below c known n ++ flow_due c n (known n)
+
+-- the same of a window
+abbrev pub is_narrow_window : Option Window → Bool
+is_narrow_window None = false
+is_narrow_window (Some w) = nat_le w.allowance 1024
+
+abbrev pub is_narrow_at : Option PeerChannel → (ℕ → Option Window) → Bool
+is_narrow_at (Some (Mapped own)) known = is_narrow_window (known own)
+is_narrow_at _ known = false
