@@ -68,6 +68,13 @@ impl Connections {
         }
     }
 
+    /// The live connections, by number.
+    pub fn live(&self) -> &[u64]
+        ensures { result.now ≡ self.now.live.items }
+    {
+        &self.live
+    }
+
     /// The phase of a connection, whether live or over.
     pub fn phase(&self, conn: u64) -> Option<Conn>
         ensures { result ≡ option_map (λ v. v.phase) (get nat_cmp self.now.rows conn) }

@@ -1,10 +1,12 @@
-//! The table of connections, with their outboxes, and those of which something can be taken.
+//! The tables of connections: their phases and outboxes, those of which something can be taken, and their clocks.
 #![tactic(auto)]
 
+mod clocks;
 mod connections;
 mod ready;
 mod row;
 
+pub use clocks::Clocks;
 pub use connections::Connections;
 pub use ready::Ready;
 pub use row::{CONNECTIONS, OUTBOX, Taken};

@@ -6,5 +6,6 @@ mod place;
 mod rows;
 mod sessions;
 
-pub use links::Links;
+pub use links::{CHANNELS, Links};
 pub use place::Place;
+pub use sessions::{NARROW, flow_state};

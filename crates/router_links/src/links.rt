@@ -3,7 +3,7 @@ ghost use Rattle.std.specs.Prelude.{◌≡◌, ◌<◌, ◌∷◌, ◌++◌, [],
 ghost use Rattle.std.specs.Ordering.{nat_cmp};
 ghost use Rattle.std.specs.BTreeMap.{get};
 ghost use Rattle.std.specs.BTreeSet.{contains};
-ghost use Rattle.router_trace.specs.Trace.{Entry, Out, did};
+ghost use Rattle.router_trace.specs.Trace.{Entry, Out, did, puts_of};
 ghost use Rattle.std.specs.List.{find};
 ghost use Rattle.router_trace.specs.Sessions.{place, session, is_free, free_channel};
 ghost use Rattle.router_links.specs.Windows.{flow_due, flows_below, is_narrow_window};
@@ -62,6 +62,7 @@ impl Links {
     }
 
     /// The lowest of the router's channels that the peer takes too and on which no session stands.
+    #[tactic(auto, unfolding(router_trace::specs::Sessions::free_channel))]
     pub fn free_channel(&self, conn: u64, channel_max: u16) -> Option<u16>
         ensures { (t : List Entry) → LinksFit self.now t → result ≡ free_channel t conn channel_max }
     {
@@ -91,15 +92,15 @@ impl Links {
     }
 
     /// The flow that is due on a session whose window is narrow.
-    fn due(&self, conn: ConnectionId, own: u16) -> Option<Outgoing>
-        ensures { (t : List Entry) → LinksFit self.now t → flow_due conn own (session t conn.0 own) ≡ listed result }
+    fn due(&self, conn: u64, own: u16) -> Option<Outgoing>
+        ensures { (t : List Entry) → LinksFit self.now t → flow_due conn own (session t conn own) ≡ puts_of (listed result) }
     {
-        self.rows.get(&conn.0)?.due(conn, own)
+        self.rows.get(&conn)?.due(conn, own)
     }
 
     /// Adds the flows that are due on a connection, by the router's channel.
-    fn gather(&self, conn: ConnectionId, flows: &mut Vec<Outgoing>) -> Result<(), AllocError>
-        ensures { OnOk result ((t : List Entry) → LinksFit self.now t → flows.new.items ≡ flows.old.items ++ flows_below conn (session t conn.0) 15) }
+    fn gather(&self, conn: u64, flows: &mut Vec<Outgoing>) -> Result<(), AllocError>
+        ensures { OnOk result ((t : List Entry) → LinksFit self.now t → puts_of flows.new.items ≡ puts_of flows.old.items ++ flows_below conn (session t conn) 15) }
     {
         for own in 0..CHANNEL_COUNT {
             add(flows, self.due(conn, own))?;
@@ -108,10 +109,10 @@ impl Links {
     }
 
     /// Adds the flows that are due on a connection, by the router's channel; none is due where the connection isn't marked.
-    pub fn due_on(&self, conn: ConnectionId, flows: &mut Vec<Outgoing>) -> Result<(), AllocError>
-        ensures { OnOk result ((t : List Entry) → LinksFit self.now t → flows.new.items ≡ flows.old.items ++ flows_below conn (session t conn.0) 15) }
+    pub fn due_on(&self, conn: u64, flows: &mut Vec<Outgoing>) -> Result<(), AllocError>
+        ensures { OnOk result ((t : List Entry) → LinksFit self.now t → puts_of flows.new.items ≡ puts_of flows.old.items ++ flows_below conn (session t conn) 15) }
     {
-        if self.narrow.contains(&conn.0) {
+        if self.narrow.contains(&conn) {
             self.gather(conn, flows)?;
         }
         Ok(())
@@ -125,17 +126,17 @@ impl Links {
     }
 
     /// Unmarks a connection that has no narrow window any more.
-    pub fn settle(&mut self, conn: ConnectionId)
+    pub fn settle(&mut self, conn: u64)
         ensures { (t : List Entry) → LinksFit self.old t → LinksFit self.new t }
     {
         if !self.has_narrow(conn) {
-            let _ = self.narrow.remove(&conn.0);
+            let _ = self.narrow.remove(&conn);
         }
     }
 
     /// Whether a connection has a narrow window.
-    fn has_narrow(&self, conn: ConnectionId) -> bool
-        ensures { result ≡ false → (o : ℕ) → o < 15 → is_narrow_window (window_in (get nat_cmp self.now.rows conn.0) o) ≡ false }
+    fn has_narrow(&self, conn: u64) -> bool
+        ensures { result ≡ false → (o : ℕ) → o < 15 → is_narrow_window (window_in (get nat_cmp self.now.rows conn) o) ≡ false }
     {
         for own in 0..CHANNEL_COUNT {
             if self.is_narrow(conn, own) {
@@ -146,10 +147,10 @@ impl Links {
     }
 
     /// Whether the window of a session is narrow.
-    fn is_narrow(&self, conn: ConnectionId, own: u16) -> bool
-        ensures { result ≡ is_narrow_window (window_in (get nat_cmp self.now.rows conn.0) own) }
+    fn is_narrow(&self, conn: u64, own: u16) -> bool
+        ensures { result ≡ is_narrow_window (window_in (get nat_cmp self.now.rows conn) own) }
     {
-        match self.rows.get(&conn.0) {
+        match self.rows.get(&conn) {
             None => false,
             Some(row) => row.is_narrow(own),
         }
@@ -259,7 +260,7 @@ fn mark(marks: &mut BTreeSet<u64>, conn: u64, narrow: bool) -> Result<(), AllocE
 
 /// Puts an item behind others, where there is one.
 fn add(flows: &mut Vec<Outgoing>, due: Option<Outgoing>) -> Result<(), AllocError>
-    ensures { OnOk result (flows.new.items ≡ flows.old.items ++ listed due) }
+    ensures { OnOk result (puts_of flows.new.items ≡ puts_of flows.old.items ++ puts_of (listed due)) }
 {
     match due {
         None => Ok(()),

@@ -4,6 +4,7 @@ ghost use Rattle.amqp_session.specs.Session.{Session};
 ghost use Rattle.std.specs.Ordering.{nat_cmp};
 ghost use Rattle.std.specs.BTreeMap.{get};
 ghost use Rattle.amqp_session.specs.Figures.{behind_our_flow, behind_our_transfer};
+ghost use Rattle.router_trace.specs.Trace.{puts_of};
 ghost use Rattle.router_trace.specs.Sessions.{begin_state, flow_state, offered_in, behind_their_end, place_by, is_channel, maps};
 ghost use Rattle.router_links.specs.Windows.{is_narrow_window, is_narrow_at, flow_due};
 ghost use Rattle.router_links.specs.Fits.{listed, heard_in_window, heard_window, begun_window, window_by, found_of};
@@ -163,16 +164,16 @@ impl Sessions {
     }
 
     /// The flow that is due on a session whose window is narrow.
-    pub fn due(&self, conn: ConnectionId, own: u16) -> Option<Outgoing>
+    pub fn due(&self, conn: u64, own: u16) -> Option<Outgoing>
         ensures { (known : ℕ → Option Session) → ((o : ℕ) → get nat_cmp self.now.windows o ≡ window_by (known o))
-            → flow_due conn own (known own) ≡ listed result }
+            → flow_due conn own (known own) ≡ puts_of (listed result) }
     {
         let mut window = *self.windows.get(&own)?;
         if window.allowance() > NARROW {
             return None;
         }
         Some(Outgoing {
-            conn,
+            conn: ConnectionId(conn),
             item: flow_item(own, window.flow_state(SESSION_WINDOW)),
         })
     }

@@ -1,13 +1,15 @@
-//! Closes with an error, and the ends for full outboxes.
+//! The items that say an answer, and the ends for full outboxes.
 ghost use Rattle.std.specs.Prelude.{◌∷◌, List, [], OnOk};
 ghost use Rattle.router_trace.specs.Trace.{Entry, puts};
 ghost use Rattle.router_state.specs.Tables.{TablesFit};
 ghost use Rattle.router_trace.specs.Frames.{closing, open_item, close_item};
+ghost use Rattle.router_reply.specs.Rows.{said};
 ghost use Rattle.router_reply.specs.Replies.{ends};
 
+use crate::answer::Answer;
 use amqp_conn::Conn;
 use router_state::State;
-use router_trace::{Condition, RouterId};
+use router_trace::{Condition, RouterId, flow_item, header_item};
 use std::alloc::AllocError;
 
 /// Closes a connection in this phase with an error; the router's open stands before the close where it isn't written
@@ -62,6 +64,32 @@ pub fn close_all(state: &mut State, id: &RouterId, due: &[u64]) -> Result<(), Al
         if let Some(phase) = state.phase(*conn) {
             close_with(state, id, *conn, phase, Condition::ResourceLimitExceeded)?;
         }
+    }
+    Ok(())
+}
+
+/// Puts the items that say an answer, on a connection in this phase.
+pub fn say(
+    state: &mut State,
+    id: &RouterId,
+    conn: u64,
+    phase: Conn,
+    answer: Answer,
+) -> Result<(), AllocError>
+    ensures { OnOk result ((t : List Entry) → TablesFit state.old t → TablesFit state.new (puts conn (said id.now phase answer) t)) }
+{
+    match answer {
+        Answer::Nothing => {}
+        Answer::Header => state.put(conn, header_item())?,
+        Answer::Open => write_open(state, id, conn)?,
+        Answer::Close => write_close(state, id, conn, None)?,
+        Answer::CloseWith(condition) => close_with(state, id, conn, phase, condition)?,
+        Answer::Begin { own, theirs } => state.put(conn, id.begin_item(own, theirs))?,
+        Answer::End { own, error } => {
+            let item = id.end_item(own, error)?;
+            state.put(conn, item)?;
+        }
+        Answer::Flow { own, told } => state.put(conn, flow_item(own, told))?,
     }
     Ok(())
 }

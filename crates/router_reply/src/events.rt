@@ -1,34 +1,34 @@
 //! An event with all that follows: the ends for full outboxes, then the event's own row.
 ghost use Rattle.std.specs.Prelude.{◌≡◌, ◌∷◌, ℕ, List, OnOk, true, false};
-ghost use Rattle.router_trace.specs.Trace.{Entry, did, puts, newest, step_of};
+ghost use Rattle.router_trace.specs.Trace.{Entry, did, newest, step_of};
 ghost use Rattle.router_trace.specs.Refusing.{rises, refuses};
 ghost use Rattle.router_state.specs.Tables.{TablesFit, TablesAt};
-ghost use Rattle.router_reply.specs.Replies.{answer, answered, heard};
+ghost use Rattle.router_reply.specs.Replies.{replied, heard};
 ghost use Rattle.router_trace.specs.declared.event.Event.TheVariants as event;
 
-use crate::closing::close_all;
-use crate::rows::item_reply;
-use amqp_conn::Conn;
+use crate::closing::{close_all, say};
+use crate::deciding::item_reply;
 use amqp_frames::Item;
 use router_state::State;
 use router_trace::{ConnectionId, Event, Peer, RouterId};
 use std::alloc::AllocError;
 
-/// Hears an item: its event is noted, which changes no table, and the ends for full outboxes are put.
+/// Hears an item: its event is noted, and the ends for full outboxes are put.
 fn hear_item(
     state: &mut State,
     id: &RouterId,
     ends: &[u64],
-    _conn: ConnectionId,
-    _item: &Item,
+    conn: ConnectionId,
+    item: &Item,
 ) -> Result<(), AllocError>
-    ensures { OnOk result ((t : List Entry) → TablesAt state.old t (event.Item _conn _item.now) ends.now → TablesFit state.new (heard id.now t (step_of (event.Item _conn _item.now)))) }
+    ensures { OnOk result ((t : List Entry) → TablesAt state.old t (event.Item conn item.now) ends.now → TablesFit state.new (heard id.now t (step_of (event.Item conn item.now)))) }
 {
+    state.hear(conn, item)?;
     close_all(state, id, ends)?;
     Ok(())
 }
 
-/// An item: its row decides over the tables as the event finds them, the event is heard, and then the row puts.
+/// An item: its row decides over the tables as the event finds them, the event is heard, and then the answer is put.
 fn on_item(
     state: &mut State,
     id: &RouterId,
@@ -36,28 +36,16 @@ fn on_item(
     conn: ConnectionId,
     item: &Item,
 ) -> Result<(), AllocError>
-    ensures { OnOk result ((t : List Entry) → TablesAt state.old t (event.Item conn item.now) ends.now → TablesFit state.new (answered id.now t (step_of (event.Item conn item.now)))) }
+    ensures { OnOk result ((t : List Entry) → TablesAt state.old t (event.Item conn item.now) ends.now → TablesFit state.new (replied id.now t (step_of (event.Item conn item.now)))) }
 {
-    let phase = state.standing(conn.0);
+    let Some(phase) = state.standing(conn.0) else {
+        hear_item(state, id, ends, conn, item)?;
+        return Ok(());
+    };
+    let answer = item_reply(state, conn.0, phase, item);
     hear_item(state, id, ends, conn, item)?;
-    answer_item(state, id, conn.0, phase, item)?;
+    say(state, id, conn.0, phase, answer)?;
     Ok(())
-}
-
-/// Puts the answer to an item that found a connection in this phase, where it is live.
-fn answer_item(
-    state: &mut State,
-    id: &RouterId,
-    conn: u64,
-    phase: Option<Conn>,
-    item: &Item,
-) -> Result<(), AllocError>
-    ensures { OnOk result ((t : List Entry) → TablesFit state.old t → TablesFit state.new (puts conn (answer id.now phase item.now) t)) }
-{
-    match phase {
-        None => Ok(()),
-        Some(phase) => item_reply(state, id, conn, phase, item),
-    }
 }
 
 /// A connection comes up.
@@ -68,7 +56,7 @@ fn on_up(
     conn: ConnectionId,
     peer: &Peer,
 ) -> Result<(), AllocError>
-    ensures { OnOk result ((t : List Entry) → TablesAt state.old t (event.Up conn peer.now) ends.now → rises conn.0 (newest t) ≡ true → TablesFit state.new (answered id.now t (step_of (event.Up conn peer.now)))) }
+    ensures { OnOk result ((t : List Entry) → TablesAt state.old t (event.Up conn peer.now) ends.now → rises conn.0 (newest t) ≡ true → TablesFit state.new (replied id.now t (step_of (event.Up conn peer.now)))) }
 {
     state.up(conn, peer)?;
     close_all(state, id, ends)?;
@@ -82,24 +70,35 @@ fn on_down(
     ends: &[u64],
     conn: ConnectionId,
 ) -> Result<(), AllocError>
-    ensures { OnOk result ((t : List Entry) → TablesAt state.old t (event.Down conn) ends.now → TablesFit state.new (answered id.now t (step_of (event.Down conn)))) }
+    ensures { OnOk result ((t : List Entry) → TablesAt state.old t (event.Down conn) ends.now → TablesFit state.new (replied id.now t (step_of (event.Down conn)))) }
 {
     state.down(conn)?;
     close_all(state, id, ends)?;
     Ok(())
 }
 
-/// The silent reply to the passing of time, which has no answer.
-fn on_tick(state: &mut State, id: &RouterId, ends: &[u64], _moment: u64) -> Result<(), AllocError>
-    ensures { OnOk result ((t : List Entry) → TablesAt state.old t (event.Tick _moment) ends.now → TablesFit state.new (answered id.now t (step_of (event.Tick _moment)))) }
+/// Hears a tick: its event is noted, and the ends for full outboxes are put.
+fn hear_tick(state: &mut State, id: &RouterId, ends: &[u64], moment: u64) -> Result<(), AllocError>
+    ensures { OnOk result ((t : List Entry) → TablesAt state.old t (event.Tick moment) ends.now → TablesFit state.new (heard id.now t (step_of (event.Tick moment)))) }
 {
+    state.tick(moment);
     close_all(state, id, ends)?;
+    Ok(())
+}
+
+/// The tick reply: heartbeats for those live connections whose peers told an idle-time-out half of which has passed.
+fn on_tick(state: &mut State, id: &RouterId, ends: &[u64], moment: u64) -> Result<(), AllocError>
+    ensures { OnOk result ((t : List Entry) → TablesAt state.old t (event.Tick moment) ends.now → TablesFit state.new (replied id.now t (step_of (event.Tick moment)))) }
+{
+    let beats = state.beats(moment)?;
+    hear_tick(state, id, ends, moment)?;
+    state.put_all(beats)?;
     Ok(())
 }
 
 /// The silent reply to the start, which has no answer.
 fn on_start(state: &mut State, id: &RouterId, ends: &[u64]) -> Result<(), AllocError>
-    ensures { OnOk result ((t : List Entry) → TablesAt state.old t event.Start ends.now → TablesFit state.new (answered id.now t (step_of event.Start))) }
+    ensures { OnOk result ((t : List Entry) → TablesAt state.old t event.Start ends.now → TablesFit state.new (replied id.now t (step_of event.Start))) }
 {
     close_all(state, id, ends)?;
     Ok(())
@@ -117,7 +116,7 @@ pub fn reply(
     ends: &[u64],
     event: &Event,
 ) -> Result<(), AllocError>
-    ensures { OnOk result ((t : List Entry) → TablesAt state.old t event.now ends.now → refuses t event.now ≡ false → TablesFit state.new (answered id.now t (step_of event.now))) }
+    ensures { OnOk result ((t : List Entry) → TablesAt state.old t event.now ends.now → refuses t event.now ≡ false → TablesFit state.new (replied id.now t (step_of event.now))) }
 {
     match event {
         Event::Up(conn, peer) => on_up(state, id, ends, *conn, peer)?,

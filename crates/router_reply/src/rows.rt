@@ -1,38 +1,31 @@
-//! The rows of the reply table, a function each: what is put out for an item on a live connection, by the phase that the
-//! item finds it in.
-ghost use Rattle.std.specs.Prelude.{◌≡◌, List, OnOk};
-ghost use Rattle.router_trace.specs.Trace.{Entry, puts};
-ghost use Rattle.router_state.specs.Tables.{TablesFit};
-ghost use Rattle.amqp_conn.specs.Phase.{after_frame};
-ghost use Rattle.router_reply.specs.Rows.{header_reply as header_row, bad_frame_reply as bad_frame_row, open_reply as open_row, early_frame_reply as early_frame_row, channel_reply as channel_row, begin_reply as begin_row, no_session_reply as no_session_row, close_reply as close_row, beat_reply as beat_row, open_in_turn, in_turn, turn_by, perf_reply as perf_row, item_reply as item_row, condition_of};
+//! The rows of the reply table, a function each: what the router answers to an item on a live connection, by what the item
+//! finds.
+ghost use Rattle.std.specs.Prelude.{◌≡◌};
+ghost use Rattle.router_trace.specs.Sessions.{Place as At};
+ghost use Rattle.router_links.specs.Fits.{found_of};
+ghost use Rattle.router_reply.specs.Rows.{header_reply, bad_frame_reply, open_reply, early_frame_reply, channel_reply, no_session_reply, close_reply, beat_reply, begin_reply, begin_by, end_reply, unattached_handle_reply, session_flow_reply, flow_reply, attach_reply, disposition_reply, condition_of, ended_with};
 
-use crate::closing::{close_with, write_close, write_open};
-use amqp_conn::{Conn, ConnFault};
-use amqp_frames::{FrameFault, Item};
-use amqp_perf::{Open, Perf};
-use router_state::State;
-use router_trace::{Condition, RouterId, header_item};
-use std::alloc::AllocError;
+use crate::answer::Answer;
+use amqp_conn::Conn;
+use amqp_conn::conn::CHANNEL_MAX;
+use amqp_frames::FrameFault;
+use amqp_perf::{Begin, Flow, Open};
+use router_links::{Place, flow_state};
+use router_trace::{Condition, SESSION_WINDOW};
 
 /// The longest container-id that the router takes, in bytes.
 pub const CONTAINER_ID: usize = 1024;
 
 /// A header: the first is answered by the header, a later one closes with `amqp:connection:framing-error` (AMQP 1.0 part
 /// 2, section 2.2).
-pub fn header_reply(
-    state: &mut State,
-    id: &RouterId,
-    conn: u64,
-    phase: Conn,
-) -> Result<(), AllocError>
-    ensures { OnOk result ((t : List Entry) → TablesFit state.old t → TablesFit state.new (puts conn (header_row id.now phase) t)) }
+pub fn header_reply(phase: Conn) -> Answer
+    ensures { result ≡ header_reply phase }
 {
-    let mut phase_behind = phase;
-    match phase_behind.take_header() {
-        Ok(()) => state.put(conn, header_item())?,
-        Err(_) => close_with(state, id, conn, phase, Condition::FramingError)?,
+    let mut moved = phase;
+    match moved.take_header() {
+        Ok(()) => Answer::Header,
+        Err(_) => Answer::CloseWith(Condition::FramingError),
     }
-    Ok(())
 }
 
 /// The condition that tells of what is no item.
@@ -46,205 +39,175 @@ fn condition_of(fault: FrameFault) -> Condition
 }
 
 /// What is no item: a body at fault closes with `amqp:decode-error`, a frame with `amqp:connection:framing-error`.
-pub fn bad_frame_reply(
-    state: &mut State,
-    id: &RouterId,
-    conn: u64,
-    phase: Conn,
-    fault: FrameFault,
-) -> Result<(), AllocError>
-    ensures { OnOk result ((t : List Entry) → TablesFit state.old t → TablesFit state.new (puts conn (bad_frame_row id.now phase fault) t)) }
+pub fn bad_frame_reply(fault: FrameFault) -> Answer
+    ensures { result ≡ bad_frame_reply fault }
 {
-    close_with(state, id, conn, phase, condition_of(fault))
+    Answer::CloseWith(condition_of(fault))
 }
 
 /// An open: a second one, or one whose largest frame is below 512 bytes, closes with `amqp:not-allowed`; a container-id
 /// above 1,024 bytes with `amqp:resource-limit-exceeded`; any other is answered by the router's open.
-pub fn open_reply(
-    state: &mut State,
-    id: &RouterId,
-    conn: u64,
-    phase: Conn,
-    open: &Open,
-) -> Result<(), AllocError>
-    ensures { OnOk result ((t : List Entry) → TablesFit state.old t → TablesFit state.new (puts conn (open_row id.now phase «open».now) t)) }
+pub fn open_reply(phase: Conn, open: &Open) -> Answer
+    ensures { result ≡ open_reply phase «open».now }
 {
-    let mut phase_behind = phase;
     let long = open.container_id.as_str().len() > CONTAINER_ID;
-    match phase_behind.take_open(open) {
-        Ok(()) => open_in_turn(state, id, conn, phase, long)?,
-        Err(_) => close_with(state, id, conn, phase, Condition::NotAllowed)?,
+    let mut moved = phase;
+    match moved.take_open(open) {
+        Ok(()) => {
+            if long {
+                Answer::CloseWith(Condition::ResourceLimitExceeded)
+            } else {
+                Answer::Open
+            }
+        }
+        Err(_) => Answer::CloseWith(Condition::NotAllowed),
     }
-    Ok(())
 }
 
-/// An open in its turn, whose container-id is too long or not.
-fn open_in_turn(
-    state: &mut State,
-    id: &RouterId,
-    conn: u64,
-    phase: Conn,
-    long: bool,
-) -> Result<(), AllocError>
-    ensures { OnOk result ((t : List Entry) → TablesFit state.old t → TablesFit state.new (puts conn (open_in_turn id.now phase long) t)) }
+/// A SASL frame, a SASL body, or a performative before the open: a close with `amqp:not-allowed`.
+pub fn early_frame_reply() -> Answer
+    ensures { result ≡ early_frame_reply }
 {
-    if long {
-        close_with(state, id, conn, phase, Condition::ResourceLimitExceeded)?;
-    } else {
-        write_open(state, id, conn)?;
-    }
-    Ok(())
-}
-
-/// A SASL frame, or a performative before the open: a close with `amqp:not-allowed`.
-pub fn early_frame_reply(
-    state: &mut State,
-    id: &RouterId,
-    conn: u64,
-    phase: Conn,
-) -> Result<(), AllocError>
-    ensures { OnOk result ((t : List Entry) → TablesFit state.old t → TablesFit state.new (puts conn (early_frame_row id.now phase) t)) }
-{
-    close_with(state, id, conn, phase, Condition::NotAllowed)
+    Answer::CloseWith(Condition::NotAllowed)
 }
 
 /// A channel above 14: a close with `amqp:connection:framing-error`.
-pub fn channel_reply(
-    state: &mut State,
-    id: &RouterId,
-    conn: u64,
-    phase: Conn,
-) -> Result<(), AllocError>
-    ensures { OnOk result ((t : List Entry) → TablesFit state.old t → TablesFit state.new (puts conn (channel_row id.now phase) t)) }
+pub fn channel_reply() -> Answer
+    ensures { result ≡ channel_reply }
 {
-    close_with(state, id, conn, phase, Condition::FramingError)
+    Answer::CloseWith(Condition::FramingError)
 }
 
-/// A begin: sessions aren't served yet, a close with `amqp:not-implemented`.
-pub fn begin_reply(
-    state: &mut State,
-    id: &RouterId,
-    conn: u64,
-    phase: Conn,
-) -> Result<(), AllocError>
-    ensures { OnOk result ((t : List Entry) → TablesFit state.old t → TablesFit state.new (puts conn (begin_row id.now phase) t)) }
+/// Another performative than a begin on a channel without session: a close with `amqp:not-allowed`.
+pub fn no_session_reply() -> Answer
+    ensures { result ≡ no_session_reply }
 {
-    close_with(state, id, conn, phase, Condition::NotImplemented)
-}
-
-/// Another performative on a channel without session: a close with `amqp:not-allowed`.
-pub fn no_session_reply(
-    state: &mut State,
-    id: &RouterId,
-    conn: u64,
-    phase: Conn,
-) -> Result<(), AllocError>
-    ensures { OnOk result ((t : List Entry) → TablesFit state.old t → TablesFit state.new (puts conn (no_session_row id.now phase) t)) }
-{
-    close_with(state, id, conn, phase, Condition::NotAllowed)
+    Answer::CloseWith(Condition::NotAllowed)
 }
 
 /// A close: the router's close, which ends the connection (AMQP 1.0 part 2, section 2.7.9).
-pub fn close_reply(state: &mut State, id: &RouterId, conn: u64) -> Result<(), AllocError>
-    ensures { OnOk result ((t : List Entry) → TablesFit state.old t → TablesFit state.new (puts conn close_row t)) }
+pub fn close_reply() -> Answer
+    ensures { result ≡ close_reply }
 {
-    write_close(state, id, conn, None)
+    Answer::Close
 }
 
 /// A heartbeat: nothing, or as any frame on a channel above 14.
-pub fn beat_reply(
-    state: &mut State,
-    id: &RouterId,
-    conn: u64,
-    phase: Conn,
-    channel: u16,
-) -> Result<(), AllocError>
-    ensures { OnOk result ((t : List Entry) → TablesFit state.old t → TablesFit state.new (puts conn (beat_row id.now phase channel) t)) }
+pub fn beat_reply(channel: u16) -> Answer
+    ensures { result ≡ beat_reply channel }
 {
-    if channel > amqp_conn::conn::CHANNEL_MAX {
-        channel_reply(state, id, conn, phase)?;
-    }
-    Ok(())
-}
-
-/// A performative other than open in its turn.
-fn reply_in_turn(
-    state: &mut State,
-    id: &RouterId,
-    conn: u64,
-    phase: Conn,
-    perf: &Perf,
-) -> Result<(), AllocError>
-    ensures { OnOk result ((t : List Entry) → TablesFit state.old t → TablesFit state.new (puts conn (in_turn id.now phase perf.now) t)) }
-{
-    match perf {
-        Perf::Begin(_) => begin_reply(state, id, conn, phase),
-        Perf::Close(_) => close_reply(state, id, conn),
-        _ => no_session_reply(state, id, conn, phase),
+    if channel > CHANNEL_MAX {
+        channel_reply()
+    } else {
+        Answer::Nothing
     }
 }
 
-/// A performative other than open, on this channel.
-fn turn_reply(
-    state: &mut State,
-    id: &RouterId,
-    conn: u64,
-    phase: Conn,
-    channel: u16,
-    perf: &Perf,
-) -> Result<(), AllocError>
-    ensures { OnOk result ((t : List Entry) → TablesFit state.old t → TablesFit state.new (puts conn (turn_by id.now phase perf.now (after_frame channel phase)) t)) }
+/// A begin: on a channel in use, or where it answers a begin that the router never wrote, a close with
+/// `amqp:not-allowed`; where no channel of the router is free, one with `amqp:resource-limit-exceeded`; else the router's
+/// begin on its lowest free channel. On a channel whose session the router ended it is dropped (AMQP 1.0 part 2, sections
+/// 2.5.1 and 2.7.2).
+pub fn begin_reply(place: Place, free: Option<u16>, theirs: u16, begin: &Begin) -> Answer
+    ensures { (at : At) → place ≡ found_of at → result ≡ begin_reply at free theirs begin.now }
 {
-    match phase.take_frame(channel) {
-        Ok(()) => reply_in_turn(state, id, conn, phase, perf)?,
-        Err(ConnFault::ChannelTooHigh) => channel_reply(state, id, conn, phase)?,
-        Err(_) => early_frame_reply(state, id, conn, phase)?,
-    }
-    Ok(())
-}
-
-/// A performative in a frame that is no SASL frame.
-pub fn perf_reply(
-    state: &mut State,
-    id: &RouterId,
-    conn: u64,
-    phase: Conn,
-    channel: u16,
-    perf: &Perf,
-) -> Result<(), AllocError>
-    ensures { OnOk result ((t : List Entry) → TablesFit state.old t → TablesFit state.new (puts conn (perf_row id.now phase channel perf.now) t)) }
-{
-    match perf {
-        Perf::Open(open) => open_reply(state, id, conn, phase, open),
-        _ => turn_reply(state, id, conn, phase, channel, perf),
+    match place {
+        Place::Nowhere => begin_by(theirs, free, begin.remote_channel),
+        Place::Ending => Answer::Nothing,
+        Place::On { .. } => Answer::CloseWith(Condition::NotAllowed),
     }
 }
 
-/// An item on a live connection in this phase.
-pub fn item_reply(
-    state: &mut State,
-    id: &RouterId,
-    conn: u64,
-    phase: Conn,
-    item: &Item,
-) -> Result<(), AllocError>
-    ensures { OnOk result ((t : List Entry) → TablesFit state.old t → TablesFit state.new (puts conn (item_row id.now phase item.now) t)) }
+/// A begin on a channel without session.
+fn begin_by(theirs: u16, free: Option<u16>, answers: Option<u16>) -> Answer
+    ensures { result ≡ begin_by theirs free answers }
 {
-    match item {
-        Item::Header { .. } => header_reply(state, id, conn, phase),
-        Item::Frame {
-            sasl,
-            channel,
-            perf,
-            ..
-        } => {
-            if *sasl {
-                early_frame_reply(state, id, conn, phase)
-            } else {
-                perf_reply(state, id, conn, phase, *channel, perf)
+    if answers.is_some() {
+        return Answer::CloseWith(Condition::NotAllowed);
+    }
+    match free {
+        None => Answer::CloseWith(Condition::ResourceLimitExceeded),
+        Some(own) => Answer::Begin { own, theirs },
+    }
+}
+
+/// An end: the router's end, without an error; nothing to the end that the router's own awaits (AMQP 1.0 part 2, section
+/// 2.7.8).
+pub fn end_reply(place: Place) -> Answer
+    ensures { (at : At) → place ≡ found_of at → result ≡ end_reply at }
+{
+    match place {
+        Place::Nowhere => no_session_reply(),
+        Place::Ending => Answer::Nothing,
+        Place::On { own, .. } => Answer::End { own, error: None },
+    }
+}
+
+/// A frame that names a handle: no link is attached, so the session ends with `amqp:session:unattached-handle`.
+pub fn unattached_handle_reply(place: Place) -> Answer
+    ensures { (at : At) → place ≡ found_of at → result ≡ unattached_handle_reply at }
+{
+    end_with(place, Condition::UnattachedHandle)
+}
+
+/// A session's end with an error; a close with `amqp:not-allowed` where there is no session, and nothing where the router
+/// ended it.
+fn end_with(place: Place, error: Condition) -> Answer
+    ensures { result ≡ ended_with place error }
+{
+    match place {
+        Place::Nowhere => no_session_reply(),
+        Place::Ending => Answer::Nothing,
+        Place::On { own, .. } => Answer::End {
+            own,
+            error: Some(error),
+        },
+    }
+}
+
+/// A flow without handle: where one is wanted, the router's flow with the session's figures behind it (AMQP 1.0 part 2,
+/// sections 2.5.6 and 2.7.4).
+pub fn session_flow_reply(place: Place, flow: &Flow) -> Answer
+    ensures { (at : At) → place ≡ found_of at → result ≡ session_flow_reply at flow.now }
+{
+    match place {
+        Place::Nowhere => no_session_reply(),
+        Place::Ending => Answer::Nothing,
+        Place::On { own, mut window } => {
+            if !flow.echo {
+                return Answer::Nothing;
+            }
+            window.on_flow(flow_state(flow));
+            Answer::Flow {
+                own,
+                told: window.flow_state(SESSION_WINDOW),
             }
         }
-        Item::Beat { channel } => beat_reply(state, id, conn, phase, *channel),
-        Item::Bad(fault) => bad_frame_reply(state, id, conn, phase, *fault),
+    }
+}
+
+/// A flow; one with a handle names no link that is attached.
+pub fn flow_reply(place: Place, flow: &Flow) -> Answer
+    ensures { (at : At) → place ≡ found_of at → result ≡ flow_reply at flow.now }
+{
+    match flow.handle {
+        None => session_flow_reply(place, flow),
+        Some(_) => unattached_handle_reply(place),
+    }
+}
+
+/// An attach: links aren't served yet, so the session ends with `amqp:not-implemented`.
+pub fn attach_reply(place: Place) -> Answer
+    ensures { (at : At) → place ≡ found_of at → result ≡ attach_reply at }
+{
+    end_with(place, Condition::NotImplemented)
+}
+
+/// A disposition: it names no delivery.
+pub fn disposition_reply(place: Place) -> Answer
+    ensures { (at : At) → place ≡ found_of at → result ≡ disposition_reply at }
+{
+    match place {
+        Place::Nowhere => no_session_reply(),
+        _ => Answer::Nothing,
     }
 }

@@ -5,3 +5,7 @@ pub use Rattle.router_trace.specs.Refusing
 pub use Rattle.router_trace.specs.Order
 pub use Rattle.router_trace.specs.Frames
 pub use Rattle.router_conns.specs.Fits
+pub use Rattle.router_trace.specs.Sessions
+pub use Rattle.router_trace.specs.Clocks
+pub use Rattle.router_conns.specs.Timing
+pub use Rattle.router_links.specs.Windows

@@ -1,27 +1,36 @@
 //! All tables, changed together.
-ghost use Rattle.std.specs.Prelude.{◌≡◌, ◌==◌, ◌≤◌, if◌then◌else◌, ◌∷◌, ℕ, List, [], true, option_map, OnOk, IfOk};
+ghost use Rattle.std.specs.Prelude.{◌≡◌, ◌==◌, ◌≤◌, if◌then◌else◌, ◌∷◌, ◌++◌, ℕ, List, [], true, option_map, OnOk, IfOk};
 ghost use Rattle.std.specs.Ordering.{nat_cmp};
 ghost use Rattle.std.specs.BTreeMap.{get};
 ghost use Rattle.std.specs.BTreeSet.{contains};
-ghost use Rattle.router_trace.specs.Trace.{Entry, Out, Took, did, newest};
+ghost use Rattle.router_trace.specs.Trace.{Entry, Out, Took, did, newest, goes, puts_of};
+ghost use Rattle.router_trace.specs.Sessions.{place, free_channel};
+ghost use Rattle.router_trace.specs.Clocks.{terms, channel_max_of};
+ghost use Rattle.router_conns.specs.Timing.{ClocksFit};
+ghost use Rattle.router_links.specs.Fits.{LinksFit, found_of};
+ghost use Rattle.router_links.specs.Windows.{windows};
 ghost use Rattle.router_trace.specs.Connection.{conn as known, standing, found, is_ready, has};
 ghost use Rattle.router_conns.specs.Fits.{IsLeast, IsBatch, count};
 ghost use Rattle.router_trace.specs.Refusing.{rises, refuses};
-ghost use Rattle.router_state.specs.Tables.{TablesFit, TablesAt};
+ghost use Rattle.router_state.specs.Tables.{TablesFit, TablesAt, beat_if, beats_over, beats};
 ghost use Rattle.router_trace.specs.declared.event.Event.{Event as E};
 ghost use Rattle.router_trace.specs.declared.event.Event.TheVariants as event;
 
 use amqp_conn::Conn;
 use amqp_frames::Item;
-use router_conns::{Connections, Ready, Taken};
-use router_trace::{ConnectionId, Event, Peer};
+use router_conns::{Clocks, Connections, Ready, Taken};
+use router_links::{Links, Place};
+use router_trace::{ConnectionId, Event, Outgoing, Peer, beat_item};
 use std::alloc::{AllocError, Global};
 
 /// The router's tables. Behind a refused growth nothing can be said of them.
 #[derive(Debug, Drop)]
 pub struct State {
+    alloc: Global,
     connections: Connections,
     ready: Ready,
+    clocks: Clocks,
+    links: Links,
 }
 
 impl State {
@@ -30,8 +39,11 @@ impl State {
         ensures { TablesFit result [] }
     {
         State {
+            alloc,
             connections: Connections::new(alloc),
             ready: Ready::new(alloc),
+            clocks: Clocks::new(alloc),
+            links: Links::new(alloc),
         }
     }
 
@@ -57,6 +69,52 @@ impl State {
         self.connections.phase(conn)
     }
 
+    /// What stands on a channel of the peer as an event finds it.
+    pub fn place(&self, conn: u64, channel: u16) -> Place
+        ensures { (t : List Entry) (e : E) (ends : List ℕ) → TablesAt self.now t e ends → result ≡ found_of (place t conn channel) }
+    {
+        self.links.place(conn, channel)
+    }
+
+    /// The lowest channel of the router, as an event finds it, that the peer takes too and on which no session stands.
+    pub fn free_channel(&self, conn: u64) -> Option<u16>
+        ensures { (t : List Entry) (e : E) (ends : List ℕ) → TablesAt self.now t e ends → result ≡ free_channel t conn (channel_max_of (terms t conn)) }
+    {
+        self.links.free_channel(conn, self.clocks.channel_max(conn))
+    }
+
+    /// The heartbeats that are due at a moment on the connections that are live as an event finds them, by number.
+    pub fn beats(&self, now: u64) -> Result<Vec<Outgoing>, AllocError>
+        ensures { IfOk result (λ due. (t : List Entry) (e : E) (ends : List ℕ) → TablesAt self.now t e ends → puts_of due.items ≡ beats t e now) }
+    {
+        beats_over(self.alloc, &self.clocks, self.connections.live(), now)
+    }
+
+    /// Whether no session's window may be narrow, so that no flow is due.
+    pub fn is_calm(&self) -> bool
+        ensures { result ≡ true → (t : List Entry) → TablesFit self.now t → windows t ≡ [] }
+    {
+        self.links.is_calm()
+    }
+
+    /// The flows that tell windows anew, by connection and by the router's channel.
+    pub fn windows(&self) -> Result<Vec<Outgoing>, AllocError>
+        ensures { IfOk result (λ flows. (t : List Entry) → TablesFit self.now t → puts_of flows.items ≡ windows t) }
+    {
+        let mut flows = Vec::new(self.alloc);
+        for conn in self.connections.live() {
+            self.links.due_on(*conn, &mut flows)?;
+        }
+        Ok(flows)
+    }
+
+    /// Forgets which windows were narrow, where they aren't any more.
+    pub fn settle(&mut self)
+        ensures { (t : List Entry) → TablesFit self.old t → TablesFit self.new t }
+    {
+        settle_all(&mut self.links, self.connections.live());
+    }
+
     /// Ends the connections that an event ends for their full outboxes, and gives them by number. Their closes are the
     /// caller's to put.
     pub fn turn(&mut self, event: &Event) -> Result<Vec<u64>, AllocError>
@@ -75,11 +133,29 @@ impl State {
         note(&mut self.ready, &self.connections, conn.0)
     }
 
+    /// An item came on a connection.
+    pub fn hear(&mut self, conn: ConnectionId, item: &Item) -> Result<(), AllocError>
+        ensures { OnOk result ((t : List Entry) (ends : List ℕ) → TablesAt self.old t (event.Item conn item.now) ends → TablesFit self.new (did (event.Item conn item.now) ∷ t)) }
+    {
+        self.clocks.hear(conn, item)?;
+        self.links.hear(conn, item)?;
+        Ok(())
+    }
+
+    /// Time passes.
+    pub fn tick(&mut self, moment: u64)
+        ensures { (t : List Entry) (ends : List ℕ) → TablesAt self.old t (event.Tick moment) ends → TablesFit self.new (did (event.Tick moment) ∷ t) }
+    {
+        self.clocks.tick(moment);
+    }
+
     /// A connection is lost.
     pub fn down(&mut self, conn: ConnectionId) -> Result<(), AllocError>
         ensures { OnOk result ((t : List Entry) (ends : List ℕ) → TablesAt self.old t (event.Down conn) ends → TablesFit self.new (did (event.Down conn) ∷ t)) }
     {
         self.connections.down(conn);
+        self.clocks.down(conn);
+        self.links.down(conn);
         note(&mut self.ready, &self.connections, conn.0)
     }
 
@@ -87,8 +163,21 @@ impl State {
     pub fn put(&mut self, conn: u64, item: Item) -> Result<(), AllocError>
         ensures { OnOk result ((t : List Entry) → TablesFit self.old t → TablesFit self.new (Out conn item ∷ t)) }
     {
+        self.clocks.put(conn, &item)?;
+        self.links.put(conn, &item)?;
         self.connections.put(conn, item)?;
-        note(&mut self.ready, &self.connections, conn)
+        note(&mut self.ready, &self.connections, conn)?;
+        Ok(())
+    }
+
+    /// Puts items in the outboxes of their connections, the first of them first.
+    pub fn put_all(&mut self, items: Vec<Outgoing>) -> Result<(), AllocError>
+        ensures { OnOk result ((t : List Entry) → TablesFit self.old t → TablesFit self.new (goes (puts_of items.items) t)) }
+    {
+        for outgoing in items {
+            self.put(outgoing.conn.0, outgoing.item)?;
+        }
+        Ok(())
     }
 
     /// Takes up to `most` items out of an outbox; none where nothing is known of the connection.
@@ -107,6 +196,48 @@ impl State {
         ensures { (t : List Entry) → TablesFit self.now t → IsLeast (λ c. is_ready (known t c)) result }
     {
         self.ready.first()
+    }
+}
+
+/// The heartbeats that are due at a moment on these connections, by number.
+fn beats_over(
+    alloc: Global,
+    clocks: &Clocks,
+    conns: &[u64],
+    now: u64,
+) -> Result<Vec<Outgoing>, AllocError>
+    ensures { IfOk result (λ due. (t : List Entry) → ClocksFit clocks.now t → puts_of due.items ≡ beats_over t now conns.now) }
+{
+    let mut due = Vec::new(alloc);
+    for conn in conns {
+        add_beat(&mut due, *conn, clocks.needs_beat(*conn, now))?;
+    }
+    Ok(due)
+}
+
+/// Adds a heartbeat for a connection, where one is needed.
+fn add_beat(due: &mut Vec<Outgoing>, conn: u64, needed: bool) -> Result<(), AllocError>
+    ensures { OnOk result (puts_of due.new.items ≡ puts_of due.old.items ++ beat_if needed conn) }
+{
+    if !needed {
+        return Ok(());
+    }
+    let beat = Outgoing {
+        conn: ConnectionId(conn),
+        item: beat_item(),
+    };
+    match due.push(beat) {
+        Ok(()) => Ok(()),
+        Err(_) => Err(AllocError),
+    }
+}
+
+/// Forgets which windows of these connections were narrow, where they aren't any more.
+fn settle_all(links: &mut Links, conns: &[u64])
+    ensures { (t : List Entry) → LinksFit links.old t → LinksFit links.new t }
+{
+    for conn in conns {
+        links.settle(*conn);
     }
 }
 

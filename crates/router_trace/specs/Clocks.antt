@@ -67,3 +67,8 @@ abbrev pub needs_beat : Option Terms → Option ℕ → ℕ → Bool
 needs_beat None last now = false
 needs_beat (Some told) None now = false
 needs_beat (Some told) (Some last) now = is_beat_due told.idle_time_out last now
+
+-- the highest channel that the peer takes
+abbrev pub channel_max_of : Option Terms → ℕ
+channel_max_of None = 65535
+channel_max_of (Some told) = told.channel_max

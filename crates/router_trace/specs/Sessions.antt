@@ -181,5 +181,5 @@ channels = 0 ∷ 1 ∷ 2 ∷ 3 ∷ 4 ∷ 5 ∷ 6 ∷ 7 ∷ 8 ∷ 9 ∷ 10 ∷ 11
 abbrev pub is_free : ℕ → (ℕ → Option Session) → ℕ → Bool
 is_free channel_max known o = if nat_le o channel_max then is_none (known o) else false
 
-abbrev pub free_channel : Trace → ℕ → ℕ → Option ℕ
+unfoldable pub free_channel : Trace → ℕ → ℕ → Option ℕ
 free_channel t c channel_max = find (is_free channel_max (session t c)) channels

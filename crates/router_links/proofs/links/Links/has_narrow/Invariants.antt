@@ -6,4 +6,4 @@ use Rattle.router_links.specs.Fits.{window_in}
 use Rattle.router_links.proofs.links.Links.has_narrow.Given as goal
 
 abbrev pub invariant-loop-own : goal.invariant-loop-own
-invariant-loop-own l = (o : ℕ) → o < l.own → is_narrow_window (window_in (get nat_cmp l.self.rows l.conn.0) o) ≡ false
+invariant-loop-own l = (o : ℕ) → o < l.own → is_narrow_window (window_in (get nat_cmp l.self.rows l.conn) o) ≡ false

@@ -1,0 +1,25 @@
+-- When the table of clocks is that which a trace gives.
+use Rattle.std.specs.Prelude.{◌≡◌, ℕ, Bool, true, false}
+use Rattle.std.specs.Ordering.{nat_cmp}
+use Rattle.std.specs.BTreeMap.{get}
+use Rattle.amqp_perf.specs.declared.perf.Perf.{Perf}
+use Rattle.amqp_perf.specs.declared.perf.Perf.TheVariants as perf
+use Rattle.amqp_frames.specs.declared.item.Item.{Item}
+use Rattle.amqp_frames.specs.declared.item.Item.TheVariants as item
+use Rattle.router_conns.specs.declared.clocks.Clocks.{Clocks}
+use Rattle.router_trace.specs.Trace.{Trace}
+use Rattle.router_trace.specs.Clocks.{moment, terms, written}
+
+pub record ClocksFit (s : Clocks) (t : Trace) : Type 0 where
+  pub moment : s.moment ≡ moment t
+  pub terms : (c : ℕ) → get nat_cmp s.terms c ≡ terms t c
+  pub written : (c : ℕ) → get nat_cmp s.written c ≡ written t c
+
+-- a close
+abbrev pub is_close_in : Perf → Bool
+is_close_in (perf.Close x) = true
+is_close_in _ = false
+
+abbrev pub is_close : Item → Bool
+is_close (item.Frame sasl channel body payload) = is_close_in body
+is_close _ = false

@@ -1,0 +1,162 @@
+//! What peers' opens tell, and when items were put out last.
+ghost use Rattle.std.specs.Prelude.{◌≡◌, ◌==◌, ◌∷◌, [], List, ℕ, None, false, if◌then◌else◌, OnOk};
+ghost use Rattle.std.specs.Ordering.{nat_cmp};
+ghost use Rattle.std.specs.BTreeMap.{get};
+ghost use Rattle.router_trace.specs.Trace.{Entry, Out, did};
+ghost use Rattle.router_trace.specs.Clocks.{terms, written, needs_beat, channel_max_of};
+ghost use Rattle.router_conns.specs.Timing.{ClocksFit, is_close};
+ghost use Rattle.router_trace.specs.declared.event.Event.TheVariants as event;
+ghost use Rattle.amqp_perf.specs.declared.perf.Perf.TheVariants as perf;
+ghost use Rattle.amqp_frames.specs.declared.item.Item.TheVariants as item;
+
+use amqp_conn::Heartbeat;
+use amqp_frames::Item;
+use amqp_perf::{Open, Perf};
+use router_trace::{ConnectionId, Terms};
+use std::alloc::{AllocError, Global};
+use std::collections::BTreeMap;
+
+/// What the opens of the peers tell, and when an item was put out last for each; none of a connection that is closed or
+/// lost. Behind a refused growth nothing can be said of the table.
+#[derive(Debug, Drop)]
+pub struct Clocks {
+    moment: u64,
+    terms: BTreeMap<u64, Terms>,
+    written: BTreeMap<u64, u64>,
+}
+
+impl Clocks {
+    /// Nothing is told or put out yet.
+    pub fn new(alloc: Global) -> Clocks
+        ensures { ClocksFit result [] }
+    {
+        Clocks {
+            moment: 0,
+            terms: BTreeMap::new(alloc),
+            written: BTreeMap::new(alloc),
+        }
+    }
+
+    /// The highest channel that a peer takes.
+    pub fn channel_max(&self, conn: u64) -> u16
+        ensures { (t : List Entry) → ClocksFit self.now t → result ≡ channel_max_of (terms t conn) }
+    {
+        match self.terms.get(&conn) {
+            None => u16::MAX,
+            Some(terms) => terms.channel_max,
+        }
+    }
+
+    /// Whether a heartbeat is due at this moment.
+    pub fn needs_beat(&self, conn: u64, now: u64) -> bool
+        ensures { (t : List Entry) → ClocksFit self.now t → result ≡ needs_beat (terms t conn) (written t conn) now }
+    {
+        let Some(terms) = self.terms.get(&conn) else {
+            return false;
+        };
+        let Some(written) = self.written.get(&conn) else {
+            return false;
+        };
+        let heartbeat = Heartbeat {
+            idle_time_out: terms.idle_time_out,
+            written: *written,
+        };
+        heartbeat.tick(now)
+    }
+
+    /// Time passes.
+    pub fn tick(&mut self, moment: u64)
+        ensures { (t : List Entry) → ClocksFit self.old t → ClocksFit self.new (did (event.Tick moment) ∷ t) }
+    {
+        self.moment = moment;
+    }
+
+    /// A connection is lost.
+    pub fn down(&mut self, conn: ConnectionId)
+        ensures { (t : List Entry) → ClocksFit self.old t → ClocksFit self.new (did (event.Down conn) ∷ t) }
+    {
+        self.forget(conn.0);
+    }
+
+    /// An item came on a connection.
+    pub fn hear(&mut self, conn: ConnectionId, item: &Item) -> Result<(), AllocError>
+        ensures { OnOk result ((t : List Entry) → ClocksFit self.old t → ClocksFit self.new (did (event.Item conn item.now) ∷ t)) }
+    {
+        match item {
+            Item::Frame {
+                sasl,
+                perf,
+                ..
+            } => {
+                if !*sasl {
+                    self.hear_perf(conn, perf)?;
+                }
+            }
+            _ => {}
+        }
+        Ok(())
+    }
+
+    /// A performative came on a connection.
+    fn hear_perf(&mut self, conn: ConnectionId, perf: &Perf) -> Result<(), AllocError>
+        ensures { OnOk result ((t : List Entry) (channel : ℕ) (payload : List ℕ) → ClocksFit self.old t
+            → ClocksFit self.new (did (event.Item conn (item.Frame false channel perf.now payload)) ∷ t)) }
+    {
+        match perf {
+            Perf::Open(open) => self.hear_open(conn, open)?,
+            _ => {}
+        }
+        Ok(())
+    }
+
+    /// An open came on a connection: the first one counts.
+    fn hear_open(&mut self, conn: ConnectionId, open: &Open) -> Result<(), AllocError>
+        ensures { OnOk result ((t : List Entry) (channel : ℕ) (payload : List ℕ) → ClocksFit self.old t
+            → ClocksFit self.new (did (event.Item conn (item.Frame false channel (perf.Open «open».now) payload)) ∷ t)) }
+    {
+        if self.terms.contains_key(&conn.0) {
+            return Ok(());
+        }
+        match self.terms.insert(conn.0, Terms::of(open)) {
+            Ok(_) => Ok(()),
+            Err(_) => Err(AllocError),
+        }
+    }
+
+    /// An item is put in the outbox of a connection.
+    pub fn put(&mut self, conn: u64, item: &Item) -> Result<(), AllocError>
+        ensures { OnOk result ((t : List Entry) → ClocksFit self.old t → ClocksFit self.new (Out conn item.now ∷ t)) }
+    {
+        if is_close(item) {
+            self.forget(conn);
+            return Ok(());
+        }
+        match self.written.insert(conn, self.moment) {
+            Ok(_) => Ok(()),
+            Err(_) => Err(AllocError),
+        }
+    }
+
+    /// Nothing is known of a connection any more.
+    fn forget(&mut self, conn: u64)
+        ensures moment { self.new.moment ≡ self.old.moment }
+        ensures terms { (c : ℕ) → get nat_cmp self.new.terms c ≡ (if conn == c then None else get nat_cmp self.old.terms c) }
+        ensures written { (c : ℕ) → get nat_cmp self.new.written c ≡ (if conn == c then None else get nat_cmp self.old.written c) }
+    {
+        let _ = self.terms.remove(&conn);
+        let _ = self.written.remove(&conn);
+    }
+}
+
+/// Whether an item is a close.
+fn is_close(item: &Item) -> bool
+    ensures { result ≡ is_close item.now }
+{
+    match item {
+        Item::Frame { perf, .. } => match perf {
+            Perf::Close(_) => true,
+            _ => false,
+        },
+        _ => false,
+    }
+}

@@ -1,0 +1,39 @@
+//! What the rows of the reply table answer.
+use amqp_session::FlowState;
+use router_trace::Condition;
+
+/// What a row of the reply table answers to an item.
+#[derive(Clone, Copy, Debug, PartialEq, Eq)]
+pub enum Answer {
+    /// Nothing.
+    Nothing,
+    /// The router's header.
+    Header,
+    /// The router's open.
+    Open,
+    /// The router's close, without an error.
+    Close,
+    /// A close with an error, behind the router's open where that isn't written yet.
+    CloseWith(Condition),
+    /// The router's begin.
+    Begin {
+        /// The router's channel of the session.
+        own: u16,
+        /// The peer's channel of it.
+        theirs: u16,
+    },
+    /// The router's end, with an error or none.
+    End {
+        /// The router's channel of the session.
+        own: u16,
+        /// The error.
+        error: Option<Condition>,
+    },
+    /// A flow without handle.
+    Flow {
+        /// The router's channel of the session.
+        own: u16,
+        /// What it tells.
+        told: FlowState,
+    },
+}
