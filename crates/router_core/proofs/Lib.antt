@@ -1,6 +1,2 @@
-pub mod Once
-pub mod Ordered
-pub mod Order
-pub mod Headed
-pub mod Moves
 pub mod RunLemmas
+pub mod Moves

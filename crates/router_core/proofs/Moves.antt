@@ -4,7 +4,7 @@ use Rattle.router_trace.specs.declared.event.Event.{Event}
 use Rattle.router_core.specs.declared.driving.Sent.{Sent}
 use Rattle.router_trace.specs.Trace.{Entry, step_of}
 use Rattle.router_trace.specs.Refusing.{refuses}
-use Rattle.router_reply.specs.Replies.{answered}
+use Rattle.router_core.specs.Replies.{answered}
 use Rattle.router_core.specs.Runs.{Taking, took_one, took_all, MayStep, Run}
 use Rattle.router_core.specs.Moves.{Move, handles, takes, Goes, IsTrace}
 

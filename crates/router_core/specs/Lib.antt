@@ -1,5 +1,6 @@
 pub mod Faults
 pub mod Handling
+pub mod Replies
 pub mod Runs
 pub mod Door
 pub mod Moves
@@ -12,4 +13,7 @@ pub use Rattle.router_trace.specs.Frames
 pub use Rattle.router_conns.specs.Fits
 pub use Rattle.router_state.specs.Tables
 pub use Rattle.router_reply.specs.Rows
-pub use Rattle.router_reply.specs.Replies
+pub use Rattle.router_trace.specs.Sessions
+pub use Rattle.router_trace.specs.Clocks
+pub use Rattle.router_after.specs.After
+pub use Rattle.router_links.specs.Windows

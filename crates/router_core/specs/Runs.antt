@@ -8,7 +8,7 @@ use Rattle.router_trace.specs.Trace.{Trace, Took, step_of}
 use Rattle.router_trace.specs.Connection.{Connection, conn, is_ready}
 use Rattle.router_trace.specs.Refusing.{refuses}
 use Rattle.router_conns.specs.Fits.{IsLeast}
-use Rattle.router_reply.specs.Replies.{Replies}
+use Rattle.router_core.specs.Replies.{Replies}
 
 -- the items that wait in an outbox
 abbrev pub waiting_of : Option Connection → List Item

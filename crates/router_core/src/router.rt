@@ -4,7 +4,7 @@ ghost use Rattle.router_trace.specs.Trace.{Entry, Took, step_of};
 ghost use Rattle.router_trace.specs.Connection.{conn as known, is_ready};
 ghost use Rattle.router_trace.specs.Refusing.{refuses};
 ghost use Rattle.router_conns.specs.Fits.{IsLeast};
-ghost use Rattle.router_reply.specs.Replies.{Replies, answered};
+ghost use Rattle.router_core.specs.Replies.{Replies, answered};
 ghost use Rattle.router_state.specs.Tables.{TablesFit};
 ghost use Rattle.router_core.specs.Handling.{Fits, is_failed, id_of, IsBatchOf};
 ghost use Rattle.router_core.specs.declared.fault.CoreFault.TheVariants.{Disk, Memory, Failed, NoConnection};
@@ -12,6 +12,7 @@ ghost use Rattle.router_core.specs.declared.fault.CoreFault.TheVariants.{Disk, M
 use crate::fault::CoreFault;
 use amqp_frames::Item;
 use route_table::Config;
+use router_after::after;
 use router_reply::reply;
 use router_state::State;
 use router_trace::{ConnectionId, Event, RouterId};
@@ -87,7 +88,7 @@ impl Core {
         if self.state.refuses(&event) {
             return Err(CoreFault::NoConnection);
         }
-        match turn_and_reply(&mut self.state, &self.id, &event) {
+        match answer(&mut self.state, &self.id, &event) {
             Ok(()) => Ok(Done {}),
             Err(AllocError) => {
                 self.failed = true;
@@ -147,10 +148,13 @@ impl Core {
     }
 }
 
-/// What an event that is not refused does: it ends connections for their full outboxes, and is replied to.
-fn turn_and_reply(state: &mut State, id: &RouterId, event: &Event) -> Result<(), AllocError>
+/// What an event that is not refused does: it ends connections for their full outboxes, its rows answer it, and what
+/// follows them is put.
+fn answer(state: &mut State, id: &RouterId, event: &Event) -> Result<(), AllocError>
     ensures { OnOk result ((t : List Entry) → TablesFit state.old t → refuses t event.now ≡ false → TablesFit state.new (answered id.now t (step_of event.now))) }
 {
     let ends = state.turn(event)?;
-    reply(state, id, &ends, event)
+    reply(state, id, &ends, event)?;
+    after(state)?;
+    Ok(())
 }

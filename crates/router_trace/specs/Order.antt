@@ -1,5 +1,5 @@
--- In which order items are written on a connection (AMQP 1.0 part 2, sections 2.2 and 2.4).
-use Rattle.std.specs.Prelude.{Bool, true, false, not, if◌then◌else◌, List, [], ◌∷◌}
+-- In which order items are written on a connection (AMQP 1.0 part 2, sections 2.2, 2.4 and 2.5).
+use Rattle.std.specs.Prelude.{ℕ, Bool, true, false, not, ◌==◌, if◌then◌else◌, List, [], ◌∷◌}
 use Rattle.amqp_perf.specs.declared.perf.Perf.{Perf}
 use Rattle.amqp_perf.specs.declared.perf.Perf.TheVariants as perf
 use Rattle.amqp_frames.specs.declared.item.Item.{Item}
@@ -7,23 +7,57 @@ use Rattle.amqp_frames.specs.declared.item.Item.TheVariants as item
 use Rattle.amqp_conn.specs.declared.conn.Conn.{Conn}
 use Rattle.router_trace.specs.Connection.{behind}
 
+-- what was written on a connection: its phase, and the channels on which a session is begun and not ended
+pub record Written : Type 0 where
+  pub phase : Conn
+  pub begun : ℕ → Bool
+
 -- nothing is written yet
-abbrev pub unwritten : Conn
-unwritten = record { header = false; opened = false; closed = false }
+abbrev pub unwritten : Written
+unwritten = record { phase = record { header = false; opened = false; closed = false }; begun = λ o. false }
 
--- an item has its turn behind what was written: a header and an open once, a close only behind an open, and nothing behind a
--- close (AMQP 1.0 part 2, sections 2.2, 2.4.1 and 2.4.3)
-abbrev pub perf_has_turn : Conn → Perf → Bool
-perf_has_turn p (perf.Open o) = if p.opened then false else not p.closed
-perf_has_turn p (perf.Close x) = if p.opened then not p.closed else false
-perf_has_turn p _ = false
+-- what was written, and an item behind it
+abbrev pub begun_behind_perf : Perf → ℕ → (ℕ → Bool) → ℕ → Bool
+begun_behind_perf (perf.Begin b) own begun o = if own == o then true else begun o
+begun_behind_perf (perf.End x) own begun o = if own == o then false else begun o
+begun_behind_perf _ own begun o = begun o
 
-abbrev pub has_turn : Conn → Item → Bool
-has_turn p (item.Header id major minor revision) = if p.header then false else not p.closed
-has_turn p (item.Frame sasl channel body payload) = perf_has_turn p body
-has_turn p _ = false
+abbrev pub begun_behind : Item → (ℕ → Bool) → ℕ → Bool
+begun_behind (item.Frame sasl own body payload) begun o = begun_behind_perf body own begun o
+begun_behind _ begun o = begun o
+
+abbrev pub written_behind : Item → Written → Written
+written_behind i w = record { phase = behind i w.phase; begun = begun_behind i w.begun }
+
+-- the connection is open: its open stands, and no close
+abbrev pub is_open : Conn → Bool
+is_open p = if p.opened then not p.closed else false
+
+-- An item has its turn behind what was written: a header and an open once, a close only behind an open, and nothing behind a
+-- close; a heartbeat, and all frames of sessions, between open and close; a begin on a channel without session, and every other
+-- frame of a session on a channel that has one (2.2, 2.4.1, 2.4.3, 2.4.5, 2.5.1 and 2.5.4).
+abbrev pub of_session : Written → ℕ → Bool
+of_session w own = if is_open w.phase then w.begun own else false
+
+abbrev pub perf_has_turn : Written → ℕ → Perf → Bool
+perf_has_turn w own (perf.Open o) = if w.phase.opened then false else not w.phase.closed
+perf_has_turn w own (perf.Close x) = is_open w.phase
+perf_has_turn w own (perf.Begin b) = if is_open w.phase then not (w.begun own) else false
+perf_has_turn w own (perf.Attach x) = of_session w own
+perf_has_turn w own (perf.Flow f) = of_session w own
+perf_has_turn w own (perf.Transfer x) = of_session w own
+perf_has_turn w own (perf.Disposition x) = of_session w own
+perf_has_turn w own (perf.Detach x) = of_session w own
+perf_has_turn w own (perf.End x) = of_session w own
+perf_has_turn w own _ = false
+
+abbrev pub has_turn : Written → Item → Bool
+has_turn w (item.Header id major minor revision) = if w.phase.header then false else not w.phase.closed
+has_turn w (item.Frame sasl own body payload) = perf_has_turn w own body
+has_turn w (item.Beat channel) = is_open w.phase
+has_turn w (item.Bad f) = false
 
 -- all of these items have their turn, one behind the other
-abbrev pub have_turns : Conn → List Item → Bool
-have_turns p [] = true
-have_turns p (i ∷ is) = if has_turn p i then have_turns (behind i p) is else false
+abbrev pub have_turns : Written → List Item → Bool
+have_turns w [] = true
+have_turns w (i ∷ is) = if has_turn w i then have_turns (written_behind i w) is else false

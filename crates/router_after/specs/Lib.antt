@@ -1,0 +1,3 @@
+pub mod After
+pub use Rattle.router_trace.specs.Trace
+pub use Rattle.router_links.specs.Windows
