@@ -4,3 +4,4 @@ pub mod Order
 pub mod Headed
 pub mod Moves
 pub mod RunLemmas
+pub mod OnlyHeaders
