@@ -102,7 +102,7 @@ fn play<'a>(alloc: Global) -> Result<Command<'a>, AllocError> {
     let script = Arg::new(alloc, "SCRIPT")
         .required(true)
         .action(ArgAction::Set)
-        .help("A file of lines: up N, in N HEX, down N, tick MS, blank lines and # comments");
+        .help("A file of lines: up N, up N route-container, in N HEX, down N, tick MS, blank lines and # comments");
     Command::new(alloc, "play")
         .about("Plays a script against a router in memory, and prints what the router sends")
         .arg(config)?
