@@ -3,3 +3,4 @@ pub mod Numbers
 pub mod Streaming
 pub mod Listings
 pub mod Reading
+mod Configs

@@ -3,6 +3,7 @@ pub mod Lines
 pub mod Cut
 pub mod Print
 pub mod Script
+pub mod Config
 pub mod Running
 pub mod Status
 pub mod Listing

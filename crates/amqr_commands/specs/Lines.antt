@@ -5,7 +5,7 @@ use Rattle.std.specs.Str.{bytes_eq}
 use Rattle.amqr_commands.specs.Words.{Text, cut_at, number_of, bytes_of}
 use Rattle.router_play.specs.declared.script.Step.{Step}
 use Rattle.router_play.specs.declared.script.Step.TheVariants.{Up, In, Down, Tick}
-use Rattle.router_trace.specs.declared.event.PeerRole.TheVariants.{Normal}
+use Rattle.router_trace.specs.declared.event.PeerRole.TheVariants.{Normal, RouteContainer}
 use Rattle.amqr_commands.specs.declared.script.line.LineFault.{LineFault}
 use Rattle.amqr_commands.specs.declared.script.line.LineFault.TheVariants.{Wrong, Memory}
 
@@ -41,10 +41,18 @@ abbrev pub with_bytes : Text → Option ℕ → Option Text → Option Step
 with_bytes verb (Some n) (Some bytes) = if bytes_eq verb (codes "in") then Some (In (record { 0 = n }) bytes) else None
 with_bytes verb _ _ = None
 
+-- `up N route-container`
+abbrev pub with_role : Option ℕ → Text → Option Step
+with_role None role = None
+with_role (Some n) role = if bytes_eq role (codes "route-container") then Some (Up (record { 0 = n }) RouteContainer) else None
+
+abbrev pub with_word : Text → Option ℕ → Text → Option Step
+with_word verb number word = if bytes_eq verb (codes "up") then with_role number word else with_bytes verb number (bytes_of word)
+
 -- the step that so many words say
 abbrev pub step_by : List Text → Option Step
 step_by (verb ∷ number ∷ []) = with_number verb (number_of number)
-step_by (verb ∷ number ∷ bytes ∷ []) = with_bytes verb (number_of number) (bytes_of bytes)
+step_by (verb ∷ number ∷ word ∷ []) = with_word verb (number_of number) word
 step_by _ = None
 
 -- what a line says; its words stand one space apart, with none before or behind them

@@ -2,6 +2,7 @@
 use Rattle.std.specs.Prelude.{◌≡◌, ℕ, Bool, true, false, ◌||◌, if◌then◌else◌, List, [], ◌∷◌, ◌++◌, codes, Option, Some, None, IfSome, ⊤, ◌⊎◌}
 use Rattle.std.specs.Io.KnownBytes.{Appends}
 use Rattle.std.specs.List.{list_any}
+use Rattle.route_table.specs.Settings.{Settings}
 use Rattle.router_play.specs.Printing.{line_text}
 use Rattle.router_play.specs.Script.{PlaysAll, book}
 use Rattle.router_play.specs.declared.line.Line.{Line}
@@ -42,25 +43,26 @@ Lists stream Failed old new = Refuses refusal.Memory old new
 abbrev pub end_of : Report → Status
 end_of r = if r.out_of_memory || r.failed then Failed else Done
 
--- the lines of a play of these steps were written, against a router called R1, and the line of the book behind them
-abbrev pub WritesPlay : List Step → Option (List ℕ) → Option (List ℕ) → Type 0
-WritesPlay steps old new = (lines : List Line) × PlaysAll (codes "R1") (steps ∷ []) lines × IfSome (printed (λ x. Some (line_text x)) (lines ++ book ∷ [])) (Appends old new)
+-- the lines of a play of these steps were written, against a router of this configuration, and the line of the book behind
+-- them
+abbrev pub WritesPlay : Settings → List Step → Option (List ℕ) → Option (List ℕ) → Type 0
+WritesPlay config steps old new = (lines : List Line) × PlaysAll config (steps ∷ []) lines × IfSome (printed (λ x. Some (line_text x)) (lines ++ book ∷ [])) (Appends old new)
 
 -- how the play of steps ends: it is done, or the router or memory failed
-abbrev pub PlaysSteps : List Step → Status → Option (List ℕ) → Option (List ℕ) → Type 0
-PlaysSteps steps Done old new = WritesPlay steps old new
-PlaysSteps steps BadInput old new = ⊥
-PlaysSteps steps BadWords old new = ⊥
-PlaysSteps steps Failed old new = ⊤
+abbrev pub PlaysSteps : Settings → List Step → Status → Option (List ℕ) → Option (List ℕ) → Type 0
+PlaysSteps config steps Done old new = WritesPlay config steps old new
+PlaysSteps config steps BadInput old new = ⊥
+PlaysSteps config steps BadWords old new = ⊥
+PlaysSteps config steps Failed old new = ⊤
 
 -- how the play of a text ends: it is a script where it was played, whose lines were written, and else its first faulty line is told
-abbrev pub Plays : List ℕ → Status → Option (List ℕ) → Option (List ℕ) → Type 0
-Plays text Done old new = (steps : List Step) × HasSteps text steps × WritesPlay steps old new
-Plays text BadInput old new = (n : ℕ) × IsFaulty text (fault.Line n) × Refuses (refusal.Script n) old new
-Plays text BadWords old new = ⊥
-Plays text Failed old new = ⊤
+abbrev pub Plays : Settings → List ℕ → Status → Option (List ℕ) → Option (List ℕ) → Type 0
+Plays config text Done old new = (steps : List Step) × HasSteps text steps × WritesPlay config steps old new
+Plays config text BadInput old new = (n : ℕ) × IsFaulty text (fault.Line n) × Refuses (refusal.Script n) old new
+Plays config text BadWords old new = ⊥
+Plays config text Failed old new = ⊤
 
 -- the same of a reader with these bytes left, where they are known; `file` is told where they are not read to their end
-abbrev pub PlaysInput : Option (List ℕ) → Status → Option (List ℕ) → Option (List ℕ) → Type 0
-PlaysInput None status old new = ⊤
-PlaysInput (Some text) status old new = Plays text status old new ⊎ ((status ≡ BadInput) × Refuses refusal.File old new)
+abbrev pub PlaysInput : Settings → Option (List ℕ) → Status → Option (List ℕ) → Option (List ℕ) → Type 0
+PlaysInput config None status old new = ⊤
+PlaysInput config (Some text) status old new = Plays config text status old new ⊎ ((status ≡ BadInput) × Refuses refusal.File old new)

@@ -2,6 +2,7 @@
 use Rattle.std.specs.Prelude.{ℕ, List, ◌++◌, codes, decimal}
 use Rattle.disk_core.specs.declared.fault.DiskFault.{DiskFault}
 use Rattle.disk_core.specs.declared.fault.DiskFault.TheVariants as disk
+use Rattle.route_table.specs.FaultNumbers.{fault_number}
 use Rattle.amqr_commands.specs.declared.status.Status.{Status}
 use Rattle.amqr_commands.specs.declared.status.Status.TheVariants as status
 use Rattle.amqr_commands.specs.declared.status.Refusal.{Refusal}
@@ -17,6 +18,7 @@ code_of status.Failed = 3
 -- how the program ends where it refuses its input
 abbrev pub status_of : Refusal → Status
 status_of (refusal.Script line) = status.BadInput
+status_of (refusal.Config line kind) = status.BadInput
 status_of refusal.File = status.BadInput
 status_of refusal.Exists = status.BadInput
 status_of refusal.NoJournal = status.BadInput
@@ -32,6 +34,7 @@ refusal_of disk.Memory = refusal.Memory
 -- the line that it prints then
 abbrev pub refusal_text : Refusal → List ℕ
 refusal_text (refusal.Script line) = codes "script " ++ decimal line
+refusal_text (refusal.Config line kind) = codes "config " ++ (decimal line ++ (codes " " ++ decimal (fault_number kind)))
 refusal_text refusal.File = codes "file"
 refusal_text refusal.Exists = codes "exists"
 refusal_text refusal.NoJournal = codes "no journal"

@@ -1,6 +1,7 @@
 //! What the program does: its words, scripts, listings and journals, over any files, reader and writers.
 #![tactic(auto)]
 
+mod config;
 mod input;
 mod journal;
 mod listing;
@@ -10,6 +11,7 @@ mod script;
 mod status;
 mod words;
 
+pub use config::config_of;
 pub use journal::{format_disk, list_journal};
 pub use print::refuse;
 pub use program::{list, play_text, run};

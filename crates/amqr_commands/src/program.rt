@@ -1,11 +1,14 @@
 //! The program, over any files, reader and writers.
-ghost use Rattle.std.specs.Prelude.{◌≡◌, ◌<◌, false, Some, length, IfOk, OnOk, IfSome};
+ghost use Rattle.std.specs.Prelude.{◌≡◌, ◌<◌, false, Some, length, IfOk, IfErr, OnOk, IfSome};
 ghost use Rattle.std.specs.List.{list_any};
 ghost use Rattle.std.specs.Io.KnownBytes.{Appends};
+ghost use Rattle.route_table.specs.Settings.{standard};
 ghost use Rattle.router_play.specs.Printing.{line_text};
+ghost use Rattle.amqr_commands.specs.Config.{IsConfig, IsRefusedInput};
 ghost use Rattle.amqr_commands.specs.Print.{printed};
 ghost use Rattle.amqr_commands.specs.Running.{Lists, Plays, PlaysInput, PlaysSteps, end_of, is_bad};
 
+use crate::config::config_of;
 use crate::input::{InputFault, MOST_BYTES, read_whole};
 use crate::journal::{format_disk, list_journal};
 use crate::listing::{ListingLine, list_stream};
@@ -16,7 +19,8 @@ use crate::words::{Task, read_words};
 use clap::Error;
 use clap::error::ErrorKind;
 use disk_core::{DiskFault, FileDisk};
-use router_play::{Config, Report, Run, Step, play_runs};
+use route_table::Config;
+use router_play::{Report, Run, Step, play_runs};
 use std::alloc::Global;
 use std::convert::AsStr;
 use std::fs::{self, File};
@@ -39,15 +43,12 @@ pub fn run<R: Files<File = File> + AllocGlobal, S: AsStr, I: Read, O: Write, E: 
     output: &mut O,
     errors: &mut E,
 ) -> io::Result<Status>
-    ensures input { length words.now < 2 → IfOk result (λ status. PlaysInput (I.remaining input.old) status (O.contents output.old) (O.contents output.new)) }
+    ensures input { length words.now < 2 → IfOk result (λ status. PlaysInput standard (I.remaining input.old) status (O.contents output.old) (O.contents output.new)) }
 {
     let alloc = rt.alloc();
     match read_words(alloc, words) {
-        Ok(Task::PlayInput) => play(alloc, input, output),
-        Ok(Task::Play { script }) => match fs::open(rt, script) {
-            Ok(mut file) => play(alloc, &mut file, output),
-            Err(_) => refuse(output, Refusal::File),
-        },
+        Ok(Task::PlayInput) => play_standard(alloc, input, output),
+        Ok(Task::Play { config, script }) => play_file(rt, config, script, output),
         Ok(Task::Frames { file }) => match fs::open(rt, file) {
             Ok(mut file) => frames(alloc, &mut file, output),
             Err(_) => refuse(output, Refusal::File),
@@ -141,35 +142,127 @@ fn show<O: Write>(
     }
 }
 
-/// Plays the script that an input is.
-fn play<I: Read, O: Write>(alloc: Global, input: &mut I, output: &mut O) -> io::Result<Status>
-    ensures { IfOk result (λ status. PlaysInput (I.remaining input.old) status (O.contents output.old) (O.contents output.new)) }
+/// Plays the script in a file, with the configuration in another where one is named, which is judged first.
+fn play_file<R: Files<File = File> + AllocGlobal, O: Write>(
+    rt: &R,
+    config: Option<&str>,
+    script: &str,
+    output: &mut O,
+) -> io::Result<Status> {
+    let config = match config {
+        Some(path) => config_in(rt, path),
+        None => standard(rt.alloc()),
+    };
+    let config = match config {
+        Ok(config) => config,
+        Err(refusal) => return refuse(output, refusal),
+    };
+    match fs::open(rt, script) {
+        Ok(mut file) => play(rt.alloc(), config, &mut file, output),
+        Err(_) => refuse(output, Refusal::File),
+    }
+}
+
+/// The configuration in a file.
+///
+/// # Errors
+///
+/// `File` where it can't be read; `Config` with its first faulty line; `Memory` where memory was refused.
+fn config_in<R: Files<File = File> + AllocGlobal>(rt: &R, path: &str) -> Result<Config, Refusal> {
+    match fs::open(rt, path) {
+        Ok(mut file) => read_config(rt.alloc(), &mut file),
+        Err(_) => Err(Refusal::File),
+    }
+}
+
+/// The configuration that an input is.
+///
+/// # Errors
+///
+/// `File` where it can't be read; `Config` with its first faulty line; `Memory` where memory was refused.
+fn read_config<I: Read>(alloc: Global, input: &mut I) -> Result<Config, Refusal>
+    ensures ok { IfOk result (λ config. IfSome (I.remaining input.old) (λ text. IsConfig text config)) }
+    ensures err { IfErr result (λ refusal. IfSome (I.remaining input.old) (λ text. IsRefusedInput text refusal)) }
 {
     match read_whole(alloc, input) {
-        Ok(text) => play_text(alloc, text.as_slice(), output),
+        Ok(text) => config_of(alloc, text.as_slice()),
+        Err(InputFault::Unread) => Err(Refusal::File),
+        Err(InputFault::Memory) => Err(Refusal::Memory),
+    }
+}
+
+/// The configuration of a router that is called `R1` and has no sections.
+///
+/// # Errors
+///
+/// `Memory` where memory was refused.
+fn standard(alloc: Global) -> Result<Config, Refusal>
+    ensures { IfOk result (λ config. config ≡ standard) }
+{
+    match Config::standard(alloc) {
+        Ok(config) => Ok(config),
+        Err(_) => Err(Refusal::Memory),
+    }
+}
+
+/// Plays the script that an input is, with the standard configuration.
+fn play_standard<I: Read, O: Write>(
+    alloc: Global,
+    input: &mut I,
+    output: &mut O,
+) -> io::Result<Status>
+    ensures { IfOk result (λ status. PlaysInput standard (I.remaining input.old) status (O.contents output.old) (O.contents output.new)) }
+{
+    match standard(alloc) {
+        Ok(config) => play(alloc, config, input, output),
+        Err(_) => refuse(output, Refusal::Memory),
+    }
+}
+
+/// Plays the script that an input is.
+fn play<I: Read, O: Write>(
+    alloc: Global,
+    config: Config,
+    input: &mut I,
+    output: &mut O,
+) -> io::Result<Status>
+    ensures { IfOk result (λ status. PlaysInput config (I.remaining input.old) status (O.contents output.old) (O.contents output.new)) }
+{
+    match read_whole(alloc, input) {
+        Ok(text) => play_text(alloc, config, text.as_slice(), output),
         Err(InputFault::Unread) => refuse(output, Refusal::File),
         Err(InputFault::Memory) => refuse(output, Refusal::Memory),
     }
 }
 
-/// Plays a script. The whole of it is judged before anything is played.
-pub fn play_text<O: Write>(alloc: Global, text: &[u8], output: &mut O) -> io::Result<Status>
-    ensures { IfOk result (λ status. Plays text.now status (O.contents output.old) (O.contents output.new)) }
+/// Plays a script against a router of this configuration. The whole of it is judged before anything is played.
+pub fn play_text<O: Write>(
+    alloc: Global,
+    config: Config,
+    text: &[u8],
+    output: &mut O,
+) -> io::Result<Status>
+    ensures { IfOk result (λ status. Plays config text.now status (O.contents output.old) (O.contents output.new)) }
 {
     match read_script(alloc, text) {
-        Ok(steps) => play_steps(alloc, steps, output),
-        Err(ScriptFault::Line { line }) => refuse(output, Refusal::Script { line }),
+        Ok(steps) => play_steps(alloc, config, steps, output),
+        Err(ScriptFault::Line { line }) => {
+            drop(config);
+            refuse(output, Refusal::Script { line })
+        }
         Err(ScriptFault::Memory) => refuse(output, Refusal::Memory),
     }
 }
 
 /// Plays the steps of a script.
-fn play_steps<O: Write>(alloc: Global, steps: Vec<Step>, output: &mut O) -> io::Result<Status>
-    ensures { IfOk result (λ status. PlaysSteps steps.items status (O.contents output.old) (O.contents output.new)) }
+fn play_steps<O: Write>(
+    alloc: Global,
+    config: Config,
+    steps: Vec<Step>,
+    output: &mut O,
+) -> io::Result<Status>
+    ensures { IfOk result (λ status. PlaysSteps config steps.items status (O.contents output.old) (O.contents output.new)) }
 {
-    let Ok(config) = Config::standard(alloc) else {
-        return refuse(output, Refusal::Memory);
-    };
     let runs = [Run { steps }];
     let report = play_runs(alloc, config, runs.as_slice());
     print_report(&report, output)

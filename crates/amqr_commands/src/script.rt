@@ -45,7 +45,7 @@ pub fn read_script(alloc: Global, text: &[u8]) -> Result<Vec<Step>, ScriptFault>
 }
 
 /// The line, counted from 1, in which a place of a text lies.
-fn line_at(text: &[u8], place: usize) -> u64
+pub(crate) fn line_at(text: &[u8], place: usize) -> u64
     requires { place < length text.now }
     ensures { result ≡ line_of (take place text.now) }
 {

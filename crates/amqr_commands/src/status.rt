@@ -3,6 +3,7 @@ ghost use Rattle.std.specs.Prelude.{◌≡◌, Some};
 ghost use Rattle.amqr_commands.specs.Status.{code_of, status_of, refusal_of};
 
 use disk_core::DiskFault;
+use route_table::FaultKind;
 use std::fmt::{self, Display, Formatter, Write};
 
 /// How the program ended.
@@ -40,6 +41,13 @@ pub enum Refusal {
         /// The line, counted from 1.
         line: u64,
     },
+    /// A line of the configuration is at fault: `config LINE KIND`.
+    Config {
+        /// The line, counted from 1.
+        line: u64,
+        /// What is wrong with it.
+        kind: FaultKind,
+    },
     /// A file or the input can't be read: `file`.
     File,
     /// A file in which a journal is to be made isn't empty: `exists`.
@@ -66,6 +74,10 @@ impl Display for Refusal {
     fn fmt<W: Write>(&self, f: &mut Formatter<W>) -> fmt::Result {
         match self {
             Refusal::Script { line } => write!(f, "script {line}"),
+            Refusal::Config { line, kind } => {
+                let number = kind.number();
+                write!(f, "config {line} {number}")
+            }
             Refusal::File => write!(f, "file"),
             Refusal::Exists => write!(f, "exists"),
             Refusal::NoJournal => write!(f, "no journal"),
@@ -93,7 +105,7 @@ impl Refusal {
         ensures { result ≡ status_of self }
     {
         match self {
-            Refusal::Script { .. } | Refusal::File => Status::BadInput,
+            Refusal::Script { .. } | Refusal::Config { .. } | Refusal::File => Status::BadInput,
             Refusal::Exists | Refusal::NoJournal | Refusal::Damaged { .. } => Status::BadInput,
             Refusal::Disk | Refusal::Memory => Status::Failed,
         }

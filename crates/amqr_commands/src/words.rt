@@ -16,7 +16,9 @@ pub enum Task<'a> {
     PlayInput,
     /// To play the script in a file.
     Play {
-        /// The file.
+        /// The file of the router's configuration; the standard one where none is named.
+        config: Option<&'a str>,
+        /// The file of the script.
         script: &'a str,
     },
     /// To list the frames in a file.
@@ -52,7 +54,8 @@ pub fn read_words<'a, S: AsStr>(alloc: Global, words: &'a [S]) -> Result<Task<'a
     match matches.subcommand() {
         Some(("play", rest)) => {
             if let Some(script) = rest.get_str("SCRIPT") {
-                return Ok(Task::Play { script });
+                let config = rest.get_str("config");
+                return Ok(Task::Play { config, script });
             }
         }
         Some(("frames", rest)) => {
@@ -91,12 +94,18 @@ fn program<'a>(alloc: Global) -> Result<Command<'a>, AllocError> {
 
 /// The command that plays a script.
 fn play<'a>(alloc: Global) -> Result<Command<'a>, AllocError> {
+    let config = Arg::new(alloc, "config")
+        .long("config")
+        .value_name("FILE")
+        .action(ArgAction::Set)
+        .help("A file of the router's configuration; without it the router is R1 and has no sections");
     let script = Arg::new(alloc, "SCRIPT")
         .required(true)
         .action(ArgAction::Set)
-        .help("A file of lines: up N, in N HEX, down N, tick MS, blank lines and # comments");
+        .help("A file of lines: up N, up N route-container, in N HEX, down N, tick MS, blank lines and # comments");
     Command::new(alloc, "play")
         .about("Plays a script against a router in memory, and prints what the router sends")
+        .arg(config)?
         .arg(script)
 }
 

@@ -63,14 +63,24 @@ impl<'a> Case<'a> {
         String::from_utf8(bytes).or(Err(CaseFault::Text))
     }
 
+    /// The bytes of the lines of input, without the words.
+    ///
+    /// # Errors
+    ///
+    /// As `input_bytes`.
+    pub fn lines_bytes(&self, alloc: Global) -> Result<Vec<u8>, CaseFault> {
+        let mut bytes = Vec::new(alloc);
+        put_input(alloc, &mut bytes, "", self.input.as_slice())?;
+        Ok(bytes)
+    }
+
     /// The text of the lines of input, without the words.
     ///
     /// # Errors
     ///
     /// As `input_text`.
     pub fn lines_text(&self, alloc: Global) -> Result<String, CaseFault> {
-        let mut bytes = Vec::new(alloc);
-        put_input(alloc, &mut bytes, "", self.input.as_slice())?;
+        let bytes = self.lines_bytes(alloc)?;
         String::from_utf8(bytes).or(Err(CaseFault::Text))
     }
 

@@ -3,6 +3,7 @@ use crate::case::Case;
 use crate::fault::CaseFault;
 use crate::text::{bytes_of, digits_of, number_of};
 use amqr_commands::{Status, format_disk, list, list_journal, play_text, run};
+use route_table::Config;
 use disk_core::{Crash, FuseDisk, MemDisk};
 use std::alloc::Global;
 use std::fmt::Write;
@@ -73,7 +74,8 @@ fn answer_of(printed: Vec<u8>, status: Status) -> Result<String, CaseFault> {
 fn play(alloc: Global, case: &Case<'_>) -> Result<String, CaseFault> {
     let script = case.input_bytes(alloc)?;
     let mut printed = Vec::new(alloc);
-    let status = play_text(alloc, script.as_slice(), &mut printed)?;
+    let config = Config::standard(alloc)?;
+    let status = play_text(alloc, config, script.as_slice(), &mut printed)?;
     answer_of(printed, status)
 }
 
@@ -118,8 +120,8 @@ fn formatted(alloc: Global, words: &str) -> Result<String, CaseFault> {
 
 /// Puts the lines of input into a file of this name.
 fn file(rt: &HostRuntime, case: &Case<'_>) -> Result<String, CaseFault> {
-    let text = case.lines_text(rt.alloc())?;
-    fs::write(rt, case.words, text.as_str())?;
+    let bytes = case.lines_bytes(rt.alloc())?;
+    fs::write(rt, case.words, bytes.as_slice())?;
     Ok(String::new(rt.alloc()))
 }
 

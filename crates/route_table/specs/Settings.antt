@@ -1,5 +1,8 @@
 -- What a configuration says.
-use Rattle.std.specs.Prelude.{ℕ, List, [], codes}
+use Rattle.std.specs.Prelude.{ℕ, false, List, [], ◌∷◌, codes}
+use Rattle.route_table.specs.declared.sections.Role.{Role}
+use Rattle.route_table.specs.declared.sections.Mechanism.{Mechanism}
+use Rattle.route_table.specs.declared.sections.Mechanism.TheVariants.{Anonymous, Plain}
 use Rattle.route_table.specs.declared.sections.Listener.{Listener}
 use Rattle.route_table.specs.declared.sections.Address.{Address}
 use Rattle.route_table.specs.declared.sections.LinkRoute.{LinkRoute}
@@ -16,3 +19,11 @@ pub record Settings : Type 0 where
 -- a router that is called R1 and has no sections
 abbrev pub standard : Settings
 standard = record { router_id = codes "R1"; listeners = []; addresses = []; link_routes = []; users = [] }
+
+-- both mechanisms
+abbrev pub both : List Mechanism
+both = Anonymous ∷ Plain ∷ []
+
+-- a listener of which nothing but its role is said
+abbrev pub standard_listener : Role → Listener
+standard_listener role = record { host = codes "127.0.0.1"; port = 5672; role = role; authenticate_peer = false; mechanisms = both }

@@ -144,7 +144,7 @@ fn mechanisms(alloc: Global, section: &Section<'_>) -> Result<Mechanisms, AllocE
     {
         return Ok(given);
     }
-    Ok(Mechanisms::new(vec![in alloc; Mechanism::Anonymous, Mechanism::Plain]?))
+    Mechanisms::both(alloc)
 }
 
 fn address(alloc: Global, section: &Section<'_>) -> Result<Address, AllocError>

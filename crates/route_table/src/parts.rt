@@ -15,7 +15,7 @@ use std::alloc::{AllocError, Global};
 use std::marker::Model;
 
 /// An attribute with its value. Contracts see the pair.
-#[derive(Debug, Drop)]
+#[derive(Drop)]
 pub struct Given<'a> {
     attribute: Attribute,
     value: &'a str,
@@ -28,7 +28,7 @@ impl<'a> Model for Given<'a> {
 }
 
 /// A section as it stands in the file.
-#[derive(Debug, Drop)]
+#[derive(Drop)]
 pub struct Section<'a> {
     kind: SectionKind,
     values: Vec<Given<'a>>,

@@ -1,9 +1,11 @@
 // The sections of a configuration, each with its values filled in.
-ghost use Rattle.std.specs.Prelude.{◌≡◌, Bool, List};
-ghost use Rattle.route_table.specs.declared.sections.Mechanism.{Mechanism};
+ghost use Rattle.std.specs.Prelude.{◌≡◌, IfOk};
 ghost use Rattle.route_table.specs.Sections.{is_direction};
+ghost use Rattle.route_table.specs.Settings.{both, standard_listener};
 
 use crate::texts::Text;
+use std::alloc::{AllocError, Global};
+use std::fmt;
 use std::marker::Model;
 
 /// How the router shares the deliveries of an address among its consumers.
@@ -63,6 +65,9 @@ pub struct Mechanisms {
 }
 
 impl Model for Mechanisms {
+    ghost use Rattle.std.specs.Prelude.{List};
+    ghost use Rattle.route_table.specs.declared.sections.Mechanism.{Mechanism};
+
     ghost Value = { List Mechanism };
 
     ghost view = { λ a. a.words.items };
@@ -74,6 +79,13 @@ impl Mechanisms {
         ensures { result ≡ words.items }
     {
         Mechanisms { words }
+    }
+
+    /// Both mechanisms, ANONYMOUS first.
+    pub(crate) fn both(alloc: Global) -> Result<Mechanisms, AllocError>
+        ensures { IfOk result (λ m. m ≡ both) }
+    {
+        Ok(Mechanisms::new(vec![in alloc; Mechanism::Anonymous, Mechanism::Plain]?))
     }
 
     /// The mechanisms in order.
@@ -99,6 +111,21 @@ pub struct Listener {
     pub mechanisms: Mechanisms,
 }
 
+impl Listener {
+    /// The listener of which nothing but its role is said. Fails where there is no memory for it.
+    pub fn standard(alloc: Global, role: Role) -> Result<Listener, AllocError>
+        ensures { IfOk result (λ l. l ≡ standard_listener role) }
+    {
+        Ok(Listener {
+            host: Text::new(alloc, "127.0.0.1")?,
+            port: 5672,
+            role,
+            authenticate_peer: false,
+            mechanisms: Mechanisms::both(alloc)?,
+        })
+    }
+}
+
 /// The distribution of all addresses under a prefix.
 #[derive(Debug, Drop)]
 pub struct Address {
@@ -119,11 +146,21 @@ pub struct LinkRoute {
     pub direction: Direction,
 }
 
-/// A user of SASL PLAIN (RFC 4616).
-#[derive(Debug, Drop)]
+/// A user of SASL PLAIN (RFC 4616). Its `Debug` tells nothing of it.
+#[derive(Drop)]
 pub struct User {
     /// The name, at most 1,024 bytes, and never `anonymous`.
     pub name: Text,
     /// The password.
     pub password: Text,
+}
+
+impl fmt::Debug for User {
+    ghost use Rattle.std.specs.Prelude.{Some, codes};
+
+    ghost debug_output = { λ _. Some (codes "User(..)") };
+
+    fn fmt<W: fmt::Write>(&self, f: &mut fmt::Formatter<W>) -> fmt::Result {
+        f.write_str("User(..)")
+    }
 }

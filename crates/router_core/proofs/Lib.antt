@@ -1,2 +1,4 @@
 pub mod RunLemmas
 pub mod Moves
+pub mod OnlyHeaders
+pub mod Coming

@@ -1,10 +1,37 @@
--- Headers before a connection is up (AMQP 1.0 part 2, section 2.2).
-use Rattle.std.specs.Prelude.{ℕ, Bool, true, false, ◌==◌, ◌&&◌, if◌then◌else◌, List, [], ◌∷◌, codes}
+-- Headers and logins before a connection is up (AMQP 1.0 part 2, section 2.2, and part 5, section 5.3).
+use Rattle.std.specs.Prelude.{ℕ, Bool, true, false, ◌==◌, ◌&&◌, if◌then◌else◌, List, [], ◌∷◌, Some, None, map, codes}
+use Rattle.amqp_perf.specs.declared.perf.Perf.{Perf}
+use Rattle.amqp_perf.specs.declared.perf.Perf.TheVariants as perf
 use Rattle.amqp_frames.specs.declared.item.Item.{Item}
 use Rattle.amqp_frames.specs.declared.item.Item.TheVariants as item
+use Rattle.amqp_sasl.specs.declared.code.SaslCode.{SaslCode}
+use Rattle.amqp_sasl.specs.declared.code.SaslCode.TheVariants as code
+use Rattle.amqp_sasl.specs.declared.mechanism.Mechanism.{Mechanism}
+use Rattle.amqp_sasl.specs.declared.mechanism.Mechanism.TheVariants as mechanism
+use Rattle.amqp_sasl.specs.declared.server.SaslAnswer.{SaslAnswer}
+use Rattle.amqp_sasl.specs.declared.server.SaslAnswer.TheVariants as sasl
+use Rattle.amqp_sasl.specs.declared.user.User.{User}
+use Rattle.amqp_sasl.specs.Codes.{number_of}
+use Rattle.amqp_sasl.specs.Names.{name_of}
+use Rattle.amqp_sasl.specs.Judging.{answer_to}
+use Rattle.route_table.specs.declared.sections.Listener.{Listener}
+use Rattle.route_table.specs.declared.sections.Mechanism.{Mechanism as Word}
+use Rattle.route_table.specs.declared.sections.Mechanism.TheVariants as word
+use Rattle.route_table.specs.declared.sections.Role.{Role}
+use Rattle.route_table.specs.declared.sections.Role.TheVariants as role
+use Rattle.route_table.specs.declared.sections.User.{User as Known}
+use Rattle.route_table.specs.Settings.{Settings}
+use Rattle.router_trace.specs.declared.event.PeerRole.{PeerRole}
+use Rattle.router_trace.specs.declared.event.PeerRole.TheVariants as peer
+use Rattle.router_trace.specs.Frames.{header_item}
+use Rattle.router_core.specs.declared.door.Door.{Door}
 use Rattle.router_core.specs.declared.door.DoorAnswer.{DoorAnswer}
 use Rattle.router_core.specs.declared.door.DoorAnswer.TheVariants as answer
-use Rattle.router_trace.specs.Frames.{header_item}
+use Rattle.router_core.specs.declared.door.Protocol.{Protocol}
+use Rattle.router_core.specs.declared.door.Protocol.TheVariants.{Amqp, Sasl, Other}
+use Rattle.router_core.specs.declared.door.Stage.{Stage}
+use Rattle.router_core.specs.declared.door.Stage.TheVariants as stage
+use Rattle.router_core.specs.declared.door.Answered.{Answered}
 
 -- what the door makes of an item: these items go out and the next one is awaited; the connection is up, with this user,
 -- and the item goes on to the router; or these items go out and the connection is over
@@ -13,19 +40,105 @@ pub data Verdict : Type 0 where
   passes : List ℕ → Verdict
   ends : List Item → Verdict
 
--- the header of AMQP 1.0.0 passes, another one is answered by it
-abbrev pub judged : ℕ → ℕ → ℕ → ℕ → Verdict
-judged id major minor revision =
-    if id == 0 && major == 1 && minor == 0 && revision == 0 then passes (codes "anonymous") else ends (header_item ∷ [])
+-- an item's verdict, and how far the connection is behind it
+pub record Turn : Type 0 where
+  pub verdict : Verdict
+  pub stage : Stage
 
--- an item, where the door is done with the connection or not
-abbrev pub door : Bool → Item → Verdict
-door true i = ends []
-door false (item.Header id major minor revision) = judged id major minor revision
-door false _ = ends []
+abbrev pub goes_on : List Item → Stage → Turn
+goes_on items next = record { verdict = says items; stage = next }
+
+abbrev pub lets_in : List ℕ → Turn
+lets_in user = record { verdict = passes user; stage = stage.Done }
+
+abbrev pub over : List Item → Turn
+over items = record { verdict = ends items; stage = stage.Done }
+
+-- the protocol header of SASL 1.0.0
+abbrev pub sasl_header : Item
+sasl_header = item.Header 3 1 0 0
+
+-- a SASL frame
+abbrev pub sasl_frame : Perf → Item
+sasl_frame body = item.Frame true 0 body []
+
+-- the mechanisms, in order
+abbrev pub offer : List Mechanism → Item
+offer mechanisms = sasl_frame (perf.SaslMechanisms (record { mechanisms = map name_of mechanisms }))
+
+-- how a login ended
+abbrev pub outcome : SaslCode → Item
+outcome c = sasl_frame (perf.SaslOutcome (record { code = number_of c; additional_data = None }))
+
+-- what a header asks for
+abbrev pub protocol_of : ℕ → ℕ → ℕ → ℕ → Protocol
+protocol_of id major minor revision =
+    if major == 1 && minor == 0 && revision == 0 then (if id == 0 then Amqp else if id == 3 then Sasl else Other) else Other
+
+-- the first header, where a peer has to pass SASL or not: that of SASL is answered by the same and the mechanisms; any other
+-- ends the connection where it has to, and is answered by what is asked for; else that of AMQP passes
+abbrev pub refused_by : Bool → Item
+refused_by authenticate = if authenticate then sasl_header else header_item
+
+abbrev pub first : Door → Protocol → Turn
+first d Sasl = goes_on (sasl_header ∷ offer d.server.mechanisms ∷ []) stage.Init
+first d Amqp = if d.authenticate_peer then over (sasl_header ∷ []) else lets_in (codes "anonymous")
+first d Other = over (refused_by d.authenticate_peer ∷ [])
+
+-- the answer to a SASL body: the outcome goes out, and only behind code 0 is there more to come
+abbrev pub told : SaslAnswer → Turn
+told (sasl.Outcome code.Ok (Some user)) = goes_on (outcome code.Ok ∷ []) (stage.LoggedIn user)
+told (sasl.Outcome c _) = over (outcome c ∷ [])
+told sasl.Refuse = over []
+
+-- the header behind an outcome of code 0
+abbrev pub last : List ℕ → Protocol → Turn
+last user Amqp = lets_in user
+last user _ = over []
+
+-- an item, by how far the connection is
+abbrev pub turn_at : Door → Stage → Item → Turn
+turn_at d stage.Header (item.Header id major minor revision) = first d (protocol_of id major minor revision)
+turn_at d stage.Init (item.Frame true channel body payload) = told (answer_to d.server body)
+turn_at d (stage.LoggedIn user) (item.Header id major minor revision) = last user (protocol_of id major minor revision)
+turn_at d _ _ = over []
+
+abbrev pub turn : Door → Item → Turn
+turn d i = turn_at d d.stage i
+
+-- the verdict, and the door behind it
+abbrev pub door : Door → Item → Verdict
+door d i = (turn d i).verdict
+
+abbrev pub door_behind : Door → Item → Door
+door_behind d i = record d { stage = (turn d i).stage }
 
 -- an answer, by its content
 abbrev pub verdict_of : DoorAnswer → Verdict
 verdict_of (answer.Say items) = says items.items
 verdict_of (answer.Pass user) = passes user
 verdict_of (answer.End items) = ends items.items
+
+abbrev pub turn_of : Answered → Turn
+turn_of a = record { verdict = verdict_of a.answer; stage = a.stage }
+
+-- the door of a new connection at a listener
+
+abbrev pub user_of : Known → User
+user_of u = record { name = u.name; password = u.password }
+
+abbrev pub mechanism_of : Word → Mechanism
+mechanism_of word.Anonymous = mechanism.Anonymous
+mechanism_of word.Plain = mechanism.Plain
+
+abbrev pub role_of : Role → PeerRole
+role_of role.Normal = peer.Normal
+role_of role.RouteContainer = peer.RouteContainer
+
+abbrev pub door_of : Settings → Listener → Door
+door_of config listener = record {
+  server = record { users = map user_of config.users; mechanisms = map mechanism_of listener.mechanisms };
+  authenticate_peer = listener.authenticate_peer;
+  role = role_of listener.role;
+  stage = stage.Header;
+}

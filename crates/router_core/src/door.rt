@@ -1,10 +1,15 @@
-//! What stands before the router: headers, before a connection is up.
-ghost use Rattle.std.specs.Prelude.{◌≡◌, ◌∷◌, [], true, false, codes, OnOk, OnErr, IfOk};
+//! What stands before the router: headers and logins, before a connection is up.
+ghost use Rattle.std.specs.Prelude.{◌≡◌, ◌∷◌, [], codes, map, OnOk, OnErr, IfOk};
+ghost use Rattle.amqp_sasl.specs.Names.{name_of};
 ghost use Rattle.router_trace.specs.Frames.{header_item};
-ghost use Rattle.router_core.specs.Door.{door, verdict_of, passes, ends};
+ghost use Rattle.router_core.specs.Door.{door, door_behind, turn, turn_at, turn_of, first, last, told, over, lets_in, goes_on, protocol_of, sasl_header, sasl_frame, offer, outcome, refused_by, door_of, user_of, mechanism_of, role_of, verdict_of};
+ghost use Rattle.router_core.specs.declared.door.Stage.TheVariants as stage;
 
 use amqp_frames::Item;
-use amqp_perf::Text;
+use amqp_perf::{Perf, SaslOutcome, Text};
+use amqp_sasl::{Mechanism, Password, SaslAnswer, SaslCode, SaslServer, User};
+use bytes::Bytes;
+use route_table::{Config, Listener, Role};
 use router_trace::{PeerRole, header_item};
 use std::alloc::{AllocError, Global};
 
@@ -19,74 +24,324 @@ pub enum DoorAnswer {
     End(Vec<Item>),
 }
 
+/// How far a connection is that isn't up yet.
+#[derive(Debug, Drop)]
+pub enum Stage {
+    /// Nothing came: a protocol header is awaited.
+    Header,
+    /// The mechanisms went out: the peer's choice is awaited.
+    Init,
+    /// The peer logged in as this user: the header of AMQP is awaited.
+    LoggedIn(Text),
+    /// The connection passed, or is over.
+    Done,
+}
+
+/// What a protocol header asks for (AMQP 1.0 part 2, section 2.2).
+#[derive(Clone, Copy)]
+enum Protocol {
+    /// AMQP 1.0.0.
+    Amqp,
+    /// SASL 1.0.0.
+    Sasl,
+    /// Anything else.
+    Other,
+}
+
+/// What the door makes of an item, and how far the connection is behind it.
+#[derive(Drop)]
+struct Answered {
+    answer: DoorAnswer,
+    stage: Stage,
+}
+
 /// The door of a connection that isn't up yet.
-#[derive(Clone, Copy, Debug, PartialEq, Eq)]
+#[derive(Debug, Drop)]
 pub struct Door {
-    /// What the peer is to the router.
-    pub role: PeerRole,
-    /// Whether the connection passed, or is over.
-    pub done: bool,
+    server: SaslServer,
+    authenticate_peer: bool,
+    role: PeerRole,
+    stage: Stage,
 }
 
 impl Door {
-    /// The door of a new connection.
-    pub fn new(role: PeerRole) -> Door
-        ensures { result ≡ record { role = role; done = false } }
+    /// The door of a new connection at a listener. Fails where there is no memory for what it knows of users and
+    /// mechanisms.
+    pub fn new(alloc: Global, config: &Config, listener: &Listener) -> Result<Door, AllocError>
+        ensures { IfOk result (λ d. d ≡ door_of config.now listener.now) }
     {
-        Door { role, done: false }
+        let users = users_of(alloc, config.users())?;
+        let mechanisms = mechanisms_of(alloc, listener.mechanisms.as_slice())?;
+        Ok(Door {
+            server: SaslServer::new(users, mechanisms),
+            authenticate_peer: listener.authenticate_peer,
+            role: role_of(listener.role),
+            stage: Stage::Header,
+        })
     }
 
-    /// Takes an item: the header of AMQP 1.0.0 passes, as user `anonymous`; any other is answered by it and ends the
-    /// connection, as does anything else, or an item behind that, with no answer. Where memory is refused nothing is
-    /// changed.
+    /// What the peer is to the router, as the listener says.
+    pub fn role(&self) -> PeerRole
+        ensures { result ≡ self.now.role }
+    {
+        self.role
+    }
+
+    /// Takes an item (AMQP 1.0 part 2, section 2.2, and part 5, section 5.3). First a header comes: that of AMQP passes as
+    /// user `anonymous`, unless peers have to log in, and that of SASL is answered by the mechanisms; behind that comes
+    /// an init, which the outcome answers, and behind code 0 the header of AMQP, which passes as the user. Everything
+    /// else ends the connection, a first header with an answer. Where memory is refused nothing is changed.
     pub fn step(&mut self, alloc: Global, item: &Item) -> Result<DoorAnswer, AllocError>
-        ensures answer { IfOk result (λ a. verdict_of a ≡ door self.old.done item.now) }
-        ensures done { OnOk result (self.new ≡ record self.old { done = true }) }
+        ensures answer { IfOk result (λ a. verdict_of a ≡ door self.old item.now) }
+        ensures stage { OnOk result (self.new ≡ door_behind self.old item.now) }
         ensures err { OnErr result (self.new ≡ self.old) }
     {
-        let answer = answer_of(alloc, self.done, item)?;
-        self.done = true;
+        let Answered { answer, stage } = self.turn(alloc, item)?;
+        self.stage = stage;
         Ok(answer)
+    }
+
+    /// What comes of an item.
+    fn turn(&self, alloc: Global, item: &Item) -> Result<Answered, AllocError>
+        ensures { IfOk result (λ a. turn_of a ≡ turn self.now item.now) }
+    {
+        match (&self.stage, item) {
+            (
+                Stage::Header,
+                Item::Header {
+                    id,
+                    major,
+                    minor,
+                    revision,
+                },
+            ) => self.first(alloc, protocol_of(*id, *major, *minor, *revision)),
+            (
+                Stage::Init,
+                Item::Frame {
+                    sasl: true, perf, ..
+                },
+            ) => told(alloc, self.server.step(alloc, perf)?),
+            (
+                Stage::LoggedIn(user),
+                Item::Header {
+                    id,
+                    major,
+                    minor,
+                    revision,
+                },
+            ) => last(alloc, user, protocol_of(*id, *major, *minor, *revision)),
+            _ => Ok(over(Vec::new(alloc))),
+        }
+    }
+
+    /// What comes of the first header.
+    fn first(&self, alloc: Global, protocol: Protocol) -> Result<Answered, AllocError>
+        ensures { IfOk result (λ a. turn_of a ≡ first self.now protocol) }
+    {
+        match protocol {
+            Protocol::Sasl => Ok(Answered {
+                answer: DoorAnswer::Say(self.offer(alloc)?),
+                stage: Stage::Init,
+            }),
+            Protocol::Amqp if !self.authenticate_peer => {
+                Ok(lets_in(Text::new(String::from_str(alloc, "anonymous")?)))
+            }
+            _ => Ok(over(one(alloc, self.refusal())?)),
+        }
+    }
+
+    /// The header of SASL and the mechanisms.
+    fn offer(&self, alloc: Global) -> Result<Vec<Item>, AllocError>
+        ensures { IfOk result (λ v. v.items ≡ sasl_header ∷ offer self.now.server.mechanisms ∷ []) }
+    {
+        let mechanisms = self.server.mechanisms(alloc)?;
+        two(
+            alloc,
+            sasl_header(),
+            sasl_frame(Perf::SaslMechanisms(mechanisms)),
+        )
+    }
+
+    /// The header that answers one that doesn't pass.
+    fn refusal(&self) -> Item
+        ensures { result ≡ refused_by self.now.authenticate_peer }
+    {
+        if self.authenticate_peer {
+            sasl_header()
+        } else {
+            header_item()
+        }
     }
 }
 
-/// What the door makes of an item.
-fn answer_of(alloc: Global, done: bool, item: &Item) -> Result<DoorAnswer, AllocError>
-    ensures { IfOk result (λ a. verdict_of a ≡ door done item.now) }
+/// What comes of a server's answer.
+fn told(alloc: Global, answer: SaslAnswer) -> Result<Answered, AllocError>
+    ensures { IfOk result (λ a. turn_of a ≡ told answer) }
 {
-    if done {
-        return Ok(DoorAnswer::End(Vec::new(alloc)));
+    match answer {
+        SaslAnswer::Outcome(SaslCode::Ok, Some(user)) => Ok(Answered {
+            answer: DoorAnswer::Say(one(alloc, outcome(SaslCode::Ok))?),
+            stage: Stage::LoggedIn(user),
+        }),
+        SaslAnswer::Outcome(code, _) => Ok(over(one(alloc, outcome(code))?)),
+        SaslAnswer::Refuse => Ok(over(Vec::new(alloc))),
     }
-    match item {
-        Item::Header {
-            id,
-            major,
-            minor,
-            revision,
-        } => {
-            if *id == 0 && *major == 1 && *minor == 0 && *revision == 0 {
-                return pass(alloc);
-            }
-            end_with_header(alloc)
-        }
-        _ => Ok(DoorAnswer::End(Vec::new(alloc))),
+}
+
+/// What comes of a header of one who logged in.
+fn last(alloc: Global, user: &Text, protocol: Protocol) -> Result<Answered, AllocError>
+    ensures { IfOk result (λ a. turn_of a ≡ last user.now protocol) }
+{
+    match protocol {
+        Protocol::Amqp => Ok(lets_in(user.clone()?)),
+        Protocol::Sasl | Protocol::Other => Ok(over(Vec::new(alloc))),
     }
 }
 
 /// The connection is up.
-fn pass(alloc: Global) -> Result<DoorAnswer, AllocError>
-    ensures { IfOk result (λ a. verdict_of a ≡ passes (codes "anonymous")) }
+fn lets_in(user: Text) -> Answered
+    ensures { turn_of result ≡ lets_in user }
 {
-    Ok(DoorAnswer::Pass(Text::new(String::from_str(alloc, "anonymous")?)))
+    Answered {
+        answer: DoorAnswer::Pass(user),
+        stage: Stage::Done,
+    }
 }
 
-/// The header goes out, and the connection is over.
-fn end_with_header(alloc: Global) -> Result<DoorAnswer, AllocError>
-    ensures { IfOk result (λ a. verdict_of a ≡ ends (header_item ∷ [])) }
+/// These items go out, and the connection is over.
+fn over(items: Vec<Item>) -> Answered
+    ensures { turn_of result ≡ over items.items }
+{
+    Answered {
+        answer: DoorAnswer::End(items),
+        stage: Stage::Done,
+    }
+}
+
+/// One item.
+fn one(alloc: Global, item: Item) -> Result<Vec<Item>, AllocError>
+    ensures { IfOk result (λ v. v.items ≡ item ∷ []) }
 {
     let mut items = Vec::with_capacity(alloc, 1)?;
-    match items.push(header_item()) {
-        Ok(()) => Ok(DoorAnswer::End(items)),
+    match items.push(item) {
+        Ok(()) => Ok(items),
         Err(_) => Err(AllocError),
+    }
+}
+
+/// Two items.
+fn two(alloc: Global, first: Item, second: Item) -> Result<Vec<Item>, AllocError>
+    ensures { IfOk result (λ v. v.items ≡ first ∷ second ∷ []) }
+{
+    let mut items = one(alloc, first)?;
+    match items.push(second) {
+        Ok(()) => Ok(items),
+        Err(_) => Err(AllocError),
+    }
+}
+
+/// What a header asks for.
+fn protocol_of(id: u8, major: u8, minor: u8, revision: u8) -> Protocol
+    ensures { result ≡ protocol_of id major minor revision }
+{
+    if major == 1 && minor == 0 && revision == 0 {
+        if id == 0 {
+            Protocol::Amqp
+        } else if id == 3 {
+            Protocol::Sasl
+        } else {
+            Protocol::Other
+        }
+    } else {
+        Protocol::Other
+    }
+}
+
+/// The protocol header of SASL 1.0.0 (AMQP 1.0 part 5, section 5.3.1).
+fn sasl_header() -> Item
+    ensures { result ≡ sasl_header }
+{
+    Item::Header {
+        id: 3,
+        major: 1,
+        minor: 0,
+        revision: 0,
+    }
+}
+
+/// A SASL frame (AMQP 1.0 part 5, section 5.3.1).
+fn sasl_frame(body: Perf) -> Item
+    ensures { result ≡ sasl_frame body }
+{
+    Item::Frame {
+        sasl: true,
+        channel: 0,
+        perf: body,
+        payload: Bytes::new(),
+    }
+}
+
+/// The frame that tells how a login ended (AMQP 1.0 part 5, section 5.3.3.6).
+fn outcome(code: SaslCode) -> Item
+    ensures { result ≡ outcome code }
+{
+    sasl_frame(Perf::SaslOutcome(SaslOutcome {
+        code: code.number(),
+        additional_data: None,
+    }))
+}
+
+/// What the peers of a listener are to the router.
+fn role_of(role: Role) -> PeerRole
+    ensures { result ≡ role_of role }
+{
+    match role {
+        Role::Normal => PeerRole::Normal,
+        Role::RouteContainer => PeerRole::RouteContainer,
+    }
+}
+
+/// The users of a configuration, as SASL has them.
+fn users_of(alloc: Global, users: &[route_table::User]) -> Result<Vec<User>, AllocError>
+    ensures { IfOk result (λ v. v.items ≡ map user_of users.now) }
+{
+    let mut found = Vec::with_capacity(alloc, users.len())?;
+    for user in users {
+        found.push(user_of(alloc, user)?)?;
+    }
+    Ok(found)
+}
+
+/// A user, as SASL has it.
+fn user_of(alloc: Global, user: &route_table::User) -> Result<User, AllocError>
+    ensures { IfOk result (λ u. u ≡ user_of user.now) }
+{
+    Ok(User {
+        name: Text::new(String::from_str(alloc, user.name.as_str())?),
+        password: Password::new(String::from_str(alloc, user.password.as_str())?),
+    })
+}
+
+/// The mechanisms of a listener, as SASL has them.
+fn mechanisms_of(
+    alloc: Global,
+    words: &[route_table::Mechanism],
+) -> Result<Vec<Mechanism>, AllocError>
+    ensures { IfOk result (λ v. v.items ≡ map mechanism_of words.now) }
+{
+    let mut found = Vec::with_capacity(alloc, words.len())?;
+    for word in words {
+        found.push(mechanism_of(*word))?;
+    }
+    Ok(found)
+}
+
+/// A mechanism, as SASL has it.
+fn mechanism_of(word: route_table::Mechanism) -> Mechanism
+    ensures { result ≡ mechanism_of word }
+{
+    match word {
+        route_table::Mechanism::Anonymous => Mechanism::Anonymous,
+        route_table::Mechanism::Plain => Mechanism::Plain,
     }
 }

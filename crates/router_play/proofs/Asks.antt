@@ -14,7 +14,7 @@ use Rattle.router_play.specs.declared.socket.Socket.{Socket}
 use Rattle.router_play.specs.declared.socket.Asked.{Asked}
 use Rattle.router_play.specs.declared.socket.Asked.TheVariants as asked
 use Rattle.router_play.specs.declared.player.Player.{Player}
-use Rattle.router_core.specs.Door.{Verdict, says, passes, ends, door}
+use Rattle.router_core.specs.Door.{Verdict, says, passes, ends, door, door_behind}
 use Rattle.router_play.specs.Script.{Scene, with_socket, say_all, say, out_line, hand, enter, enter_by, enter_at, judged_by}
 use Rattle.router_play.specs.Asking.{IsAskedAt, IsVerdict, AsksAt, behind, follow}
 use Rattle.router_core.specs.declared.router.Core.{Core}
@@ -27,6 +27,7 @@ use Rattle.router_conns.proofs.Lists.{by_test}
 record Asks (c : ConnectionId) (i : Item) (new : ℕ → Option Socket) (a : Asked) (s goal : Scene) : Type 0 where
   pub after : Scene
   pub id : after.id ≡ s.id
+  pub config : after.config ≡ s.config
   pub trace : after.trace ≡ s.trace
   pub last : after.last ≡ s.last
   pub lines : after.lines ≡ s.lines
@@ -42,20 +43,22 @@ changed c old new f k l same up e n = up n ∙ two (c == n) k l (old n) (f n) e 
     two false x y v w e f = f
 
 judged : (c : ConnectionId) (i : Item) (old new : ℕ → Option Socket) (a : Asked) (s : Scene) (k after : Socket) (d : DoorState) (v : Verdict)
-    → ((n : ℕ) → old n ≡ s.sockets n) → IsVerdict k d v after a → ((n : ℕ) → new n ≡ (if c.0 == n then behind a after else old n))
+    → ((n : ℕ) → old n ≡ s.sockets n) → IsVerdict i k d v after a → ((n : ℕ) → new n ≡ (if c.0 == n then behind a after else old n))
     → Asks c i new a s (judged_by c i k d s v)
 judged c i old new (asked.Say ys) s k after d (says items) same is up = record {
-  after = with_socket c (Some (record { door = Some (record d { done = true }); reader = k.reader })) s;
+  after = with_socket c (Some (record { door = Some (door_behind d i); reader = k.reader })) s;
   id = refl;
+  config = refl;
   trace = refl;
   last = refl;
   lines = refl;
   sockets = changed c.0 old new s.sockets (Some after) _ same up (ap Some is.1);
-  leads = ap (λ zs. say_all (map (out_line c) zs) (with_socket c (Some (record { door = Some (record d { done = true }); reader = k.reader })) s)) is.0;
+  leads = ap (λ zs. say_all (map (out_line c) zs) (with_socket c (Some (record { door = Some (door_behind d i); reader = k.reader })) s)) is.0;
 }
 judged c i old new (asked.Pass peer) s k after d (passes user) same is up = record {
   after = with_socket c (Some (record { door = None; reader = k.reader })) s;
   id = refl;
+  config = refl;
   trace = refl;
   last = refl;
   lines = refl;
@@ -65,6 +68,7 @@ judged c i old new (asked.Pass peer) s k after d (passes user) same is up = reco
 judged c i old new (asked.End ys) s k after d (ends items) same is up = record {
   after = with_socket c None s;
   id = refl;
+  config = refl;
   trace = refl;
   last = refl;
   lines = refl;
@@ -87,10 +91,11 @@ judged c i old new (asked.End ys) s k after d (passes user) same is up = absurd 
 asked_at : (c : ConnectionId) (i : Item) (old new : ℕ → Option Socket) (a : Asked) (s : Scene) (k after : Socket) (d : Option DoorState)
     → s.sockets c.0 ≡ Some k → ((n : ℕ) → old n ≡ s.sockets n) → IsAskedAt i k d after a → ((n : ℕ) → new n ≡ (if c.0 == n then behind a after else old n))
     → Asks c i new a s (enter_at c i k s d)
-asked_at c i old new a s k after (Some d) here same is up = judged c i old new a s k after d (door d.done i) same is up
+asked_at c i old new a s k after (Some d) here same is up = judged c i old new a s k after d (door d i) same is up
 asked_at c i old new asked.Router s k after None here same is up = record {
   after = s;
   id = refl;
+  config = refl;
   trace = refl;
   last = refl;
   lines = refl;
@@ -111,6 +116,7 @@ asked_by c i old new a s (Some k) here same asks = asked_at c i old new a s k as
 asked_by c i old new a s None here same asks = record {
   after = s;
   id = refl;
+  config = refl;
   trace = refl;
   last = refl;
   lines = refl;
@@ -121,9 +127,9 @@ asked_by c i old new a s None here same asks = record {
 -- what a player asked follows a scene from which the answer leads where the item enters
 pub asked_scene : (p q : Player) (c : ConnectionId) (i : Item) (a : Asked) (s : Scene)
     → AsksAt c.0 i (get nat_cmp p.sockets) (get nat_cmp p.sockets c.0) (get nat_cmp q.sockets) a
-    → q.core ≡ p.core → q.newest ≡ p.newest → q.lines.items ≡ p.lines.items → Follows p s
+    → q.core ≡ p.core → q.config ≡ p.config → q.newest ≡ p.newest → q.lines.items ≡ p.lines.items → Follows p s
     → (after : Scene) × Follows q after × (follow c i a after ≡ enter c i s)
-asked_scene p q c i a s asks core newest lines follows =
+asked_scene p q c i a s asks core config newest lines follows =
     let found : AsksAt c.0 i (get nat_cmp p.sockets) (s.sockets c.0) (get nat_cmp q.sockets) a
     = subst (λ (o : Option Socket). AsksAt c.0 i (get nat_cmp p.sockets) o (get nat_cmp q.sockets) a) (follows.sockets c.0) asks
     in let w : Asks c i (get nat_cmp q.sockets) a s (enter_by c i s (s.sockets c.0))
@@ -133,6 +139,7 @@ asked_scene p q c i a s asks core newest lines follows =
       record {
         core = subst (λ (k : Core). Fits k w.after.trace) (sym core) (subst (λ (t : Trace). Fits p.core t) (sym w.trace) follows.core);
         named = ap id_of core ∙ follows.named ∙ sym w.id;
+        config = ap (λ r. r.now) config ∙ follows.config ∙ sym w.config;
         last = newest ∙ follows.last ∙ sym w.last;
         sockets = w.sockets;
         lines = lines ∙ follows.lines ∙ sym w.lines;

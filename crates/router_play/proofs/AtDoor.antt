@@ -3,12 +3,12 @@ use Rattle.std.proofs.Common.{◌≡◌, ◌∙◌, sym, ap, refl, subst, true�
 use Rattle.std.specs.Prelude.{◌==◌, ◌⊎◌, nat_lt, map, length, Option, Some, None, if◌then◌else◌}
 use Rattle.std.proofs.lemmas.Bool.{eqb-true, eq-eqb, ltb-true, lt-ltb}
 use Rattle.amqp_frames.specs.declared.item.Item.{Item}
-use Rattle.amqp_frames.specs.declared.item.Item.TheVariants as item
 use Rattle.router_trace.specs.declared.event.ConnectionId.{ConnectionId}
 use Rattle.router_trace.specs.declared.event.Peer.{Peer}
 use Rattle.router_trace.specs.declared.event.PeerRole.{PeerRole}
 use Rattle.router_trace.specs.declared.event.Event.{Event}
 use Rattle.router_trace.specs.declared.event.Event.TheVariants as event
+use Rattle.route_table.specs.Settings.{Settings}
 use Rattle.router_core.specs.declared.door.Door.{Door as DoorState}
 use Rattle.router_play.specs.declared.line.Line.TheVariants as line
 use Rattle.router_play.specs.declared.socket.Socket.{Socket}
@@ -19,12 +19,13 @@ use Rattle.router_trace.specs.Connection.{conn, is_live}
 use Rattle.router_trace.specs.Refusing.{refuses, rises}
 use Rattle.router_reply.specs.Replies.{answered}
 use Rattle.router_core.specs.Runs.{Taking, items_of, took_one}
-use Rattle.router_core.specs.Door.{Verdict, says, passes, ends, door}
+use Rattle.router_core.specs.Door.{Verdict, says, passes, ends, door, door_behind}
 use Rattle.router_play.specs.Script.{Scene, opening, refused, say, say_all, out_line, with_socket, with_trace, stream_of, hand, judged_by, enter_at, enter_by, enter, enter_all, Reads, BytesCome, made, make, told, lose_by, lose, Takes, is_last, close_if, take_one, take_all, Plays}
 use Rattle.router_core.specs.Moves.{ins, outs}
 use Rattle.router_core.specs.Laws.{is_header, begins_with_header, HeaderFirst, NothingBeforeHeader}
 use Rattle.router_conns.proofs.Lists.{by_test}
 use Rattle.router_play.proofs.PlayMoves.{play_is_trace}
+use Rattle.router_core.proofs.OnlyHeaders.{door_header}
 use Rattle.router_core.proofs.Headed.{ins_answered, trace_keeps_order}
 use Rattle.router_play.proofs.Alike.{Alike, alike_on, alike_same, over_took}
 use Rattle.router_play.proofs.Doored.{AtDoor, AtSocket, Doored, changed, closed, grown, hand_alike, handed, header_or_none, said}
@@ -77,14 +78,6 @@ item_changes c i s k known passed was =
           (subst (λ (d : Option DoorState). AtDoor u.trace c.0 d) (sym passed) entered.1);
     }) was
 
--- only a header passes the door
-door_header : (b : Bool) (i : Item) (user : List ℕ) → door b i ≡ passes user → is_header i ≡ true
-door_header true i user e = absurd cc
-door_header false (item.Header a b c d) user e = refl
-door_header false (item.Frame a b c d) user e = absurd cc
-door_header false (item.Beat a) user e = absurd cc
-door_header false (item.Bad f) user e = absurd cc
-
 same_number : (c : ConnectionId) (x y : Option Socket) → (if c.0 == c.0 then x else y) ≡ x
 same_number c x y = let same : (c.0 == c.0) ≡ true = eq-eqb c.0 c.0 refl in rw same refl
 
@@ -130,13 +123,13 @@ kept_at_door c s k new known at was =
     }) was
 
 judged_doored : (c : ConnectionId) (i : Item) (k : Socket) (d : DoorState) (s : Scene) (v : Verdict) → s.sockets c.0 ≡ Some k → k.door ≡ Some d
-    → door d.done i ≡ v → Doored s → Doored (judged_by c i k d s v)
+    → door d i ≡ v → Doored s → Doored (judged_by c i k d s v)
 judged_doored c i k d s (says items) known at_door is was =
-    let new : Socket = record { door = Some (record d { done = true }); reader = k.reader }
+    let new : Socket = record { door = Some (door_behind d i); reader = k.reader }
     in let none : ins s.trace c.0 ≡ []
     = subst (λ (o : Option DoorState). AtDoor s.trace c.0 o) at_door (subst (λ (o : Option Socket). AtSocket s.trace c.0 o) known (was.stands c.0))
     in said (map (out_line c) items) (with_socket c (Some new) s) (kept_at_door c s k new known none was)
-judged_doored c i k d s (passes user) known at_door is was = pass_changes c i k d s user known at_door (door_header d.done i user is) was
+judged_doored c i k d s (passes user) known at_door is was = pass_changes c i k d s user known at_door (door_header d i user is) was
 judged_doored c i k d s (ends items) known at_door is was =
     let over : Scene = with_socket c None s
     in said (line.End c ∷ []) (say_all (map (out_line c) items) over) (said (map (out_line c) items) over (closed c s was))
@@ -146,7 +139,7 @@ enter_doored c i s was = by_socket (s.sockets c.0) refl
   where
     by_door : (k : Socket) (d : Option DoorState) → s.sockets c.0 ≡ Some k → k.door ≡ d → Doored (enter_at c i k s d)
     by_door k None known at = item_changes c i s k known at was
-    by_door k (Some d) known at = judged_doored c i k d s (door d.done i) known at refl was
+    by_door k (Some d) known at = judged_doored c i k d s (door d i) known at refl was
 
     by_socket : (o : Option Socket) → s.sockets c.0 ≡ o → Doored (enter_by c i s o)
     by_socket None known = was
@@ -250,15 +243,15 @@ plays_doored (x ∷ xs) s u plays was =
     (subst (λ (v : Scene). Doored v) (sym plays.3.scene) (take_all_doored plays.3.takes plays.0 (takes_doored x s plays.0 plays.2 was)))
 
 -- in a play nothing is written before the header
-pub header_opens : (id : List ℕ) (steps : List Step) (u : Scene) → Plays steps (opening id) u → (c : ℕ) → NothingBeforeHeader (outs u.trace c)
-header_opens id steps u plays c =
-    let was : Doored (opening id) = record {
+pub header_opens : (config : Settings) (steps : List Step) (u : Scene) → Plays steps (opening config) u → (c : ℕ) → NothingBeforeHeader (outs u.trace c)
+header_opens config steps u plays c =
+    let was : Doored (opening config) = record {
       first = λ c. refl;
       stands = λ c. tt;
       unmade = λ c r. (refl, refl);
     }
-    in let kept = trace_keeps_order id u.trace (play_is_trace id steps u plays)
-    in by_items (ins u.trace c) refl ((plays_doored steps (opening id) u plays was).first c) kept.header kept.silent
+    in let kept = trace_keeps_order config.router_id u.trace (play_is_trace config steps u plays)
+    in by_items (ins u.trace c) refl ((plays_doored steps (opening config) u plays was).first c) kept.header kept.silent
   where
     first_only : (is : List Item) → HeaderFirst is → NothingBeforeHeader is
     first_only [] h = tt

@@ -18,6 +18,7 @@ pub said_follows : (p q : Player) (ls : List Line) (s : Scene) → Said p q ls �
 said_follows p q ls s said follows = record {
   core = subst (λ (k : Core). Fits k s.trace) (sym said.core) follows.core;
   named = ap id_of said.core ∙ follows.named;
+  config = ap (λ r. r.now) said.config ∙ follows.config;
   last = said.last ∙ follows.last;
   sockets = λ c. ap (λ m. get nat_cmp m c) said.sockets ∙ follows.sockets c;
   lines = said.lines ∙ ap (λ ks. ks ++ ls) follows.lines;

@@ -16,7 +16,7 @@ use Rattle.router_trace.specs.Connection.{Connection, conn, is_live}
 use Rattle.router_trace.specs.Refusing.{refuses}
 use Rattle.router_reply.specs.Replies.{answered}
 use Rattle.router_core.specs.Runs.{waiting_of}
-use Rattle.router_core.specs.Door.{Verdict, says, passes, ends, door}
+use Rattle.router_core.specs.Door.{Verdict, says, passes, ends, door, door_behind}
 use Rattle.router_play.specs.Script.{Scene, say_all, say, refused, out_line, with_socket, with_trace, hand, judged_by, enter_at, enter_by, enter, enter_all}
 use Rattle.router_core.specs.Moves.{with_came, ins, outs}
 use Rattle.router_play.specs.Carrying.{is_loss_of, was_lost, bytes_out, spelled, door_says, passed, Begins}
@@ -118,7 +118,7 @@ hand_quiet e s c still none =
 -- items of another connection
 judged_quiet : (d : ConnectionId) (i : Item) (k : Socket) (dd : DoorState) (s : Scene) (c : ℕ) → (d.0 == c) ≡ false → (v : Verdict) → Quiet s (judged_by d i k dd s v) c
 judged_quiet d i k dd s c apart (says items) =
-    let knows : Option Socket = Some (record { door = Some (record dd { done = true }); reader = k.reader })
+    let knows : Option Socket = Some (record { door = Some (door_behind dd i); reader = k.reader })
     in let stays : Scene = with_socket d knows s
     in quiet_trans s stays (judged_by d i k dd s (says items)) c (socket_quiet d knows s c apart)
     (say_quiet (map (out_line d) items) stays c (other_lines d c items apart))
@@ -137,7 +137,7 @@ judged_quiet d i k dd s c apart (ends items) =
 
 enter_at_quiet : (d : ConnectionId) (i : Item) (k : Socket) (s : Scene) (c : ℕ) → (d.0 == c) ≡ false → (o : Option DoorState) → Quiet s (enter_at d i k s o) c
 enter_at_quiet d i k s c apart None = hand_quiet (event.Item d i) s c refl (λ is. rw apart refl)
-enter_at_quiet d i k s c apart (Some dd) = judged_quiet d i k dd s c apart (door dd.done i)
+enter_at_quiet d i k s c apart (Some dd) = judged_quiet d i k dd s c apart (door dd i)
 
 enter_by_quiet : (d : ConnectionId) (i : Item) (s : Scene) (c : ℕ) → (d.0 == c) ≡ false → (o : Option Socket) → Quiet s (enter_by d i s o) c
 enter_by_quiet d i s c apart None = quiet_refl s c
@@ -157,15 +157,15 @@ pub record Through (said : List Item) (t : List Entry) (c : ℕ) (D P : List Ite
   pub whole : is_live (conn t c) ≡ true → (m : List Item) → P m ≡ ins t c ++ m
 
 -- at the door: the router knows nothing of it
-pub record AtDoor (said : List Item) (t : List Entry) (c : ℕ) (D P : List Item → List Item) (done : Bool) : Type 0 where
-  pub speaks : (m : List Item) → D m ≡ said ++ door_says done m
-  pub lets : (m : List Item) → P m ≡ passed done m
+pub record AtDoor (said : List Item) (t : List Entry) (c : ℕ) (D P : List Item → List Item) (gate : DoorState) : Type 0 where
+  pub speaks : (m : List Item) → D m ≡ said ++ door_says gate m
+  pub lets : (m : List Item) → P m ≡ passed gate m
   pub unknown : conn t c ≡ None
   pub none : ins t c ≡ []
   pub silent : outs t c ≡ []
 
 abbrev pub StandsAt : List Item → List Entry → ℕ → (List Item → List Item) → (List Item → List Item) → Option DoorState → Type 0
-StandsAt said t c D P (Some d) = AtDoor said t c D P d.done
+StandsAt said t c D P (Some d) = AtDoor said t c D P d
 StandsAt said t c D P None = Through said t c D P
 
 abbrev pub Stands : List Item → List Entry → ℕ → (List Item → List Item) → (List Item → List Item) → Option Socket → Type 0
@@ -211,9 +211,9 @@ even_silent t u c even none =
     = sym (ap waiting_of (even_unknown t u c even none)) ∙ even.level.waits ∙ ap (λ (o : Option Connection). waiting_of o ++ even.level.added) none
     in even.level.written ∙ ap (λ xs. outs t c ++ xs) (sym nothing) ∙ append-nil (outs t c)
 
-door_goes : (said : List Item) (t u : List Entry) (c : ℕ) (D P : List Item → List Item) (done : Bool) → conn u c ≡ None → ins u c ≡ ins t c → outs u c ≡ outs t c
-    → AtDoor said t c D P done → AtDoor said u c D P done
-door_goes said t u c D P done unknown came written h = record {
+door_goes : (said : List Item) (t u : List Entry) (c : ℕ) (D P : List Item → List Item) (gate : DoorState) → conn u c ≡ None → ins u c ≡ ins t c → outs u c ≡ outs t c
+    → AtDoor said t c D P gate → AtDoor said u c D P gate
+door_goes said t u c D P gate unknown came written h = record {
   speaks = h.speaks;
   lets = h.lets;
   unknown = unknown;
@@ -225,7 +225,7 @@ stands_at_goes : (said : List Item) (t u : List Entry) (c : ℕ) (D P : List Ite
     → StandsAt said t c D P o → StandsAt said u c D P o
 stands_at_goes said t u c D P even came None h = through_goes said t u c D P even.lives came h
 stands_at_goes said t u c D P even came (Some d) h =
-    door_goes said t u c D P d.done (even_unknown t u c even h.unknown) came (even_silent t u c even h.unknown) h
+    door_goes said t u c D P d (even_unknown t u c even h.unknown) came (even_silent t u c even h.unknown) h
 
 stands_goes : (said : List Item) (t u : List Entry) (c : ℕ) (D P : List Item → List Item) → Even t u c → ins u c ≡ ins t c → (k : Option Socket)
     → Stands said t c D P k → Stands said u c D P k

@@ -14,6 +14,3 @@ mod Making
 mod Bringing
 mod Losing
 mod Carried
-mod Answering
-mod Heeding
-mod Alone

@@ -6,8 +6,10 @@ use Rattle.amqp_frames.specs.declared.item.Item.{Item}
 use Rattle.amqp_frames.proofs.Steps.{front_nothing}
 use Rattle.router_trace.specs.declared.event.ConnectionId.{ConnectionId}
 use Rattle.router_trace.specs.declared.event.PeerRole.{PeerRole}
+use Rattle.router_core.specs.declared.door.Door.{Door as DoorState}
 use Rattle.router_play.specs.declared.socket.Socket.{Socket}
 use Rattle.router_trace.specs.Refusing.{rises, reaches}
+use Rattle.router_play.specs.Listening.{door_for}
 use Rattle.router_play.specs.Script.{Scene, made}
 use Rattle.router_core.specs.Moves.{ins}
 use Rattle.router_play.specs.Carrying.{door_says, passed, Begins}
@@ -35,25 +37,25 @@ made_unmade d role s c apart h = record {
   kept = h.kept;
 }
 
-pub made_opened : (d : ConnectionId) (role : PeerRole) (s : Scene) (c : ℕ) (stream : List ℕ) → (d.0 == c) ≡ false → rises d.0 s.last ≡ true → Opened s c stream → Opened (made d role s) c stream
-made_opened d role s c stream apart rise h = record {
+pub made_opened : (gate : DoorState) (d : ConnectionId) (role : PeerRole) (s : Scene) (c : ℕ) (stream : List ℕ) → (d.0 == c) ≡ false → rises d.0 s.last ≡ true → Opened gate s c stream → Opened gate (made d role s) c stream
+made_opened gate d role s c stream apart rise h = record {
   ended = h.ended;
   items = h.items;
   rest = h.rest;
   cut = h.cut;
   reader = made_socket (λ o. Keeps h.rest h.ended o) d role s c apart h.reader;
-  entered = made_entered d role s c (λ m. door_says false (h.items ++ m)) (λ m. passed false (h.items ++ m)) apart h.entered;
+  entered = made_entered d role s c (λ m. door_says gate (h.items ++ m)) (λ m. passed gate (h.items ++ m)) apart h.entered;
   reached = reach_up d.0 c s.last rise h.reached;
   kept = h.kept;
 }
 
-pub made_lost : (d : ConnectionId) (role : PeerRole) (s : Scene) (c : ℕ) (stream : List ℕ) → (d.0 == c) ≡ false → rises d.0 s.last ≡ true → Lost s c stream → Lost (made d role s) c stream
-made_lost d role s c stream apart rise h = record {
+pub made_lost : (gate : DoorState) (d : ConnectionId) (role : PeerRole) (s : Scene) (c : ℕ) (stream : List ℕ) → (d.0 == c) ≡ false → rises d.0 s.last ≡ true → Lost gate s c stream → Lost gate (made d role s) c stream
+made_lost gate d role s c stream apart rise h = record {
   ended = h.ended;
   items = h.items;
   rest = h.rest;
   cut = h.cut;
-  entered = made_entered d role s c (λ m. door_says false h.items) (λ m. passed false h.items) apart h.entered;
+  entered = made_entered d role s c (λ m. door_says gate h.items) (λ m. passed gate h.items) apart h.entered;
   socket = made_socket (λ o. o ≡ None) d role s c apart h.socket;
   reached = reach_up d.0 c s.last rise h.reached;
   until = h.until;
@@ -68,7 +70,7 @@ new_number d c (Some l) rise reach = by_test (d.0 == c) (λ e. absurd (below d.0
     below d c l e h i = omega (arith, e)
 
 -- The connection itself is made.
-pub unmade_made : (d : ConnectionId) (role : PeerRole) (s : Scene) → Unmade s d.0 → Opened (made d role s) d.0 []
+pub unmade_made : (d : ConnectionId) (role : PeerRole) (s : Scene) → Unmade s d.0 → Opened (door_for s.config role) (made d role s) d.0 []
 unmade_made d role s h =
     let here : (d.0 == d.0) ≡ true = same d.0
     in let none : Stands h.entered.said s.trace d.0 (λ m. []) (λ m. []) None = subst (λ (o : Option Socket). Stands h.entered.said s.trace d.0 (λ m. []) (λ m. []) o) h.socket h.entered.stands
@@ -84,7 +86,7 @@ unmade_made d role s h =
         said = h.entered.said;
         balance = h.entered.balance;
         stands = rw here (record {
-          speaks = λ m. ap (λ xs. xs ++ door_says false m) (sym quiet);
+          speaks = λ m. ap (λ xs. xs ++ door_says (door_for s.config role) m) (sym quiet);
           lets = λ m. refl;
           unknown = h.unknown;
           none = came;

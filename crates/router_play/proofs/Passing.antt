@@ -13,7 +13,7 @@ use Rattle.router_trace.specs.Trace.{Entry, Took, step_of}
 use Rattle.router_trace.specs.Connection.{Connection, conn, took, is_live}
 use Rattle.router_reply.specs.Replies.{answered}
 use Rattle.router_core.specs.Runs.{Taking, waiting_of, items_of, took_one}
-use Rattle.router_core.specs.Door.{Verdict, says, passes, ends, door}
+use Rattle.router_core.specs.Door.{Verdict, says, passes, ends, door, door_behind}
 use Rattle.router_play.specs.Script.{Scene, say_all, say, refused, out_line, with_socket, with_trace, hand, judged_by, enter_at, enter_by, enter, enter_all, is_last, close_if, take_one, take_all}
 use Rattle.router_core.specs.Moves.{ins, outs}
 use Rattle.router_play.specs.Carrying.{was_lost, bytes_out, spelled, said_by, door_says, passed_by, passed}
@@ -100,18 +100,18 @@ told_lines : (d : ConnectionId) (items : List Item) (s : Scene) → bytes_out d.
 told_lines d items s = bytes_more d.0 s.lines (map (out_line d) items) ∙ ap (λ bs. bytes_out d.0 s.lines ++ bs) (own_lines d items)
 
 -- the door's verdict on an item
-judged_own : (d : ConnectionId) (i : Item) (k : Socket) (dd : DoorState) (s : Scene) (said : List Item) (D P : List Item → List Item) → AtDoor said s.trace d.0 D P dd.done
-    → Balances said s.trace d.0 (bytes_out d.0 s.lines) → (v : Verdict) → door dd.done i ≡ v
+judged_own : (d : ConnectionId) (i : Item) (k : Socket) (dd : DoorState) (s : Scene) (said : List Item) (D P : List Item → List Item) → AtDoor said s.trace d.0 D P dd
+    → Balances said s.trace d.0 (bytes_out d.0 s.lines) → (v : Verdict) → door dd i ≡ v
     → Entered (judged_by d i k dd s v) d.0 (λ m. D (i ∷ m)) (λ m. P (i ∷ m))
 judged_own d i k dd s said D P h balance (says items) is =
     let here : (d.0 == d.0) ≡ true = same d.0
     in record {
       said = said ++ items;
-      balance = subst (λ (bs : List ℕ). Balances (said ++ items) s.trace d.0 bs) (sym (told_lines d items (with_socket d (Some (record { door = Some (record dd { done = true }); reader = k.reader })) s)))
+      balance = subst (λ (bs : List ℕ). Balances (said ++ items) s.trace d.0 bs) (sym (told_lines d items (with_socket d (Some (record { door = Some (door_behind dd i); reader = k.reader })) s)))
           (door_balance said items s.trace d.0 (bytes_out d.0 s.lines) h.unknown h.silent balance);
       stands = rw here (record {
-        speaks = λ m. h.speaks (i ∷ m) ∙ ap (λ (w : Verdict). said ++ said_by w (door_says true m)) is ∙ sym (append_assoc said items (door_says true m));
-        lets = λ m. h.lets (i ∷ m) ∙ ap (λ (w : Verdict). passed_by w (i ∷ m) (passed true m)) is;
+        speaks = λ m. h.speaks (i ∷ m) ∙ ap (λ (w : Verdict). said ++ said_by w (door_says (door_behind dd i) m)) is ∙ sym (append_assoc said items (door_says (door_behind dd i) m));
+        lets = λ m. h.lets (i ∷ m) ∙ ap (λ (w : Verdict). passed_by w (i ∷ m) (passed (door_behind dd i) m)) is;
         unknown = h.unknown;
         none = h.none;
         silent = h.silent;
@@ -126,8 +126,8 @@ judged_own d i k dd s said D P h balance (passes user) is =
     in let socket : (hand (event.Item d i) up).sockets d.0 ≡ Some (record { door = None; reader = k.reader })
     = hand_sockets (event.Item d i) up d.0 ∙ hand_sockets (event.Up d p) inside d.0 ∙ (rw here refl)
     in entered_as (hand (event.Item d i) up) d.0 (λ m. said) (λ m. i ∷ m) (λ m. D (i ∷ m)) (λ m. P (i ∷ m))
-    (λ m. h.speaks (i ∷ m) ∙ ap (λ (w : Verdict). said ++ said_by w (door_says true m)) is ∙ append-nil said)
-    (λ m. h.lets (i ∷ m) ∙ ap (λ (w : Verdict). passed_by w (i ∷ m) (passed true m)) is)
+    (λ m. h.speaks (i ∷ m) ∙ ap (λ (w : Verdict). said ++ said_by w (door_says (door_behind dd i) m)) is ∙ append-nil said)
+    (λ m. h.lets (i ∷ m) ∙ ap (λ (w : Verdict). passed_by w (i ∷ m) (passed (door_behind dd i) m)) is)
     (record {
       said = all.said;
       balance = all.balance;
@@ -143,7 +143,7 @@ judged_own d i k dd s said D P h balance (ends items) is =
           (door_balance said items s.trace d.0 (bytes_out d.0 s.lines) h.unknown h.silent balance);
       stands = rw here (
         record {
-          silent = λ m. h.speaks (i ∷ m) ∙ ap (λ (w : Verdict). said ++ said_by w (door_says true m)) is;
+          silent = λ m. h.speaks (i ∷ m) ∙ ap (λ (w : Verdict). said ++ said_by w (door_says (door_behind dd i) m)) is;
           begins = λ m. (P (i ∷ m), ap (λ xs. xs ++ P (i ∷ m)) h.none);
           whole = λ l m. absurd (true≢false (sym l ∙ ap is_live h.unknown));
         },
@@ -164,7 +164,7 @@ enter_at_own d i k s said D P is balance None at h =
           (sym (hand_sockets (event.Item d i) s d.0 ∙ is))
           (subst (λ (o : Option DoorState). StandsAt all.said (hand (event.Item d i) s).trace d.0 (λ m. D (i ∷ m)) (λ m. P (i ∷ m)) o) (sym at) all.through);
     }
-enter_at_own d i k s said D P is balance (Some dd) at h = judged_own d i k dd s said D P h balance (door dd.done i) refl
+enter_at_own d i k s said D P is balance (Some dd) at h = judged_own d i k dd s said D P h balance (door dd i) refl
 
 enter_by_own : (d : ConnectionId) (i : Item) (s : Scene) (said : List Item) (D P : List Item → List Item)
     → Balances said s.trace d.0 (bytes_out d.0 s.lines) → (o : Option Socket) → s.sockets d.0 ≡ o → Stands said s.trace d.0 D P o
@@ -208,7 +208,7 @@ enter_keeps rest ended d i s (Some k) is h = by_door k.door
   where
     by_door : (o : Option DoorState) → Keeps rest ended ((enter_at d i k s o).sockets d.0)
     by_door None = subst (λ (o : Option Socket). Keeps rest ended o) (sym (hand_sockets (event.Item d i) s d.0 ∙ is)) h
-    by_door (Some dd) = judged_keeps rest ended d i k dd s h (door dd.done i)
+    by_door (Some dd) = judged_keeps rest ended d i k dd s h (door dd i)
 
 pub enter_all_keeps : (rest : List ℕ) (ended : Bool) (d : ConnectionId) (is : List Item) (s : Scene) → Keeps rest ended (s.sockets d.0) → Keeps rest ended ((enter_all d is s).sockets d.0)
 enter_all_keeps rest ended d [] s h = h
@@ -230,7 +230,7 @@ enter_last d i s (Some k) = by_door k.door
   where
     by_door : (o : Option DoorState) → (enter_at d i k s o).last ≡ s.last
     by_door None = hand_last (event.Item d i) s
-    by_door (Some dd) = judged_last d i k dd s (door dd.done i)
+    by_door (Some dd) = judged_last d i k dd s (door dd i)
 
 pub enter_all_last : (d : ConnectionId) (is : List Item) (s : Scene) → (enter_all d is s).last ≡ s.last
 enter_all_last d [] s = refl
@@ -252,7 +252,7 @@ enter_kept d i s c (Some k) = by_door k.door
   where
     by_door : (o : Option DoorState) → was_lost (enter_at d i k s o).trace c ≡ was_lost s.trace c
     by_door None = hand_kept (event.Item d i) s c refl
-    by_door (Some dd) = judged_kept d i k dd s c (door dd.done i)
+    by_door (Some dd) = judged_kept d i k dd s c (door dd i)
 
 pub enter_all_kept : (d : ConnectionId) (is : List Item) (s : Scene) (c : ℕ) → was_lost (enter_all d is s).trace c ≡ was_lost s.trace c
 enter_all_kept d [] s c = refl

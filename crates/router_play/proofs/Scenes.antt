@@ -7,6 +7,7 @@ use Rattle.std.proofs.lemmas.List.{drop_all}
 use Rattle.std.specs.Ordering.{nat_cmp}
 use Rattle.std.specs.BTreeMap.{get}
 use Rattle.router_trace.specs.declared.event.ConnectionId.{ConnectionId}
+use Rattle.route_table.specs.Settings.{Settings}
 use Rattle.router_core.specs.declared.door.Door.{Door as DoorState}
 use Rattle.router_play.specs.declared.socket.Socket.{Socket}
 use Rattle.router_play.specs.declared.player.Player.{Player}
@@ -35,6 +36,7 @@ back false b h e = refl
 record Parts (c : ConnectionId) (new : ℕ → Option Socket) (r : Parted) (s goal : Scene) : Type 0 where
   pub after : Scene
   pub id : after.id ≡ s.id
+  pub config : after.config ≡ s.config
   pub trace : after.trace ≡ s.trace
   pub last : after.last ≡ s.last
   pub lines : after.lines ≡ s.lines
@@ -47,6 +49,7 @@ parted_at : (c : ConnectionId) (old new : ℕ → Option Socket) (r : Parted) (s
 parted_at c old new r s None here same is up = record {
   after = s;
   id = refl;
+  config = refl;
   trace = refl;
   last = refl;
   lines = refl;
@@ -59,6 +62,7 @@ parted_at c old new r s None here same is up = record {
 parted_at c old new r s (Some k) here same is up = record {
   after = with_socket c None s;
   id = refl;
+  config = refl;
   trace = refl;
   last = refl;
   lines = refl;
@@ -76,9 +80,9 @@ parted_at c old new r s (Some k) here same is up = record {
 
 pub parted_scene : (p q : Player) (c : ConnectionId) (r : Parted) (s : Scene)
     → PartsAt (get nat_cmp p.sockets c.0) r → ((n : ℕ) → get nat_cmp q.sockets n ≡ (if c.0 == n then None else get nat_cmp p.sockets n))
-    → q.core ≡ p.core → q.newest ≡ p.newest → q.lines.items ≡ p.lines.items → Follows p s
+    → q.core ≡ p.core → q.config ≡ p.config → q.newest ≡ p.newest → q.lines.items ≡ p.lines.items → Follows p s
     → (after : Scene) × Follows q after × (part_by c r after ≡ lose c s)
-parted_scene p q c r s parts rows core newest lines follows =
+parted_scene p q c r s parts rows core config newest lines follows =
     let found : PartsAt (s.sockets c.0) r = subst (λ (o : Option Socket). PartsAt o r) (follows.sockets c.0) parts
     in let w : Parts c (get nat_cmp q.sockets) r s (lose_by c s (s.sockets c.0))
     = parted_at c (get nat_cmp p.sockets) (get nat_cmp q.sockets) r s (s.sockets c.0) refl follows.sockets found rows
@@ -87,6 +91,7 @@ parted_scene p q c r s parts rows core newest lines follows =
       record {
         core = subst (λ (k : Core). Fits k w.after.trace) (sym core) (subst (λ (t : List Entry). Fits p.core t) (sym w.trace) follows.core);
         named = ap id_of core ∙ follows.named ∙ sym w.id;
+        config = ap (λ r. r.now) config ∙ follows.config ∙ sym w.config;
         last = newest ∙ follows.last ∙ sym w.last;
         sockets = w.sockets;
         lines = lines ∙ follows.lines ∙ sym w.lines;
@@ -105,11 +110,12 @@ batch_last (Some v) b is = is.gone
 
 pub taken_follows : (p q : Player) (c : ConnectionId) (b : Batch) (s : Scene) → Follows p s
     → Fits q.core (Took c.0 (length b.items.items) ∷ s.trace) → IsBatchOf (conn s.trace c.0) 64 b
-    → id_of q.core ≡ id_of p.core → q.sockets ≡ p.sockets → q.newest ≡ p.newest → q.lines.items ≡ p.lines.items
+    → id_of q.core ≡ id_of p.core → q.config ≡ p.config → q.sockets ≡ p.sockets → q.newest ≡ p.newest → q.lines.items ≡ p.lines.items
     → Follows q (with_trace (took_one (taking c) s.trace) s)
-taken_follows p q c b s follows fits is named sockets newest lines = record {
+taken_follows p q c b s follows fits is named config sockets newest lines = record {
   core = subst (λ (ys : List Item). Fits q.core (Took c.0 (length ys) ∷ s.trace)) (batch_items (conn s.trace c.0) b is) fits;
   named = named ∙ follows.named;
+  config = ap (λ r. r.now) config ∙ follows.config;
   last = newest ∙ follows.last;
   sockets = λ n. ap (λ m. get nat_cmp m n) sockets ∙ follows.sockets n;
   lines = lines ∙ follows.lines;
@@ -154,20 +160,20 @@ abbrev pub steps_of : List Run → List (List Step)
 steps_of runs = map (λ r. r.steps.items) runs
 
 -- a run more, and then the rest
-pub runs_more : (id : List ℕ) (runs : List Run) (i : ℕ) (x : Run) (u : Scene) (before now others : List Line) → x ≡ get_or runs i x → i < length runs
-    → Plays x.steps.items (opening id) u → now ≡ before ++ u.lines
-    → ((ls : List Line) → PlaysAll id (steps_of (drop i runs)) ls → PlaysAll id (steps_of runs) (before ++ ls))
-    → PlaysAll id (steps_of (drop (i + 1) runs)) others → PlaysAll id (steps_of runs) (now ++ others)
-runs_more id runs i x u before now others is lt plays lines whole rest =
-    subst (λ (ls : List Line). PlaysAll id (steps_of runs) ls)
+pub runs_more : (config : Settings) (runs : List Run) (i : ℕ) (x : Run) (u : Scene) (before now others : List Line) → x ≡ get_or runs i x → i < length runs
+    → Plays x.steps.items (opening config) u → now ≡ before ++ u.lines
+    → ((ls : List Line) → PlaysAll config (steps_of (drop i runs)) ls → PlaysAll config (steps_of runs) (before ++ ls))
+    → PlaysAll config (steps_of (drop (i + 1) runs)) others → PlaysAll config (steps_of runs) (now ++ others)
+runs_more config runs i x u before now others is lt plays lines whole rest =
+    subst (λ (ls : List Line). PlaysAll config (steps_of runs) ls)
     (sym (append_assoc before u.lines others) ∙ ap (λ ls. ls ++ others) (sym lines))
     (whole (u.lines ++ others)
-    (subst (λ (rs : List Run). PlaysAll id (steps_of rs) (u.lines ++ others)) (sym (drop_more runs i x lt ∙ ap (λ y. y ∷ drop (i + 1) runs) (sym is)))
+    (subst (λ (rs : List Run). PlaysAll config (steps_of rs) (u.lines ++ others)) (sym (drop_more runs i x lt ∙ ap (λ y. y ∷ drop (i + 1) runs) (sym is)))
     (u, others, plays, rest, refl)))
 
 -- nothing is left to play
-pub runs_done : (id : List ℕ) (runs : List Run) (i : ℕ) (lines : List Line) → length runs ≤ i
-    → ((ls : List Line) → PlaysAll id (steps_of (drop i runs)) ls → PlaysAll id (steps_of runs) (lines ++ ls)) → PlaysAll id (steps_of runs) lines
-runs_done id runs i lines over whole =
-    subst (λ (ls : List Line). PlaysAll id (steps_of runs) ls) (append-nil lines)
-    (whole [] (subst (λ (rs : List Run). PlaysAll id (steps_of rs) []) (sym (drop_all i runs over)) refl))
+pub runs_done : (config : Settings) (runs : List Run) (i : ℕ) (lines : List Line) → length runs ≤ i
+    → ((ls : List Line) → PlaysAll config (steps_of (drop i runs)) ls → PlaysAll config (steps_of runs) (lines ++ ls)) → PlaysAll config (steps_of runs) lines
+runs_done config runs i lines over whole =
+    subst (λ (ls : List Line). PlaysAll config (steps_of runs) ls) (append-nil lines)
+    (whole [] (subst (λ (rs : List Run). PlaysAll config (steps_of rs) []) (sym (drop_all i runs over)) refl))

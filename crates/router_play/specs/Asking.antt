@@ -10,18 +10,18 @@ use Rattle.router_core.specs.declared.door.Door.{Door as DoorState}
 use Rattle.router_play.specs.declared.socket.Socket.{Socket}
 use Rattle.router_play.specs.declared.socket.Asked.{Asked}
 use Rattle.router_play.specs.declared.socket.Asked.TheVariants as asked
-use Rattle.router_core.specs.Door.{Verdict, says, passes, ends, door}
+use Rattle.router_core.specs.Door.{Verdict, says, passes, ends, door, door_behind}
 
 -- the answer is the door's verdict
-abbrev pub IsVerdict : Socket → DoorState → Verdict → Socket → Asked → Type 0
-IsVerdict k d (says items) new (asked.Say ys) = (ys.items ≡ items) × (new ≡ record { door = Some (record d { done = true }); reader = k.reader })
-IsVerdict k d (passes user) new (asked.Pass peer) = (peer ≡ record { user = user; role = d.role }) × (new ≡ record { door = None; reader = k.reader })
-IsVerdict k d (ends items) new (asked.End ys) = ys.items ≡ items
-IsVerdict k d verdict new answer = ⊥
+abbrev pub IsVerdict : Item → Socket → DoorState → Verdict → Socket → Asked → Type 0
+IsVerdict i k d (says items) new (asked.Say ys) = (ys.items ≡ items) × (new ≡ record { door = Some (door_behind d i); reader = k.reader })
+IsVerdict i k d (passes user) new (asked.Pass peer) = (peer ≡ record { user = user; role = d.role }) × (new ≡ record { door = None; reader = k.reader })
+IsVerdict i k d (ends items) new (asked.End ys) = ys.items ≡ items
+IsVerdict i k d verdict new answer = ⊥
 
 -- at the door its verdict, and behind it the router
 abbrev pub IsAskedAt : Item → Socket → Option DoorState → Socket → Asked → Type 0
-IsAskedAt i k (Some d) new answer = IsVerdict k d (door d.done i) new answer
+IsAskedAt i k (Some d) new answer = IsVerdict i k d (door d i) new answer
 IsAskedAt i k None new asked.Router = new ≡ k
 IsAskedAt i k None new _ = ⊥
 

@@ -3,8 +3,12 @@ use Rattle.std.specs.Prelude.{◌≡◌, ℕ, Bool, true, false, ◌||◌, ◌==
 use Rattle.amqp_frames.specs.declared.item.Item.{Item}
 use Rattle.amqp_frames.specs.Cuts.{Cuts}
 use Rattle.amqp_frames.specs.ItemSpelling.{item_spelling}
+use Rattle.route_table.specs.Settings.{Settings}
+use Rattle.router_trace.specs.declared.event.PeerRole.{PeerRole}
+use Rattle.router_trace.specs.declared.event.PeerRole.TheVariants.{Normal}
 use Rattle.router_trace.specs.declared.event.Event.{Event}
 use Rattle.router_trace.specs.declared.event.Event.TheVariants as event
+use Rattle.router_core.specs.declared.door.Door.{Door as DoorState}
 use Rattle.router_play.specs.declared.line.Line.{Line}
 use Rattle.router_play.specs.declared.line.Line.TheVariants as line
 use Rattle.router_play.specs.declared.script.Step.{Step}
@@ -12,8 +16,9 @@ use Rattle.router_play.specs.declared.script.Step.TheVariants as step
 use Rattle.router_trace.specs.Trace.{Trace, Did, Out, Took}
 use Rattle.router_trace.specs.Connection.{conn, is_live}
 use Rattle.router_trace.specs.Refusing.{rises}
-use Rattle.router_core.specs.Door.{Verdict, says, passes, ends, door}
+use Rattle.router_core.specs.Door.{Verdict, says, passes, ends, door, door_behind}
 use Rattle.router_core.specs.Moves.{IsTrace, ins, outs}
+use Rattle.router_play.specs.Listening.{door_for}
 
 -- the events tell that a connection was lost
 abbrev pub is_loss_of : Event → ℕ → Bool
@@ -32,6 +37,17 @@ behind_up c last [] = []
 behind_up c last (step.Up d role ∷ xs) =
     if rises d.0 last then (if d.0 == c then xs else behind_up c (Some d.0) xs) else behind_up c last xs
 behind_up c last (_ ∷ xs) = behind_up c last xs
+
+-- the role in which a connection is made, if it is
+abbrev pub role_in : ℕ → Option ℕ → List Step → PeerRole
+role_in c last [] = Normal
+role_in c last (step.Up d role ∷ xs) =
+    if rises d.0 last then (if d.0 == c then role else role_in c (Some d.0) xs) else role_in c last xs
+role_in c last (_ ∷ xs) = role_in c last xs
+
+-- the door at which a connection of a script stands when it is made
+abbrev pub door_in : Settings → ℕ → List Step → DoorState
+door_in config c steps = door_for config (role_in c None steps)
 
 -- the bytes that steps bring on a connection, until it is lost
 abbrev pub bytes_of : ℕ → List Step → List ℕ
@@ -61,9 +77,9 @@ said_by (says xs) later = xs ++ later
 said_by (passes user) later = []
 said_by (ends xs) later = xs
 
-abbrev pub door_says : Bool → List Item → List Item
-door_says done [] = []
-door_says done (i ∷ is) = said_by (door done i) (door_says true is)
+abbrev pub door_says : DoorState → List Item → List Item
+door_says d [] = []
+door_says d (i ∷ is) = said_by (door d i) (door_says (door_behind d i) is)
 
 -- the items of a stream that are past the door: from the one on that it lets pass
 abbrev pub passed_by : Verdict → List Item → List Item → List Item
@@ -71,31 +87,31 @@ passed_by (says xs) here later = later
 passed_by (passes user) here later = here
 passed_by (ends xs) here later = []
 
-abbrev pub passed : Bool → List Item → List Item
-passed done [] = []
-passed done (i ∷ is) = passed_by (door done i) (i ∷ is) (passed true is)
+abbrev pub passed : DoorState → List Item → List Item
+passed d [] = []
+passed d (i ∷ is) = passed_by (door d i) (i ∷ is) (passed (door_behind d i) is)
 
 -- a list is a beginning of another
 abbrev pub Begins : List Item → List Item → Type 0
 Begins xs ys = (more : List Item) × (xs ++ more ≡ ys)
 
--- a connection carries the stream that came on it, where these lines were printed of this trace
-pub record Carries (stream : List ℕ) (t : Trace) (lines : List Line) (c : ℕ) : Type 0 where
+-- a connection at this door carries the stream that came on it, where these lines were printed of this trace
+pub record Carries (gate : DoorState) (stream : List ℕ) (t : Trace) (lines : List Line) (c : ℕ) : Type 0 where
   pub ended : Bool
   pub items : List Item
   pub rest : List ℕ
   -- the bytes that came are cut once, as one stream
   pub cut : Cuts ended stream items rest
   -- the items that the router is told are those past the door, up to the connection's end
-  pub enters : Begins (ins t c) (passed false items)
+  pub enters : Begins (ins t c) (passed gate items)
   -- all of them, while it lives, and where it lived until it was lost
-  pub whole : is_live (conn t c) ≡ true → ins t c ≡ passed false items
-  pub until : was_lost t c ≡ true → ins t c ≡ passed false items
+  pub whole : is_live (conn t c) ≡ true → ins t c ≡ passed gate items
+  pub until : was_lost t c ≡ true → ins t c ≡ passed gate items
   -- what goes out are the canonical bytes of what the door says, and then of all that the router put out for it
-  pub out : bytes_out c lines ≡ spelled (door_says false items) ++ spelled (outs t c)
+  pub out : bytes_out c lines ≡ spelled (door_says gate items) ++ spelled (outs t c)
 
 -- runs, one after the other: each has a trace of its own, of which its lines carry every connection
-abbrev pub RunsCarry : List ℕ → List (List Step) → List Line → Type 0
-RunsCarry id [] lines = lines ≡ []
-RunsCarry id (steps ∷ runs) lines = (t : Trace) × (mine : List Line) × (others : List Line)
-    × IsTrace id t × ((c : ℕ) → Carries (bytes_in c steps) t mine c) × RunsCarry id runs others × (lines ≡ mine ++ others)
+abbrev pub RunsCarry : Settings → List (List Step) → List Line → Type 0
+RunsCarry config [] lines = lines ≡ []
+RunsCarry config (steps ∷ runs) lines = (t : Trace) × (mine : List Line) × (others : List Line)
+    × IsTrace config.router_id t × ((c : ℕ) → Carries (door_in config c steps) (bytes_in c steps) t mine c) × RunsCarry config runs others × (lines ≡ mine ++ others)

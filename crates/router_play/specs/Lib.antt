@@ -1,8 +1,8 @@
+pub mod Listening
 pub mod Script
 pub mod Playing
 pub mod Asking
 pub mod Carrying
-pub mod Answers
 pub mod ScriptOrder
 pub mod Printing
 pub use Rattle.router_trace.specs.Trace
@@ -12,7 +12,6 @@ pub use Rattle.router_trace.specs.Order
 pub use Rattle.router_trace.specs.Frames
 pub use Rattle.router_conns.specs.Fits
 pub use Rattle.router_state.specs.Tables
-pub use Rattle.router_reply.specs.Rows
 pub use Rattle.router_reply.specs.Replies
 pub use Rattle.router_core.specs.Faults
 pub use Rattle.router_core.specs.Handling

@@ -17,6 +17,7 @@ use Rattle.router_play.specs.Script.{Scene, refused, say, hand, with_socket, str
 pub record Follows (p : Player) (s : Scene) : Type 0 where
   pub core : Fits p.core s.trace
   pub named : id_of p.core ≡ s.id
+  pub config : p.config.now ≡ s.config
   pub last : p.newest ≡ s.last
   pub sockets : (c : ℕ) → get nat_cmp p.sockets c ≡ s.sockets c
   pub lines : p.lines.items ≡ s.lines
@@ -25,6 +26,7 @@ pub record Follows (p : Player) (s : Scene) : Type 0 where
 pub record Said (old new : Player) (ls : List Line) : Type 0 where
   pub lines : new.lines.items ≡ old.lines.items ++ ls
   pub core : new.core ≡ old.core
+  pub config : new.config ≡ old.config
   pub sockets : new.sockets ≡ old.sockets
   pub last : new.newest ≡ old.newest
 

@@ -8,6 +8,7 @@ use Rattle.router_trace.specs.declared.event.ConnectionId.{ConnectionId}
 use Rattle.router_trace.specs.declared.event.PeerRole.{PeerRole}
 use Rattle.router_trace.specs.declared.event.Event.{Event}
 use Rattle.router_trace.specs.declared.event.Event.TheVariants as event
+use Rattle.route_table.specs.Settings.{Settings}
 use Rattle.router_core.specs.declared.door.Door.{Door as DoorState}
 use Rattle.router_play.specs.declared.line.Line.{Line}
 use Rattle.router_play.specs.declared.line.Line.TheVariants as line
@@ -19,24 +20,26 @@ use Rattle.router_trace.specs.Connection.{Connection, conn, took, is_ready}
 use Rattle.router_trace.specs.Refusing.{refuses, rises}
 use Rattle.router_reply.specs.Replies.{answered}
 use Rattle.router_core.specs.Runs.{Taking, IsNext, items_of, took_one}
-use Rattle.router_core.specs.Door.{Verdict, says, passes, ends, door}
+use Rattle.router_core.specs.Door.{Verdict, says, passes, ends, door, door_behind}
+use Rattle.router_play.specs.Listening.{door_for}
 
--- where a script stands: the router's id and its trace, the number of the last connection made, the connections that are
--- open (those at the door, and those that passed), and the lines so far
+-- where a script stands: the router's id, its configuration and its trace, the number of the last connection made, the
+-- connections that are open (those at the door, and those that passed), and the lines so far
 pub record Scene : Type 0 where
   pub id : List ℕ
+  pub config : Settings
   pub trace : Trace
   pub last : Option ℕ
   pub sockets : ℕ → Option Socket
   pub lines : List Line
 
 -- before the first step
-abbrev pub opening : List ℕ → Scene
-opening id = record { id = id; trace = []; last = None; sockets = λ c. None; lines = [] }
+abbrev pub opening : Settings → Scene
+opening config = record { id = config.router_id; config = config; trace = []; last = None; sockets = λ c. None; lines = [] }
 
 -- lines more
 abbrev pub say_all : List Line → Scene → Scene
-say_all ls s = record { id = s.id; trace = s.trace; last = s.last; sockets = s.sockets; lines = s.lines ++ ls }
+say_all ls s = record { id = s.id; config = s.config; trace = s.trace; last = s.last; sockets = s.sockets; lines = s.lines ++ ls }
 
 abbrev pub say : Line → Scene → Scene
 say l s = say_all (l ∷ []) s
@@ -55,11 +58,11 @@ out_line c i = line.Out c (item_spelling i)
 
 -- a connection as it is now; none where it is closed
 abbrev pub with_socket : ConnectionId → Option Socket → Scene → Scene
-with_socket c k s = record { id = s.id; trace = s.trace; last = s.last; sockets = λ n. if c.0 == n then k else s.sockets n; lines = s.lines }
+with_socket c k s = record { id = s.id; config = s.config; trace = s.trace; last = s.last; sockets = λ n. if c.0 == n then k else s.sockets n; lines = s.lines }
 
 -- the trace is this now
 abbrev pub with_trace : Trace → Scene → Scene
-with_trace t s = record { id = s.id; trace = t; last = s.last; sockets = s.sockets; lines = s.lines }
+with_trace t s = record { id = s.id; config = s.config; trace = t; last = s.last; sockets = s.sockets; lines = s.lines }
 
 -- an event is handed to the router: it is refused, or its replies stand behind it
 abbrev pub hand : Event → Scene → Scene
@@ -68,7 +71,7 @@ hand e s = if refuses s.trace e then say refused s else with_trace (answered s.i
 -- what the door makes of an item
 abbrev pub judged_by : ConnectionId → Item → Socket → DoorState → Scene → Verdict → Scene
 judged_by c i k d s (says items) =
-    say_all (map (out_line c) items) (with_socket c (Some (record { door = Some (record d { done = true }); reader = k.reader })) s)
+    say_all (map (out_line c) items) (with_socket c (Some (record { door = Some (door_behind d i); reader = k.reader })) s)
 judged_by c i k d s (passes user) =
     hand (event.Item c i) (hand (event.Up c (record { user = user; role = d.role })) (with_socket c (Some (record { door = None; reader = k.reader })) s))
 judged_by c i k d s (ends items) = say (line.End c) (say_all (map (out_line c) items) (with_socket c None s))
@@ -76,7 +79,7 @@ judged_by c i k d s (ends items) = say (line.End c) (say_all (map (out_line c) i
 -- an item comes on a connection: at the door, or to the router; nobody takes it once the connection is closed
 abbrev pub enter_at : ConnectionId → Item → Socket → Scene → Option DoorState → Scene
 enter_at c i k s None = hand (event.Item c i) s
-enter_at c i k s (Some d) = judged_by c i k d s (door d.done i)
+enter_at c i k s (Some d) = judged_by c i k d s (door d i)
 
 abbrev pub enter_by : ConnectionId → Item → Scene → Option Socket → Scene
 enter_by c i s None = s
@@ -104,11 +107,11 @@ BytesCome c bytes s None u = u ≡ say refused s
 BytesCome c bytes s (Some k) u = Reads c bytes s k k.reader.failed u
 
 -- a connection is made
-abbrev pub new_socket : PeerRole → Socket
-new_socket role = record { door = Some (record { role = role; done = false }); reader = record { rest = []; failed = false } }
+abbrev pub new_socket : DoorState → Socket
+new_socket d = record { door = Some d; reader = record { rest = []; failed = false } }
 
 abbrev pub made : ConnectionId → PeerRole → Scene → Scene
-made c role s = record { id = s.id; trace = s.trace; last = Some c.0; sockets = λ n. if c.0 == n then Some (new_socket role) else s.sockets n; lines = s.lines }
+made c role s = record { id = s.id; config = s.config; trace = s.trace; last = Some c.0; sockets = λ n. if c.0 == n then Some (new_socket (door_for s.config role)) else s.sockets n; lines = s.lines }
 
 abbrev pub make : ConnectionId → PeerRole → Scene → Scene
 make c role s = if rises c.0 s.last then made c role s else say refused s
@@ -168,6 +171,7 @@ Plays [] s u = u ≡ s
 Plays (x ∷ xs) s u = (mid : Scene) × (next : Scene) × Takes x s mid × Flushes mid next × Plays xs next u
 
 -- the lines of runs: each against a router to which nothing happened
-abbrev pub PlaysAll : List ℕ → List (List Step) → List Line → Type 0
-PlaysAll id [] lines = lines ≡ []
-PlaysAll id (steps ∷ runs) lines = (u : Scene) × (others : List Line) × Plays steps (opening id) u × PlaysAll id runs others × (lines ≡ u.lines ++ others)
+abbrev pub PlaysAll : Settings → List (List Step) → List Line → Type 0
+PlaysAll config [] lines = lines ≡ []
+PlaysAll config (steps ∷ runs) lines =
+    (u : Scene) × (others : List Line) × Plays steps (opening config) u × PlaysAll config runs others × (lines ≡ u.lines ++ others)

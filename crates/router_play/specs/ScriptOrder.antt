@@ -1,5 +1,6 @@
 -- Every script of bytes keeps the order of what is written on a connection.
 use Rattle.std.specs.Prelude.{ℕ, List}
+use Rattle.route_table.specs.Settings.{Settings}
 use Rattle.router_core.specs.Moves.{outs}
 use Rattle.router_core.specs.Laws.{KeepsOrder, NothingBeforeHeader}
 use Rattle.router_play.specs.declared.script.Step.{Step}
@@ -7,9 +8,9 @@ use Rattle.router_play.specs.Script.{Scene, opening, Plays}
 
 -- every script of bytes keeps the order
 abbrev pub PlaysKeepOrder : Type 0
-PlaysKeepOrder = (id : List ℕ) (steps : List Step) (u : Scene) → Plays steps (opening id) u → KeepsOrder u.trace
+PlaysKeepOrder = (config : Settings) (steps : List Step) (u : Scene) → Plays steps (opening config) u → KeepsOrder u.trace
 
--- in a script of bytes, whatever the peers send, the header is written first on each connection, or nothing is: the door
--- lets nothing but a header come first
+-- in a script of bytes, whatever the peers send, the router writes its header first on each connection, or nothing: the
+-- door lets nothing but a header come first
 abbrev pub PlaysBeginWithHeaders : Type 0
-PlaysBeginWithHeaders = (id : List ℕ) (steps : List Step) (u : Scene) → Plays steps (opening id) u → (c : ℕ) → NothingBeforeHeader (outs u.trace c)
+PlaysBeginWithHeaders = (config : Settings) (steps : List Step) (u : Scene) → Plays steps (opening config) u → (c : ℕ) → NothingBeforeHeader (outs u.trace c)

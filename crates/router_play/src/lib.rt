@@ -3,12 +3,13 @@
 
 mod laws;
 mod line;
+mod listening;
 mod player;
 mod script;
 mod socket;
 mod sockets;
 
-pub use laws::{connections_are_answered_alone, pieces_make_no_difference, scripts_keep_order};
+pub use laws::scripts_keep_order;
 pub use line::Line;
 pub use player::play_runs;
 pub use router_core::{Config, ConnectionId, CoreFault, PeerRole};

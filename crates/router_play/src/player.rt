@@ -12,6 +12,7 @@ ghost use Rattle.router_play.specs.declared.line.Line.{Line as ALine};
 ghost use Rattle.router_play.specs.Playing.{Follows, Said, IsRead, part_by};
 
 use crate::line::Line;
+use crate::listening::door_for;
 use crate::script::{Report, Run, Step};
 use crate::socket::{Asked, Socket};
 use crate::sockets::{Parted, add, ask_in, close, part_in, read_in};
@@ -27,8 +28,9 @@ const MOST: usize = 64;
 
 /// A script as it is played.
 #[derive(Drop)]
-struct Player {
+struct Player<'a> {
     alloc: Global,
+    config: &'a Config,
     core: Core,
     sockets: BTreeMap<u64, Socket>,
     newest: Option<u64>,
@@ -38,8 +40,8 @@ struct Player {
 /// Plays runs, one after the other, each against a router to which nothing happened: after each step all outboxes are
 /// taken, by connection. The last line tells of the book. Where memory is refused to the play itself the lines end there.
 pub fn play_runs(alloc: Global, config: Config, runs: &[Run]) -> Report
-    ensures plays { result.out_of_memory ≡ false → result.failed ≡ false → (lines : List ALine) × PlaysAll config.router_id (map (λ r. r.steps.items) runs.now) lines × (result.lines.items ≡ lines ++ book ∷ []) }
-    ensures carries { result.out_of_memory ≡ false → result.failed ≡ false → (lines : List ALine) × RunsCarry config.router_id (map (λ r. r.steps.items) runs.now) lines × (result.lines.items ≡ lines ++ book ∷ []) }
+    ensures plays { result.out_of_memory ≡ false → result.failed ≡ false → (lines : List ALine) × PlaysAll config (map (λ r. r.steps.items) runs.now) lines × (result.lines.items ≡ lines ++ book ∷ []) }
+    ensures carries { result.out_of_memory ≡ false → result.failed ≡ false → (lines : List ALine) × RunsCarry config (map (λ r. r.steps.items) runs.now) lines × (result.lines.items ≡ lines ++ book ∷ []) }
 {
     let mut lines = Vec::new(alloc);
     let mut failed = false;
@@ -83,7 +85,7 @@ fn play_run(
     run: &Run,
     lines: &mut Vec<Line>,
 ) -> Result<bool, AllocError>
-    ensures { IfOk result (λ works. works ≡ true → (u : Scene) × Plays run.now.steps.items (opening config.now.router_id) u × (lines.new.items ≡ lines.old.items ++ u.lines)) }
+    ensures { IfOk result (λ works. works ≡ true → (u : Scene) × Plays run.now.steps.items (opening config.now) u × (lines.new.items ≡ lines.old.items ++ u.lines)) }
 {
     let mut player = Player::new(alloc, config)?;
     let played = player.play(&run.steps);
@@ -121,13 +123,14 @@ fn say_book(lines: &mut Vec<Line>) -> Result<(), AllocError>
     }
 }
 
-impl Player {
+impl<'a> Player<'a> {
     /// A player before the first step.
-    fn new(alloc: Global, config: &Config) -> Result<Player, AllocError>
-        ensures follows { IfOk result (λ p. Follows p (opening config.now.router_id)) }
+    fn new(alloc: Global, config: &'a Config) -> Result<Player<'a>, AllocError>
+        ensures follows { IfOk result (λ p. Follows p (opening config.now)) }
     {
         Ok(Player {
             alloc,
+            config,
             core: Core::open(alloc, config)?,
             sockets: BTreeMap::new(alloc),
             newest: None,
@@ -241,8 +244,9 @@ impl Player {
             self.refuse()?;
             return Ok(());
         }
+        let door = door_for(self.alloc, self.config, role)?;
         self.newest = Some(conn.0);
-        add(&mut self.sockets, conn.0, Socket::new(self.alloc, role))?;
+        add(&mut self.sockets, conn.0, Socket::new(self.alloc, door))?;
         Ok(())
     }
 

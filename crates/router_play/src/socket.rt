@@ -5,7 +5,7 @@ ghost use Rattle.router_play.specs.Asking.{IsAsked};
 
 use amqp_frames::{FrameReader, Item};
 use router_core::{Door, DoorAnswer};
-use router_trace::{Peer, PeerRole};
+use router_trace::Peer;
 use std::alloc::{AllocError, Global};
 
 /// A connection of a script: its door until it passes, and the reader of its bytes.
@@ -18,12 +18,12 @@ pub struct Socket {
 }
 
 impl Socket {
-    /// A connection of which nothing has come.
-    pub fn new(alloc: Global, role: PeerRole) -> Socket
-        ensures { result ≡ new_socket role }
+    /// A connection at this door, of which nothing has come.
+    pub fn new(alloc: Global, door: Door) -> Socket
+        ensures { result ≡ new_socket door }
     {
         Socket {
-            door: Some(Door::new(role)),
+            door: Some(door),
             reader: FrameReader::new(alloc),
         }
     }
@@ -32,19 +32,15 @@ impl Socket {
     pub fn ask(&mut self, alloc: Global, item: &Item) -> Result<Asked, AllocError>
         ensures { IfOk result (λ asked. IsAsked item.now self.old self.new asked) }
     {
-        let Some(mut door) = self.door else {
+        let Some(door) = &mut self.door else {
             return Ok(Asked::Router);
         };
-        let answer = door.step(alloc, item)?;
-        self.door = Some(door);
-        match answer {
+        let role = door.role();
+        match door.step(alloc, item)? {
             DoorAnswer::Say(items) => Ok(Asked::Say(items)),
             DoorAnswer::Pass(user) => {
                 self.door = None;
-                Ok(Asked::Pass(Peer {
-                    user,
-                    role: door.role,
-                }))
+                Ok(Asked::Pass(Peer { user, role }))
             }
             DoorAnswer::End(items) => Ok(Asked::End(items)),
         }

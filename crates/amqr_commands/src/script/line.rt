@@ -1,6 +1,6 @@
 //! What one line of a script says.
 ghost use Rattle.std.specs.Prelude.{◌≡◌, ◌==◌, ◌||◌, IfOk, Some, OnErr};
-ghost use Rattle.amqr_commands.specs.Lines.{Says, saying_of, is_blank, is_comment, step_by, with_number, with_bytes};
+ghost use Rattle.amqr_commands.specs.Lines.{Says, saying_of, is_blank, is_comment, step_by, with_number, with_word, with_role, with_bytes};
 ghost use Rattle.amqr_commands.specs.Words.{cut_at, number_of, bytes_of};
 
 use crate::script::word::{bytes, cut, number};
@@ -55,7 +55,7 @@ fn read_step(alloc: Global, line: &str) -> Result<Option<Step>, AllocError>
     match cut(behind, ' ') {
         (word, None) => Ok(step_with_number(verb, word)),
         (word, Some(behind)) => match cut(behind, ' ') {
-            (pairs, None) => step_with_bytes(alloc, verb, word, pairs),
+            (third, None) => step_with_word(alloc, verb, word, third),
             (_, Some(_)) => Ok(None),
         },
     }
@@ -77,6 +77,35 @@ fn step_with_number(verb: &str, word: &str) -> Option<Step>
         "tick" => Some(Step::Tick { ms: number }),
         _ => None,
     }
+}
+
+/// The step that a verb, a number and another word say.
+fn step_with_word(
+    alloc: Global,
+    verb: &str,
+    word: &str,
+    third: &str,
+) -> Result<Option<Step>, AllocError>
+    ensures { IfOk result (λ step. step ≡ with_word verb.now (number_of word.now) third.now) }
+{
+    if verb == "up" {
+        return Ok(step_with_role(word, third));
+    }
+    step_with_bytes(alloc, verb, word, third)
+}
+
+/// The step that a connection is made in this role.
+fn step_with_role(word: &str, role: &str) -> Option<Step>
+    ensures { result ≡ with_role (number_of word.now) role.now }
+{
+    let number = number(word)?;
+    if role != "route-container" {
+        return None;
+    }
+    Some(Step::Up {
+        conn: ConnectionId(number),
+        role: PeerRole::RouteContainer,
+    })
 }
 
 /// The step that a verb, a number and bytes say.

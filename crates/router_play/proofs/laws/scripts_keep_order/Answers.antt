@@ -4,7 +4,7 @@ use Rattle.router_play.proofs.AtDoor.{header_opens}
 use Rattle.router_play.proofs.laws.scripts_keep_order.Goals as goal
 
 pub returns-clause-plays : goal.returns-clause-plays
-returns-clause-plays c = λ id steps u plays. trace_keeps_order id u.trace (play_is_trace id steps u plays)
+returns-clause-plays c = λ config steps u plays. trace_keeps_order config.router_id u.trace (play_is_trace config steps u plays)
 
 pub returns-clause-headers : goal.returns-clause-headers
 returns-clause-headers c = header_opens

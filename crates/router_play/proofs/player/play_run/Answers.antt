@@ -6,9 +6,9 @@ use Rattle.router_play.proofs.player.play_run.Goals as goal
 
 pub returns : goal.returns
 returns c = λ works.
-    let r = c.in_ok-played.ensures.follows (sym c.is_failed-works.ensures ∙ not_true c.is_failed-works.result works) (opening c.args.config.now.router_id) c.in_ok-player.ensures.follows
+    let r = c.in_ok-played.ensures.follows (sym c.is_failed-works.ensures ∙ not_true c.is_failed-works.result works) (opening c.args.config.now) c.in_ok-player.ensures.follows
     in (
       r.0,
-      subst (λ (ys : List Step). Plays ys (opening c.args.config.now.router_id) r.0) c.deref.ensures.value r.1,
+      subst (λ (ys : List Step). Plays ys (opening c.args.config.now) r.0) c.deref.ensures.value r.1,
       c.in_ok-append.ensures ∙ ap (λ ls. c.args.lines.now.items ++ ls) r.2.lines,
     )

@@ -10,5 +10,5 @@ returns-in-Ok-clause-follows c = on_ok_weaker c.send.result
     (λ h works s f ready.
     let is = c.in-Ok.ensures.batch s.trace f.core
     in subst (λ (u : Scene). Follows c.send.new.self u) (taken_scene c.args.conn c.in-Ok.batch s is)
-    (h _ (taken_follows c.args.self.now _ c.args.conn c.in-Ok.batch s f (c.in-Ok.ensures.fits s.trace f.core) is c.in-Ok.ensures.named refl refl refl)))
+    (h _ (taken_follows c.args.self.now _ c.args.conn c.in-Ok.batch s f (c.in-Ok.ensures.fits s.trace f.core) is c.in-Ok.ensures.named refl refl refl refl)))
     c.send.ensures.follows

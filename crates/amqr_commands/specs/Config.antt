@@ -1,0 +1,37 @@
+-- What the bytes of a configuration say: its sections, or its first faulty line.
+use Rattle.std.specs.Prelude.{◌≡◌, ℕ, List, None, Some, ⊤, ◌⊎◌}
+use Rattle.std.specs.Str.{IsUtf8}
+use Rattle.route_table.specs.File.{first_fault, sections}
+use Rattle.route_table.specs.Said.{settings_of}
+use Rattle.route_table.specs.Settings.{Settings}
+use Rattle.route_table.specs.declared.faults.ConfigFault.{ConfigFault}
+use Rattle.route_table.specs.declared.faults.FaultKind.{FaultKind}
+use Rattle.route_table.specs.declared.faults.FaultKind.TheVariants.{Syntax, Memory}
+use Rattle.amqr_commands.specs.Script.{IsFirstBroken}
+use Rattle.amqr_commands.specs.Words.{Text}
+use Rattle.amqr_commands.specs.declared.status.Refusal.{Refusal}
+use Rattle.amqr_commands.specs.declared.status.Refusal.TheVariants as refusal
+
+-- the text is a configuration that says this
+abbrev pub IsConfig : Text → Settings → Type 0
+IsConfig text config = IsUtf8 text × (first_fault text ≡ None) × (config ≡ settings_of (sections text))
+
+-- how a fault is told
+abbrev pub told : ℕ → FaultKind → Refusal
+told line Memory = refusal.Memory
+told line kind = refusal.Config line kind
+
+abbrev pub config_refusal : ConfigFault → Refusal
+config_refusal fault = told fault.line fault.kind
+
+-- the text is refused so: text that is no UTF-8 is a fault of syntax, and comes before any other fault
+abbrev pub IsRefused : Text → Refusal → Type 0
+IsRefused text (refusal.Config line kind) =
+    ((IsUtf8 text → ⊥) × IsFirstBroken text line × (kind ≡ Syntax)) ⊎ (IsUtf8 text × (first_fault text ≡ Some (line, kind)))
+IsRefused text refusal.Memory = ⊤
+IsRefused text _ = ⊥
+
+-- the same of an input whose bytes are this text; `file` is told where they are not read to their end
+abbrev pub IsRefusedInput : Text → Refusal → Type 0
+IsRefusedInput text refusal.File = ⊤
+IsRefusedInput text r = IsRefused text r
