@@ -5,9 +5,11 @@ use Rattle.amqp_frames.specs.declared.item.Item.{Item}
 use Rattle.router_trace.specs.declared.event.Event.{Event}
 use Rattle.router_trace.specs.declared.event.Event.TheVariants as event
 use Rattle.router_trace.specs.declared.condition.Condition.TheVariants.{ResourceLimitExceeded}
-use Rattle.router_trace.specs.Trace.{Entry, Out, did, puts, ups, step_of}
+use Rattle.router_trace.specs.Trace.{Entry, Out, Put, did, goes, each_to, puts, ups, step_of}
 use Rattle.router_trace.specs.Connection.{Connection, conn, behind, with_item, took, unless_empty, drained, standing, is_live, has, due, found, live_of, at_event}
-use Rattle.router_reply.specs.Replies.{closing_of, ends as ends_of, answer, heard, answered}
+use Rattle.router_links.specs.Windows.{windows}
+use Rattle.router_reply.specs.Replies.{closing_of, ends as ends_of, heard, own_row, replied}
+use Rattle.router_core.specs.Replies.{answered}
 use Rattle.router_core.specs.Moves.{ins, with_came}
 use Rattle.router_conns.proofs.Lists.{by_test}
 use Rattle.router_conns.proofs.Turns.{over_lives, stays}
@@ -40,15 +42,15 @@ over_put : (b : Bool) (i : Item) (v : Option Connection) → is_live v ≡ false
 over_put true i v h = over_item i v h
 over_put false i v h = h
 
-over_puts : (is : List Item) (t : List Entry) (d c : ℕ) → is_live (conn t c) ≡ false → is_live (conn (puts d is t) c) ≡ false
-over_puts [] t d c h = h
-over_puts (i ∷ is) t d c h = over_puts is (Out d i ∷ t) d c (over_put (d == c) i (conn t c) h)
+over_goes : (ps : List Put) (t : List Entry) (c : ℕ) → is_live (conn t c) ≡ false → is_live (conn (goes ps t) c) ≡ false
+over_goes [] t c h = h
+over_goes (p ∷ ps) t c h = over_goes ps (Out p.conn p.item ∷ t) c (over_put (p.conn == c) p.item (conn t c) h)
 
 over_ends : (id : List ℕ) (cs : List ℕ) (t : List Entry) (c : ℕ) → is_live (conn t c) ≡ false → is_live (conn (ends_of id cs t) c) ≡ false
 over_ends id [] t c h = h
 over_ends id (d ∷ ds) t c h =
     let items : List Item = closing_of id (conn t d) ResourceLimitExceeded
-    in over_ends id ds (puts d items t) c (over_puts items t d c h)
+    in over_ends id ds (puts d items t) c (over_goes (each_to d items) t c h)
 
 over_gone : (b : Bool) (v : Connection) (rest : List Item) → is_live (Some v) ≡ false → is_live (if b then unless_empty v rest else Some v) ≡ false
 over_gone true v [] h = refl
@@ -78,13 +80,9 @@ over_did t e c other h =
     (over_lives (has c (due t e)) (conn t c) ∙ ap (λ (b : Bool). b && not (has c (due t e))) h)
 
 pub over_answered : (id : List ℕ) (t : List Entry) (e : Event) (c : ℕ) → is_about e c ≡ false → is_live (conn t c) ≡ false → is_live (conn (answered id t (step_of e)) c) ≡ false
-over_answered id t (event.Item d i) c other h =
-    over_puts (answer id (standing (found t (event.Item d i) d.0)) i) (heard id t (step_of (event.Item d i))) d.0 c
-    (over_ends id (due t (event.Item d i)) (did (event.Item d i) ∷ t) c (over_did t (event.Item d i) c other h))
-over_answered id t (event.Down d) c other h = over_ends id (due t (event.Down d)) (did (event.Down d) ∷ t) c (over_did t (event.Down d) c other h)
-over_answered id t (event.Up d p) c other h = over_ends id (due t (event.Up d p)) (did (event.Up d p) ∷ t) c (over_did t (event.Up d p) c other h)
-over_answered id t (event.Tick ms) c other h = over_ends id (due t (event.Tick ms)) (did (event.Tick ms) ∷ t) c (over_did t (event.Tick ms) c other h)
-over_answered id t event.Start c other h = over_ends id (due t event.Start) (did event.Start ∷ t) c (over_did t event.Start c other h)
+over_answered id t e c other h =
+    over_goes (windows (replied id t (step_of e))) (replied id t (step_of e)) c
+    (over_goes (own_row id t e) (heard id t (step_of e)) c (over_ends id (due t e) (did e ∷ t) c (over_did t e c other h)))
 
 pub came_other : (e : Event) (c : ℕ) (is : List Item) → is_about e c ≡ false → with_came e c is ≡ is
 came_other (event.Item d i) c is other = rw other refl

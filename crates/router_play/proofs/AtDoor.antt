@@ -17,7 +17,7 @@ use Rattle.router_play.specs.declared.script.Step.TheVariants as step
 use Rattle.router_trace.specs.Trace.{Entry, Took, step_of}
 use Rattle.router_trace.specs.Connection.{conn, is_live}
 use Rattle.router_trace.specs.Refusing.{refuses, rises}
-use Rattle.router_reply.specs.Replies.{answered}
+use Rattle.router_core.specs.Replies.{answered}
 use Rattle.router_core.specs.Runs.{Taking, items_of, took_one}
 use Rattle.router_core.specs.Door.{Verdict, says, passes, ends, door, door_behind}
 use Rattle.router_play.specs.Script.{Scene, opening, refused, say, say_all, out_line, with_socket, with_trace, stream_of, hand, judged_by, enter_at, enter_by, enter, enter_all, Reads, BytesCome, made, make, told, lose_by, lose, Takes, is_last, close_if, take_one, take_all, Plays}
@@ -26,7 +26,8 @@ use Rattle.router_core.specs.Laws.{is_header, begins_with_header, HeaderFirst, N
 use Rattle.router_conns.proofs.Lists.{by_test}
 use Rattle.router_play.proofs.PlayMoves.{play_is_trace}
 use Rattle.router_core.proofs.OnlyHeaders.{door_header}
-use Rattle.router_core.proofs.Headed.{ins_answered, trace_keeps_order}
+use Rattle.router_core.proofs.Coming.{ins_answered}
+use Rattle.router_core.proofs.Headed.{trace_keeps_order}
 use Rattle.router_play.proofs.Alike.{Alike, alike_on, alike_same, over_took}
 use Rattle.router_play.proofs.Doored.{AtDoor, AtSocket, Doored, changed, closed, grown, hand_alike, handed, header_or_none, said}
 use Rattle.router_play.proofs.Entering.{hand_sockets, hand_last}

@@ -11,12 +11,12 @@ use Rattle.router_play.specs.declared.socket.Socket.{Socket}
 use Rattle.router_trace.specs.Trace.{Entry, step_of}
 use Rattle.router_trace.specs.Connection.{conn, is_live}
 use Rattle.router_trace.specs.Refusing.{refuses, rises}
-use Rattle.router_reply.specs.Replies.{answered}
+use Rattle.router_core.specs.Replies.{answered}
 use Rattle.router_play.specs.Script.{Scene, refused, say, say_all, with_socket, with_trace, hand}
 use Rattle.router_core.specs.Moves.{ins}
 use Rattle.router_core.specs.Laws.{is_header}
 use Rattle.router_conns.proofs.Lists.{by_test}
-use Rattle.router_core.proofs.Headed.{ins_answered}
+use Rattle.router_core.proofs.Coming.{ins_answered}
 use Rattle.router_play.proofs.Alike.{Alike, alike_same, came_other, is_about, over_answered}
 
 -- an event is handed to the router

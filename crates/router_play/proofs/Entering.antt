@@ -14,14 +14,14 @@ use Rattle.router_play.specs.declared.socket.Socket.{Socket}
 use Rattle.router_trace.specs.Trace.{Entry, step_of}
 use Rattle.router_trace.specs.Connection.{Connection, conn, is_live}
 use Rattle.router_trace.specs.Refusing.{refuses}
-use Rattle.router_reply.specs.Replies.{answered}
+use Rattle.router_core.specs.Replies.{answered}
 use Rattle.router_core.specs.Runs.{waiting_of}
 use Rattle.router_core.specs.Door.{Verdict, says, passes, ends, door, door_behind}
 use Rattle.router_play.specs.Script.{Scene, say_all, say, refused, out_line, with_socket, with_trace, hand, judged_by, enter_at, enter_by, enter, enter_all}
 use Rattle.router_core.specs.Moves.{with_came, ins, outs}
 use Rattle.router_play.specs.Carrying.{is_loss_of, was_lost, bytes_out, spelled, door_says, passed, Begins}
 use Rattle.router_conns.proofs.Lists.{by_test}
-use Rattle.router_core.proofs.Headed.{ins_answered as answered_ins}
+use Rattle.router_core.proofs.Coming.{ins_answered as answered_ins}
 use Rattle.router_play.proofs.Scenes.{back}
 use Rattle.router_play.proofs.Levels.{Level, Even, even_refl, even_trans, moves, answered_even, answered_kept, still_kept, none_of, same}
 

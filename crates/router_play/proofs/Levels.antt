@@ -9,9 +9,17 @@ use Rattle.router_trace.specs.declared.event.ConnectionId.{ConnectionId}
 use Rattle.router_trace.specs.declared.event.Peer.{Peer}
 use Rattle.router_trace.specs.declared.event.Event.{Event}
 use Rattle.router_trace.specs.declared.event.Event.TheVariants as event
-use Rattle.router_trace.specs.Trace.{Entry, Out, did, puts, ups, step_of}
+use Rattle.router_trace.specs.Trace.{Entry, Out, Put, did, goes, each_to, puts, ups, step_of}
 use Rattle.router_trace.specs.Connection.{Connection, conn, with_item, ended, took, drained, unless_empty, standing, is_live, is_item, is_ready, has, due, found, live_of, at_event}
-use Rattle.router_reply.specs.Replies.{closing_of, ends, heard, answer, answered}
+use Rattle.amqp_session.specs.Session.{Session}
+use Rattle.router_trace.specs.Sessions.{Place, place, session}
+use Rattle.router_trace.specs.Clocks.{terms, written, needs_beat}
+use Rattle.router_trace.specs.Frames.{flow_item, told_of}
+use Rattle.router_links.specs.Windows.{is_narrow, flow_due, flows_below, windows_over, windows}
+use Rattle.router_state.specs.Tables.{beat_if, beats_over, beats}
+use Rattle.router_reply.specs.Replies.{closing_of, ends, heard, answer, free_for, own_row, replied}
+use Rattle.router_after.specs.After.{followed}
+use Rattle.router_core.specs.Replies.{answered}
 use Rattle.router_core.specs.Runs.{waiting_of}
 use Rattle.router_core.specs.Moves.{outs}
 use Rattle.router_play.specs.Carrying.{is_loss_of, was_lost}
@@ -150,24 +158,100 @@ did_even t e c h =
       lives = λ l. found_lives (has c (due t e)) (conn t c) (sym (ap is_live same) ∙ l);
     }
 
-heard_even : (id : List ℕ) (t : List Entry) (e : Event) (c : ℕ) → moves e c ≡ false → Even t (heard id t (step_of e)) c
-heard_even id t e c h = even_trans t (did e ∷ t) (heard id t (step_of e)) c (did_even t e c h) (ends_even id (due t e) (did e ∷ t) c)
+-- items for connections that are known
 
-answer_even : (id : List ℕ) (u : List Entry) (d c : ℕ) (i : Item) (o : Option Connection) → (is_some o ≡ true → is_some (conn u d) ≡ true)
-    → Even u (puts d (answer id (standing o) i) u) c
-answer_even id u d c i None there = even_refl u c
-answer_even id u d c i (Some v) there = puts_even (answer id (standing (Some v)) i) u d c (there refl)
+abbrev AllKnown : List Put → List Entry → Type 0
+AllKnown [] t = Unit {0}
+AllKnown (p ∷ ps) t = (is_some (conn t p.conn) ≡ true) × AllKnown ps t
+
+known_on : (ps : List Put) (t u : List Entry) → ((k : ℕ) → is_some (conn u k) ≡ is_some (conn t k)) → AllKnown ps t → AllKnown ps u
+known_on [] t u same known = tt
+known_on (p ∷ ps) t u same known = (same p.conn ∙ known.0, known_on ps t u same known.1)
+
+goes_even : (ps : List Put) (t : List Entry) (c : ℕ) → AllKnown ps t → Even t (goes ps t) c
+goes_even [] t c known = even_refl t c
+goes_even (p ∷ ps) t c known =
+    let v : List Entry = Out p.conn p.item ∷ t
+    in even_trans t v (goes ps v) c (out_even t p.conn p.item c known.0)
+    (goes_even ps v c (known_on ps t v (λ k. (out_even t p.conn p.item k known.0).known) known.1))
+
+known_join : (ps qs : List Put) (t : List Entry) → AllKnown ps t → AllKnown qs t → AllKnown (ps ++ qs) t
+known_join [] qs t first rest = rest
+known_join (p ∷ ps) qs t first rest = (first.0, known_join ps qs t first.1 rest)
+
+-- heartbeats and flows of windows go to live connections, which are known
+live_known : (o : Option Connection) → is_live o ≡ true → is_some o ≡ true
+live_known None h = h
+live_known (Some v) h = refl
+
+beat_known : (b : Bool) (c : ℕ) (u : List Entry) → is_some (conn u c) ≡ true → AllKnown (beat_if b c) u
+beat_known true c u there = (there, tt)
+beat_known false c u there = tt
+
+beats_known : (t u : List Entry) (now : ℕ) (known : ℕ → Option Connection) → ((k : ℕ) → is_live (known k) ≡ true → is_some (conn u k) ≡ true)
+    → (ks : List ℕ) → AllKnown (beats_over t now (live_of ks known)) u
+beats_known t u now known there [] = tt
+beats_known t u now known there (k ∷ ks) =
+    by_test (is_live (known k))
+    (λ l. rw l (known_join (beat_if (needs_beat (terms t k) (written t k) now) k) (beats_over t now (live_of ks known)) u
+      (beat_known (needs_beat (terms t k) (written t k) now) k u (there k l)) (beats_known t u now known there ks)))
+    (λ l. rw l (beats_known t u now known there ks))
+
+flow_known : (c o : ℕ) (v : Option Session) (u : List Entry) → is_some (conn u c) ≡ true → AllKnown (flow_due c o v) u
+flow_known c o None u there = tt
+flow_known c o (Some h) u there = if_narrow (is_narrow h)
+  where
+    if_narrow : (b : Bool) → AllKnown (if b then record { conn = c; item = flow_item o (told_of h) } ∷ [] else []) u
+    if_narrow true = (there, tt)
+    if_narrow false = tt
+
+flows_known : (c : ℕ) (known : ℕ → Option Session) (u : List Entry) → is_some (conn u c) ≡ true → (n : ℕ) → AllKnown (flows_below c known n) u
+unfolding flows_below
+flows_known c known u there zero = tt
+flows_known c known u there (suc n) =
+    known_join (flows_below c known n) (flow_due c n (known n)) u (flows_known c known u there n) (flow_known c n (known n) u there)
+
+windows_known : (t : List Entry) (known : ℕ → Option Connection) → ((k : ℕ) → is_live (known k) ≡ true → is_some (conn t k) ≡ true)
+    → (ks : List ℕ) → AllKnown (windows_over t (live_of ks known)) t
+windows_known t known there [] = tt
+windows_known t known there (k ∷ ks) =
+    by_test (is_live (known k))
+    (λ l. rw l (known_join (flows_below k (session t k) 15) (windows_over t (live_of ks known)) t (flows_known k (session t k) t (there k l) 15) (windows_known t known there ks)))
+    (λ l. rw l (windows_known t known there ks))
+
+followed_even : (t : List Entry) (c : ℕ) → Even t (followed t) c
+followed_even t c = goes_even (windows t) t c (windows_known t (conn t) (λ k l. live_known (conn t k) l) (ups t))
+
+-- what an event's own row puts
+
+answer_even : (id : List ℕ) (u : List Entry) (d c : ℕ) (known : ℕ → Place) (free : Option ℕ) (i : Item) (o : Option Connection) → (is_some o ≡ true → is_some (conn u d) ≡ true)
+    → Even u (puts d (answer id (standing o) known free i) u) c
+answer_even id u d c known free i None there = even_refl u c
+answer_even id u d c known free i (Some v) there = puts_even (answer id (standing (Some v)) known free i) u d c (there refl)
+
+row_even : (id : List ℕ) (t : List Entry) (e : Event) (c : ℕ) → Even (heard id t (step_of e)) (replied id t (step_of e)) c
+row_even id t (event.Item d i) c =
+    answer_even id (heard id t (step_of (event.Item d i))) d.0 c (place t d.0) (free_for t d.0) i (found t (event.Item d i) d.0)
+    (λ there. (ends_even id (due t (event.Item d i)) (did (event.Item d i) ∷ t) d.0).known ∙ there)
+row_even id t (event.Up d p) c = even_refl (heard id t (step_of (event.Up d p))) c
+row_even id t (event.Down d) c = even_refl (heard id t (step_of (event.Down d))) c
+row_even id t (event.Tick ms) c =
+    let e : Event = event.Tick ms
+    in goes_even (beats t e ms) (heard id t (step_of e)) c
+    (beats_known t (heard id t (step_of e)) ms (found t e)
+      (λ k l. (ends_even id (due t e) (did e ∷ t) k).known ∙ live_known (found t e k) l) (ups t))
+row_even id t event.Start c = even_refl (heard id t (step_of event.Start)) c
 
 -- an event with its replies
+behind_even : (id : List ℕ) (t : List Entry) (e : Event) (c : ℕ) → Even (did e ∷ t) (answered id t (step_of e)) c
+behind_even id t e c =
+    let u : List Entry = heard id t (step_of e)
+    in let v : List Entry = replied id t (step_of e)
+    in even_trans (did e ∷ t) u (answered id t (step_of e)) c (ends_even id (due t e) (did e ∷ t) c)
+    (even_trans u v (answered id t (step_of e)) c (row_even id t e c) (followed_even v c))
+
 pub answered_even : (id : List ℕ) (t : List Entry) (e : Event) (c : ℕ) → moves e c ≡ false → Even t (answered id t (step_of e)) c
-answered_even id t (event.Item d i) c h =
-    let e : Event = event.Item d i
-    in even_trans t (heard id t (step_of e)) (answered id t (step_of e)) c (heard_even id t e c h)
-    (answer_even id (heard id t (step_of e)) d.0 c i (found t e d.0) (λ there. (ends_even id (due t e) (did e ∷ t) d.0).known ∙ there))
-answered_even id t (event.Up d p) c h = heard_even id t (event.Up d p) c h
-answered_even id t (event.Down d) c h = heard_even id t (event.Down d) c h
-answered_even id t (event.Tick ms) c h = heard_even id t (event.Tick ms) c h
-answered_even id t event.Start c h = heard_even id t event.Start c h
+answered_even id t e c h = even_trans t (did e ∷ t) (answered id t (step_of e)) c (did_even t e c h) (behind_even id t e c)
 
 pub same : (n : ℕ) → (n == n) ≡ true
 same n = eq-eqb n n refl
@@ -183,7 +267,7 @@ up_level id t d p none =
     in let here : (d.0 == d.0) ≡ true = same d.0
     in level_trans t (did e ∷ t) (answered id t (step_of e)) d.0
     (record { added = []; written = sym (append-nil (outs t d.0)); waits = rw here (sym (ap (λ (o : Option Connection). waiting_of o ++ []) none)) })
-    (ends_even id (due t e) (did e ∷ t) d.0).level
+    (behind_even id t e d.0).level
 
 -- a connection for which nothing waits is lost
 pub down_level : (id : List ℕ) (t : List Entry) (d : ConnectionId) → waiting_of (conn t d.0) ≡ [] → Level t (answered id t (step_of (event.Down d))) d.0
@@ -192,33 +276,29 @@ down_level id t d none =
     in let here : (d.0 == d.0) ≡ true = same d.0
     in level_trans t (did e ∷ t) (answered id t (step_of e)) d.0
     (record { added = []; written = sym (append-nil (outs t d.0)); waits = rw here (sym (ap (λ (xs : List Item). xs ++ []) none)) })
-    (ends_even id (due t e) (did e ∷ t) d.0).level
+    (behind_even id t e d.0).level
 
 pub down_dead : (id : List ℕ) (t : List Entry) (d : ConnectionId) → conn (answered id t (step_of (event.Down d))) d.0 ≡ None
 down_dead id t d =
     let e : Event = event.Down d
     in let here : (d.0 == d.0) ≡ true = same d.0
-    in none_of (conn (answered id t (step_of e)) d.0) ((ends_even id (due t e) (did e ∷ t) d.0).known ∙ (rw here refl))
+    in none_of (conn (answered id t (step_of e)) d.0) ((behind_even id t e d.0).known ∙ (rw here refl))
 
 -- the losses: those of the events
 
-puts_lost : (is : List Item) (t : List Entry) (d c : ℕ) → was_lost (puts d is t) c ≡ was_lost t c
-puts_lost [] t d c = refl
-puts_lost (i ∷ is) t d c = puts_lost is (Out d i ∷ t) d c
+goes_lost : (ps : List Put) (t : List Entry) (c : ℕ) → was_lost (goes ps t) c ≡ was_lost t c
+goes_lost [] t c = refl
+goes_lost (p ∷ ps) t c = goes_lost ps (Out p.conn p.item ∷ t) c
 
 ends_lost : (id : List ℕ) (ds : List ℕ) (t : List Entry) (c : ℕ) → was_lost (ends id ds t) c ≡ was_lost t c
 ends_lost id [] t c = refl
 ends_lost id (d ∷ ds) t c =
-    ends_lost id ds (puts d (closing_of id (conn t d) ResourceLimitExceeded) t) c ∙ puts_lost (closing_of id (conn t d) ResourceLimitExceeded) t d c
+    ends_lost id ds (puts d (closing_of id (conn t d) ResourceLimitExceeded) t) c ∙ goes_lost (each_to d (closing_of id (conn t d) ResourceLimitExceeded)) t c
 
 pub answered_lost : (id : List ℕ) (t : List Entry) (e : Event) (c : ℕ) → was_lost (answered id t (step_of e)) c ≡ (is_loss_of e c || was_lost t c)
-answered_lost id t (event.Item d i) c =
-    let e : Event = event.Item d i
-    in puts_lost (answer id (standing (found t e d.0)) i) (heard id t (step_of e)) d.0 c ∙ ends_lost id (due t e) (did e ∷ t) c
-answered_lost id t (event.Up d p) c = ends_lost id (due t (event.Up d p)) (did (event.Up d p) ∷ t) c
-answered_lost id t (event.Down d) c = ends_lost id (due t (event.Down d)) (did (event.Down d) ∷ t) c
-answered_lost id t (event.Tick ms) c = ends_lost id (due t (event.Tick ms)) (did (event.Tick ms) ∷ t) c
-answered_lost id t event.Start c = ends_lost id (due t event.Start) (did event.Start ∷ t) c
+answered_lost id t e c =
+    goes_lost (windows (replied id t (step_of e))) (replied id t (step_of e)) c
+    ∙ goes_lost (own_row id t e) (heard id t (step_of e)) c ∙ ends_lost id (due t e) (did e ∷ t) c
 
 pub answered_kept : (id : List ℕ) (t : List Entry) (e : Event) (c : ℕ) → is_loss_of e c ≡ false → was_lost (answered id t (step_of e)) c ≡ was_lost t c
 answered_kept id t e c other = answered_lost id t e c ∙ ap (λ b. b || was_lost t c) other

@@ -10,11 +10,11 @@ use Rattle.router_trace.specs.Trace.{Entry, step_of}
 use Rattle.router_trace.specs.Connection.{conn, is_live}
 use Rattle.router_trace.specs.Refusing.{reaches}
 use Rattle.router_core.specs.Runs.{waiting_of}
-use Rattle.router_reply.specs.Replies.{answered}
+use Rattle.router_core.specs.Replies.{answered}
 use Rattle.router_play.specs.Script.{Scene, say, refused, with_socket, told, lose_by}
 use Rattle.router_core.specs.Moves.{ins}
 use Rattle.router_play.specs.Carrying.{was_lost, bytes_out, door_says, passed, Begins}
-use Rattle.router_core.proofs.Headed.{ins_answered as answered_ins}
+use Rattle.router_core.proofs.Coming.{ins_answered as answered_ins}
 use Rattle.router_play.proofs.Scenes.{not_true, not_false}
 use Rattle.router_play.proofs.Levels.{down_level, down_dead, ready_waits, same}
 use Rattle.router_play.proofs.Entering.{level_balance, hand_cases, hand_sockets, hand_last, Quiet, bytes_more, Through, StandsAt, Stands, Balances, Entered, quiet_entered}

@@ -11,14 +11,14 @@ use Rattle.router_play.specs.declared.line.Line.TheVariants as line
 use Rattle.router_play.specs.declared.socket.Socket.{Socket}
 use Rattle.router_trace.specs.Trace.{Entry, Took, step_of}
 use Rattle.router_trace.specs.Connection.{Connection, conn, took, is_live}
-use Rattle.router_reply.specs.Replies.{answered}
+use Rattle.router_core.specs.Replies.{answered}
 use Rattle.router_core.specs.Runs.{Taking, waiting_of, items_of, took_one}
 use Rattle.router_core.specs.Door.{Verdict, says, passes, ends, door, door_behind}
 use Rattle.router_play.specs.Script.{Scene, say_all, say, refused, out_line, with_socket, with_trace, hand, judged_by, enter_at, enter_by, enter, enter_all, is_last, close_if, take_one, take_all}
 use Rattle.router_core.specs.Moves.{ins, outs}
 use Rattle.router_play.specs.Carrying.{was_lost, bytes_out, spelled, said_by, door_says, passed_by, passed}
 use Rattle.router_conns.proofs.Lists.{by_test}
-use Rattle.router_core.proofs.Headed.{ins_answered as answered_ins}
+use Rattle.router_core.proofs.Coming.{ins_answered as answered_ins}
 use Rattle.router_play.proofs.Scenes.{not_true, not_false}
 use Rattle.router_play.proofs.Levels.{answered_even, up_level, took_waits, took_lives, same}
 use Rattle.router_play.proofs.Entering.{bytes_more, spelled_more, own_lines, other_lines, level_balance, hand_cases, hand_sockets, hand_last, hand_kept, Quiet, quiet_refl, quiet_trans, say_quiet, socket_quiet, Through, AtDoor, StandsAt, Stands, Balances, Entered, entered_as, quiet_entered}

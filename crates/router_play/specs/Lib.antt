@@ -12,7 +12,7 @@ pub use Rattle.router_trace.specs.Order
 pub use Rattle.router_trace.specs.Frames
 pub use Rattle.router_conns.specs.Fits
 pub use Rattle.router_state.specs.Tables
-pub use Rattle.router_reply.specs.Replies
+pub use Rattle.router_core.specs.Replies
 pub use Rattle.router_core.specs.Faults
 pub use Rattle.router_core.specs.Handling
 pub use Rattle.router_core.specs.Runs

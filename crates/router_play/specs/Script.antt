@@ -18,7 +18,7 @@ use Rattle.router_play.specs.declared.script.Step.TheVariants as step
 use Rattle.router_trace.specs.Trace.{Trace, step_of}
 use Rattle.router_trace.specs.Connection.{Connection, conn, took, is_ready}
 use Rattle.router_trace.specs.Refusing.{refuses, rises}
-use Rattle.router_reply.specs.Replies.{answered}
+use Rattle.router_core.specs.Replies.{answered}
 use Rattle.router_core.specs.Runs.{Taking, IsNext, items_of, took_one}
 use Rattle.router_core.specs.Door.{Verdict, says, passes, ends, door, door_behind}
 use Rattle.router_play.specs.Listening.{door_for}
