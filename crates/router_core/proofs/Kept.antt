@@ -11,11 +11,10 @@ use Rattle.router_trace.specs.declared.condition.Condition.{Condition}
 use Rattle.router_trace.specs.declared.condition.Condition.TheVariants.{ResourceLimitExceeded}
 use Rattle.router_trace.specs.declared.event.Event.{Event}
 use Rattle.router_trace.specs.declared.event.Event.TheVariants as event
-use Rattle.router_trace.specs.Trace.{Entry, Did, Out, Put, Step, goes, puts, each_to}
+use Rattle.router_trace.specs.Trace.{Entry, Did, Out, Put, Step, goes, puts, each_to, ups}
 use Rattle.router_trace.specs.Connection.{Connection, conn, standing, found, live, due, live_of}
 use Rattle.router_trace.specs.Frames.{closing}
 use Rattle.router_trace.specs.Sessions.{Place, place, session}
-use Rattle.router_trace.specs.Trace.{ups}
 use Rattle.router_trace.specs.Clocks.{terms, written, needs_beat}
 use Rattle.router_links.specs.Windows.{is_narrow, flow_due, flows_below, windows_over, windows}
 use Rattle.router_state.specs.Tables.{beat_if, beats_over}

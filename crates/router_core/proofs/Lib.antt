@@ -1,3 +1,6 @@
 pub mod RunLemmas
 pub mod Moves
 pub mod Kept
+pub mod Untaken
+pub mod Plain
+pub mod Takes

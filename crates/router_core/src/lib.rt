@@ -10,7 +10,7 @@ mod router;
 pub use door::{Door, DoorAnswer};
 pub use driving::{Driven, Sent, drive};
 pub use fault::CoreFault;
-pub use more_laws::windows_are_kept;
+pub use more_laws::{takes_make_no_difference, windows_are_kept};
 pub use route_table::Config;
 pub use router::{Batch, Core, Done};
 pub use router_trace::{ConnectionId, Event, Peer, PeerRole};
