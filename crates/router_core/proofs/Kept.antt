@@ -1,0 +1,149 @@
+-- In every trace of the router the session's window has room before each transfer: so far none is put out.
+use Rattle.std.proofs.Common.{◌≡◌, sym, refl, subst, ℕ, zero, suc, Bool, true, false, List, [], ◌∷◌, ◌++◌}
+use Rattle.std.specs.Prelude.{Option, Some, None}
+use Rattle.amqp_perf.specs.declared.perf.Perf.{Perf}
+use Rattle.amqp_perf.specs.declared.perf.Perf.TheVariants as perf
+use Rattle.amqp_frames.specs.declared.item.Item.{Item}
+use Rattle.amqp_frames.specs.declared.item.Item.TheVariants as item
+use Rattle.amqp_conn.specs.declared.conn.Conn.{Conn}
+use Rattle.amqp_session.specs.Session.{Session}
+use Rattle.router_trace.specs.declared.condition.Condition.{Condition}
+use Rattle.router_trace.specs.declared.condition.Condition.TheVariants.{ResourceLimitExceeded}
+use Rattle.router_trace.specs.declared.event.Event.{Event}
+use Rattle.router_trace.specs.declared.event.Event.TheVariants as event
+use Rattle.router_trace.specs.Trace.{Entry, Did, Out, Put, Step, goes, puts, each_to, ups}
+use Rattle.router_trace.specs.Connection.{Connection, conn, standing, found, live, due, live_of}
+use Rattle.router_trace.specs.Frames.{closing}
+use Rattle.router_trace.specs.Sessions.{Place, place, session}
+use Rattle.router_trace.specs.Clocks.{terms, written, needs_beat}
+use Rattle.router_links.specs.Windows.{is_narrow, flow_due, flows_below, windows_over, windows}
+use Rattle.router_state.specs.Tables.{beat_if, beats_over}
+use Rattle.router_reply.specs.declared.answer.Answer.{Answer}
+use Rattle.router_reply.specs.declared.answer.Answer.TheVariants.{Nothing, Header, Open, Close, CloseWith, Begin, End, Flow}
+use Rattle.router_reply.specs.Rows.{said, item_reply}
+use Rattle.router_reply.specs.Replies.{closing_of, ends, heard, free_for, answer, own_row, replied}
+use Rattle.router_core.specs.Replies.{answered}
+use Rattle.router_core.specs.Runs.{took_one}
+use Rattle.router_core.specs.Moves.{Move, handles, takes, Goes, IsTrace}
+use Rattle.router_core.specs.Laws.{keeps_window, WindowKept}
+use Rattle.router_conns.proofs.Lists.{by_test}
+
+-- a transfer
+
+abbrev pub is_transfer_in : Perf → Bool
+is_transfer_in (perf.Transfer x) = true
+is_transfer_in _ = false
+
+abbrev pub is_transfer : Item → Bool
+is_transfer (item.Frame sasl own body payload) = is_transfer_in body
+is_transfer _ = false
+
+-- none of these items, and none of these on their way, is a transfer
+abbrev pub NoTransfer : List Item → Type 0
+NoTransfer [] = Unit {0}
+NoTransfer (i ∷ is) = (is_transfer i ≡ false) × NoTransfer is
+
+abbrev pub NonePut : List Put → Type 0
+NonePut [] = Unit {0}
+NonePut (p ∷ ps) = (is_transfer p.item ≡ false) × NonePut ps
+
+pub none_both : (ps qs : List Put) → NonePut ps → NonePut qs → NonePut (ps ++ qs)
+none_both [] qs first rest = rest
+none_both (p ∷ ps) qs first rest = (first.0, none_both ps qs first.1 rest)
+
+pub none_to : (c : ℕ) (is : List Item) → NoTransfer is → NonePut (each_to c is)
+none_to c [] none = tt
+none_to c (i ∷ is) none = (none.0, none_to c is none.1)
+
+-- what is no transfer asks nothing of a window
+
+quiet_perf : (body : Perf) (own : ℕ) (known : ℕ → Option Session) (sasl : Bool) (payload : List ℕ) → is_transfer_in body ≡ false → keeps_window (item.Frame sasl own body payload) known
+quiet_perf (perf.Transfer x) own known sasl payload h = absurd cc
+quiet_perf _ own known sasl payload h = tt
+
+pub quiet_item : (i : Item) (known : ℕ → Option Session) → is_transfer i ≡ false → keeps_window i known
+quiet_item (item.Frame sasl own body payload) known h = quiet_perf body own known sasl payload h
+quiet_item _ known h = tt
+
+pub goes_keeps : (ps : List Put) (t : List Entry) → NonePut ps → WindowKept t → WindowKept (goes ps t)
+goes_keeps [] t none kept = kept
+goes_keeps (p ∷ ps) t none kept = goes_keeps ps (Out p.conn p.item ∷ t) none.1 (quiet_item p.item (session t p.conn) none.0, kept)
+
+-- the items that the router puts
+
+none_closing : (id : List ℕ) (p : Conn) (x : Condition) → NoTransfer (closing id p x)
+none_closing id p x = by_test p.opened (λ e. rw e (refl, tt)) (λ e. rw e (refl, (refl, tt)))
+
+none_closing_of : (id : List ℕ) (v : Option Connection) (x : Condition) → NoTransfer (closing_of id v x)
+none_closing_of id None x = tt
+none_closing_of id (Some v) x = none_closing id v.phase x
+
+none_said : (id : List ℕ) (p : Conn) (a : Answer) → NoTransfer (said id p a)
+none_said id p Nothing = tt
+none_said id p Header = (refl, tt)
+none_said id p Open = (refl, tt)
+none_said id p Close = (refl, tt)
+none_said id p (CloseWith x) = none_closing id p x
+none_said id p (Begin own theirs) = (refl, tt)
+none_said id p (End own x) = (refl, tt)
+none_said id p (Flow own told) = (refl, tt)
+
+none_answer : (id : List ℕ) (p : Option Conn) (known : ℕ → Place) (free : Option ℕ) (i : Item) → NoTransfer (answer id p known free i)
+none_answer id None known free i = tt
+none_answer id (Some p) known free i = none_said id p (item_reply p known free i)
+
+none_beat : (b : Bool) (c : ℕ) → NonePut (beat_if b c)
+none_beat true c = (refl, tt)
+none_beat false c = tt
+
+none_beats : (t : List Entry) (now : ℕ) (cs : List ℕ) → NonePut (beats_over t now cs)
+none_beats t now [] = tt
+none_beats t now (c ∷ cs) = none_both (beat_if (needs_beat (terms t c) (written t c) now) c) (beats_over t now cs) (none_beat _ c) (none_beats t now cs)
+
+pub none_row : (id : List ℕ) (t : List Entry) (e : Event) → NonePut (own_row id t e)
+none_row id t (event.Item c i) = none_to c.0 _ (none_answer id (standing (found t (event.Item c i) c.0)) (place t c.0) (free_for t c.0) i)
+none_row id t (event.Down c) = tt
+none_row id t (event.Tick ms) = none_beats t ms (live_of (ups t) (found t (event.Tick ms)))
+none_row id t (event.Up c p) = tt
+none_row id t event.Start = tt
+
+none_flow : (c o : ℕ) (v : Option Session) → NonePut (flow_due c o v)
+none_flow c o None = tt
+none_flow c o (Some h) = by_test (is_narrow h) (λ e. rw e (refl, tt)) (λ e. rw e tt)
+
+none_below : (c : ℕ) (known : ℕ → Option Session) (n : ℕ) → NonePut (flows_below c known n)
+unfolding flows_below
+none_below c known zero = tt
+none_below c known (suc n) = none_both (flows_below c known n) (flow_due c n (known n)) (none_below c known n) (none_flow c n (known n))
+
+none_over : (t : List Entry) (cs : List ℕ) → NonePut (windows_over t cs)
+none_over t [] = tt
+none_over t (c ∷ cs) = none_both (flows_below c (session t c) 15) (windows_over t cs) (none_below c (session t c) 15) (none_over t cs)
+
+-- what follows an event's rows has no transfer
+pub none_window : (t : List Entry) → NonePut (windows t)
+none_window t = none_over t (live t)
+
+-- an event with all that it has put
+
+ends_keep : (id : List ℕ) (cs : List ℕ) (t : List Entry) → WindowKept t → WindowKept (ends id cs t)
+ends_keep id [] t kept = kept
+ends_keep id (c ∷ cs) t kept =
+    let items : List Item = closing_of id (conn t c) ResourceLimitExceeded
+    in ends_keep id cs (puts c items t) (goes_keeps (each_to c items) t (none_to c items (none_closing_of id (conn t c) ResourceLimitExceeded)) kept)
+
+pub answered_keeps : (id : List ℕ) (t : List Entry) (s : Step) → WindowKept t → WindowKept (answered id t s)
+answered_keeps id t s kept =
+    let behind : WindowKept (heard id t s) = ends_keep id (due t s.event) (Did s ∷ t) kept
+    in let rows : WindowKept (replied id t s) = goes_keeps (own_row id t s.event) (heard id t s) (none_row id t s.event) behind
+    in goes_keeps (windows (replied id t s)) (replied id t s) (none_window (replied id t s)) rows
+
+-- moves
+
+pub moves_keep : (id : List ℕ) (ms : List Move) (t u : List Entry) → WindowKept t → Goes id ms t u → WindowKept u
+moves_keep id [] t u kept went = subst (λ (w : List Entry). WindowKept w) (sym went) kept
+moves_keep id (handles s ∷ ms) t u kept went = moves_keep id ms (answered id t s) u (answered_keeps id t s kept) went.1
+moves_keep id (takes x ∷ ms) t u kept went = moves_keep id ms (took_one x t) u kept went
+
+pub trace_keeps_windows : (id : List ℕ) (u : List Entry) → IsTrace id u → WindowKept u
+trace_keeps_windows id u trace = moves_keep id trace.0 [] u tt trace.1
