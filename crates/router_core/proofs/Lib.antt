@@ -1,11 +1,8 @@
 pub mod RunLemmas
 pub mod Moves
-<<<<<<< HEAD
 pub mod OnlyHeaders
 pub mod Coming
-=======
 pub mod Kept
 pub mod Untaken
 pub mod Plain
 pub mod Takes
->>>>>>> takes
