@@ -1,2 +1,4 @@
-pub mod RunLemmas
+pub mod Once
+pub mod Ordered
 pub mod Moves
+pub mod RunLemmas
