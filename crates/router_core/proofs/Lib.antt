@@ -1,4 +1,5 @@
 pub mod Once
 pub mod Ordered
+pub mod Told
 pub mod Moves
 pub mod RunLemmas
