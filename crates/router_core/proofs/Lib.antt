@@ -1,5 +1,6 @@
 pub mod Once
 pub mod Ordered
 pub mod Told
+pub mod Flowing
 pub mod Moves
 pub mod RunLemmas

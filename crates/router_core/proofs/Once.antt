@@ -56,3 +56,14 @@ no_twice_push (x ∷ xs) c once absent =
     neither : (a b : Bool) → (a || b) ≡ false → (a ≡ false) × (b ≡ false)
     neither true b h = absurd cc
     neither false b h = (refl, h)
+
+-- what a list has
+pub has_first : (c : ℕ) (cs : List ℕ) → has c (c ∷ cs) ≡ true
+has_first c cs = rw (eq-eqb c c refl) refl
+
+pub has_rest : (k c : ℕ) (cs : List ℕ) → has k cs ≡ true → has k (c ∷ cs) ≡ true
+has_rest k c cs h = either_true (nat_eq c k) (has k cs) h
+  where
+    either_true : (a b : Bool) → b ≡ true → (a || b) ≡ true
+    either_true true b h = refl
+    either_true false b h = h

@@ -52,7 +52,7 @@ turns_push [] w i h k = ap (λ (b : Bool). if b then true else false) k
 turns_push (j ∷ js) w i h k =
     by_test (has_turn w j) (λ e. rw e (turns_push js (written_behind j w) i (rw e at h) k)) (λ e. absurd (true≢false (sym (rw e at h))))
 
-wrote_push : (is : List Item) (w : Written) (i : Item) → written_all (is ++ i ∷ []) w ≡ written_behind i (written_all is w)
+pub wrote_push : (is : List Item) (w : Written) (i : Item) → written_all (is ++ i ∷ []) w ≡ written_behind i (written_all is w)
 wrote_push [] w i = refl
 wrote_push (j ∷ js) w i = wrote_push js (written_behind j w) i
 
