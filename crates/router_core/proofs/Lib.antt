@@ -2,5 +2,6 @@ pub mod Once
 pub mod Ordered
 pub mod Told
 pub mod Flowing
+pub mod Order
 pub mod Moves
 pub mod RunLemmas
