@@ -4,5 +4,6 @@ pub mod Told
 pub mod Flowing
 pub mod Order
 pub mod Replied
+pub mod Headed
 pub mod Moves
 pub mod RunLemmas

@@ -4,11 +4,13 @@
 mod door;
 mod driving;
 mod fault;
+mod laws;
 mod router;
 
 pub use door::{Door, DoorAnswer};
 pub use driving::{Driven, Sent, drive};
 pub use fault::CoreFault;
+pub use laws::connections_keep_order;
 pub use route_table::Config;
 pub use router::{Batch, Core, Done};
 pub use router_trace::{ConnectionId, Event, Peer, PeerRole};

@@ -1,0 +1,13 @@
+//! What holds of every trace of the router, in the words of the protocol. The functions do nothing: their contracts are the
+//! laws.
+ghost use Rattle.router_core.specs.Laws.{TracesKeepOrder, RunsKeepOrder};
+
+/// In every trace of the router each connection is written at most one header, one open and one close, a close never
+/// without an open before it, and nothing behind the close. Heartbeats and frames of sessions stand between open and close;
+/// on each channel begin and end take turns, and the other frames of a session stand between them. Where the first item
+/// that comes is a header, the router's header is written first, and where nothing comes nothing is (AMQP 1.0 part 2,
+/// sections 2.2, 2.4 and 2.5). Lists of events have such traces.
+pub fn connections_keep_order()
+    ensures traces { TracesKeepOrder }
+    ensures runs { RunsKeepOrder }
+{}
