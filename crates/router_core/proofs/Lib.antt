@@ -5,3 +5,4 @@ pub mod Headed
 pub mod Moves
 pub mod RunLemmas
 pub mod OnlyHeaders
+pub mod WhoPasses

@@ -2,6 +2,7 @@ pub mod Faults
 pub mod Handling
 pub mod Runs
 pub mod Door
+pub mod Logins
 pub mod Moves
 pub mod Laws
 pub use Rattle.router_trace.specs.Trace
