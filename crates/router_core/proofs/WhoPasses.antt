@@ -2,7 +2,6 @@
 use Rattle.std.proofs.Common.{◌≡◌, ◌∙◌, sym, ap, refl, subst, ℕ, Bool, true, false, ◌&&◌, List, [], ◌∷◌, inl, inr, codes}
 use Rattle.std.specs.Prelude.{◌==◌, if◌then◌else◌, Option, Some, None, unwrap_or}
 use Rattle.std.proofs.lemmas.Bool.{eqb-true}
-use Rattle.amqp_perf.specs.declared.perf.Perf.{Perf}
 use Rattle.amqp_perf.specs.declared.perf.Perf.TheVariants as perf
 use Rattle.amqp_perf.specs.declared.perf.SaslInit.{SaslInit}
 use Rattle.amqp_frames.specs.declared.item.Item.{Item}
@@ -11,7 +10,7 @@ use Rattle.amqp_sasl.specs.declared.code.SaslCode.TheVariants as code
 use Rattle.amqp_sasl.specs.declared.server.SaslAnswer.{SaslAnswer}
 use Rattle.amqp_sasl.specs.declared.server.SaslAnswer.TheVariants as sasl
 use Rattle.amqp_sasl.specs.Answer.{AnswersInit, outcome_of}
-use Rattle.amqp_sasl.specs.Judging.{user_by_init, answer_to}
+use Rattle.amqp_sasl.specs.Judging.{user_by_init}
 use Rattle.amqp_sasl.specs.Login.{Logins, LogsIn}
 use Rattle.amqp_sasl.proofs.OneAnswer.{by_init, one_answer}
 use Rattle.route_table.specs.declared.sections.Listener.{Listener}
