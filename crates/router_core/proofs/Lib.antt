@@ -2,6 +2,7 @@ pub mod RunLemmas
 pub mod Moves
 pub mod Coming
 pub mod OnlyHeaders
+pub mod WhoPasses
 pub mod Once
 pub mod Ordered
 pub mod Told
