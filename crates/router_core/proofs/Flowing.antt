@@ -1,17 +1,16 @@
 -- Heartbeats and the flows of windows have their turns.
-use Rattle.std.proofs.Common.{◌≡◌, ◌∙◌, sym, ap, refl, subst, true≢false, ℕ, zero, suc, Bool, true, false, List, [], ◌∷◌, ◌++◌}
-use Rattle.std.specs.Prelude.{◌==◌, Option, Some, None, is_some, option_map, if◌then◌else◌}
+use Rattle.std.proofs.Common.{◌≡◌, ◌∙◌, sym, ap, refl, subst, true≢false, ℕ, zero, suc, true, false, List, [], ◌∷◌, ◌++◌}
+use Rattle.std.specs.Prelude.{◌==◌, Option, Some, None, is_some, if◌then◌else◌}
 use Rattle.amqp_perf.specs.declared.perf.Perf.{Perf}
 use Rattle.amqp_perf.specs.declared.perf.Perf.TheVariants as perf
 use Rattle.amqp_frames.specs.declared.item.Item.{Item}
 use Rattle.amqp_frames.specs.declared.item.Item.TheVariants as item
 use Rattle.amqp_conn.specs.declared.conn.Conn.{Conn}
 use Rattle.amqp_session.specs.declared.states.BeginState.{BeginState}
-use Rattle.amqp_session.specs.declared.states.FlowState.{FlowState}
 use Rattle.amqp_session.specs.Session.{Session}
 use Rattle.router_trace.specs.declared.terms.Terms.{Terms}
 use Rattle.router_trace.specs.Trace.{Entry, Put, Out, goes, ups}
-use Rattle.router_trace.specs.Connection.{Connection, conn, ended, behind_perf, standing, is_live, has, live}
+use Rattle.router_trace.specs.Connection.{Connection, conn, behind_perf, is_live, has, live}
 use Rattle.router_trace.specs.Frames.{flow_item, beat_item, told_of}
 use Rattle.router_trace.specs.Sessions.{session}
 use Rattle.router_trace.specs.Clocks.{terms, written, needs_beat}

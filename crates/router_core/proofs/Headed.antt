@@ -19,7 +19,7 @@ use Rattle.router_trace.specs.Frames.{header_item}
 use Rattle.router_trace.specs.Sessions.{Place, place, session}
 use Rattle.router_trace.specs.Clocks.{terms, terms_at, written, needs_beat}
 use Rattle.router_links.specs.Windows.{is_narrow, flow_due, flows_below, windows_over, windows}
-use Rattle.router_state.specs.Tables.{beat_if, beats_over, beats}
+use Rattle.router_state.specs.Tables.{beat_if, beats_over}
 use Rattle.router_reply.specs.Replies.{closing_of, ends, heard, answer, free_for, own_row, replied}
 use Rattle.router_core.specs.Replies.{answered}
 use Rattle.router_core.specs.Runs.{waiting_of, took_one}
@@ -83,9 +83,6 @@ not_due t e c h =
 without_both : (k : ℕ) (ps qs : List Put) → Without k ps → Without k qs → Without k (ps ++ qs)
 without_both k [] qs f g = g
 without_both k (p ∷ ps) qs f g = (f.0, without_both k ps qs f.1 g)
-
-not_both : (b : Bool) → b ≡ true → b ≡ false → ⊥
-not_both b f g = true≢false (sym f ∙ g)
 
 beat_without : (c k : ℕ) (needed : Bool) → ((c == k) ≡ true → needed ≡ false) → Without k (beat_if needed c)
 beat_without c k false here = tt

@@ -11,9 +11,9 @@ use Rattle.router_trace.specs.declared.event.ConnectionId.{ConnectionId}
 use Rattle.router_trace.specs.declared.event.Event.{Event}
 use Rattle.router_trace.specs.declared.event.Event.TheVariants as event
 use Rattle.router_trace.specs.Trace.{Entry, Did, Out, Took, did, ups, with_up, newer, newest, step_of}
-use Rattle.router_trace.specs.Connection.{Connection, conn, ended, took, unless_empty, drained, is_live, is_full, is_due, has, due, found, live_of, at_event, fresh}
+use Rattle.router_trace.specs.Connection.{Connection, conn, ended, took, unless_empty, drained, is_full, is_due, has, due, found, live_of, at_event, fresh}
 use Rattle.router_trace.specs.Refusing.{reaches, rises, refuses}
-use Rattle.router_trace.specs.Sessions.{session, session_at, heard_by, heard_in, maps, behind_item, theirs}
+use Rattle.router_trace.specs.Sessions.{session, session_at, heard_by, heard_in, maps, theirs}
 use Rattle.router_reply.specs.Replies.{heard}
 use Rattle.router_core.specs.Moves.{outs}
 use Rattle.router_trace.specs.Order.{unwritten}

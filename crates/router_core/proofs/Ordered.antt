@@ -1,5 +1,5 @@
 -- A trace in which each connection is written its items in their turns, and what is put in it.
-use Rattle.std.proofs.Common.{◌≡◌, ◌∙◌, sym, ap, refl, subst, true≢false, ℕ, Bool, true, false, ◌||◌, List, [], ◌∷◌, ◌++◌}
+use Rattle.std.proofs.Common.{◌≡◌, ◌∙◌, sym, ap, refl, subst, true≢false, ℕ, Bool, true, false, List, [], ◌∷◌, ◌++◌}
 use Rattle.std.specs.Prelude.{◌==◌, nat_eq, Option, Some, None, is_some, option_map, if◌then◌else◌}
 use Rattle.std.proofs.lemmas.Bool.{eqb-true, eq-eqb}
 use Rattle.amqp_perf.specs.declared.perf.Perf.{Perf}
@@ -25,7 +25,7 @@ use Rattle.router_core.specs.Moves.{outs}
 use Rattle.router_conns.proofs.Lists.{by_test}
 use Rattle.router_conns.proofs.Turns.{stays, known}
 use Rattle.router_reply.proofs.RowOrder.{open_phase, written_of, closing_turns, closing_offered, perf_is_offered, IsOffered, AreOffered}
-use Rattle.router_core.proofs.Once.{NoTwice, neither}
+use Rattle.router_core.proofs.Once.{NoTwice, neither, has_first, has_rest}
 
 -- what was written, and items behind it
 abbrev pub written_all : List Item → Written → Written
@@ -36,8 +36,9 @@ written_all (i ∷ is) w = written_all is (written_behind i w)
 abbrev pub wrote : List Entry → ℕ → Written
 wrote t c = written_all (outs t c) unwritten
 
--- the state of a trace
-
+-- The state of a trace: each connection is written its items in their turns. What was written on a live one is the phase that the
+-- trace gives, with sessions on the channels on which the trace has them. A session is begun behind an open alone. Nothing was
+-- written on a connection that never came up, and the numbers of those that came up rise.
 pub record Ordered (t : List Entry) : Type 0 where
   pub turns : (c : ℕ) → have_turns unwritten (outs t c) ≡ true
   pub phases : (c : ℕ) (v : Connection) → conn t c ≡ Some v → v.phase.closed ≡ false → (wrote t c).phase ≡ v.phase
@@ -183,6 +184,7 @@ spares_one t c k i apart = record {
   terms = rw apart refl;
 }
 
+-- items for other connections
 abbrev pub Without : ℕ → List Put → Type 0
 Without k [] = Unit {0}
 Without k (p ∷ ps) = ((p.conn == k) ≡ false) × Without k ps
@@ -226,24 +228,20 @@ some_is o v e = ap (λ (x : Option Connection). is_some x) e
 pub ends_turns : (id : List ℕ) (cs : List ℕ) (t : List Entry) → Ordered t → NoTwice cs → ((c : ℕ) → has c cs ≡ true → Pending t c) → Ordered (ends id cs t)
 ends_turns id [] t ord once pending = ord
 ends_turns id (c ∷ cs) t ord once pending =
-    let here : Pending t c = pending c (rw (eq-eqb c c refl) refl)
+    let here : Pending t c = pending c (has_first c cs)
     in let items : List Item = closing_of id (conn t c) ResourceLimitExceeded
     in ends_turns id cs (puts c items t)
     (puts_turns items t c ord (closing_pending id t c ResourceLimitExceeded here) (ends_offered id (conn t c) ResourceLimitExceeded (offered t c))
     (known t c (some_is (conn t c) here.view here.known_as)))
     once.1
     (λ k h. let apart : (c == k) ≡ false = by_test (c == k) (λ e. absurd (true≢false (sym h ∙ subst (λ (n : ℕ). has n cs ≡ false) (eqb-true c k e) once.0))) (λ e. e)
-    in let there : Pending t k = pending k (either_true (nat_eq c k) (has k cs) h)
+    in let there : Pending t k = pending k (has_rest k c cs h)
     in let same : Spares t (puts c items t) k = puts_spares items t c k apart
     in record {
       view = there.view;
       known_as = same.conn ∙ there.known_as;
       written = ap (λ js. (written_all js unwritten).phase) same.outs ∙ there.written;
     })
-  where
-    either_true : (a b : Bool) → b ≡ true → (a || b) ≡ true
-    either_true true b h = refl
-    either_true false b h = h
 
 pub ends_spares : (id : List ℕ) (cs : List ℕ) (t : List Entry) (k : ℕ) → has k cs ≡ false → Spares t (ends id cs t) k
 ends_spares id [] t k absent = spares_self t k

@@ -1,5 +1,5 @@
 -- An event's replies keep the order.
-use Rattle.std.proofs.Common.{◌≡◌, ◌∙◌, sym, ap, refl, subst, true≢false, ℕ, Bool, true, false, not, List, [], ◌∷◌, inl, inr}
+use Rattle.std.proofs.Common.{◌≡◌, ◌∙◌, sym, ap, refl, subst, true≢false, ℕ, Bool, true, false, not, List, ◌∷◌, inl, inr}
 use Rattle.std.specs.Prelude.{◌==◌, ◌⊎◌, Option, Some, None, is_some, option_map, if◌then◌else◌}
 use Rattle.std.proofs.lemmas.Bool.{eqb-true, eq-eqb}
 use Rattle.amqp_perf.specs.declared.perf.Perf.{Perf}
@@ -12,7 +12,7 @@ use Rattle.router_trace.specs.declared.terms.Terms.{Terms}
 use Rattle.router_trace.specs.declared.event.ConnectionId.{ConnectionId}
 use Rattle.router_trace.specs.declared.event.Event.{Event}
 use Rattle.router_trace.specs.declared.event.Event.TheVariants as event
-use Rattle.router_trace.specs.Trace.{Entry, did, goes, puts, ups, with_up, step_of}
+use Rattle.router_trace.specs.Trace.{Entry, did, puts, ups, with_up, step_of}
 use Rattle.router_trace.specs.Connection.{Connection, conn, ended, standing, is_live, has, due, found, live_of}
 use Rattle.router_trace.specs.Refusing.{refuses}
 use Rattle.router_trace.specs.Frames.{beat_item}
@@ -92,7 +92,7 @@ row_turns id t d i ord here heard_ord there =
     (λ k. place_fits (theirs t c k) (session t c) b begun) (free_fits t c (channel_max_of (terms t c)) b begun)
     in let spare : Spares (did e ∷ t) u c = heard_spares id t e c here.spared
     in let same : wrote u c ≡ written_of p b =
-        ap (λ js. written_all js unwritten) spare.outs ∙ ap (λ (q : Conn). written_of q b) (ord.phases c here.view here.known_as here.live)
+    ap (λ js. written_all js unwritten) spare.outs ∙ ap (λ (q : Conn). written_of q b) (ord.phases c here.view here.known_as here.live)
     in let came : offered (did e ∷ t) c ≡ asked = offered_here
     in subst (λ (s : Option Conn). Ordered (puts c (answer id s (place t c) (free_for t c) i) u)) (sym here.phase)
     (puts_turns (said id p a) u c heard_ord

@@ -1,8 +1,7 @@
 -- In a trace of the router a live connection whose peer's open came has the router's open, once the event is answered.
 use Rattle.std.proofs.Common.{◌≡◌, ◌∙◌, sym, ap, refl, subst, true≢false, ℕ, Bool, true, false, List, [], ◌∷◌}
-use Rattle.std.specs.Prelude.{◌==◌, Option, Some, None, is_some, option_map, if◌then◌else◌, length}
-use Rattle.std.proofs.lemmas.Bool.{eqb-true, eq-eqb}
-use Rattle.amqp_perf.specs.declared.perf.Open.{Open as AnOpen}
+use Rattle.std.specs.Prelude.{◌==◌, Option, Some, None, is_some, if◌then◌else◌}
+use Rattle.std.proofs.lemmas.Bool.{eq-eqb}
 use Rattle.amqp_perf.specs.declared.perf.Perf.{Perf}
 use Rattle.amqp_perf.specs.declared.perf.Perf.TheVariants as perf
 use Rattle.amqp_frames.specs.declared.item.Item.{Item}
@@ -12,8 +11,8 @@ use Rattle.router_trace.specs.declared.condition.Condition.{Condition}
 use Rattle.router_trace.specs.declared.condition.Condition.TheVariants.{ResourceLimitExceeded}
 use Rattle.router_trace.specs.declared.terms.Terms.{Terms}
 use Rattle.router_trace.specs.Trace.{Entry, Put, Out, goes, puts, each_to, ups}
-use Rattle.router_trace.specs.Connection.{Connection, conn, behind, behind_perf, with_item, has}
-use Rattle.router_trace.specs.Frames.{open_item, close_item, closing}
+use Rattle.router_trace.specs.Connection.{Connection, conn, behind, behind_perf, has}
+use Rattle.router_trace.specs.Frames.{open_item, close_item}
 use Rattle.router_trace.specs.Sessions.{unless_close, unless_close_in}
 use Rattle.router_trace.specs.Clocks.{terms}
 use Rattle.router_reply.specs.declared.answer.Answer.{Answer}

@@ -25,7 +25,7 @@ use Rattle.router_trace.specs.Sessions.{Place, nowhere, ending, on, on_session, 
 use Rattle.router_conns.proofs.Lists.{by_test}
 use Rattle.router_reply.specs.declared.answer.Answer.{Answer}
 use Rattle.router_reply.specs.declared.answer.Answer.TheVariants.{Nothing, Header, Open, Close, CloseWith, Begin, End, Flow}
-use Rattle.router_reply.specs.Rows.{said, header_reply, open_by, open_reply, begin_by, begin_reply, end_reply, unattached_handle_reply, echo, session_flow_reply, flow_by, flow_reply, attach_reply, disposition_reply, beat_reply, in_turn, turn_by, perf_reply, item_reply}
+use Rattle.router_reply.specs.Rows.{said, header_reply, open_by, open_reply, begin_by, begin_reply, end_reply, unattached_handle_reply, echo, flow_by, flow_reply, attach_reply, disposition_reply, in_turn, turn_by, perf_reply, item_reply}
 
 -- a live phase
 abbrev pub open_phase : Bool → Bool → Conn
@@ -136,10 +136,6 @@ unfolding free_channel
 free_fits t c max b same = find_fits max (session t c) b same channels
 
 -- each row's answer fits
-
-if_fits : (q : Bool) (p : Conn) (b : ℕ → Bool) (asked : Option BeginState) (x y : Answer) → AnswerFits p b asked x → AnswerFits p b asked y → AnswerFits p b asked (if q then x else y)
-if_fits true p b asked x y f g = f
-if_fits false p b asked x y f g = g
 
 header_fits : (h o : Bool) (b : ℕ → Bool) (asked : Option BeginState) → AnswerFits (open_phase h o) b asked (header_reply (open_phase h o))
 header_fits true o b asked = tt
