@@ -9,8 +9,10 @@ ghost use Rattle.amqr_commands.specs.Running.{Plays, PlaysInput, PlaysSteps, end
 
 use crate::config::config_of;
 use crate::script::{ScriptFault, read_script};
-use amqr_files::{InputFault, MOST_BYTES, Refusal, Status, Task};
-use amqr_files::{format_disk, list, list_journal, print_lines, read_whole, read_words, refuse};
+use amqr_files::{
+    InputFault, MOST_BYTES, Refusal, Status, Task, format_disk, list, list_journal, print_lines,
+    read_whole, read_words, refuse,
+};
 use clap::Error;
 use clap::error::ErrorKind;
 use disk_core::{DiskFault, FileDisk};
