@@ -1,6 +1,8 @@
 -- What the bytes of a configuration say: its sections, or its first faulty line.
 use Rattle.std.specs.Prelude.{◌≡◌, ℕ, None, Some, ⊤, ◌⊎◌}
 use Rattle.std.specs.Str.{IsUtf8}
+use Rattle.amqr_files.specs.declared.status.Refusal.{Refusal}
+use Rattle.amqr_files.specs.declared.status.Refusal.TheVariants as refusal
 use Rattle.route_table.specs.File.{first_fault, sections}
 use Rattle.route_table.specs.Said.{settings_of}
 use Rattle.route_table.specs.Settings.{Settings}
@@ -9,8 +11,6 @@ use Rattle.route_table.specs.declared.faults.FaultKind.{FaultKind}
 use Rattle.route_table.specs.declared.faults.FaultKind.TheVariants.{Syntax, Memory}
 use Rattle.amqr_commands.specs.Script.{IsFirstBroken}
 use Rattle.amqr_commands.specs.Words.{Text}
-use Rattle.amqr_commands.specs.declared.status.Refusal.{Refusal}
-use Rattle.amqr_commands.specs.declared.status.Refusal.TheVariants as refusal
 
 -- the text is a configuration that says this
 abbrev pub IsConfig : Text → Settings → Type 0

@@ -1,10 +1,6 @@
 pub mod Words
 pub mod Lines
 pub mod Cut
-pub mod Print
 pub mod Script
 pub mod Config
 pub mod Running
-pub mod Status
-pub mod Listing
-pub mod Journals

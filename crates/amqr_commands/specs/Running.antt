@@ -1,43 +1,18 @@
--- What the program writes, and how it ends.
-use Rattle.std.specs.Prelude.{◌≡◌, ℕ, Bool, true, false, ◌||◌, if◌then◌else◌, List, [], ◌∷◌, ◌++◌, Option, Some, None, IfSome, ⊤, ◌⊎◌}
+-- What a play writes, and how it ends.
+use Rattle.std.specs.Prelude.{◌≡◌, ℕ, ◌||◌, if◌then◌else◌, List, [], ◌∷◌, ◌++◌, Option, Some, None, IfSome, ⊤, ◌⊎◌}
 use Rattle.std.specs.Io.KnownBytes.{Appends}
-use Rattle.std.specs.List.{list_any}
+use Rattle.amqr_files.specs.Print.{Refuses, printed}
+use Rattle.amqr_files.specs.declared.status.Status.{Status}
+use Rattle.amqr_files.specs.declared.status.Status.TheVariants.{Done, BadInput, BadWords, Failed}
+use Rattle.amqr_files.specs.declared.status.Refusal.TheVariants as refusal
 use Rattle.route_table.specs.Settings.{Settings}
 use Rattle.router_play.specs.Printing.{line_text}
 use Rattle.router_play.specs.Script.{PlaysAll, book}
 use Rattle.router_play.specs.declared.line.Line.{Line}
 use Rattle.router_play.specs.declared.script.Report.{Report}
 use Rattle.router_play.specs.declared.script.Step.{Step}
-use Rattle.amqr_commands.specs.Listing.{IsListing, text_of}
-use Rattle.amqr_commands.specs.Print.{printed}
 use Rattle.amqr_commands.specs.Script.{HasSteps, IsFaulty}
-use Rattle.amqr_commands.specs.Status.{refusal_text}
-use Rattle.amqr_commands.specs.declared.listing.ListingLine.{ListingLine}
-use Rattle.amqr_commands.specs.declared.listing.ListingLine.TheVariants as line
 use Rattle.amqr_commands.specs.declared.script.ScriptFault.TheVariants as fault
-use Rattle.amqr_commands.specs.declared.status.Status.{Status}
-use Rattle.amqr_commands.specs.declared.status.Status.TheVariants.{Done, BadInput, BadWords, Failed}
-use Rattle.amqr_commands.specs.declared.status.Refusal.{Refusal}
-use Rattle.amqr_commands.specs.declared.status.Refusal.TheVariants as refusal
-
--- a writer that held these bytes, where they are known, now holds one line more: why nothing is done
-abbrev pub Refuses : Refusal → Option (List ℕ) → Option (List ℕ) → Type 0
-Refuses r old new = IfSome (printed (λ x. Some (refusal_text x)) (r ∷ [])) (Appends old new)
-
-abbrev pub is_bad : ListingLine → Bool
-is_bad (line.Bad fault) = true
-is_bad _ = false
-
--- the listing of the stream was written, and it tells bytes that begin no item, or not
-abbrev pub WritesListing : Bool → List ℕ → Option (List ℕ) → Option (List ℕ) → Type 0
-WritesListing bad stream old new = (lines : List ListingLine) × IsListing stream lines × (list_any is_bad lines ≡ bad) × IfSome (printed (λ x. Some (text_of x)) lines) (Appends old new)
-
--- what was written, by how the listing of a stream ends
-abbrev pub Lists : List ℕ → Status → Option (List ℕ) → Option (List ℕ) → Type 0
-Lists stream Done old new = WritesListing false stream old new
-Lists stream BadInput old new = WritesListing true stream old new
-Lists stream BadWords old new = ⊥
-Lists stream Failed old new = Refuses refusal.Memory old new
 
 -- how a report says that a play ended
 abbrev pub end_of : Report → Status

@@ -3,7 +3,7 @@ ghost use Rattle.std.specs.Prelude.{◌≡◌, IfOk, IfErr};
 ghost use Rattle.amqr_commands.specs.Config.{IsConfig, IsRefused, config_refusal};
 
 use crate::script::line_at;
-use crate::status::Refusal;
+use amqr_files::Refusal;
 use route_table::{Config, ConfigFault, FaultKind, read_config};
 use std::alloc::Global;
 use std::str;

@@ -1,21 +1,18 @@
 //! The program, over any files, reader and writers.
 ghost use Rattle.std.specs.Prelude.{◌≡◌, ◌<◌, false, Some, length, IfOk, IfErr, OnOk, IfSome};
-ghost use Rattle.std.specs.List.{list_any};
 ghost use Rattle.std.specs.Io.KnownBytes.{Appends};
+ghost use Rattle.amqr_files.specs.Print.{printed};
 ghost use Rattle.route_table.specs.Settings.{standard};
 ghost use Rattle.router_play.specs.Printing.{line_text};
 ghost use Rattle.amqr_commands.specs.Config.{IsConfig, IsRefusedInput};
-ghost use Rattle.amqr_commands.specs.Print.{printed};
-ghost use Rattle.amqr_commands.specs.Running.{Lists, Plays, PlaysInput, PlaysSteps, end_of, is_bad};
+ghost use Rattle.amqr_commands.specs.Running.{Plays, PlaysInput, PlaysSteps, end_of};
 
 use crate::config::config_of;
-use crate::input::{InputFault, MOST_BYTES, read_whole};
-use crate::journal::{format_disk, list_journal};
-use crate::listing::{ListingLine, list_stream};
-use crate::print::{print_lines, refuse};
 use crate::script::{ScriptFault, read_script};
-use crate::status::{Refusal, Status};
-use crate::words::{Task, read_words};
+use amqr_files::{
+    InputFault, MOST_BYTES, Refusal, Status, Task, format_disk, list, list_journal, print_lines,
+    read_whole, read_words, refuse,
+};
 use clap::Error;
 use clap::error::ErrorKind;
 use disk_core::{DiskFault, FileDisk};
@@ -86,29 +83,6 @@ fn frames<I: Read, O: Write>(alloc: Global, input: &mut I, output: &mut O) -> io
         Err(InputFault::Unread) => refuse(output, Refusal::File),
         Err(InputFault::Memory) => refuse(output, Refusal::Memory),
     }
-}
-
-/// Writes the listing of a stream.
-pub fn list<O: Write>(alloc: Global, stream: &[u8], output: &mut O) -> io::Result<Status>
-    ensures { IfOk result (λ status. Lists stream.now status (O.contents output.old) (O.contents output.new)) }
-{
-    let Ok(lines) = list_stream(alloc, stream) else {
-        return refuse(output, Refusal::Memory);
-    };
-    print_lines(output, lines.as_slice())?;
-    if has_bad(lines.as_slice()) {
-        return Ok(Status::BadInput);
-    }
-    Ok(Status::Done)
-}
-
-/// Whether a listing tells bytes that begin no item.
-fn has_bad(lines: &[ListingLine]) -> bool
-    ensures { result ≡ list_any is_bad lines.now }
-{
-    lines
-        .iter()
-        .any(|line| matches!(line, ListingLine::Bad { .. }))
 }
 
 /// Makes a journal on the disk over a file.

@@ -3,10 +3,10 @@ use Rattle.std.specs.Prelude.{ℕ, List, ◌++◌, codes, decimal}
 use Rattle.disk_core.specs.declared.fault.DiskFault.{DiskFault}
 use Rattle.disk_core.specs.declared.fault.DiskFault.TheVariants as disk
 use Rattle.route_table.specs.FaultNumbers.{fault_number}
-use Rattle.amqr_commands.specs.declared.status.Status.{Status}
-use Rattle.amqr_commands.specs.declared.status.Status.TheVariants as status
-use Rattle.amqr_commands.specs.declared.status.Refusal.{Refusal}
-use Rattle.amqr_commands.specs.declared.status.Refusal.TheVariants as refusal
+use Rattle.amqr_files.specs.declared.status.Status.{Status}
+use Rattle.amqr_files.specs.declared.status.Status.TheVariants as status
+use Rattle.amqr_files.specs.declared.status.Refusal.{Refusal}
+use Rattle.amqr_files.specs.declared.status.Refusal.TheVariants as refusal
 
 -- the number that the process ends with
 abbrev pub code_of : Status → ℕ

@@ -2,8 +2,8 @@ use Rattle.std.proofs.Common.{rules, ◌≡◌, ◌+◌, ◌∷◌, [], ◌++◌
 use Rattle.std.specs.Io.KnownBytes.{Appends}
 use Rattle.std.specs.Fmt.{with_newline}
 use Rattle.std.proofs.lemmas.List.{take_more}
-use Rattle.amqr_commands.proofs.Streaming.{printed_nothing, printed_more}
-use Rattle.amqr_commands.proofs.print.print_lines.Goals as goal
+use Rattle.amqr_files.proofs.Streaming.{printed_nothing, printed_more}
+use Rattle.amqr_files.proofs.print.print_lines.Goals as goal
 
 pub loop-line-init : goal.loop-line-init
 loop-line-init g c = printed_nothing g.L.Display.output (g.W.Write.contents c.args.output.now)

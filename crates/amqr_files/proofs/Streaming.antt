@@ -2,7 +2,7 @@
 use Rattle.std.proofs.Common.{◌≡◌, ℕ, List, [], ◌∷◌, ◌++◌, refl, sym, ap, ◌∙◌, append_assoc, append-nil, Option, Some, None, IfSome}
 use Rattle.std.specs.Fmt.{option_append, with_newline}
 use Rattle.std.specs.Io.KnownBytes.{Consumes, Keeps, Appends}
-use Rattle.amqr_commands.specs.Print.{printed}
+use Rattle.amqr_files.specs.Print.{printed}
 
 -- two reads
 pub consumes_both : (a b c : Option (List ℕ)) (xs ys : List ℕ) → Consumes a b xs → Consumes b c ys → Consumes a c (xs ++ ys)

@@ -1,7 +1,7 @@
 //! The words on journals: the lines of a journal, and the making of one.
 ghost use Rattle.std.specs.Prelude.{◌≡◌, ◌≢◌, ◌<◌, ◌++◌, ◌∷◌, [], map, IfOk, IfErr, IsErrOf, OnOk};
 ghost use Rattle.disk_core.specs.Disk.{NoMore};
-ghost use Rattle.amqr_commands.specs.Journals.{kind_name, act_line, end_line, IsJournal, IsNotListed, IsNotMade, IsMade, ListsJournal, Formats};
+ghost use Rattle.amqr_files.specs.Journals.{kind_name, act_line, end_line, IsJournal, IsNotListed, IsNotMade, IsMade, ListsJournal, Formats};
 
 use crate::print::{print_lines, refuse};
 use crate::status::{Refusal, Status};
@@ -37,7 +37,7 @@ pub enum JournalLine {
 
 impl Display for JournalLine {
     ghost use Rattle.std.specs.Prelude.{Some};
-    ghost use Rattle.amqr_commands.specs.Journals.{journal_text};
+    ghost use Rattle.amqr_files.specs.Journals.{journal_text};
 
     ghost output = { λ line. Some (journal_text line) };
 

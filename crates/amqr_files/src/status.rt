@@ -1,6 +1,6 @@
 //! How the program ends.
 ghost use Rattle.std.specs.Prelude.{◌≡◌, Some};
-ghost use Rattle.amqr_commands.specs.Status.{code_of, status_of, refusal_of};
+ghost use Rattle.amqr_files.specs.Status.{code_of, status_of, refusal_of};
 
 use disk_core::DiskFault;
 use route_table::FaultKind;
@@ -67,7 +67,7 @@ pub enum Refusal {
 
 impl Display for Refusal {
     ghost use Rattle.std.specs.Prelude.{Some};
-    ghost use Rattle.amqr_commands.specs.Status.{refusal_text};
+    ghost use Rattle.amqr_files.specs.Status.{refusal_text};
 
     ghost output = { λ refusal. Some (refusal_text refusal) };
 

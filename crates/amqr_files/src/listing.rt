@@ -1,11 +1,15 @@
 //! The list of what a stream of bytes is: a line for each item, and one for the rest.
 ghost use Rattle.std.specs.Prelude.{◌≡◌, ◌++◌, ◌+◌, ◌∷◌, [], length, IfOk, OnOk};
-ghost use Rattle.amqr_commands.specs.Listing.{IsListing, line_of, lines_of_items, descriptor_of};
+ghost use Rattle.std.specs.List.{list_any};
+ghost use Rattle.amqr_files.specs.Listing.{IsListing, Lists, is_bad, line_of, lines_of_items, descriptor_of};
 
+use crate::print::{print_lines, refuse};
+use crate::status::{Refusal, Status};
 use amqp_frames::{FrameFault, FrameReader, Item};
 use amqp_perf::{Descriptor, Perf};
 use std::alloc::{AllocError, Global};
-use std::fmt::{self, Display, Formatter, Write};
+use std::fmt::{self, Display, Formatter};
+use std::io::{self, Write};
 
 /// So many bytes are read at a time.
 const PIECE: usize = 16_384;
@@ -51,11 +55,11 @@ pub enum ListingLine {
 
 impl Display for ListingLine {
     ghost use Rattle.std.specs.Prelude.{Some};
-    ghost use Rattle.amqr_commands.specs.Listing.{text_of};
+    ghost use Rattle.amqr_files.specs.Listing.{text_of};
 
     ghost output = { λ line. Some (text_of line) };
 
-    fn fmt<W: Write>(&self, f: &mut Formatter<W>) -> fmt::Result {
+    fn fmt<W: fmt::Write>(&self, f: &mut Formatter<W>) -> fmt::Result {
         match self {
             ListingLine::Header { id } => write!(f, "header {id}"),
             ListingLine::Beat { channel } => write!(f, "beat {channel}"),
@@ -77,9 +81,36 @@ impl Display for ListingLine {
     }
 }
 
+/// Writes the listing of a stream.
+///
+/// # Errors
+///
+/// An error of the output, which could not be written.
+pub fn list<O: Write>(alloc: Global, stream: &[u8], output: &mut O) -> io::Result<Status>
+    ensures { IfOk result (λ status. Lists stream.now status (O.contents output.old) (O.contents output.new)) }
+{
+    let Ok(lines) = list_stream(alloc, stream) else {
+        return refuse(output, Refusal::Memory);
+    };
+    print_lines(output, lines.as_slice())?;
+    if has_bad(lines.as_slice()) {
+        return Ok(Status::BadInput);
+    }
+    Ok(Status::Done)
+}
+
+/// Whether a listing tells bytes that begin no item.
+fn has_bad(lines: &[ListingLine]) -> bool
+    ensures { result ≡ list_any is_bad lines.now }
+{
+    lines
+        .iter()
+        .any(|line| matches!(line, ListingLine::Bad { .. }))
+}
+
 /// The listing of a stream: its items, the last of which may say that what follows begins none, and the number of
 /// bytes behind them.
-pub fn list_stream(alloc: Global, stream: &[u8]) -> Result<Vec<ListingLine>, AllocError>
+fn list_stream(alloc: Global, stream: &[u8]) -> Result<Vec<ListingLine>, AllocError>
     ensures { IfOk result (λ lines. IsListing stream.now lines.items) }
 {
     let mut reader = FrameReader::new(alloc);

@@ -1,6 +1,8 @@
 -- The listing of a stream: a line for each item, and one for the rest.
-use Rattle.std.specs.Prelude.{◌≡◌, ℕ, Bool, true, if◌then◌else◌, List, [], ◌∷◌, ◌++◌, map, length, codes, decimal}
+use Rattle.std.specs.Prelude.{◌≡◌, ℕ, Bool, true, false, if◌then◌else◌, List, [], ◌∷◌, ◌++◌, map, length, codes, decimal, Option, Some, IfSome}
 use Rattle.std.specs.Fmt.{digits}
+use Rattle.std.specs.Io.KnownBytes.{Appends}
+use Rattle.std.specs.List.{list_any}
 use Rattle.amqp_frames.specs.Contract.{fault_number}
 use Rattle.amqp_frames.specs.Cuts.{Cuts}
 use Rattle.amqp_frames.specs.declared.item.Item.{Item}
@@ -10,8 +12,12 @@ use Rattle.amqp_perf.specs.declared.descriptor.Descriptor.TheVariants as is
 use Rattle.amqp_perf.specs.declared.perf.Perf.{Perf}
 use Rattle.amqp_perf.specs.declared.perf.Perf.TheVariants as perf
 use Rattle.amqp_perf.specs.Descriptors.{code_of}
-use Rattle.amqr_commands.specs.declared.listing.ListingLine.{ListingLine}
-use Rattle.amqr_commands.specs.declared.listing.ListingLine.TheVariants.{Header, Beat, Frame, Sasl, Bad, Rest}
+use Rattle.amqr_files.specs.Print.{Refuses, printed}
+use Rattle.amqr_files.specs.declared.listing.ListingLine.{ListingLine}
+use Rattle.amqr_files.specs.declared.listing.ListingLine.TheVariants.{Header, Beat, Frame, Sasl, Bad, Rest}
+use Rattle.amqr_files.specs.declared.status.Status.{Status}
+use Rattle.amqr_files.specs.declared.status.Status.TheVariants.{Done, BadInput, BadWords, Failed}
+use Rattle.amqr_files.specs.declared.status.Refusal.TheVariants as refusal
 
 -- the descriptor of a performative or a SASL body
 abbrev pub descriptor_of : Perf → Descriptor
@@ -52,3 +58,18 @@ text_of (Frame channel d payload) = codes "frame " ++ (decimal channel ++ (codes
 text_of (Sasl d) = codes "sasl " ++ digits 16 true (code_of d)
 text_of (Bad fault) = codes "bad " ++ decimal fault
 text_of (Rest bytes) = codes "rest " ++ decimal bytes
+
+abbrev pub is_bad : ListingLine → Bool
+is_bad (Bad fault) = true
+is_bad _ = false
+
+-- the listing of the stream was written, and it tells bytes that begin no item, or not
+abbrev pub WritesListing : Bool → List ℕ → Option (List ℕ) → Option (List ℕ) → Type 0
+WritesListing bad stream old new = (lines : List ListingLine) × IsListing stream lines × (list_any is_bad lines ≡ bad) × IfSome (printed (λ x. Some (text_of x)) lines) (Appends old new)
+
+-- what was written, by how the listing of a stream ends
+abbrev pub Lists : List ℕ → Status → Option (List ℕ) → Option (List ℕ) → Type 0
+Lists stream Done old new = WritesListing false stream old new
+Lists stream BadInput old new = WritesListing true stream old new
+Lists stream BadWords old new = ⊥
+Lists stream Failed old new = Refuses refusal.Memory old new

@@ -11,15 +11,14 @@ use Rattle.gate_journal.specs.Listed.{IsListed}
 use Rattle.gate_journal.specs.Opening.{Explains}
 use Rattle.gate_journal.specs.declared.fault.OpenFault.TheVariants as opening
 use Rattle.gate_journal.specs.declared.listing.Entry.{Entry}
-use Rattle.amqr_commands.specs.Print.{printed}
-use Rattle.amqr_commands.specs.Running.{Refuses}
-use Rattle.amqr_commands.specs.Status.{status_of}
-use Rattle.amqr_commands.specs.declared.journal.JournalLine.{JournalLine}
-use Rattle.amqr_commands.specs.declared.journal.JournalLine.TheVariants.{Act, End}
-use Rattle.amqr_commands.specs.declared.status.Status.{Status}
-use Rattle.amqr_commands.specs.declared.status.Status.TheVariants.{Done}
-use Rattle.amqr_commands.specs.declared.status.Refusal.{Refusal}
-use Rattle.amqr_commands.specs.declared.status.Refusal.TheVariants as refusal
+use Rattle.amqr_files.specs.Print.{Refuses, printed}
+use Rattle.amqr_files.specs.Status.{status_of}
+use Rattle.amqr_files.specs.declared.journal.JournalLine.{JournalLine}
+use Rattle.amqr_files.specs.declared.journal.JournalLine.TheVariants.{Act, End}
+use Rattle.amqr_files.specs.declared.status.Status.{Status}
+use Rattle.amqr_files.specs.declared.status.Status.TheVariants.{Done}
+use Rattle.amqr_files.specs.declared.status.Refusal.{Refusal}
+use Rattle.amqr_files.specs.declared.status.Refusal.TheVariants as refusal
 
 -- the name of an act's kind
 abbrev pub kind_name : ActKind → List ℕ

@@ -7,9 +7,9 @@ use Rattle.amqp_frames.proofs.Fronts.{wrong_stays}
 use Rattle.amqp_frames.proofs.Steps.{front_nothing}
 use Rattle.amqp_frames.proofs.Streams.{cuts_append, leads_stays}
 use Rattle.amqp_frames.specs.declared.item.Item.{Item}
-use Rattle.amqr_commands.specs.Listing.{IsListing, line_of, lines_of_items}
-use Rattle.amqr_commands.specs.declared.listing.ListingLine.{ListingLine}
-use Rattle.amqr_commands.specs.declared.listing.ListingLine.TheVariants.{Rest}
+use Rattle.amqr_files.specs.Listing.{IsListing, line_of, lines_of_items}
+use Rattle.amqr_files.specs.declared.listing.ListingLine.{ListingLine}
+use Rattle.amqr_files.specs.declared.listing.ListingLine.TheVariants.{Rest}
 
 -- of this stream all but the bytes behind were read; a reader keeps these bytes, and these lines were made
 abbrev pub ListedSoFar : List ℕ → List ℕ → Bool → List ℕ → List ListingLine → Type 0

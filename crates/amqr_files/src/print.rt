@@ -1,9 +1,8 @@
 //! Lines of output.
 ghost use Rattle.std.specs.Prelude.{◌≡◌, OnOk, IfOk, IfSome};
 ghost use Rattle.std.specs.Io.KnownBytes.{Appends};
-ghost use Rattle.amqr_commands.specs.Print.{printed};
-ghost use Rattle.amqr_commands.specs.Running.{Refuses};
-ghost use Rattle.amqr_commands.specs.Status.{status_of};
+ghost use Rattle.amqr_files.specs.Print.{Refuses, printed};
+ghost use Rattle.amqr_files.specs.Status.{status_of};
 
 use crate::status::{Refusal, Status};
 use std::fmt::Display;

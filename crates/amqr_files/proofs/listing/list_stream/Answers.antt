@@ -1,7 +1,7 @@
 use Rattle.std.proofs.Common.{rules, ◌≡◌, ◌++◌, true, false}
-use Rattle.amqr_commands.specs.Listing.{lines_of_items}
-use Rattle.amqr_commands.proofs.Listings.{listed_by, listed_failed, listed_more, awake_if_ok}
-use Rattle.amqr_commands.proofs.listing.list_stream.Goals as goal
+use Rattle.amqr_files.specs.Listing.{lines_of_items}
+use Rattle.amqr_files.proofs.Listings.{listed_by, listed_failed, listed_more, awake_if_ok}
+use Rattle.amqr_files.proofs.listing.list_stream.Goals as goal
 
 pub returns-in-Err-Failed : goal.returns-in-Err-Failed
 returns-in-Err-Failed c =

@@ -1,0 +1,4 @@
+pub mod Print
+pub mod Status
+pub mod Listing
+pub mod Journals
