@@ -14,3 +14,5 @@ mod Making
 mod Bringing
 mod Losing
 mod Carried
+mod Plainly
+mod Streaming
