@@ -16,3 +16,4 @@ mod Losing
 mod Carried
 mod Plainly
 mod Streaming
+mod Joining
