@@ -17,3 +17,5 @@ mod Carried
 mod Plainly
 mod Streaming
 mod Joining
+mod Calming
+mod Shadows
