@@ -19,3 +19,4 @@ mod Streaming
 mod Joining
 mod Calming
 mod Shadows
+mod Shadowing
