@@ -97,7 +97,7 @@ moved_waits (step.Tick ms) p waits = tell_waits (event.Tick ms) p waits
 
 -- Joined steps do what they did.
 
-same_id : (c d : ConnectionId) → c.0 ≡ d.0 → c ≡ d
+pub same_id : (c d : ConnectionId) → c.0 ≡ d.0 → c ≡ d
 same_id c d e = λ j. record { 0 = e j }
 
 front_course : (c : ConnectionId) (bytes : List ℕ) (xs : List Step) (p : Course) → course (in_front c bytes xs) p ≡ course xs (bytes_come c bytes p)

@@ -20,3 +20,4 @@ mod Joining
 mod Calming
 mod Shadows
 mod Shadowing
+mod Pieces

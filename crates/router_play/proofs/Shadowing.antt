@@ -26,7 +26,7 @@ use Rattle.router_conns.proofs.Lists.{by_test}
 use Rattle.router_play.proofs.Scenes.{back}
 use Rattle.router_play.proofs.Levels.{Even, even_refl, moves, took_lives, same}
 use Rattle.router_play.proofs.Entering.{hand_sockets, hand_last}
-use Rattle.router_play.proofs.Passing.{last_none}
+use Rattle.router_play.proofs.Passing.{last_none, took_unknown}
 use Rattle.router_play.proofs.PlayMoves.{Onward, take_all_onward, plays_onward}
 use Rattle.router_play.proofs.Calming.{calm_before}
 use Rattle.router_play.proofs.Plainly.{Spot, Course, with_spot, with_stream, flowing, tell, come_all, come, come_at, come_by, kept, stream_at, take_in, bytes_by, bytes_come, made_by, told_at, lost_by, moved_by, course, tell_spots}
@@ -212,5 +212,83 @@ takes_shadows (step.Tick ms) s p u is calm h =
 
 -- takes
 
-took_conn : (t : List Entry) (d n c : ℕ) → (conn (Took d n ∷ t) c ≡ option_and_then (took n) (conn t c)) → conn t c ≡ None → conn (Took d n ∷ t) c ≡ None
-took_conn t d n c is none = is ∙ ap (λ (o : Option Connection). option_and_then (took n) o) none
+took_live : (t : List Entry) (d n c : ℕ) → is_live (conn (Took d n ∷ t) c) ≡ true → is_live (conn t c) ≡ true
+took_live t d n c l = by_test (d == c) (λ e. took_lives n (conn t c) (rw e at l)) (λ e. rw e at l)
+
+shades_took : (t : List Entry) (d n c : ℕ) (a : Option Socket) (b : Option Spot) → Shades t c a b → Shades (Took d n ∷ t) c a b
+shades_took t d n c None None h = tt
+shades_took t d n c None (Some q) h = (h.0, back (is_live (conn (Took d n ∷ t) c)) (is_live (conn t c)) (took_live t d n c) h.1)
+shades_took t d n c (Some k) None h = h
+shades_took t d n c (Some k) (Some q) h = (h.0, h.1, by_door k.door h.2)
+  where
+    by_door : (o : Option DoorState) → Unknown t c o → Unknown (Took d n ∷ t) c o
+    by_door None h = tt
+    by_door (Some dd) h = took_unknown t d n c h
+
+-- with its last item a connection is closed, which the router knew, and of which nothing is known any more
+shades_last : (t : List Entry) (d n : ℕ) (a : Option Socket) (b : Option Spot) → is_last n (conn t d) ≡ true → Shades t d a b → Shades (Took d n ∷ t) d None b
+shades_last t d n a b last h = by_both a b h
+  where
+    gone : conn (Took d n ∷ t) d ≡ None
+    gone = let here : (d == d) ≡ true = same d in rw here (last_none n (conn t d) last).1
+
+    past : (o : Option DoorState) → Unknown t d o → o ≡ None
+    past None h = refl
+    past (Some dd) h = absurd (true≢false (sym (last_none n (conn t d) last).0 ∙ ap (λ (o : Option Connection). is_some o) h))
+
+    by_both : (a : Option Socket) (b : Option Spot) → Shades t d a b → Shades (Took d n ∷ t) d None b
+    by_both None None h = tt
+    by_both None (Some q) h = (h.0, ap is_live gone)
+    by_both (Some k) None h = tt
+    by_both (Some k) (Some q) h = (h.0 ∙ past k.door h.2, ap is_live gone)
+
+take_shadows : (x : Taking) (s : Scene) (p : Course) → Shadows s p → Shadows (take_one x s) p
+take_shadows x s p h = by_end (is_last (length (items_of x s.trace)) (conn s.trace x.conn.0)) refl
+  where
+    by_end : (b : Bool) → is_last (length (items_of x s.trace)) (conn s.trace x.conn.0) ≡ b
+        → Shadows (close_if b x.conn (say_all (map (out_line x.conn) (items_of x s.trace)) (with_trace (took_one x s.trace) s))) p
+    by_end false is = record {
+      kin = record { id = h.kin.id; config = h.kin.config; last = h.kin.last; trace = h.kin.trace };
+      spots = λ c. shades_took s.trace x.conn.0 (length (items_of x s.trace)) c (s.sockets c) (p.spots c) (h.spots c);
+      unmade = λ c r. ((h.unmade c r).0, took_unknown s.trace x.conn.0 (length (items_of x s.trace)) c (h.unmade c r).1);
+    }
+    by_end true is = record {
+      kin = record { id = h.kin.id; config = h.kin.config; last = h.kin.last; trace = h.kin.trace };
+      spots = λ c. by_test (x.conn.0 == c)
+          (λ e. rw e (subst (λ (m : ℕ). Shades (took_one x s.trace) m None (p.spots m)) (eqb-true x.conn.0 c e)
+            (shades_last s.trace x.conn.0 (length (items_of x s.trace)) (s.sockets x.conn.0) (p.spots x.conn.0) is (h.spots x.conn.0))))
+          (λ e. rw e (shades_took s.trace x.conn.0 (length (items_of x s.trace)) c (s.sockets c) (p.spots c) (h.spots c)));
+      unmade = λ c r. (
+        by_test (x.conn.0 == c) (λ e. rw e refl) (λ e. rw e (h.unmade c r).0),
+        took_unknown s.trace x.conn.0 (length (items_of x s.trace)) c (h.unmade c r).1,
+      );
+    }
+
+take_all_shadows : (xs : List Taking) (s : Scene) (p : Course) → Shadows s p → Shadows (take_all xs s) p
+take_all_shadows [] s p h = h
+take_all_shadows (x ∷ xs) s p h = take_all_shadows xs (take_one x s) p (take_shadows x s p h)
+
+-- a script
+
+plays_shadows : (xs : List Step) (s : Scene) (p : Course) (u : Scene) → Plays xs s u → Calm u.trace → Shadows s p → Shadows u (course xs p)
+plays_shadows [] s p u plays calm h = subst (λ (w : Scene). Shadows w p) (sym plays) h
+plays_shadows (x ∷ xs) s p u plays calm h =
+    let mid : Scene = plays.0
+    in let next : Scene = plays.1
+    in let emptied : Onward mid next = subst (λ (v : Scene). Onward mid v) (sym plays.3.scene) (take_all_onward plays.3.takes mid)
+    in let calm_next : Calm next.trace = calm_before next u (plays_onward xs next u plays.4) calm
+    in let stepped : Shadows mid (moved_by x p) = takes_shadows x s p mid plays.2 (calm_before mid next emptied calm_next) h
+    in plays_shadows xs next (moved_by x p) u plays.4 calm
+    (subst (λ (w : Scene). Shadows w (moved_by x p)) (sym plays.3.scene) (take_all_shadows plays.3.takes mid (moved_by x p) stepped))
+
+-- from the opening on
+
+abbrev pub first : Settings → Course
+first config = record { id = config.router_id; config = config; trace = []; last = None; spots = λ c. None }
+
+pub play_course : (config : Settings) (xs : List Step) (u : Scene) → Plays xs (opening config) u → Calm u.trace → untaken u.trace ≡ (course xs (first config)).trace
+play_course config xs u plays calm = (plays_shadows xs (opening config) (first config) u plays calm (record {
+  kin = record { id = refl; config = refl; last = refl; trace = refl };
+  spots = λ c. tt;
+  unmade = λ c r. (refl, refl);
+})).kin.trace
