@@ -185,7 +185,7 @@ by_mechanism users mechanisms init None e = nobody users mechanisms init e
 by_mechanism users mechanisms init (Some Anonymous) e = by_anonymous users mechanisms init e (codes "anonymous") refl
 by_mechanism users mechanisms init (Some Plain) e = by_response users mechanisms init e init.initial_response refl
 
-by_init : (server : Logins) (init : SaslInit) → AnswersInit server init (outcome_of (user_by_init server init))
+pub by_init : (server : Logins) (init : SaslInit) → AnswersInit server init (outcome_of (user_by_init server init))
 by_init server init = by_mechanism server.users server.mechanisms init (first_named server.mechanisms init.mechanism) refl
 
 -- and it is the only one

@@ -1,5 +1,5 @@
 -- What the bytes of a configuration say: its sections, or its first faulty line.
-use Rattle.std.specs.Prelude.{◌≡◌, ℕ, List, None, Some, ⊤, ◌⊎◌}
+use Rattle.std.specs.Prelude.{◌≡◌, ℕ, None, Some, ⊤, ◌⊎◌}
 use Rattle.std.specs.Str.{IsUtf8}
 use Rattle.route_table.specs.File.{first_fault, sections}
 use Rattle.route_table.specs.Said.{settings_of}

@@ -98,11 +98,15 @@ fn play<'a>(alloc: Global) -> Result<Command<'a>, AllocError> {
         .long("config")
         .value_name("FILE")
         .action(ArgAction::Set)
-        .help("A file of the router's configuration; without it the router is R1 and has no sections");
+        .help(
+            "A file of the router's configuration; without it the router is R1 and has no sections",
+        );
     let script = Arg::new(alloc, "SCRIPT")
         .required(true)
         .action(ArgAction::Set)
-        .help("A file of lines: up N, up N route-container, in N HEX, down N, tick MS, blank lines and # comments");
+        .help(
+            "A file of lines: up N, up N route-container, in N HEX, down N, tick MS, blank lines and # comments",
+        );
     Command::new(alloc, "play")
         .about("Plays a script against a router in memory, and prints what the router sends")
         .arg(config)?

@@ -83,11 +83,7 @@ impl Clocks {
         ensures { OnOk result ((t : List Entry) → ClocksFit self.old t → ClocksFit self.new (did (event.Item conn item.now) ∷ t)) }
     {
         match item {
-            Item::Frame {
-                sasl,
-                perf,
-                ..
-            } => {
+            Item::Frame { sasl, perf, .. } => {
                 if !*sasl {
                     self.hear_perf(conn, perf)?;
                 }

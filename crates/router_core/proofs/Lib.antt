@@ -1,7 +1,15 @@
 pub mod RunLemmas
 pub mod Moves
-pub mod OnlyHeaders
 pub mod Coming
+pub mod OnlyHeaders
+pub mod WhoPasses
+pub mod Once
+pub mod Ordered
+pub mod Told
+pub mod Flowing
+pub mod Order
+pub mod Replied
+pub mod Headed
 pub mod Kept
 pub mod Untaken
 pub mod Plain

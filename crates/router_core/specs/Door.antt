@@ -1,5 +1,5 @@
 -- Headers and logins before a connection is up (AMQP 1.0 part 2, section 2.2, and part 5, section 5.3).
-use Rattle.std.specs.Prelude.{ℕ, Bool, true, false, ◌==◌, ◌&&◌, if◌then◌else◌, List, [], ◌∷◌, Some, None, map, codes}
+use Rattle.std.specs.Prelude.{ℕ, Bool, true, ◌==◌, ◌&&◌, if◌then◌else◌, List, [], ◌∷◌, Some, None, map, codes}
 use Rattle.amqp_perf.specs.declared.perf.Perf.{Perf}
 use Rattle.amqp_perf.specs.declared.perf.Perf.TheVariants as perf
 use Rattle.amqp_frames.specs.declared.item.Item.{Item}
@@ -14,6 +14,7 @@ use Rattle.amqp_sasl.specs.declared.user.User.{User}
 use Rattle.amqp_sasl.specs.Codes.{number_of}
 use Rattle.amqp_sasl.specs.Names.{name_of}
 use Rattle.amqp_sasl.specs.Judging.{answer_to}
+use Rattle.amqp_sasl.specs.Login.{Logins}
 use Rattle.route_table.specs.declared.sections.Listener.{Listener}
 use Rattle.route_table.specs.declared.sections.Mechanism.{Mechanism as Word}
 use Rattle.route_table.specs.declared.sections.Mechanism.TheVariants as word
@@ -135,9 +136,12 @@ abbrev pub role_of : Role → PeerRole
 role_of role.Normal = peer.Normal
 role_of role.RouteContainer = peer.RouteContainer
 
+abbrev pub logins_of : Settings → Listener → Logins
+logins_of config listener = record { users = map user_of config.users; mechanisms = map mechanism_of listener.mechanisms }
+
 abbrev pub door_of : Settings → Listener → Door
 door_of config listener = record {
-  server = record { users = map user_of config.users; mechanisms = map mechanism_of listener.mechanisms };
+  server = logins_of config listener;
   authenticate_peer = listener.authenticate_peer;
   role = role_of listener.role;
   stage = stage.Header;

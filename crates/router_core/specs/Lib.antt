@@ -3,6 +3,7 @@ pub mod Handling
 pub mod Replies
 pub mod Runs
 pub mod Door
+pub mod Logins
 pub mod Moves
 pub mod Laws
 pub use Rattle.router_trace.specs.Trace

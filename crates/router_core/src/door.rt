@@ -118,7 +118,9 @@ impl Door {
             (
                 Stage::Init,
                 Item::Frame {
-                    sasl: true, perf, ..
+                    sasl: true,
+                    perf,
+                    ..
                 },
             ) => told(alloc, self.server.step(alloc, perf)?),
             (

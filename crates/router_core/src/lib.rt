@@ -4,13 +4,15 @@
 mod door;
 mod driving;
 mod fault;
-mod more_laws;
+mod laws;
+mod logins;
 mod router;
 
 pub use door::{Door, DoorAnswer};
 pub use driving::{Driven, Sent, drive};
 pub use fault::CoreFault;
-pub use more_laws::{takes_make_no_difference, windows_are_kept};
+pub use laws::{connections_keep_order, takes_make_no_difference, windows_are_kept};
+pub use logins::only_proved_users_pass;
 pub use route_table::Config;
 pub use router::{Batch, Core, Done};
 pub use router_trace::{ConnectionId, Event, Peer, PeerRole};

@@ -1,12 +1,11 @@
 -- Where no window is narrow, no flow is due.
-use Rattle.std.proofs.Common.{◌≡◌, ◌∙◌, ◌+◌, ◌<◌, ◌≤◌, ℕ, zero, suc, Bool, true, false, refl, ap, List, [], ◌∷◌, ◌++◌, subst, sym, arith}
+use Rattle.std.proofs.Common.{◌≡◌, ◌+◌, ◌<◌, ◌≤◌, ℕ, zero, suc, false, refl, List, [], ◌∷◌, ◌++◌, subst, sym, arith}
 use Rattle.std.proofs.lemmas.List.{append_assoc}
-use Rattle.std.specs.Prelude.{Option, Some, None, if◌then◌else◌, option_map}
-use Rattle.amqp_session.specs.Figures.{window_of}
+use Rattle.std.specs.Prelude.{Option, Some, None}
 use Rattle.amqp_session.specs.Session.{Session}
 use Rattle.router_trace.specs.Trace.{Entry, Put}
 use Rattle.router_trace.specs.Sessions.{session}
-use Rattle.router_links.specs.Windows.{is_narrow, flow_due, flows_below, windows_over, is_narrow_window}
+use Rattle.router_links.specs.Windows.{flow_due, flows_below, windows_over, is_narrow_window}
 use Rattle.router_links.specs.Fits.{window_by}
 
 none_due : (c : ℕ) (o : ℕ) (v : Option Session) → is_narrow_window (window_by v) ≡ false → flow_due c o v ≡ []

@@ -8,7 +8,7 @@ use Rattle.amqp_perf.specs.declared.perf.Perf.{Perf}
 use Rattle.amqp_perf.specs.declared.perf.Perf.TheVariants as perf
 use Rattle.amqp_session.specs.declared.states.BeginState.{BeginState}
 use Rattle.amqp_session.specs.declared.window.Window.{Window}
-use Rattle.amqp_session.specs.Figures.{window_of, begun, behind_their_flow, behind_their_transfer, behind_our_flow, behind_our_transfer}
+use Rattle.amqp_session.specs.Figures.{window_of, begun, behind_their_flow, behind_their_transfer}
 use Rattle.amqp_session.specs.Session.{Session}
 use Rattle.router_trace.specs.declared.channel.PeerChannel.{PeerChannel}
 use Rattle.router_links.specs.declared.sessions.Sessions.{Sessions}
@@ -17,7 +17,7 @@ use Rattle.router_links.specs.declared.place.Place.{Place as Found}
 use Rattle.router_links.specs.declared.place.Place.TheVariants as found
 use Rattle.router_trace.specs.Trace.{Trace}
 use Rattle.router_links.specs.Windows.{is_narrow_window}
-use Rattle.router_trace.specs.Sessions.{Place, nowhere, ending, on, begin_state, flow_state, maps, offered, answered_channel, theirs, session}
+use Rattle.router_trace.specs.Sessions.{Place, nowhere, ending, on, begin_state, flow_state, offered, answered_channel, theirs, session}
 
 -- what a table of sessions knows of a connection, where it knows anything
 abbrev pub offered_in : Option Sessions → Option BeginState

@@ -1,6 +1,5 @@
 -- The flows that tell windows anew (AMQP 1.0 part 2, section 2.5.6).
 use Rattle.std.specs.Prelude.{ℕ, zero, suc, Bool, false, nat_le, if◌then◌else◌, List, [], ◌∷◌, ◌++◌, Option, Some, None}
-use Rattle.amqp_session.specs.declared.states.FlowState.{FlowState}
 use Rattle.amqp_session.specs.declared.window.Window.{Window}
 use Rattle.amqp_session.specs.Session.{Session, allowance}
 use Rattle.router_trace.specs.declared.channel.PeerChannel.{PeerChannel}

@@ -20,7 +20,12 @@ use std::alloc::{AllocError, Global};
 use std::collections::BTreeMap;
 
 /// A performative came on a connection. Tells whether the window of its session is narrow.
-pub fn hear(rows: &mut BTreeMap<u64, Sessions>, conn: ConnectionId, channel: u16, perf: &Perf) -> bool
+pub fn hear(
+    rows: &mut BTreeMap<u64, Sessions>,
+    conn: ConnectionId,
+    channel: u16,
+    perf: &Perf,
+) -> bool
     ensures fits { (t : List Entry) (payload : List ℕ) → (if is_begin perf.now then is_some (get nat_cmp rows.old conn.0) else true) ≡ true → RowsFit (get nat_cmp rows.old) t
         → RowsFit (get nat_cmp rows.new) (did (event.Item conn (item.Frame false channel perf.now payload)) ∷ t) }
     ensures others { (c o : ℕ) → (conn.0 == c) ≡ false → window_in (get nat_cmp rows.new c) o ≡ window_in (get nat_cmp rows.old c) o }
@@ -35,7 +40,12 @@ pub fn hear(rows: &mut BTreeMap<u64, Sessions>, conn: ConnectionId, channel: u16
 }
 
 /// The router begins a session. Tells whether its window is narrow.
-pub fn begin(rows: &mut BTreeMap<u64, Sessions>, conn: u64, own: u16, begin: &Begin) -> Result<bool, AllocError>
+pub fn begin(
+    rows: &mut BTreeMap<u64, Sessions>,
+    conn: u64,
+    own: u16,
+    begin: &Begin,
+) -> Result<bool, AllocError>
     ensures fits { OnOk result ((t : List Entry) (sasl : Bool) (payload : List ℕ) → RowsFit (get nat_cmp rows.old) t
         → RowsFit (get nat_cmp rows.new) (Out conn (item.Frame sasl own (perf.Begin begin.now) payload) ∷ t)) }
     ensures others { OnOk result ((c o : ℕ) → (conn == c) ≡ false → window_in (get nat_cmp rows.new c) o ≡ window_in (get nat_cmp rows.old c) o) }

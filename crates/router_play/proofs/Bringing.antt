@@ -54,8 +54,8 @@ pub keeps_failed : (rest : List ℕ) (ended : Bool) (new : List ℕ) (o : Option
 keeps_failed rest ended new None over h = tt
 keeps_failed rest ended new (Some k) over h = (h.0 ∙ over, λ e. absurd (true≢false e))
 
-opened_failed : (gate : DoorState) (s : Scene) (c : ℕ) (stream bytes : List ℕ) (h : Opened gate s c stream) → h.ended ≡ true → Opened gate (say refused s) c (stream ++ bytes)
-opened_failed gate s c stream bytes h over =
+opened_failed : (start : DoorState) (s : Scene) (c : ℕ) (stream bytes : List ℕ) (h : Opened start s c stream) → h.ended ≡ true → Opened start (say refused s) c (stream ++ bytes)
+opened_failed start s c stream bytes h over =
     let q : Quiet s (say refused s) c = refused_quiet s c
     in let cut : Cuts true stream h.items h.rest = subst (λ (b : Bool). Cuts b stream h.items h.rest) over h.cut
     in record {
@@ -64,13 +64,13 @@ opened_failed gate s c stream bytes h over =
       rest = h.rest ++ bytes;
       cut = wrong_more stream h.items h.rest bytes cut;
       reader = keeps_failed h.rest h.ended (h.rest ++ bytes) (s.sockets c) over h.reader;
-      entered = quiet_entered s (say refused s) c (λ m. door_says gate (h.items ++ m)) (λ m. passed gate (h.items ++ m)) q h.entered;
+      entered = quiet_entered s (say refused s) c (λ m. door_says start (h.items ++ m)) (λ m. passed start (h.items ++ m)) q h.entered;
       reached = h.reached;
       kept = h.kept;
     }
 
-opened_closed : (gate : DoorState) (s : Scene) (c : ℕ) (stream bytes : List ℕ) → s.sockets c ≡ None → Opened gate s c stream → Opened gate (say refused s) c (stream ++ bytes)
-opened_closed gate s c stream bytes closed h =
+opened_closed : (start : DoorState) (s : Scene) (c : ℕ) (stream bytes : List ℕ) → s.sockets c ≡ None → Opened start s c stream → Opened start (say refused s) c (stream ++ bytes)
+opened_closed start s c stream bytes closed h =
     let q : Quiet s (say refused s) c = refused_quiet s c
     in let k = further h.ended stream h.items h.rest bytes h.cut
     in record {
@@ -79,23 +79,23 @@ opened_closed gate s c stream bytes closed h =
       rest = k.2;
       cut = k.3;
       reader = subst (λ (o : Option Socket). Keeps k.2 k.0 o) (sym closed) tt;
-      entered = quiet_entered s (say refused s) c (λ m. door_says gate ((h.items ++ k.1) ++ m)) (λ m. passed gate ((h.items ++ k.1) ++ m)) q
-          (closed_entered s c (λ m. door_says gate (h.items ++ m)) (λ m. passed gate (h.items ++ m)) (λ m. door_says gate ((h.items ++ k.1) ++ m)) (λ m. passed gate ((h.items ++ k.1) ++ m))
-          (λ m. k.1 ++ m) (λ m. ap (λ xs. door_says gate xs) (append_assoc h.items k.1 m)) (λ m. ap (λ xs. passed gate xs) (append_assoc h.items k.1 m)) closed h.entered);
+      entered = quiet_entered s (say refused s) c (λ m. door_says start ((h.items ++ k.1) ++ m)) (λ m. passed start ((h.items ++ k.1) ++ m)) q
+          (closed_entered s c (λ m. door_says start (h.items ++ m)) (λ m. passed start (h.items ++ m)) (λ m. door_says start ((h.items ++ k.1) ++ m)) (λ m. passed start ((h.items ++ k.1) ++ m))
+          (λ m. k.1 ++ m) (λ m. ap (λ xs. door_says start xs) (append_assoc h.items k.1 m)) (λ m. ap (λ xs. passed start xs) (append_assoc h.items k.1 m)) closed h.entered);
       reached = h.reached;
       kept = h.kept;
     }
 
-opened_read : (gate : DoorState) (d : ConnectionId) (s : Scene) (stream bytes : List ℕ) (k : Socket) (e : Bool) (js : List Item) (r : List ℕ) → (h : Opened gate s d.0 stream) → s.sockets d.0 ≡ Some k → k.reader.failed ≡ false
-    → Cuts e (k.reader.rest ++ bytes) js r → Opened gate (enter_all d js (with_socket d (Some (stream_of k r e)) s)) d.0 (stream ++ bytes)
-opened_read gate d s stream bytes k e js r h is works cut =
+opened_read : (start : DoorState) (d : ConnectionId) (s : Scene) (stream bytes : List ℕ) (k : Socket) (e : Bool) (js : List Item) (r : List ℕ) → (h : Opened start s d.0 stream) → s.sockets d.0 ≡ Some k → k.reader.failed ≡ false
+    → Cuts e (k.reader.rest ++ bytes) js r → Opened start (enter_all d js (with_socket d (Some (stream_of k r e)) s)) d.0 (stream ++ bytes)
+opened_read start d s stream bytes k e js r h is works cut =
     let here : (d.0 == d.0) ≡ true = same d.0
     in let kept : Keeps h.rest h.ended (Some k) = subst (λ (o : Option Socket). Keeps h.rest h.ended o) is h.reader
     in let goes : h.ended ≡ false = sym kept.0 ∙ works
     in let before : Cuts false stream h.items h.rest = subst (λ (b : Bool). Cuts b stream h.items h.rest) goes h.cut
     in let read : Scene = with_socket d (Some (stream_of k r e)) s
-    in let D : List Item → List Item = λ m. door_says gate (h.items ++ m)
-    in let P : List Item → List Item = λ m. passed gate (h.items ++ m)
+    in let D : List Item → List Item = λ m. door_says start (h.items ++ m)
+    in let P : List Item → List Item = λ m. passed start (h.items ++ m)
     in let stand : Stands h.entered.said s.trace d.0 D P (Some k) = subst (λ (o : Option Socket). Stands h.entered.said s.trace d.0 D P o) is h.entered.stands
     in record {
       ended = e;
@@ -103,21 +103,21 @@ opened_read gate d s stream bytes k e js r h is works cut =
       rest = r;
       cut = cuts_append e stream h.items h.rest bytes js r before.0 (subst (λ (bs : List ℕ). Cuts e (bs ++ bytes) js r) (kept.1 goes) cut);
       reader = enter_all_keeps r e d js read (rw here (refl, λ _. refl));
-      entered = entered_as (enter_all d js read) d.0 (λ m. D (js ++ m)) (λ m. P (js ++ m)) (λ m. door_says gate ((h.items ++ js) ++ m)) (λ m. passed gate ((h.items ++ js) ++ m))
-          (λ m. ap (λ xs. door_says gate xs) (append_assoc h.items js m)) (λ m. ap (λ xs. passed gate xs) (append_assoc h.items js m))
+      entered = entered_as (enter_all d js read) d.0 (λ m. D (js ++ m)) (λ m. P (js ++ m)) (λ m. door_says start ((h.items ++ js) ++ m)) (λ m. passed start ((h.items ++ js) ++ m))
+          (λ m. ap (λ xs. door_says start xs) (append_assoc h.items js m)) (λ m. ap (λ xs. passed start xs) (append_assoc h.items js m))
           (enter_all_own d js read D P (record { said = h.entered.said; balance = h.entered.balance; stands = rw here stand }));
       reached = ap (λ (o : Option ℕ). reaches d.0 o) (enter_all_last d js read) ∙ h.reached;
       kept = enter_all_kept d js read d.0 ∙ h.kept;
     }
 
-pub opened_bytes : (gate : DoorState) (d : ConnectionId) (bytes : List ℕ) (s u : Scene) (stream : List ℕ) → Opened gate s d.0 stream → (o : Option Socket) → s.sockets d.0 ≡ o → BytesCome d bytes s o u
-    → Opened gate u d.0 (stream ++ bytes)
-opened_bytes gate d bytes s u stream h None is come = subst (λ (w : Scene). Opened gate w d.0 (stream ++ bytes)) (sym come) (opened_closed gate s d.0 stream bytes is h)
-opened_bytes gate d bytes s u stream h (Some k) is come = by_reader k.reader.failed refl come
+pub opened_bytes : (start : DoorState) (d : ConnectionId) (bytes : List ℕ) (s u : Scene) (stream : List ℕ) → Opened start s d.0 stream → (o : Option Socket) → s.sockets d.0 ≡ o → BytesCome d bytes s o u
+    → Opened start u d.0 (stream ++ bytes)
+opened_bytes start d bytes s u stream h None is come = subst (λ (w : Scene). Opened start w d.0 (stream ++ bytes)) (sym come) (opened_closed start s d.0 stream bytes is h)
+opened_bytes start d bytes s u stream h (Some k) is come = by_reader k.reader.failed refl come
   where
-    by_reader : (b : Bool) → k.reader.failed ≡ b → Reads d bytes s k b u → Opened gate u d.0 (stream ++ bytes)
+    by_reader : (b : Bool) → k.reader.failed ≡ b → Reads d bytes s k b u → Opened start u d.0 (stream ++ bytes)
     by_reader true failed come =
         let kept : Keeps h.rest h.ended (Some k) = subst (λ (o : Option Socket). Keeps h.rest h.ended o) is h.reader
-        in subst (λ (w : Scene). Opened gate w d.0 (stream ++ bytes)) (sym come) (opened_failed gate s d.0 stream bytes h (sym kept.0 ∙ failed))
+        in subst (λ (w : Scene). Opened start w d.0 (stream ++ bytes)) (sym come) (opened_failed start s d.0 stream bytes h (sym kept.0 ∙ failed))
     by_reader false works come =
-        subst (λ (w : Scene). Opened gate w d.0 (stream ++ bytes)) (sym come.4) (opened_read gate d s stream bytes k come.0 come.1 come.2 h is works come.3)
+        subst (λ (w : Scene). Opened start w d.0 (stream ++ bytes)) (sym come.4) (opened_read start d s stream bytes k come.0 come.1 come.2 h is works come.3)

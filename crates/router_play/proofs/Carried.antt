@@ -26,66 +26,66 @@ use Rattle.router_play.proofs.Stages.{Lost, Opened, Unmade, bytes_quiet, closed_
 behind_flush : (s u : Scene) → Flushes s u → u.last ≡ s.last
 behind_flush s u f = ap (λ (w : Scene). w.last) f.scene ∙ take_all_last f.takes s
 
-play_lost : (gate : DoorState) (xs : List Step) (s u : Scene) (c : ℕ) (stream : List ℕ) → Flushed s → Lost gate s c stream → Plays xs s u → Carries gate stream u.trace u.lines c
-play_lost gate [] s u c stream f h plays =
-    subst (λ (w : Scene). Carries gate stream w.trace w.lines c) (sym plays)
-    (carries_at gate stream s c (λ m. door_says gate h.items) (λ m. passed gate h.items) h.ended h.items h.rest f h.cut refl refl h.until h.entered)
-play_lost gate (step.Up d role ∷ xs) s u c stream f h plays =
-    play_lost gate xs plays.1 u c stream plays.3.empty (lost_flushed gate plays.0 plays.1 c stream plays.3
-    (subst (λ (w : Scene). Lost gate w c stream) (sym plays.2) (by_test (rises d.0 s.last)
-    (λ r. rw r (made_lost gate d role s c stream (new_number d c s.last r h.reached) r h))
-    (λ r. rw r (lost_quiet gate s (say refused s) c stream (refused_quiet s c) h))))) plays.4
-play_lost gate (step.In d bytes ∷ xs) s u c stream f h plays =
-    play_lost gate xs plays.1 u c stream plays.3.empty
-    (lost_flushed gate plays.0 plays.1 c stream plays.3 (lost_quiet gate s plays.0 c stream (closed_in d bytes s plays.0 c h.socket plays.2) h)) plays.4
-play_lost gate (step.Down d ∷ xs) s u c stream f h plays =
-    play_lost gate xs plays.1 u c stream plays.3.empty
-    (lost_flushed gate plays.0 plays.1 c stream plays.3 (subst (λ (w : Scene). Lost gate w c stream) (sym plays.2) (lost_quiet gate s (lose d s) c stream (closed_down d s c h.socket) h))) plays.4
-play_lost gate (step.Tick ms ∷ xs) s u c stream f h plays =
-    play_lost gate xs plays.1 u c stream plays.3.empty
-    (lost_flushed gate plays.0 plays.1 c stream plays.3 (subst (λ (w : Scene). Lost gate w c stream) (sym plays.2) (lost_quiet gate s (hand (event.Tick ms) s) c stream (tick_quiet ms s c) h))) plays.4
+play_lost : (start : DoorState) (xs : List Step) (s u : Scene) (c : ℕ) (stream : List ℕ) → Flushed s → Lost start s c stream → Plays xs s u → Carries start stream u.trace u.lines c
+play_lost start [] s u c stream f h plays =
+    subst (λ (w : Scene). Carries start stream w.trace w.lines c) (sym plays)
+    (carries_at start stream s c (λ m. door_says start h.items) (λ m. passed start h.items) h.ended h.items h.rest f h.cut refl refl h.until h.entered)
+play_lost start (step.Up d role ∷ xs) s u c stream f h plays =
+    play_lost start xs plays.1 u c stream plays.3.empty (lost_flushed start plays.0 plays.1 c stream plays.3
+    (subst (λ (w : Scene). Lost start w c stream) (sym plays.2) (by_test (rises d.0 s.last)
+    (λ r. rw r (made_lost start d role s c stream (new_number d c s.last r h.reached) r h))
+    (λ r. rw r (lost_quiet start s (say refused s) c stream (refused_quiet s c) h))))) plays.4
+play_lost start (step.In d bytes ∷ xs) s u c stream f h plays =
+    play_lost start xs plays.1 u c stream plays.3.empty
+    (lost_flushed start plays.0 plays.1 c stream plays.3 (lost_quiet start s plays.0 c stream (closed_in d bytes s plays.0 c h.socket plays.2) h)) plays.4
+play_lost start (step.Down d ∷ xs) s u c stream f h plays =
+    play_lost start xs plays.1 u c stream plays.3.empty
+    (lost_flushed start plays.0 plays.1 c stream plays.3 (subst (λ (w : Scene). Lost start w c stream) (sym plays.2) (lost_quiet start s (lose d s) c stream (closed_down d s c h.socket) h))) plays.4
+play_lost start (step.Tick ms ∷ xs) s u c stream f h plays =
+    play_lost start xs plays.1 u c stream plays.3.empty
+    (lost_flushed start plays.0 plays.1 c stream plays.3 (subst (λ (w : Scene). Lost start w c stream) (sym plays.2) (lost_quiet start s (hand (event.Tick ms) s) c stream (tick_quiet ms s c) h))) plays.4
 
-carries_as : (gate : DoorState) (a b : List ℕ) (u : Scene) (c : ℕ) → a ≡ b → Carries gate a u.trace u.lines c → Carries gate b u.trace u.lines c
-carries_as gate a b u c e h = subst (λ (bs : List ℕ). Carries gate bs u.trace u.lines c) e h
+carries_as : (start : DoorState) (a b : List ℕ) (u : Scene) (c : ℕ) → a ≡ b → Carries start a u.trace u.lines c → Carries start b u.trace u.lines c
+carries_as start a b u c e h = subst (λ (bs : List ℕ). Carries start bs u.trace u.lines c) e h
 
-play_opened : (gate : DoorState) (xs : List Step) (s u : Scene) (c : ℕ) (stream : List ℕ) → Flushed s → Opened gate s c stream → Plays xs s u → Carries gate (stream ++ bytes_of c xs) u.trace u.lines c
-play_opened gate [] s u c stream f h plays =
-    subst (λ (w : Scene). Carries gate (stream ++ []) w.trace w.lines c) (sym plays)
-    (carries_as gate stream (stream ++ []) s c (sym (append-nil stream))
-    (carries_at gate stream s c (λ m. door_says gate (h.items ++ m)) (λ m. passed gate (h.items ++ m)) h.ended h.items h.rest f h.cut
-    (ap (λ xs. door_says gate xs) (append-nil h.items)) (ap (λ xs. passed gate xs) (append-nil h.items)) (λ l. absurd (true≢false (sym l ∙ h.kept))) h.entered))
-play_opened gate (step.Up d role ∷ xs) s u c stream f h plays =
-    play_opened gate xs plays.1 u c stream plays.3.empty (opened_flushed gate plays.0 plays.1 c stream plays.3
-    (subst (λ (w : Scene). Opened gate w c stream) (sym plays.2) (by_test (rises d.0 s.last)
-    (λ r. rw r (made_opened gate d role s c stream (new_number d c s.last r h.reached) r h))
-    (λ r. rw r (opened_quiet gate s (say refused s) c stream (refused_quiet s c) h))))) plays.4
-play_opened gate (step.In d bytes ∷ xs) s u c stream f h plays =
+play_opened : (start : DoorState) (xs : List Step) (s u : Scene) (c : ℕ) (stream : List ℕ) → Flushed s → Opened start s c stream → Plays xs s u → Carries start (stream ++ bytes_of c xs) u.trace u.lines c
+play_opened start [] s u c stream f h plays =
+    subst (λ (w : Scene). Carries start (stream ++ []) w.trace w.lines c) (sym plays)
+    (carries_as start stream (stream ++ []) s c (sym (append-nil stream))
+    (carries_at start stream s c (λ m. door_says start (h.items ++ m)) (λ m. passed start (h.items ++ m)) h.ended h.items h.rest f h.cut
+    (ap (λ xs. door_says start xs) (append-nil h.items)) (ap (λ xs. passed start xs) (append-nil h.items)) (λ l. absurd (true≢false (sym l ∙ h.kept))) h.entered))
+play_opened start (step.Up d role ∷ xs) s u c stream f h plays =
+    play_opened start xs plays.1 u c stream plays.3.empty (opened_flushed start plays.0 plays.1 c stream plays.3
+    (subst (λ (w : Scene). Opened start w c stream) (sym plays.2) (by_test (rises d.0 s.last)
+    (λ r. rw r (made_opened start d role s c stream (new_number d c s.last r h.reached) r h))
+    (λ r. rw r (opened_quiet start s (say refused s) c stream (refused_quiet s c) h))))) plays.4
+play_opened start (step.In d bytes ∷ xs) s u c stream f h plays =
     by_test (d.0 == c)
     (λ e. let is : d.0 ≡ c = eqb-true d.0 c e
-    in let come : Opened gate plays.0 c (stream ++ bytes)
-    = subst (λ (n : ℕ). Opened gate plays.0 n (stream ++ bytes)) is
-    (opened_bytes gate d bytes s plays.0 stream (subst (λ (n : ℕ). Opened gate s n stream) (sym is) h) (s.sockets d.0) refl plays.2)
-    in carries_as gate ((stream ++ bytes) ++ bytes_of c xs) (stream ++ bytes_of c (step.In d bytes ∷ xs)) u c
+    in let come : Opened start plays.0 c (stream ++ bytes)
+    = subst (λ (n : ℕ). Opened start plays.0 n (stream ++ bytes)) is
+    (opened_bytes start d bytes s plays.0 stream (subst (λ (n : ℕ). Opened start s n stream) (sym is) h) (s.sockets d.0) refl plays.2)
+    in carries_as start ((stream ++ bytes) ++ bytes_of c xs) (stream ++ bytes_of c (step.In d bytes ∷ xs)) u c
     (append_assoc stream bytes (bytes_of c xs) ∙ (rw e refl))
-    (play_opened gate xs plays.1 u c (stream ++ bytes) plays.3.empty (opened_flushed gate plays.0 plays.1 c (stream ++ bytes) plays.3 come) plays.4))
-    (λ e. carries_as gate (stream ++ bytes_of c xs) (stream ++ bytes_of c (step.In d bytes ∷ xs)) u c (rw e refl)
-    (play_opened gate xs plays.1 u c stream plays.3.empty
-    (opened_flushed gate plays.0 plays.1 c stream plays.3 (opened_quiet gate s plays.0 c stream (bytes_quiet d bytes s plays.0 c e (s.sockets d.0) plays.2) h)) plays.4))
-play_opened gate (step.Down d ∷ xs) s u c stream f h plays =
+    (play_opened start xs plays.1 u c (stream ++ bytes) plays.3.empty (opened_flushed start plays.0 plays.1 c (stream ++ bytes) plays.3 come) plays.4))
+    (λ e. carries_as start (stream ++ bytes_of c xs) (stream ++ bytes_of c (step.In d bytes ∷ xs)) u c (rw e refl)
+    (play_opened start xs plays.1 u c stream plays.3.empty
+    (opened_flushed start plays.0 plays.1 c stream plays.3 (opened_quiet start s plays.0 c stream (bytes_quiet d bytes s plays.0 c e (s.sockets d.0) plays.2) h)) plays.4))
+play_opened start (step.Down d ∷ xs) s u c stream f h plays =
     by_test (d.0 == c)
     (λ e. let is : d.0 ≡ c = eqb-true d.0 c e
-    in let lost : Lost gate plays.0 c stream
-    = subst (λ (w : Scene). Lost gate w c stream) (sym plays.2) (subst (λ (n : ℕ). Lost gate (lose d s) n stream) is
-    (opened_lost gate d s stream f (subst (λ (n : ℕ). Opened gate s n stream) (sym is) h) (s.sockets d.0) refl))
-    in carries_as gate stream (stream ++ bytes_of c (step.Down d ∷ xs)) u c (rw e (sym (append-nil stream)))
-    (play_lost gate xs plays.1 u c stream plays.3.empty (lost_flushed gate plays.0 plays.1 c stream plays.3 lost) plays.4))
-    (λ e. carries_as gate (stream ++ bytes_of c xs) (stream ++ bytes_of c (step.Down d ∷ xs)) u c (rw e refl)
-    (play_opened gate xs plays.1 u c stream plays.3.empty
-    (opened_flushed gate plays.0 plays.1 c stream plays.3
-    (subst (λ (w : Scene). Opened gate w c stream) (sym plays.2) (opened_quiet gate s (lose d s) c stream (lose_quiet d s c e (s.sockets d.0)) h))) plays.4))
-play_opened gate (step.Tick ms ∷ xs) s u c stream f h plays =
-    play_opened gate xs plays.1 u c stream plays.3.empty
-    (opened_flushed gate plays.0 plays.1 c stream plays.3 (subst (λ (w : Scene). Opened gate w c stream) (sym plays.2) (opened_quiet gate s (hand (event.Tick ms) s) c stream (tick_quiet ms s c) h))) plays.4
+    in let lost : Lost start plays.0 c stream
+    = subst (λ (w : Scene). Lost start w c stream) (sym plays.2) (subst (λ (n : ℕ). Lost start (lose d s) n stream) is
+    (opened_lost start d s stream f (subst (λ (n : ℕ). Opened start s n stream) (sym is) h) (s.sockets d.0) refl))
+    in carries_as start stream (stream ++ bytes_of c (step.Down d ∷ xs)) u c (rw e (sym (append-nil stream)))
+    (play_lost start xs plays.1 u c stream plays.3.empty (lost_flushed start plays.0 plays.1 c stream plays.3 lost) plays.4))
+    (λ e. carries_as start (stream ++ bytes_of c xs) (stream ++ bytes_of c (step.Down d ∷ xs)) u c (rw e refl)
+    (play_opened start xs plays.1 u c stream plays.3.empty
+    (opened_flushed start plays.0 plays.1 c stream plays.3
+    (subst (λ (w : Scene). Opened start w c stream) (sym plays.2) (opened_quiet start s (lose d s) c stream (lose_quiet d s c e (s.sockets d.0)) h))) plays.4))
+play_opened start (step.Tick ms ∷ xs) s u c stream f h plays =
+    play_opened start xs plays.1 u c stream plays.3.empty
+    (opened_flushed start plays.0 plays.1 c stream plays.3 (subst (λ (w : Scene). Opened start w c stream) (sym plays.2) (opened_quiet start s (hand (event.Tick ms) s) c stream (tick_quiet ms s c) h))) plays.4
 
 -- before its making a connection has no stream
 
@@ -104,9 +104,9 @@ from_as config other newest last xs u c same end h =
 
 play_unmade : (xs : List Step) (s u : Scene) (c : ℕ) → Flushed s → Unmade s c → Plays xs s u → FromUp s.config s.last xs u c
 play_unmade [] s u c f h plays =
-    let gate : DoorState = door_for s.config (role_in c s.last [])
-    in subst (λ (w : Scene). Carries gate [] w.trace w.lines c) (sym plays)
-    (carries_at gate [] s c (λ m. []) (λ m. []) false [] [] f (refl, front_nothing [] refl) refl refl (λ l. absurd (true≢false (sym l ∙ h.kept))) h.entered)
+    let start : DoorState = door_for s.config (role_in c s.last [])
+    in subst (λ (w : Scene). Carries start [] w.trace w.lines c) (sym plays)
+    (carries_at start [] s c (λ m. []) (λ m. []) false [] [] f (refl, front_nothing [] refl) refl refl (λ l. absurd (true≢false (sym l ∙ h.kept))) h.entered)
 play_unmade (step.Up d role ∷ xs) s u c f h plays =
     let config : plays.1.config ≡ s.config = same_config (step.Up d role) s plays.0 plays.1 plays.2 plays.3
     in by_test (rises d.0 s.last)
@@ -114,10 +114,10 @@ play_unmade (step.Up d role ∷ xs) s u c f h plays =
     in let last : plays.1.last ≡ Some d.0 = behind_flush plays.0 plays.1 plays.3 ∙ ap (λ (w : Scene). w.last) mid
     in by_test (d.0 == c)
     (λ e. let is : d.0 ≡ c = eqb-true d.0 c e
-    in let gate : DoorState = door_for s.config role
-    in let opened : Opened gate plays.0 c []
-    = subst (λ (w : Scene). Opened gate w c []) (sym mid) (subst (λ (n : ℕ). Opened gate (made d role s) n []) is (unmade_made d role s (subst (λ (n : ℕ). Unmade s n) (sym is) h)))
-    in rw (r, e) (play_opened gate xs plays.1 u c [] plays.3.empty (opened_flushed gate plays.0 plays.1 c [] plays.3 opened) plays.4))
+    in let start : DoorState = door_for s.config role
+    in let opened : Opened start plays.0 c []
+    = subst (λ (w : Scene). Opened start w c []) (sym mid) (subst (λ (n : ℕ). Opened start (made d role s) n []) is (unmade_made d role s (subst (λ (n : ℕ). Unmade s n) (sym is) h)))
+    in rw (r, e) (play_opened start xs plays.1 u c [] plays.3.empty (opened_flushed start plays.0 plays.1 c [] plays.3 opened) plays.4))
     (λ e. rw (r, e) (from_as s.config plays.1.config (Some d.0) plays.1.last xs u c config last
     (play_unmade xs plays.1 u c plays.3.empty (unmade_flushed plays.0 plays.1 c plays.3 (subst (λ (w : Scene). Unmade w c) (sym mid) (made_unmade d role s c e h))) plays.4))))
     (λ r. let mid : plays.0 ≡ say refused s = plays.2 ∙ (rw r refl)

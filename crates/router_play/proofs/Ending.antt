@@ -43,9 +43,9 @@ stands_whole said t c D P (Some k) h l = by_door k.door h
     by_door None h = sym (h.whole l [] ∙ append-nil (ins t c))
     by_door (Some d) h = absurd (true≢false (sym l ∙ ap is_live h.unknown))
 
-pub carries_at : (gate : DoorState) (stream : List ℕ) (s : Scene) (c : ℕ) (D P : List Item → List Item) (ended : Bool) (items : List Item) (rest : List ℕ) → Flushed s → Cuts ended stream items rest
-    → D [] ≡ door_says gate items → P [] ≡ passed gate items → (was_lost s.trace c ≡ true → ins s.trace c ≡ passed gate items) → Entered s c D P → Carries gate stream s.trace s.lines c
-carries_at gate stream s c D P ended items rest flushed cut door past until h = record {
+pub carries_at : (start : DoorState) (stream : List ℕ) (s : Scene) (c : ℕ) (D P : List Item → List Item) (ended : Bool) (items : List Item) (rest : List ℕ) → Flushed s → Cuts ended stream items rest
+    → D [] ≡ door_says start items → P [] ≡ passed start items → (was_lost s.trace c ≡ true → ins s.trace c ≡ passed start items) → Entered s c D P → Carries start stream s.trace s.lines c
+carries_at start stream s c D P ended items rest flushed cut door past until h = record {
   ended = ended;
   items = items;
   rest = rest;

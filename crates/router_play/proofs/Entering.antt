@@ -157,9 +157,9 @@ pub record Through (said : List Item) (t : List Entry) (c : ℕ) (D P : List Ite
   pub whole : is_live (conn t c) ≡ true → (m : List Item) → P m ≡ ins t c ++ m
 
 -- at the door: the router knows nothing of it
-pub record AtDoor (said : List Item) (t : List Entry) (c : ℕ) (D P : List Item → List Item) (gate : DoorState) : Type 0 where
-  pub speaks : (m : List Item) → D m ≡ said ++ door_says gate m
-  pub lets : (m : List Item) → P m ≡ passed gate m
+pub record AtDoor (said : List Item) (t : List Entry) (c : ℕ) (D P : List Item → List Item) (start : DoorState) : Type 0 where
+  pub speaks : (m : List Item) → D m ≡ said ++ door_says start m
+  pub lets : (m : List Item) → P m ≡ passed start m
   pub unknown : conn t c ≡ None
   pub none : ins t c ≡ []
   pub silent : outs t c ≡ []
@@ -211,9 +211,9 @@ even_silent t u c even none =
     = sym (ap waiting_of (even_unknown t u c even none)) ∙ even.level.waits ∙ ap (λ (o : Option Connection). waiting_of o ++ even.level.added) none
     in even.level.written ∙ ap (λ xs. outs t c ++ xs) (sym nothing) ∙ append-nil (outs t c)
 
-door_goes : (said : List Item) (t u : List Entry) (c : ℕ) (D P : List Item → List Item) (gate : DoorState) → conn u c ≡ None → ins u c ≡ ins t c → outs u c ≡ outs t c
-    → AtDoor said t c D P gate → AtDoor said u c D P gate
-door_goes said t u c D P gate unknown came written h = record {
+door_goes : (said : List Item) (t u : List Entry) (c : ℕ) (D P : List Item → List Item) (start : DoorState) → conn u c ≡ None → ins u c ≡ ins t c → outs u c ≡ outs t c
+    → AtDoor said t c D P start → AtDoor said u c D P start
+door_goes said t u c D P start unknown came written h = record {
   speaks = h.speaks;
   lets = h.lets;
   unknown = unknown;

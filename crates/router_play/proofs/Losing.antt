@@ -84,37 +84,37 @@ told_socket : (d : ConnectionId) (s : Scene) (o : Option DoorState) → (told d 
 told_socket d s None = hand_sockets (event.Down d) s d.0
 told_socket d s (Some dd) = refl
 
-pub opened_lost : (gate : DoorState) (d : ConnectionId) (s : Scene) (stream : List ℕ) → Flushed s → Opened gate s d.0 stream → (o : Option Socket) → s.sockets d.0 ≡ o → Lost gate (lose_by d s o) d.0 stream
-opened_lost gate d s stream flushed h None is =
+pub opened_lost : (start : DoorState) (d : ConnectionId) (s : Scene) (stream : List ℕ) → Flushed s → Opened start s d.0 stream → (o : Option Socket) → s.sockets d.0 ≡ o → Lost start (lose_by d s o) d.0 stream
+opened_lost start d s stream flushed h None is =
     let q : Quiet s (say refused s) d.0 = refused_quiet s d.0
     in record {
       ended = h.ended;
       items = h.items;
       rest = h.rest;
       cut = h.cut;
-      entered = quiet_entered s (say refused s) d.0 (λ m. door_says gate h.items) (λ m. passed gate h.items) q
-          (closed_entered s d.0 (λ m. door_says gate (h.items ++ m)) (λ m. passed gate (h.items ++ m)) (λ m. door_says gate h.items) (λ m. passed gate h.items)
-          (λ m. []) (λ m. ap (λ xs. door_says gate xs) (sym (append-nil h.items))) (λ m. ap (λ xs. passed gate xs) (sym (append-nil h.items))) is h.entered);
+      entered = quiet_entered s (say refused s) d.0 (λ m. door_says start h.items) (λ m. passed start h.items) q
+          (closed_entered s d.0 (λ m. door_says start (h.items ++ m)) (λ m. passed start (h.items ++ m)) (λ m. door_says start h.items) (λ m. passed start h.items)
+          (λ m. []) (λ m. ap (λ xs. door_says start xs) (sym (append-nil h.items))) (λ m. ap (λ xs. passed start xs) (sym (append-nil h.items))) is h.entered);
       socket = is;
       reached = h.reached;
       until = λ l. absurd (true≢false (sym l ∙ h.kept));
     }
-opened_lost gate d s stream flushed h (Some k) is =
+opened_lost start d s stream flushed h (Some k) is =
     let here : (d.0 == d.0) ≡ true = same d.0
     in let shut : Scene = with_socket d None s
     in let closed : shut.sockets d.0 ≡ None = rw here refl
-    in let D : List Item → List Item = λ m. door_says gate (h.items ++ m)
-    in let P : List Item → List Item = λ m. passed gate (h.items ++ m)
+    in let D : List Item → List Item = λ m. door_says start (h.items ++ m)
+    in let P : List Item → List Item = λ m. passed start (h.items ++ m)
     in let stand : Stands h.entered.said s.trace d.0 D P (Some k) = subst (λ (o : Option Socket). Stands h.entered.said s.trace d.0 D P o) is h.entered.stands
     in record {
       ended = h.ended;
       items = h.items;
       rest = h.rest;
       cut = h.cut;
-      entered = told_lost d shut h.entered.said D P (door_says gate h.items) (passed gate h.items)
-          (ap (λ xs. door_says gate xs) (sym (append-nil h.items))) (ap (λ xs. passed gate xs) (sym (append-nil h.items)))
+      entered = told_lost d shut h.entered.said D P (door_says start h.items) (passed start h.items)
+          (ap (λ xs. door_says start xs) (sym (append-nil h.items))) (ap (λ xs. passed start xs) (sym (append-nil h.items)))
           (ready_waits (conn s.trace d.0) (flushed d.0)) closed h.entered.balance k.door stand;
       socket = told_socket d shut k.door ∙ closed;
       reached = ap (λ (o : Option ℕ). reaches d.0 o) (told_last d shut k.door) ∙ h.reached;
-      until = told_until d shut h.entered.said D P (passed gate h.items) (ap (λ xs. passed gate xs) (sym (append-nil h.items))) h.kept k.door stand;
+      until = told_until d shut h.entered.said D P (passed start h.items) (ap (λ xs. passed start xs) (sym (append-nil h.items))) h.kept k.door stand;
     }

@@ -37,25 +37,25 @@ made_unmade d role s c apart h = record {
   kept = h.kept;
 }
 
-pub made_opened : (gate : DoorState) (d : ConnectionId) (role : PeerRole) (s : Scene) (c : ℕ) (stream : List ℕ) → (d.0 == c) ≡ false → rises d.0 s.last ≡ true → Opened gate s c stream → Opened gate (made d role s) c stream
-made_opened gate d role s c stream apart rise h = record {
+pub made_opened : (start : DoorState) (d : ConnectionId) (role : PeerRole) (s : Scene) (c : ℕ) (stream : List ℕ) → (d.0 == c) ≡ false → rises d.0 s.last ≡ true → Opened start s c stream → Opened start (made d role s) c stream
+made_opened start d role s c stream apart rise h = record {
   ended = h.ended;
   items = h.items;
   rest = h.rest;
   cut = h.cut;
   reader = made_socket (λ o. Keeps h.rest h.ended o) d role s c apart h.reader;
-  entered = made_entered d role s c (λ m. door_says gate (h.items ++ m)) (λ m. passed gate (h.items ++ m)) apart h.entered;
+  entered = made_entered d role s c (λ m. door_says start (h.items ++ m)) (λ m. passed start (h.items ++ m)) apart h.entered;
   reached = reach_up d.0 c s.last rise h.reached;
   kept = h.kept;
 }
 
-pub made_lost : (gate : DoorState) (d : ConnectionId) (role : PeerRole) (s : Scene) (c : ℕ) (stream : List ℕ) → (d.0 == c) ≡ false → rises d.0 s.last ≡ true → Lost gate s c stream → Lost gate (made d role s) c stream
-made_lost gate d role s c stream apart rise h = record {
+pub made_lost : (start : DoorState) (d : ConnectionId) (role : PeerRole) (s : Scene) (c : ℕ) (stream : List ℕ) → (d.0 == c) ≡ false → rises d.0 s.last ≡ true → Lost start s c stream → Lost start (made d role s) c stream
+made_lost start d role s c stream apart rise h = record {
   ended = h.ended;
   items = h.items;
   rest = h.rest;
   cut = h.cut;
-  entered = made_entered d role s c (λ m. door_says gate h.items) (λ m. passed gate h.items) apart h.entered;
+  entered = made_entered d role s c (λ m. door_says start h.items) (λ m. passed start h.items) apart h.entered;
   socket = made_socket (λ o. o ≡ None) d role s c apart h.socket;
   reached = reach_up d.0 c s.last rise h.reached;
   until = h.until;

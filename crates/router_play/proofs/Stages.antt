@@ -26,25 +26,25 @@ pub record Unmade (s : Scene) (c : ℕ) : Type 0 where
   pub silent : outs s.trace c ≡ []
   pub kept : was_lost s.trace c ≡ false
 
-pub record Opened (gate : DoorState) (s : Scene) (c : ℕ) (stream : List ℕ) : Type 0 where
+pub record Opened (start : DoorState) (s : Scene) (c : ℕ) (stream : List ℕ) : Type 0 where
   pub ended : Bool
   pub items : List Item
   pub rest : List ℕ
   pub cut : Cuts ended stream items rest
   pub reader : Keeps rest ended (s.sockets c)
-  pub entered : Entered s c (λ m. door_says gate (items ++ m)) (λ m. passed gate (items ++ m))
+  pub entered : Entered s c (λ m. door_says start (items ++ m)) (λ m. passed start (items ++ m))
   pub reached : reaches c s.last ≡ true
   pub kept : was_lost s.trace c ≡ false
 
-pub record Lost (gate : DoorState) (s : Scene) (c : ℕ) (stream : List ℕ) : Type 0 where
+pub record Lost (start : DoorState) (s : Scene) (c : ℕ) (stream : List ℕ) : Type 0 where
   pub ended : Bool
   pub items : List Item
   pub rest : List ℕ
   pub cut : Cuts ended stream items rest
-  pub entered : Entered s c (λ m. door_says gate items) (λ m. passed gate items)
+  pub entered : Entered s c (λ m. door_says start items) (λ m. passed start items)
   pub socket : s.sockets c ≡ None
   pub reached : reaches c s.last ≡ true
-  pub until : was_lost s.trace c ≡ true → ins s.trace c ≡ passed gate items
+  pub until : was_lost s.trace c ≡ true → ins s.trace c ≡ passed start items
 
 -- behind a flush
 
@@ -57,25 +57,25 @@ unmade_flushed s u c f h = subst (λ (w : Scene). Unmade w c) (sym f.scene) (rec
   kept = take_all_same (λ t. was_lost t c) (λ d n t. refl) f.takes s ∙ h.kept;
 })
 
-pub opened_flushed : (gate : DoorState) (s u : Scene) (c : ℕ) (stream : List ℕ) → Flushes s u → Opened gate s c stream → Opened gate u c stream
-opened_flushed gate s u c stream f h = subst (λ (w : Scene). Opened gate w c stream) (sym f.scene) (record {
+pub opened_flushed : (start : DoorState) (s u : Scene) (c : ℕ) (stream : List ℕ) → Flushes s u → Opened start s c stream → Opened start u c stream
+opened_flushed start s u c stream f h = subst (λ (w : Scene). Opened start w c stream) (sym f.scene) (record {
   ended = h.ended;
   items = h.items;
   rest = h.rest;
   cut = h.cut;
   reader = take_all_socket (λ o. Keeps h.rest h.ended o) f.takes s c tt h.reader;
-  entered = take_all_entered f.takes s c (λ m. door_says gate (h.items ++ m)) (λ m. passed gate (h.items ++ m)) h.entered;
+  entered = take_all_entered f.takes s c (λ m. door_says start (h.items ++ m)) (λ m. passed start (h.items ++ m)) h.entered;
   reached = ap (λ (o : Option ℕ). reaches c o) (take_all_last f.takes s) ∙ h.reached;
   kept = take_all_same (λ t. was_lost t c) (λ d n t. refl) f.takes s ∙ h.kept;
 })
 
-pub lost_flushed : (gate : DoorState) (s u : Scene) (c : ℕ) (stream : List ℕ) → Flushes s u → Lost gate s c stream → Lost gate u c stream
-lost_flushed gate s u c stream f h = subst (λ (w : Scene). Lost gate w c stream) (sym f.scene) (record {
+pub lost_flushed : (start : DoorState) (s u : Scene) (c : ℕ) (stream : List ℕ) → Flushes s u → Lost start s c stream → Lost start u c stream
+lost_flushed start s u c stream f h = subst (λ (w : Scene). Lost start w c stream) (sym f.scene) (record {
   ended = h.ended;
   items = h.items;
   rest = h.rest;
   cut = h.cut;
-  entered = take_all_entered f.takes s c (λ m. door_says gate h.items) (λ m. passed gate h.items) h.entered;
+  entered = take_all_entered f.takes s c (λ m. door_says start h.items) (λ m. passed start h.items) h.entered;
   socket = take_all_socket (λ o. o ≡ None) f.takes s c refl h.socket;
   reached = ap (λ (o : Option ℕ). reaches c o) (take_all_last f.takes s) ∙ h.reached;
   until = λ l. take_all_same (λ t. ins t c) (λ d n t. refl) f.takes s ∙ h.until (sym (take_all_same (λ t. was_lost t c) (λ d n t. refl) f.takes s) ∙ l);
@@ -92,25 +92,25 @@ unmade_quiet s u c q h = record {
   kept = q.kept ∙ h.kept;
 }
 
-pub opened_quiet : (gate : DoorState) (s u : Scene) (c : ℕ) (stream : List ℕ) → Quiet s u c → Opened gate s c stream → Opened gate u c stream
-opened_quiet gate s u c stream q h = record {
+pub opened_quiet : (start : DoorState) (s u : Scene) (c : ℕ) (stream : List ℕ) → Quiet s u c → Opened start s c stream → Opened start u c stream
+opened_quiet start s u c stream q h = record {
   ended = h.ended;
   items = h.items;
   rest = h.rest;
   cut = h.cut;
   reader = subst (λ (o : Option Socket). Keeps h.rest h.ended o) (sym q.socket) h.reader;
-  entered = quiet_entered s u c (λ m. door_says gate (h.items ++ m)) (λ m. passed gate (h.items ++ m)) q h.entered;
+  entered = quiet_entered s u c (λ m. door_says start (h.items ++ m)) (λ m. passed start (h.items ++ m)) q h.entered;
   reached = ap (λ (o : Option ℕ). reaches c o) q.last ∙ h.reached;
   kept = q.kept ∙ h.kept;
 }
 
-pub lost_quiet : (gate : DoorState) (s u : Scene) (c : ℕ) (stream : List ℕ) → Quiet s u c → Lost gate s c stream → Lost gate u c stream
-lost_quiet gate s u c stream q h = record {
+pub lost_quiet : (start : DoorState) (s u : Scene) (c : ℕ) (stream : List ℕ) → Quiet s u c → Lost start s c stream → Lost start u c stream
+lost_quiet start s u c stream q h = record {
   ended = h.ended;
   items = h.items;
   rest = h.rest;
   cut = h.cut;
-  entered = quiet_entered s u c (λ m. door_says gate h.items) (λ m. passed gate h.items) q h.entered;
+  entered = quiet_entered s u c (λ m. door_says start h.items) (λ m. passed start h.items) q h.entered;
   socket = q.socket ∙ h.socket;
   reached = ap (λ (o : Option ℕ). reaches c o) q.last ∙ h.reached;
   until = λ l. q.came ∙ h.until (sym q.kept ∙ l);

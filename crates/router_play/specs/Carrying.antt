@@ -96,19 +96,19 @@ abbrev pub Begins : List Item → List Item → Type 0
 Begins xs ys = (more : List Item) × (xs ++ more ≡ ys)
 
 -- a connection at this door carries the stream that came on it, where these lines were printed of this trace
-pub record Carries (gate : DoorState) (stream : List ℕ) (t : Trace) (lines : List Line) (c : ℕ) : Type 0 where
+pub record Carries (start : DoorState) (stream : List ℕ) (t : Trace) (lines : List Line) (c : ℕ) : Type 0 where
   pub ended : Bool
   pub items : List Item
   pub rest : List ℕ
   -- the bytes that came are cut once, as one stream
   pub cut : Cuts ended stream items rest
   -- the items that the router is told are those past the door, up to the connection's end
-  pub enters : Begins (ins t c) (passed gate items)
+  pub enters : Begins (ins t c) (passed start items)
   -- all of them, while it lives, and where it lived until it was lost
-  pub whole : is_live (conn t c) ≡ true → ins t c ≡ passed gate items
-  pub until : was_lost t c ≡ true → ins t c ≡ passed gate items
+  pub whole : is_live (conn t c) ≡ true → ins t c ≡ passed start items
+  pub until : was_lost t c ≡ true → ins t c ≡ passed start items
   -- what goes out are the canonical bytes of what the door says, and then of all that the router put out for it
-  pub out : bytes_out c lines ≡ spelled (door_says gate items) ++ spelled (outs t c)
+  pub out : bytes_out c lines ≡ spelled (door_says start items) ++ spelled (outs t c)
 
 -- runs, one after the other: each has a trace of its own, of which its lines carry every connection
 abbrev pub RunsCarry : Settings → List (List Step) → List Line → Type 0

@@ -9,7 +9,11 @@ ghost use Rattle.router_reply.specs.Replies.{free_for};
 ghost use Rattle.router_trace.specs.declared.event.Event.{Event as E};
 
 use crate::answer::Answer;
-use crate::rows::{attach_reply, bad_frame_reply, beat_reply, begin_reply, channel_reply, close_reply, disposition_reply, early_frame_reply, end_reply, flow_reply, header_reply, open_reply, unattached_handle_reply};
+use crate::rows::{
+    attach_reply, bad_frame_reply, beat_reply, begin_reply, channel_reply, close_reply,
+    disposition_reply, early_frame_reply, end_reply, flow_reply, header_reply, open_reply,
+    unattached_handle_reply,
+};
 use amqp_conn::{Conn, ConnFault};
 use amqp_frames::Item;
 use amqp_perf::Perf;

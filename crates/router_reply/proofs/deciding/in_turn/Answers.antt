@@ -1,4 +1,4 @@
-use Rattle.std.proofs.Common.{◌≡◌, ◌∙◌, ℕ, ap, sym}
+use Rattle.std.proofs.Common.{◌∙◌, ℕ, ap, sym}
 use Rattle.std.specs.Prelude.{Option}
 use Rattle.amqp_perf.specs.declared.perf.Perf.{Perf}
 use Rattle.router_trace.specs.Sessions.{place}

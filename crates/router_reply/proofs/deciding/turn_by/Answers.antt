@@ -1,4 +1,4 @@
-use Rattle.std.proofs.Common.{◌≡◌, ◌∙◌, ap, sym}
+use Rattle.std.proofs.Common.{◌∙◌, ap, sym}
 use Rattle.std.specs.Prelude.{Result}
 use Rattle.amqp_conn.specs.declared.conn.Conn.{Conn}
 use Rattle.amqp_conn.specs.declared.fault.ConnFault.{ConnFault}

@@ -1,8 +1,5 @@
 use Rattle.std.proofs.Common.{ℕ, List, ◌∷◌, subst}
 use Rattle.router_trace.specs.Trace.{Entry, did}
-use Rattle.router_conns.specs.Fits.{ConnectionsFit}
-use Rattle.router_conns.specs.Timing.{ClocksFit}
-use Rattle.router_links.specs.Fits.{RowsFit, LinksFit}
 use Rattle.router_state.specs.declared.tables.State.{State}
 use Rattle.router_state.specs.Tables.{TablesFit, TablesAt}
 use Rattle.router_reply.specs.Replies.{ends}
@@ -13,18 +10,18 @@ use Rattle.router_reply.proofs.events.on_start.Goals as goal
 started : (s : State) (t : List Entry) (cs : List ℕ) → TablesAt s t event.Start cs → TablesFit s (did event.Start ∷ t)
 started s t cs at = record {
   connections = record {
-      rows = at.connections.rows;
-      live = at.connections.live;
-      last = at.connections.last;
-      rise = at.connections.rise;
-      roomy = at.connections.roomy;
-    };
+    rows = at.connections.rows;
+    live = at.connections.live;
+    last = at.connections.last;
+    rise = at.connections.rise;
+    roomy = at.connections.roomy;
+  };
   ready = at.ready;
   clocks = record { moment = at.clocks.moment; terms = at.clocks.terms; written = at.clocks.written };
   links = record {
-      rows = record { offered = at.links.rows.offered; answered = at.links.rows.answered; theirs = at.links.rows.theirs; windows = at.links.rows.windows };
-      marks = at.links.marks;
-    };
+    rows = record { offered = at.links.rows.offered; answered = at.links.rows.answered; theirs = at.links.rows.theirs; windows = at.links.rows.windows };
+    marks = at.links.marks;
+  };
 }
 
 pub returns : goal.returns

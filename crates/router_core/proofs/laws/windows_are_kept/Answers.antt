@@ -1,6 +1,6 @@
 use Rattle.router_core.proofs.Moves.{run_is_trace}
 use Rattle.router_core.proofs.Kept.{trace_keeps_windows}
-use Rattle.router_core.proofs.more_laws.windows_are_kept.Goals as goal
+use Rattle.router_core.proofs.laws.windows_are_kept.Goals as goal
 
 pub returns-clause-traces : goal.returns-clause-traces
 returns-clause-traces c = trace_keeps_windows

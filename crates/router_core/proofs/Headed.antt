@@ -1,0 +1,300 @@
+-- In every trace of the router a header that came first is answered by the header, first, and where nothing came nothing is put out.
+use Rattle.std.proofs.Common.{◌≡◌, ◌∙◌, sym, ap, refl, subst, true≢false, ℕ, zero, suc, Bool, true, false, not, List, [], ◌∷◌, ◌++◌, drop}
+use Rattle.std.specs.Prelude.{◌==◌, Option, Some, None, option_map, option_and_then, if◌then◌else◌, length}
+use Rattle.std.proofs.Math.Seq.{drop-nil}
+use Rattle.std.proofs.lemmas.Bool.{eqb-true, eq-eqb}
+use Rattle.amqp_frames.specs.declared.item.Item.{Item}
+use Rattle.amqp_frames.specs.declared.item.Item.TheVariants as item
+use Rattle.amqp_conn.specs.declared.conn.Conn.{Conn}
+use Rattle.amqp_session.specs.Session.{Session}
+use Rattle.router_trace.specs.declared.terms.Terms.{Terms}
+use Rattle.router_trace.specs.declared.condition.Condition.TheVariants.{ResourceLimitExceeded}
+use Rattle.router_trace.specs.declared.event.ConnectionId.{ConnectionId}
+use Rattle.router_trace.specs.declared.event.Event.{Event}
+use Rattle.router_trace.specs.declared.event.Event.TheVariants as event
+use Rattle.router_trace.specs.Trace.{Entry, Put, Did, Out, Took, did, goes, puts, each_to, ups, step_of}
+use Rattle.router_trace.specs.Connection.{Connection, conn, ended, took, unless_empty, drained, standing, is_live, is_full, is_due, has, due, found, live, live_of, at_event}
+use Rattle.router_trace.specs.Refusing.{refuses}
+use Rattle.router_trace.specs.Frames.{header_item}
+use Rattle.router_trace.specs.Sessions.{Place, place, session}
+use Rattle.router_trace.specs.Clocks.{terms, terms_at, written, needs_beat}
+use Rattle.router_links.specs.Windows.{is_narrow, flow_due, flows_below, windows_over, windows}
+use Rattle.router_state.specs.Tables.{beat_if, beats_over}
+use Rattle.router_reply.specs.Replies.{closing_of, ends, heard, answer, free_for, own_row, replied}
+use Rattle.router_core.specs.Replies.{answered}
+use Rattle.router_core.specs.Runs.{waiting_of, took_one}
+use Rattle.router_core.specs.Moves.{Move, handles, takes, Goes, IsTrace, with_came, ins, outs}
+use Rattle.router_trace.specs.Order.{unwritten}
+use Rattle.router_core.specs.Laws.{is_header, begins_with_header, HeaderFirst, KeepsOrder}
+use Rattle.router_conns.proofs.Lists.{by_test}
+use Rattle.router_conns.proofs.Turns.{due_none}
+use Rattle.router_core.proofs.Coming.{ins_answered}
+use Rattle.router_core.proofs.Once.{filter_has}
+use Rattle.router_core.proofs.Ordered.{Ordered, Without, written_all, goes_spares, each_without, ends_spares}
+use Rattle.router_core.proofs.Told.{Told, goes_strange}
+use Rattle.router_core.proofs.Order.{push_some, no_session, took_inv, took_turns, ordered_empty}
+use Rattle.router_core.proofs.Replied.{answered_turns, answered_told}
+
+-- where nothing was put out nothing waits, and the outbox isn't full
+
+waits_at : (e : Event) (c n : ℕ) (v : Option Connection) → waiting_of v ≡ [] → waiting_of (at_event e c n v) ≡ []
+waits_at (event.Up d p) c n v h = by_test (d.0 == c) (λ e. rw e refl) (λ e. rw e h)
+waits_at (event.Down d) c n v h = by_test (d.0 == c) (λ e. rw e refl) (λ e. rw e h)
+waits_at (event.Item d i) c n v h = h
+waits_at (event.Tick ms) c n v h = h
+waits_at event.Start c n v h = h
+
+waits_ended : (b : Bool) (v : Option Connection) → waiting_of v ≡ [] → waiting_of (if b then option_map ended v else v) ≡ []
+waits_ended true None h = refl
+waits_ended true (Some v) h = h
+waits_ended false v h = h
+
+waits_gone : (b : Bool) (v : Connection) (rest : List Item) → v.waiting ≡ [] → waiting_of (if b then unless_empty v rest else Some v) ≡ []
+waits_gone true v [] h = refl
+waits_gone true v (i ∷ is) h = h
+waits_gone false v rest h = h
+
+waits_took : (n : ℕ) (v : Option Connection) → waiting_of v ≡ [] → waiting_of (option_and_then (took n) v) ≡ []
+waits_took n None h = refl
+waits_took n (Some v) h =
+    waits_gone v.phase.closed (drained n v) (drop n v.waiting) (ap (λ (is : List Item). drop n is) h ∙ drop-nil n)
+
+quiet : (t : List Entry) (c : ℕ) → outs t c ≡ [] → waiting_of (conn t c) ≡ []
+quiet [] c h = refl
+quiet (Did s ∷ t) c h =
+    waits_at s.event c (length (live_of (ups t) (found t s.event))) (found t s.event c) (waits_ended (has c (due t s.event)) (conn t c) (quiet t c h))
+quiet (Out d i ∷ t) c h =
+    by_test (d == c) (λ e. absurd (push_some (outs t c) i (rw e at h))) (λ e. rw e (quiet t c (rw e at h)))
+quiet (Took d n ∷ t) c h =
+    by_test (d == c) (λ e. rw e (waits_took n (conn t c) (quiet t c h))) (λ e. rw e (quiet t c h))
+
+not_full : (v : Option Connection) → waiting_of v ≡ [] → is_full v ≡ false
+not_full None h = refl
+not_full (Some v) h = by_test v.phase.closed (λ e. rw e refl) (λ e. rw (e, h) refl)
+
+not_due : (t : List Entry) (e : Event) (c : ℕ) → outs t c ≡ [] → has c (due t e) ≡ false
+not_due t e c h =
+    by_test (has c (due t e))
+    (λ m. absurd (true≢false (sym (filter_has (λ k. is_due e k (conn t k)) c (ups t) m).0 ∙ due_none e c (conn t c) (not_full (conn t c) (quiet t c h)))))
+    (λ m. m)
+
+-- items put out for other connections alone
+
+without_both : (k : ℕ) (ps qs : List Put) → Without k ps → Without k qs → Without k (ps ++ qs)
+without_both k [] qs f g = g
+without_both k (p ∷ ps) qs f g = (f.0, without_both k ps qs f.1 g)
+
+beat_without : (c k : ℕ) (needed : Bool) → ((c == k) ≡ true → needed ≡ false) → Without k (beat_if needed c)
+beat_without c k false here = tt
+beat_without c k true here = (by_test (c == k) (λ e. absurd (true≢false (here e))) (λ e. e), tt)
+
+unneeded : (v : Option Terms) (last : Option ℕ) (now : ℕ) → v ≡ None → needs_beat v last now ≡ false
+unneeded v last now h = rw h refl
+
+beats_without : (t : List Entry) (k now : ℕ) → terms t k ≡ None → (cs : List ℕ) → Without k (beats_over t now cs)
+beats_without t k now none [] = tt
+beats_without t k now none (c ∷ cs) =
+    without_both k (beat_if (needs_beat (terms t c) (written t c) now) c) (beats_over t now cs)
+    (beat_without c k (needs_beat (terms t c) (written t c) now)
+    (λ e. unneeded (terms t c) (written t c) now (subst (λ (n : ℕ). terms t n ≡ None) (sym (eqb-true c k e)) none)))
+    (beats_without t k now none cs)
+
+some_none : (h : Session) → Some h ≡ None → ⊥
+some_none h e = absurd cc
+
+due_without : (c o k : ℕ) (s : Option Session) → ((c == k) ≡ true → s ≡ None) → Without k (flow_due c o s)
+due_without c o k None here = tt
+due_without c o k (Some h) here =
+    by_test (c == k) (λ e. absurd (some_none h (here e))) (λ e. by_test (is_narrow h) (λ f. rw f (e, tt)) (λ f. rw f tt))
+
+below_without : (c k : ℕ) (known : ℕ → Option Session) → ((c == k) ≡ true → (o : ℕ) → known o ≡ None) → (n : ℕ) → Without k (flows_below c known n)
+unfolding flows_below
+below_without c k known here zero = tt
+below_without c k known here (suc n) =
+    without_both k (flows_below c known n) (flow_due c n (known n)) (below_without c k known here n) (due_without c n k (known n) (λ e. here e n))
+
+windows_without : (t : List Entry) (k : ℕ) → outs t k ≡ [] → (cs : List ℕ) → Without k (windows_over t cs)
+windows_without t k none [] = tt
+windows_without t k none (c ∷ cs) =
+    without_both k (flows_below c (session t c) 15) (windows_over t cs)
+    (below_without c k (session t c)
+    (λ e o. no_session t c (subst (λ (n : ℕ). outs t n ≡ []) (sym (eqb-true c k e)) none) o) 15)
+    (windows_without t k none cs)
+
+-- where nothing came no terms are known
+came_none : (e : Event) (c : ℕ) (is : List Item) → with_came e c is ≡ [] → is ≡ []
+came_none (event.Item d i) c is h = by_test (d.0 == c) (λ e. absurd (push_some is i (rw e at h))) (λ e. rw e at h)
+came_none (event.Up d p) c is h = h
+came_none (event.Down d) c is h = h
+came_none (event.Tick ms) c is h = h
+came_none event.Start c is h = h
+
+untold_at : (e : Event) (c : ℕ) (is : List Item) (v : Option Terms) → with_came e c is ≡ [] → v ≡ None → terms_at e c v ≡ None
+untold_at (event.Item d i) c is v h was = by_test (d.0 == c) (λ e. absurd (push_some is i (rw e at h))) (λ e. rw e was)
+untold_at (event.Down d) c is v h was = by_test (d.0 == c) (λ e. rw e refl) (λ e. rw e was)
+untold_at (event.Up d p) c is v h was = was
+untold_at (event.Tick ms) c is v h was = was
+untold_at event.Start c is v h was = was
+
+untold : (t : List Entry) (c : ℕ) → ins t c ≡ [] → terms t c ≡ None
+untold [] c h = refl
+untold (Did s ∷ t) c h = untold_at s.event c (ins t c) (terms t c) h (untold t c (came_none s.event c (ins t c) h))
+untold (Out d i ∷ t) c h = goes_strange (record { conn = d; item = i } ∷ []) t c (untold t c h)
+untold (Took d n ∷ t) c h = untold t c h
+
+own_without : (id : List ℕ) (t : List Entry) (e : Event) (k : ℕ) → with_came e k (ins t k) ≡ [] → Without k (own_row id t e)
+own_without id t (event.Item d i) k h =
+    by_test (d.0 == k) (λ e. absurd (push_some (ins t k) i (rw e at h)))
+    (λ e. each_without (answer id (standing (found t (event.Item d i) d.0)) (place t d.0) (free_for t d.0) i) d.0 k e)
+own_without id t (event.Tick ms) k h = beats_without t k ms (untold t k h) (live_of (ups t) (found t (event.Tick ms)))
+own_without id t (event.Down d) k h = tt
+own_without id t (event.Up d p) k h = tt
+own_without id t event.Start k h = tt
+
+-- a header that stands first stays first
+
+first_push : (is js : List Item) → HeaderFirst is → HeaderFirst (is ++ js)
+first_push [] js h = absurd h
+first_push (i ∷ is) js h = h
+
+first_goes : (ps : List Put) (t : List Entry) (c : ℕ) → HeaderFirst (outs t c) → HeaderFirst (outs (goes ps t) c)
+first_goes [] t c h = h
+first_goes (p ∷ ps) t c h =
+    first_goes ps (Out p.conn p.item ∷ t) c (by_test (p.conn == c) (λ e. rw e (first_push (outs t c) (p.item ∷ []) h)) (λ e. rw e h))
+
+first_ends : (id : List ℕ) (cs : List ℕ) (t : List Entry) (c : ℕ) → HeaderFirst (outs t c) → HeaderFirst (outs (ends id cs t) c)
+first_ends id [] t c h = h
+first_ends id (d ∷ ds) t c h =
+    let items : List Item = closing_of id (conn t d) ResourceLimitExceeded
+    in first_ends id ds (puts d items t) c (first_goes (each_to d items) t c h)
+
+first_answered : (id : List ℕ) (t : List Entry) (e : Event) (c : ℕ) → HeaderFirst (outs t c) → HeaderFirst (outs (answered id t (step_of e)) c)
+first_answered id t e c h =
+    first_goes (windows (replied id t (step_of e))) (replied id t (step_of e)) c
+    (first_goes (own_row id t e) (heard id t (step_of e)) c (first_ends id (due t e) (did e ∷ t) c h))
+
+silent_heard : (id : List ℕ) (t : List Entry) (e : Event) (c : ℕ) → outs t c ≡ [] → outs (heard id t (step_of e)) c ≡ []
+silent_heard id t e c h = (ends_spares id (due t e) (did e ∷ t) c (not_due t e c h)).outs ∙ h
+
+silent_answered : (id : List ℕ) (t : List Entry) (e : Event) (c : ℕ) → with_came e c (ins t c) ≡ [] → outs t c ≡ [] → outs (answered id t (step_of e)) c ≡ []
+silent_answered id t e c came h =
+    let behind : List Entry = replied id t (step_of e)
+    in let rows : outs behind c ≡ [] = (goes_spares (own_row id t e) (heard id t (step_of e)) c (own_without id t e c came)).outs ∙ silent_heard id t e c h
+    in (goes_spares (windows behind) behind c (windows_without behind c rows (live behind))).outs ∙ rows
+
+-- headers are answered first
+pub record Headed (t : List Entry) : Type 0 where
+  pub header : (c : ℕ) → begins_with_header (ins t c) ≡ true → HeaderFirst (outs t c)
+  pub silent : (c : ℕ) → ins t c ≡ [] → outs t c ≡ []
+
+-- a live connection to which nothing was written stands in its first phase
+live_is : (o : Option Connection) → not (is_live o) ≡ false → (v : Connection) × (o ≡ Some v) × (v.phase.closed ≡ false)
+live_is None h = absurd cc
+live_is (Some v) h = (v, refl, by_test v.phase.closed (λ e. absurd (true≢false (rw e at h))) (λ e. e))
+
+first_phase : (t : List Entry) (e : Event) (c : ℕ) → Ordered t → not (is_live (conn t c)) ≡ false → outs t c ≡ [] → standing (found t e c) ≡ Some unwritten.phase
+first_phase t e c ord live none =
+    let v = live_is (conn t c) live
+    in let phase : unwritten.phase ≡ v.0.phase = sym (ap (λ is. (written_all is unwritten).phase) none) ∙ ord.phases c v.0 v.1 v.2
+    in ap standing (spared (has c (due t e)) (conn t c) (not_due t e c none) ∙ v.1) ∙ stood v.0 v.2 ∙ ap (λ (p : Conn). Some p) (sym phase)
+  where
+    spared : (b : Bool) (o : Option Connection) → b ≡ false → (if b then option_map ended o else o) ≡ o
+    spared b o e = rw e refl
+
+    stood : (v : Connection) → v.phase.closed ≡ false → standing (Some v) ≡ Some v.phase
+    stood v e = rw e refl
+
+header_answer : (id : List ℕ) (known : ℕ → Place) (free : Option ℕ) (i : Item) → is_header i ≡ true → answer id (Some unwritten.phase) known free i ≡ header_item ∷ []
+header_answer id known free (item.Header a b c d) h = refl
+header_answer id known free (item.Frame a b c d) h = absurd cc
+header_answer id known free (item.Beat a) h = absurd cc
+header_answer id known free (item.Bad f) h = absurd cc
+
+-- the first item of a connection
+first_item : (id : List ℕ) (t : List Entry) (d : ConnectionId) (i : Item) → Ordered t → refuses t (event.Item d i) ≡ false
+    → outs t d.0 ≡ [] → is_header i ≡ true → HeaderFirst (outs (answered id t (step_of (event.Item d i))) d.0)
+first_item id t d i ord taken none is =
+    let e : Event = event.Item d i
+    in let row : answer id (standing (found t e d.0)) (place t d.0) (free_for t d.0) i ≡ header_item ∷ []
+    = ap (λ (p : Option Conn). answer id p (place t d.0) (free_for t d.0) i) (first_phase t e d.0 ord taken none) ∙ header_answer id (place t d.0) (free_for t d.0) i is
+    in first_goes (windows (replied id t (step_of e))) (replied id t (step_of e)) d.0
+    (subst (λ (is : List Item). HeaderFirst (outs (puts d.0 is (heard id t (step_of e))) d.0)) (sym row)
+    (put_first (outs (heard id t (step_of e)) d.0) (d.0 == d.0) (eq-eqb d.0 d.0 refl) (silent_heard id t e d.0 none)))
+  where
+    put_first : (is : List Item) (b : Bool) → b ≡ true → is ≡ [] → HeaderFirst (if b then is ++ header_item ∷ [] else is)
+    put_first is b e h = rw (e, h) refl
+
+item_header : (id : List ℕ) (t : List Entry) (d : ConnectionId) (i : Item) → Ordered t → refuses t (event.Item d i) ≡ false → Headed t
+    → (c : ℕ) → (d.0 == c) ≡ true → (is : List Item) → ins t c ≡ is → begins_with_header (is ++ i ∷ []) ≡ true → HeaderFirst (outs (answered id t (step_of (event.Item d i))) c)
+item_header id t d i ord taken was c e [] is h =
+    subst (λ (k : ℕ). HeaderFirst (outs (answered id t (step_of (event.Item d i))) k)) (eqb-true d.0 c e)
+    (first_item id t d i ord taken (was.silent d.0 (subst (λ (k : ℕ). ins t k ≡ []) (sym (eqb-true d.0 c e)) is)) h)
+item_header id t d i ord taken was c e (j ∷ js) is h = first_answered id t (event.Item d i) c (was.header c (ap begins_with_header is ∙ h))
+
+event_header : (id : List ℕ) (t : List Entry) (e : Event) → Ordered t → refuses t e ≡ false → Headed t
+    → (c : ℕ) → begins_with_header (with_came e c (ins t c)) ≡ true → HeaderFirst (outs (answered id t (step_of e)) c)
+event_header id t (event.Item d i) ord taken was c h =
+    by_test (d.0 == c)
+    (λ e. item_header id t d i ord taken was c e (ins t c) refl (rw e at h))
+    (λ e. first_answered id t (event.Item d i) c (was.header c (rw e at h)))
+event_header id t (event.Down d) ord taken was c h = first_answered id t (event.Down d) c (was.header c h)
+event_header id t (event.Up d p) ord taken was c h = first_answered id t (event.Up d p) c (was.header c h)
+event_header id t (event.Tick ms) ord taken was c h = first_answered id t (event.Tick ms) c (was.header c h)
+event_header id t event.Start ord taken was c h = first_answered id t event.Start c (was.header c h)
+
+answered_headed : (id : List ℕ) (t : List Entry) (e : Event) → Ordered t → refuses t e ≡ false → Headed t → Headed (answered id t (step_of e))
+answered_headed id t e ord taken was = record {
+  header = λ c h. event_header id t e ord taken was c (sym (ap begins_with_header (ins_answered id t e c)) ∙ h);
+  silent = λ c h.
+      let came : with_came e c (ins t c) ≡ [] = sym (ins_answered id t e c) ∙ h
+      in silent_answered id t e c came (was.silent c (came_none e c (ins t c) came));
+}
+
+-- takes
+took_told : (t : List Entry) (d n : ℕ) → Told t → Told (Took d n ∷ t)
+took_told t d n told = record {
+  told = λ c w is live some. by_test (d == c)
+      (λ e. let v = took_inv n (conn t c) w (rw e at is) live
+      in sym (ap (λ (p : Conn). p.opened) v.2) ∙ told.told c v.0 v.1 (ap (λ (p : Conn). p.closed) v.2 ∙ live) some)
+      (λ e. told.told c w (rw e at is) live some);
+  strange = told.strange;
+}
+
+-- the invariants along moves
+pub record Kept (t : List Entry) : Type 0 where
+  pub ordered : Ordered t
+  pub told : Told t
+  pub headed : Headed t
+
+goes_kept : (id : List ℕ) (ms : List Move) (t u : List Entry) → Kept t → Goes id ms t u → Kept u
+goes_kept id [] t u was goes = subst (λ (w : List Entry). Kept w) (sym goes) was
+goes_kept id (handles s ∷ ms) t u was goes =
+    goes_kept id ms (answered id t s) u (record {
+      ordered = answered_turns id t s.event was.ordered was.told goes.0;
+      told = answered_told id t s.event was.ordered was.told goes.0;
+      headed = answered_headed id t s.event was.ordered goes.0 was.headed;
+    })
+    goes.1
+goes_kept id (takes x ∷ ms) t u was goes =
+    goes_kept id ms (took_one x t) u (record {
+      ordered = took_turns t x.conn.0 _ was.ordered;
+      told = took_told t x.conn.0 _ was.told;
+      headed = record { header = was.headed.header; silent = was.headed.silent };
+    })
+    goes
+
+kept_empty : Kept []
+kept_empty = record {
+  ordered = ordered_empty;
+  told = record { told = λ c v is live some. absurd cc; strange = λ c absent. refl };
+  headed = record { header = λ c h. absurd cc; silent = λ c h. refl };
+}
+
+pub trace_keeps_order : (id : List ℕ) (u : List Entry) → IsTrace id u → KeepsOrder u
+trace_keeps_order id u trace =
+    let kept = goes_kept id trace.0 [] u kept_empty trace.1
+    in record {
+      turns = kept.ordered.turns;
+      header = kept.headed.header;
+      silent = kept.headed.silent;
+    }

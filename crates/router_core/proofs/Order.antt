@@ -1,0 +1,221 @@
+-- Every trace of the router is orderly.
+use Rattle.std.proofs.Common.{◌≡◌, ◌∙◌, sym, ap, refl, subst, true≢false, ℕ, Bool, true, false, not, ◌≤◌, List, [], ◌∷◌, ◌++◌, drop, arith}
+use Rattle.std.specs.Prelude.{◌==◌, Option, Some, None, is_some, option_map, option_and_then, if◌then◌else◌, length}
+use Rattle.std.proofs.lemmas.Bool.{eqb-true, le-leb}
+use Rattle.amqp_frames.specs.declared.item.Item.{Item}
+use Rattle.amqp_frames.specs.declared.item.Item.TheVariants as item
+use Rattle.amqp_conn.specs.declared.conn.Conn.{Conn}
+use Rattle.amqp_session.specs.Session.{Session}
+use Rattle.router_trace.specs.declared.channel.PeerChannel.{PeerChannel}
+use Rattle.router_trace.specs.declared.event.ConnectionId.{ConnectionId}
+use Rattle.router_trace.specs.declared.event.Event.{Event}
+use Rattle.router_trace.specs.declared.event.Event.TheVariants as event
+use Rattle.router_trace.specs.Trace.{Entry, Did, Out, Took, did, ups, with_up, newer, newest, step_of}
+use Rattle.router_trace.specs.Connection.{Connection, conn, ended, took, unless_empty, drained, is_full, is_due, has, due, found, live_of, at_event, fresh}
+use Rattle.router_trace.specs.Refusing.{reaches, rises, refuses}
+use Rattle.router_trace.specs.Sessions.{session, session_at, heard_by, heard_in, maps, theirs}
+use Rattle.router_reply.specs.Replies.{heard}
+use Rattle.router_core.specs.Moves.{outs}
+use Rattle.router_trace.specs.Order.{unwritten}
+use Rattle.router_conns.proofs.Lists.{by_test, has_push, from_push}
+use Rattle.router_conns.proofs.Turns.{reach_up}
+use Rattle.router_reply.proofs.RowOrder.{phase_is}
+use Rattle.router_core.proofs.Once.{NoTwice, filter_has, no_twice_filter, no_twice_push, rises_apart, taken_up}
+use Rattle.router_core.proofs.Ordered.{Ordered, Pending, wrote, written_all, ends_turns}
+
+pub not_before : (t : List Entry) (d : ConnectionId) → Ordered t → not (rises d.0 (newest t)) ≡ false → has d.0 (ups t) ≡ false
+not_before t d ord taken = by_test (has d.0 (ups t)) (λ h. absurd (rises_apart d.0 (newest t) (taken_up (rises d.0 (newest t)) taken) (ord.rise d.0 h))) (λ h. h)
+
+phase_is_new : (n : ℕ) (v : Connection) → fresh n ≡ v → v.phase.closed ≡ false → v.phase ≡ unwritten.phase
+phase_is_new n v was live =
+    let same : (fresh n).phase ≡ v.phase = ap (λ (u : Connection). u.phase) was
+    in sym same ∙ phase_is (fresh n).phase (ap (λ (p : Conn). p.closed) same ∙ live)
+
+-- the event itself
+
+pub found_open : (b : Bool) (o : Option Connection) (v : Connection) → (if b then option_map ended o else o) ≡ Some v → v.phase.closed ≡ false → o ≡ Some v
+found_open true None v e live = absurd cc
+found_open true (Some u) v e live = absurd (true≢false (ap (λ (x : Option Connection). closed_of x) e ∙ live))
+  where
+    closed_of : Option Connection → Bool
+    closed_of None = true
+    closed_of (Some x) = x.phase.closed
+found_open false o v e live = e
+
+-- where nothing is put out no session stands
+pub push_some : (is : List Item) (i : Item) → is ++ i ∷ [] ≡ [] → ⊥
+push_some [] i h = absurd cc
+push_some (j ∷ js) i h = absurd cc
+
+heard_some : (i : Item) (o : ℕ) (known : ℕ → Option PeerChannel) (v : Option Session) → is_some (heard_by i o known v) ≡ is_some v
+heard_some (item.Frame sasl channel body payload) o known v = frame sasl (maps (known channel) o) (heard_in body) v
+  where
+    frame : (s m : Bool) (f : Session → Session) (v : Option Session) → is_some (if s then v else (if m then option_map f v else v)) ≡ is_some v
+    frame true m f v = refl
+    frame false true f None = refl
+    frame false true f (Some h) = refl
+    frame false false f v = refl
+heard_some _ o known v = refl
+
+none_when : (v : Option Session) → is_some v ≡ false → v ≡ None
+none_when None h = refl
+none_when (Some s) h = absurd cc
+
+still_none : (e : Event) (c o : ℕ) (known : ℕ → Option PeerChannel) (v : Option Session) → v ≡ None → session_at e c o known v ≡ None
+still_none (event.Item d i) c o known v h =
+    by_test (d.0 == c) (λ e. rw e (none_when (heard_by i o known v) (heard_some i o known v ∙ ap (λ (x : Option Session). is_some x) h))) (λ e. rw e h)
+still_none (event.Down d) c o known v h = by_test (d.0 == c) (λ e. rw e refl) (λ e. rw e h)
+still_none (event.Up d p) c o known v h = h
+still_none (event.Tick ms) c o known v h = h
+still_none event.Start c o known v h = h
+
+pub no_session : (t : List Entry) (c : ℕ) → outs t c ≡ [] → (o : ℕ) → session t c o ≡ None
+no_session [] c none o = refl
+no_session (Did s ∷ t) c none o = still_none s.event c o (theirs t c) (session t c o) (no_session t c none o)
+no_session (Out d i ∷ t) c none o =
+    by_test (d == c) (λ e. absurd (push_some (outs t c) i (rw e at none))) (λ e. rw e (no_session t c (rw e at none) o))
+no_session (Took d n ∷ t) c none o = no_session t c none o
+
+event_phases : (t : List Entry) (e : Event) → Ordered t → refuses t e ≡ false → (c n : ℕ) (v : Connection)
+    → at_event e c n (found t e c) ≡ Some v → v.phase.closed ≡ false → (wrote t c).phase ≡ v.phase
+event_phases t (event.Up d p) ord taken c n v is live =
+    by_test (d.0 == c)
+    (λ e. let new : Some (fresh n) ≡ Some v = rw e at is
+    in let none : outs t c ≡ [] = ord.unknown c (subst (λ (k : ℕ). has k (ups t) ≡ false) (eqb-true d.0 c e) (not_before t d ord taken))
+    in let was : fresh n ≡ v = cc
+    in ap (λ js. (written_all js unwritten).phase) none ∙ sym (phase_is_new n v was live))
+    (λ e. ord.phases c v (found_open (has c (due t (event.Up d p))) (conn t c) v (rw e at is) live) live)
+event_phases t (event.Down d) ord taken c n v is live =
+    by_test (d.0 == c) (λ e. let no : None ≡ Some v = rw e at is in absurd cc)
+    (λ e. ord.phases c v (found_open (has c (due t (event.Down d))) (conn t c) v (rw e at is) live) live)
+event_phases t (event.Item d i) ord taken c n v is live = ord.phases c v (found_open (has c (due t (event.Item d i))) (conn t c) v is live) live
+event_phases t (event.Tick ms) ord taken c n v is live = ord.phases c v (found_open (has c (due t (event.Tick ms))) (conn t c) v is live) live
+event_phases t event.Start ord taken c n v is live = ord.phases c v (found_open (has c (due t event.Start)) (conn t c) v is live) live
+
+event_begun : (t : List Entry) (e : Event) → Ordered t → refuses t e ≡ false → (c n : ℕ) (v : Connection)
+    → at_event e c n (found t e c) ≡ Some v → v.phase.closed ≡ false → (o : ℕ) → (wrote t c).begun o ≡ is_some (session (did e ∷ t) c o)
+event_begun t (event.Up d p) ord taken c n v is live o =
+    by_test (d.0 == c)
+    (λ e. let none : outs t c ≡ [] = ord.unknown c (subst (λ (k : ℕ). has k (ups t) ≡ false) (eqb-true d.0 c e) (not_before t d ord taken))
+    in ap (λ js. (written_all js unwritten).begun o) none ∙ sym (ap (λ (x : Option Session). is_some x) (no_session t c none o)))
+    (λ e. ord.begun c v (found_open (has c (due t (event.Up d p))) (conn t c) v (rw e at is) live) live o)
+event_begun t (event.Down d) ord taken c n v is live o =
+    by_test (d.0 == c) (λ e. let no : None ≡ Some v = rw e at is in absurd cc)
+    (λ e. rw e (ord.begun c v (found_open (has c (due t (event.Down d))) (conn t c) v (rw e at is) live) live o))
+event_begun t (event.Item d i) ord taken c n v is live o =
+    let was : (wrote t c).begun o ≡ is_some (session t c o) = ord.begun c v (found_open (has c (due t (event.Item d i))) (conn t c) v is live) live o
+    in by_test (d.0 == c) (λ e. rw e (was ∙ sym (heard_some i o (theirs t c) (session t c o)))) (λ e. rw e was)
+event_begun t (event.Tick ms) ord taken c n v is live o = ord.begun c v (found_open (has c (due t (event.Tick ms))) (conn t c) v is live) live o
+event_begun t event.Start ord taken c n v is live o = ord.begun c v (found_open (has c (due t event.Start)) (conn t c) v is live) live o
+
+rise_at : (t : List Entry) (e : Event) → Ordered t → refuses t e ≡ false → (c : ℕ) → has c (with_up e (ups t)) ≡ true → reaches c (newer e (newest t)) ≡ true
+rise_at t (event.Up d p) ord taken c h =
+    from_push c d.0 (ups t) (λ was. reach_up d.0 c (newest t) (taken_up (rises d.0 (newest t)) taken) (ord.rise c was))
+    (λ e. le-leb c d.0 (same_le d.0 c e)) h
+  where
+    same_le : (d c : ℕ) → d ≡ c → c ≤ d
+    same_le d c e = omega arith
+rise_at t (event.Down d) ord taken c h = ord.rise c h
+rise_at t (event.Item d i) ord taken c h = ord.rise c h
+rise_at t (event.Tick ms) ord taken c h = ord.rise c h
+rise_at t event.Start ord taken c h = ord.rise c h
+
+pub unknown_at : (t : List Entry) (e : Event) → Ordered t → (c : ℕ) → has c (with_up e (ups t)) ≡ false → outs t c ≡ []
+unknown_at t (event.Up d p) ord c absent = ord.unknown c (by_test (has c (ups t)) (λ h. absurd (true≢false (sym (has_push c d.0 (ups t) h) ∙ absent))) (λ h. h))
+unknown_at t (event.Down d) ord c absent = ord.unknown c absent
+unknown_at t (event.Item d i) ord c absent = ord.unknown c absent
+unknown_at t (event.Tick ms) ord c absent = ord.unknown c absent
+unknown_at t event.Start ord c absent = ord.unknown c absent
+
+once_at : (t : List Entry) (e : Event) → Ordered t → refuses t e ≡ false → NoTwice (with_up e (ups t))
+once_at t (event.Up d p) ord taken = no_twice_push (ups t) d.0 ord.once (not_before t d ord taken)
+once_at t (event.Down d) ord taken = ord.once
+once_at t (event.Item d i) ord taken = ord.once
+once_at t (event.Tick ms) ord taken = ord.once
+once_at t event.Start ord taken = ord.once
+
+event_turns : (t : List Entry) (e : Event) → Ordered t → refuses t e ≡ false → Ordered (did e ∷ t)
+event_turns t e ord taken = record {
+  turns = ord.turns;
+  phases = λ c v is live. event_phases t e ord taken c (length (live_of (ups t) (found t e))) v is live;
+  begun = λ c v is live. event_begun t e ord taken c (length (live_of (ups t) (found t e))) v is live;
+  opened = ord.opened;
+  unknown = unknown_at t e ord;
+  rise = rise_at t e ord taken;
+  once = once_at t e ord taken;
+}
+
+-- those that the event ends stand behind it with their close unwritten
+full_is : (o : Option Connection) → is_full o ≡ true → (v : Connection) × (o ≡ Some v) × (v.phase.closed ≡ false)
+full_is None h = absurd cc
+full_is (Some v) h = (v, refl, by_test v.phase.closed (λ e. absurd (true≢false (sym (rw e at h)))) (λ e. e))
+
+due_full : (t : List Entry) (e : Event) → Ordered t → refuses t e ≡ false → (c : ℕ) → is_due e c (conn t c) ≡ true → has c (ups t) ≡ true
+    → (is_full (conn t c) ≡ true) × ((n : ℕ) (o : Option Connection) → at_event e c n o ≡ o)
+due_full t (event.Up d p) ord taken c due there =
+    (due, λ n o. by_test (d.0 == c) (λ e. absurd (true≢false (sym (subst (λ (k : ℕ). has k (ups t) ≡ true) (sym (eqb-true d.0 c e)) there) ∙ not_before t d ord taken))) (λ e. rw e refl))
+due_full t (event.Down d) ord taken c due there =
+    by_test (d.0 == c) (λ e. absurd (true≢false (sym (rw e at due)))) (λ e. (rw e at due, λ n o. rw e refl))
+due_full t (event.Item d i) ord taken c due there = (due, λ n o. refl)
+due_full t (event.Tick ms) ord taken c due there = (due, λ n o. refl)
+due_full t event.Start ord taken c due there = (due, λ n o. refl)
+
+event_pending : (t : List Entry) (e : Event) → Ordered t → refuses t e ≡ false → (c : ℕ) → has c (due t e) ≡ true → Pending (did e ∷ t) c
+event_pending t e ord taken c h =
+    let is = filter_has (λ k. is_due e k (conn t k)) c (ups t) h
+    in let full = due_full t e ord taken c is.0 is.1
+    in let v = full_is (conn t c) full.0
+    in record {
+      view = ended v.0;
+      known_as = full.1 (length (live_of (ups t) (found t e))) (found t e c) ∙ ending (has c (due t e)) (conn t c) v.0 h v.1;
+      written = ord.phases c v.0 v.1 v.2 ∙ phase_is v.0.phase v.2;
+    }
+  where
+    ending : (b : Bool) (o : Option Connection) (v : Connection) → b ≡ true → o ≡ Some v → (if b then option_map ended o else o) ≡ Some (ended v)
+    ending b o v e f = rw (e, f) refl
+
+pub heard_turns : (id : List ℕ) (t : List Entry) (e : Event) → Ordered t → refuses t e ≡ false → Ordered (heard id t (step_of e))
+heard_turns id t e ord taken =
+    ends_turns id (due t e) (did e ∷ t) (event_turns t e ord taken) (no_twice_filter (λ k. is_due e k (conn t k)) (ups t) ord.once)
+    (event_pending t e ord taken)
+
+-- takes
+pub took_inv : (n : ℕ) (o : Option Connection) (w : Connection) → option_and_then (took n) o ≡ Some w → w.phase.closed ≡ false → (v : Connection) × (o ≡ Some v) × (v.phase ≡ w.phase)
+took_inv n None w is live = absurd cc
+took_inv n (Some v) w is live =
+    by_test v.phase.closed
+    (λ e. absurd (over (drained n v) (drop n v.waiting) (subst (λ (b : Bool). (if b then unless_empty (drained n v) (drop n v.waiting) else Some (drained n v)) ≡ Some w) e is) e))
+    (λ e. (v, refl, phase_of (drained n v) w (subst (λ (b : Bool). (if b then unless_empty (drained n v) (drop n v.waiting) else Some (drained n v)) ≡ Some w) e is)))
+  where
+    phase_of : (x w : Connection) → Some x ≡ Some w → x.phase ≡ w.phase
+    phase_of x w e = let f : x ≡ w = cc in ap (λ (u : Connection). u.phase) f
+
+    over : (x : Connection) (rest : List Item) → unless_empty x rest ≡ Some w → x.phase.closed ≡ true → ⊥
+    over x [] e h = absurd cc
+    over x (i ∷ is) e h = true≢false (sym h ∙ ap (λ (p : Conn). p.closed) (phase_of x w e) ∙ live)
+
+pub took_turns : (t : List Entry) (d n : ℕ) → Ordered t → Ordered (Took d n ∷ t)
+took_turns t d n ord = record {
+  turns = ord.turns;
+  phases = λ c w is live. by_test (d == c)
+      (λ e. let v = took_inv n (conn t c) w (rw e at is) live in ord.phases c v.0 v.1 (ap (λ (p : Conn). p.closed) v.2 ∙ live) ∙ v.2)
+      (λ e. ord.phases c w (rw e at is) live);
+  begun = λ c w is live. by_test (d == c)
+      (λ e. let v = took_inv n (conn t c) w (rw e at is) live in ord.begun c v.0 v.1 (ap (λ (p : Conn). p.closed) v.2 ∙ live))
+      (λ e. ord.begun c w (rw e at is) live);
+  opened = ord.opened;
+  unknown = ord.unknown;
+  rise = ord.rise;
+  once = ord.once;
+}
+
+pub ordered_empty : Ordered []
+ordered_empty = record {
+  turns = λ c. refl;
+  phases = λ c v is live. absurd cc;
+  begun = λ c v is live. absurd cc;
+  opened = λ c o h. absurd cc;
+  unknown = λ c absent. refl;
+  rise = λ c h. absurd cc;
+  once = tt;
+}

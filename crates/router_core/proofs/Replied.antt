@@ -1,0 +1,250 @@
+-- An event's replies keep the order.
+use Rattle.std.proofs.Common.{◌≡◌, ◌∙◌, sym, ap, refl, subst, true≢false, ℕ, Bool, true, false, not, List, ◌∷◌, inl, inr}
+use Rattle.std.specs.Prelude.{◌==◌, ◌⊎◌, Option, Some, None, is_some, option_map, if◌then◌else◌}
+use Rattle.std.proofs.lemmas.Bool.{eqb-true, eq-eqb}
+use Rattle.amqp_perf.specs.declared.perf.Perf.{Perf}
+use Rattle.amqp_perf.specs.declared.perf.Perf.TheVariants as perf
+use Rattle.amqp_frames.specs.declared.item.Item.{Item}
+use Rattle.amqp_frames.specs.declared.item.Item.TheVariants as item
+use Rattle.amqp_conn.specs.declared.conn.Conn.{Conn}
+use Rattle.amqp_session.specs.declared.states.BeginState.{BeginState}
+use Rattle.router_trace.specs.declared.terms.Terms.{Terms}
+use Rattle.router_trace.specs.declared.event.ConnectionId.{ConnectionId}
+use Rattle.router_trace.specs.declared.event.Event.{Event}
+use Rattle.router_trace.specs.declared.event.Event.TheVariants as event
+use Rattle.router_trace.specs.Trace.{Entry, did, puts, ups, with_up, step_of}
+use Rattle.router_trace.specs.Connection.{Connection, conn, ended, standing, is_live, has, due, found, live_of}
+use Rattle.router_trace.specs.Refusing.{refuses}
+use Rattle.router_trace.specs.Frames.{beat_item}
+use Rattle.router_trace.specs.Sessions.{Place, session, offered, offered_by, theirs, place}
+use Rattle.router_trace.specs.Clocks.{terms, terms_in, terms_by, channel_max_of}
+use Rattle.router_trace.specs.Order.{Written, unwritten, is_open, have_turns}
+use Rattle.router_state.specs.Tables.{beats}
+use Rattle.router_reply.specs.declared.answer.Answer.{Answer}
+use Rattle.router_reply.specs.Rows.{said, perf_reply, item_reply}
+use Rattle.router_reply.specs.Replies.{heard, answer, free_for, own_row, replied}
+use Rattle.router_links.specs.Windows.{windows}
+use Rattle.router_core.specs.Replies.{answered}
+use Rattle.router_conns.proofs.Lists.{by_test, has_push}
+use Rattle.router_conns.proofs.Turns.{known}
+use Rattle.router_reply.proofs.RowOrder.{written_of, AreOffered, AnswerFits, reply_fits, place_fits, free_fits, said_turns, said_offered, Opens, open_opens}
+use Rattle.router_core.proofs.Once.{filter_has, taken_up}
+use Rattle.router_core.proofs.Ordered.{Ordered, Spares, wrote, written_all, puts_turns, ends_spares, ends_ups, goes_ups, some_is}
+use Rattle.router_core.proofs.Told.{ToldAt, Told, goes_told_at, ends_told_at, goes_strange, ends_strange, said_told}
+use Rattle.router_core.proofs.Flowing.{Fits, goes_turns, beats_fit, followed_turns, live_some}
+use Rattle.router_core.proofs.Order.{not_before, found_open, heard_turns}
+
+-- a connection that an event finds live was live, and the event doesn't end it
+open_found : (b : Bool) (o : Option Connection) → is_live (if b then option_map ended o else o) ≡ true
+    → (v : Connection) × (o ≡ Some v) × (v.phase.closed ≡ false) × (b ≡ false)
+open_found true None h = absurd cc
+open_found true (Some v) h = absurd cc
+open_found false None h = absurd cc
+open_found false (Some v) h = (v, refl, by_test v.phase.closed (λ e. absurd (true≢false (sym (rw e at h)))) (λ e. e), refl)
+
+pub record FoundLive (t : List Entry) (e : Event) (c : ℕ) : Type 0 where
+  pub view : Connection
+  pub known_as : conn t c ≡ Some view
+  pub live : view.phase.closed ≡ false
+  pub spared : has c (due t e) ≡ false
+  pub phase : standing (found t e c) ≡ Some view.phase
+
+found_live : (t : List Entry) (e : Event) (c : ℕ) → is_live (found t e c) ≡ true → FoundLive t e c
+found_live t e c h =
+    let v = open_found (has c (due t e)) (conn t c) h
+    in record {
+      view = v.0;
+      known_as = v.1;
+      live = v.2;
+      spared = v.3;
+      phase = stood (has c (due t e)) (conn t c) v.0 v.3 v.1 v.2;
+    }
+  where
+    stood : (b : Bool) (o : Option Connection) (v : Connection) → b ≡ false → o ≡ Some v → v.phase.closed ≡ false → standing (if b then option_map ended o else o) ≡ Some v.phase
+    stood b o v e f g = rw (e, f, g) refl
+
+nothing_stands : (p : Option Conn) → is_some p ≡ false → p ≡ None
+nothing_stands None h = refl
+nothing_stands (Some p) h = absurd cc
+
+-- what an event ends stays as the event finds it, for other connections
+heard_spares : (id : List ℕ) (t : List Entry) (e : Event) (c : ℕ) → has c (due t e) ≡ false → Spares (did e ∷ t) (heard id t (step_of e)) c
+heard_spares id t e c spared = ends_spares id (due t e) (did e ∷ t) c spared
+
+-- the row of an item
+
+abbrev item_row : List ℕ → List Entry → ConnectionId → Item → List Item
+item_row id t d i = answer id (standing (found t (event.Item d i) d.0)) (place t d.0) (free_for t d.0) i
+
+row_turns : (id : List ℕ) (t : List Entry) (d : ConnectionId) (i : Item) → Ordered t → FoundLive t (event.Item d i) d.0
+    → Ordered (heard id t (step_of (event.Item d i))) → has d.0 (ups (heard id t (step_of (event.Item d i)))) ≡ true
+    → Ordered (puts d.0 (item_row id t d i) (heard id t (step_of (event.Item d i))))
+row_turns id t d i ord here heard_ord there =
+    let c : ℕ = d.0
+    in let e : Event = event.Item d i
+    in let u : List Entry = heard id t (step_of e)
+    in let p : Conn = here.view.phase
+    in let b : ℕ → Bool = (wrote t c).begun
+    in let asked : Option BeginState = offered_by i (offered t c)
+    in let begun : (o : ℕ) → b o ≡ is_some (session t c o) = ord.begun c here.view here.known_as here.live
+    in let a : Answer = item_reply p (place t c) (free_for t c) i
+    in let fits : AnswerFits p b asked a = reply_fits p b (offered t c) (place t c) (free_for t c) i here.live
+    (λ k. place_fits (theirs t c k) (session t c) b begun) (free_fits t c (channel_max_of (terms t c)) b begun)
+    in let spare : Spares (did e ∷ t) u c = heard_spares id t e c here.spared
+    in let same : wrote u c ≡ written_of p b =
+    ap (λ js. written_all js unwritten) spare.outs ∙ ap (λ (q : Conn). written_of q b) (ord.phases c here.view here.known_as here.live)
+    in let came : offered (did e ∷ t) c ≡ asked = offered_here
+    in subst (λ (s : Option Conn). Ordered (puts c (answer id s (place t c) (free_for t c) i) u)) (sym here.phase)
+    (puts_turns (said id p a) u c heard_ord
+    (subst (λ (w : Written). have_turns w (said id p a) ≡ true) (sym same) (said_turns id p b asked a here.live fits))
+    (subst (λ (x : Option BeginState). AreOffered (said id p a) x) (sym (spare.offered ∙ came)) (said_offered id p b asked a fits))
+    there)
+  where
+    offered_here : offered (did (event.Item d i) ∷ t) d.0 ≡ offered_by i (offered t d.0)
+    offered_here = let same : (d.0 == d.0) ≡ true = eq-eqb d.0 d.0 refl in rw same refl
+
+item_turns : (id : List ℕ) (t : List Entry) (d : ConnectionId) (i : Item) → Ordered t
+    → Ordered (heard id t (step_of (event.Item d i))) → has d.0 (ups (heard id t (step_of (event.Item d i)))) ≡ true
+    → Ordered (puts d.0 (item_row id t d i) (heard id t (step_of (event.Item d i))))
+item_turns id t d i ord heard_ord there =
+    by_test (is_live (found t (event.Item d i) d.0))
+    (λ h. row_turns id t d i ord (found_live t (event.Item d i) d.0 h) heard_ord there)
+    (λ h. subst (λ (s : Option Conn). Ordered (puts d.0 (answer id s (place t d.0) (free_for t d.0) i) (heard id t (step_of (event.Item d i)))))
+    (sym (nothing_stands (standing (found t (event.Item d i) d.0)) h)) heard_ord)
+
+-- heartbeats
+
+open_is : (p : Conn) → p.opened ≡ true → p.closed ≡ false → is_open p ≡ true
+open_is p a b = rw (a, b) refl
+
+beat_turns : (id : List ℕ) (t : List Entry) (ms : ℕ) → Ordered t → Told t → Ordered (heard id t (step_of (event.Tick ms)))
+    → Ordered (replied id t (step_of (event.Tick ms)))
+beat_turns id t ms ord told heard_ord =
+    goes_turns (beats t e ms) (heard id t (step_of e)) heard_ord (beats_fit t (heard id t (step_of e)) ms (live_of (ups t) (found t e)) each)
+  where
+    e : Event
+    e = event.Tick ms
+
+    each : (c : ℕ) → has c (live_of (ups t) (found t (event.Tick ms))) ≡ true → is_some (terms t c) ≡ true
+        → Fits (heard id t (step_of (event.Tick ms))) (record { conn = c; item = beat_item })
+    each c h some =
+        let is = filter_has (λ k. is_live (found t (event.Tick ms) k)) c (ups t) h
+        in let here : FoundLive t (event.Tick ms) c = found_live t (event.Tick ms) c is.0
+        in let spare : Spares (did (event.Tick ms) ∷ t) (heard id t (step_of (event.Tick ms))) c = heard_spares id t (event.Tick ms) c here.spared
+        in let phase : (wrote (heard id t (step_of (event.Tick ms))) c).phase ≡ here.view.phase
+        = ap (λ js. (written_all js unwritten).phase) spare.outs ∙ ord.phases c here.view here.known_as here.live
+        in record {
+          known = subst (λ (ks : List ℕ). has c ks ≡ true) (sym (ends_ups id (due t (event.Tick ms)) (did (event.Tick ms) ∷ t))) is.1;
+          turn = subst (λ (p : Conn). is_open p ≡ true) (sym phase) (open_is here.view.phase (told.told c here.view here.known_as here.live some) here.live);
+          quiet = tt;
+        }
+
+-- an event's rows
+
+live_known : (t : List Entry) (c : ℕ) → not (is_live (conn t c)) ≡ false → has c (ups t) ≡ true
+live_known t c taken = let v = live_some (conn t c) (taken_up (is_live (conn t c)) taken) in known t c (some_is (conn t c) v.0 v.1)
+
+pub replied_turns : (id : List ℕ) (t : List Entry) (e : Event) → Ordered t → Told t → refuses t e ≡ false → Ordered (replied id t (step_of e))
+replied_turns id t (event.Item d i) ord told taken =
+    item_turns id t d i ord (heard_turns id t (event.Item d i) ord taken)
+    (subst (λ (ks : List ℕ). has d.0 ks ≡ true) (sym (ends_ups id (due t (event.Item d i)) (did (event.Item d i) ∷ t))) (live_known t d.0 taken))
+replied_turns id t (event.Down c) ord told taken = heard_turns id t (event.Down c) ord taken
+replied_turns id t (event.Up c p) ord told taken = heard_turns id t (event.Up c p) ord taken
+replied_turns id t (event.Tick ms) ord told taken = beat_turns id t ms ord told (heard_turns id t (event.Tick ms) ord taken)
+replied_turns id t event.Start ord told taken = heard_turns id t event.Start ord taken
+
+pub answered_turns : (id : List ℕ) (t : List Entry) (e : Event) → Ordered t → Told t → refuses t e ≡ false → Ordered (answered id t (step_of e))
+answered_turns id t e ord told taken = followed_turns (replied id t (step_of e)) (replied_turns id t e ord told taken)
+
+-- an open is answered by an open or a close; nothing else tells terms
+
+perf_opens : (body : Perf) (channel : ℕ) (v : Option Terms)
+    → ((p : Conn) (known : ℕ → Place) (free : Option ℕ) → Opens (perf_reply p known free channel body)) ⊎ (terms_in body v ≡ v)
+perf_opens (perf.Open x) channel v = inl (λ p known free. open_opens p x)
+perf_opens _ channel v = inr refl
+
+item_opens : (i : Item) (v : Option Terms) → ((p : Conn) (known : ℕ → Place) (free : Option ℕ) → Opens (item_reply p known free i)) ⊎ (terms_by i v ≡ v)
+item_opens (item.Frame true channel body payload) v = inr refl
+item_opens (item.Frame false channel body payload) v = perf_opens body channel v
+item_opens _ v = inr refl
+
+event_told : (t : List Entry) (e : Event) → Ordered t → Told t → refuses t e ≡ false → (k : ℕ) → (is_some (terms (did e ∷ t) k) ≡ true → is_some (terms t k) ≡ true) → ToldAt (did e ∷ t) k
+event_told t (event.Up d p) ord told taken k same v is live some =
+    by_test (d.0 == k)
+    (λ h. let none : terms t k ≡ None = told.strange k (subst (λ (n : ℕ). has n (ups t) ≡ false) (eqb-true d.0 k h) (not_before t d ord taken))
+    in absurd (true≢false (sym (same some) ∙ ap (λ (x : Option Terms). is_some x) none)))
+    (λ h. told.told k v (found_open (has k (due t (event.Up d p))) (conn t k) v (rw h at is) live) live (same some))
+event_told t (event.Down d) ord told taken k same v is live some =
+    by_test (d.0 == k) (λ h. let no : None ≡ Some v = rw h at is in absurd cc)
+    (λ h. told.told k v (found_open (has k (due t (event.Down d))) (conn t k) v (rw h at is) live) live (same some))
+event_told t (event.Item d i) ord told taken k same v is live some = told.told k v (found_open (has k (due t (event.Item d i))) (conn t k) v is live) live (same some)
+event_told t (event.Tick ms) ord told taken k same v is live some = told.told k v (found_open (has k (due t (event.Tick ms))) (conn t k) v is live) live (same some)
+event_told t event.Start ord told taken k same v is live some = told.told k v (found_open (has k (due t event.Start)) (conn t k) v is live) live (same some)
+
+-- behind an event's rows, but for the item's own connection
+row_told : (id : List ℕ) (t : List Entry) (e : Event) (k : ℕ) → ToldAt (did e ∷ t) k → ToldAt (replied id t (step_of e)) k
+row_told id t e k was = goes_told_at (own_row id t e) (heard id t (step_of e)) k (ends_told_at id (due t e) (did e ∷ t) k was)
+
+opened_told : (id : List ℕ) (t : List Entry) (d : ConnectionId) (i : Item) → ((p : Conn) (known : ℕ → Place) (free : Option ℕ) → Opens (item_reply p known free i))
+    → ToldAt (replied id t (step_of (event.Item d i))) d.0
+opened_told id t d i opens =
+    by_test (is_live (found t (event.Item d i) d.0))
+    (λ h. let here : FoundLive t (event.Item d i) d.0 = found_live t (event.Item d i) d.0 h
+    in subst (λ (s : Option Conn). ToldAt (puts d.0 (answer id s (place t d.0) (free_for t d.0) i) (heard id t (step_of (event.Item d i)))) d.0) (sym here.phase)
+    (said_told id here.view.phase (heard id t (step_of (event.Item d i))) d.0 (item_reply here.view.phase (place t d.0) (free_for t d.0) i)
+    (opens here.view.phase (place t d.0) (free_for t d.0))))
+    (λ h. row_told id t (event.Item d i) d.0 (λ v is live some. absurd (true≢false (sym (lives v live) ∙ sym (ap is_live is) ∙ h))))
+  where
+    lives : (v : Connection) → v.phase.closed ≡ false → is_live (Some v) ≡ true
+    lives v e = rw e refl
+
+item_told : (id : List ℕ) (t : List Entry) (d : ConnectionId) (i : Item) → Ordered t → Told t → refuses t (event.Item d i) ≡ false
+    → ToldAt (replied id t (step_of (event.Item d i))) d.0
+item_told id t d i ord told taken = by (item_opens i (terms t d.0))
+  where
+    here : terms (did (event.Item d i) ∷ t) d.0 ≡ terms_by i (terms t d.0)
+    here = let same : (d.0 == d.0) ≡ true = eq-eqb d.0 d.0 refl in rw same refl
+
+    by : ((p : Conn) (known : ℕ → Place) (free : Option ℕ) → Opens (item_reply p known free i)) ⊎ (terms_by i (terms t d.0) ≡ terms t d.0)
+        → ToldAt (replied id t (step_of (event.Item d i))) d.0
+    by (inl opens) = opened_told id t d i opens
+    by (inr same) =
+        row_told id t (event.Item d i) d.0 (event_told t (event.Item d i) ord told taken d.0 (λ some. sym (ap (λ (x : Option Terms). is_some x) (here ∙ same)) ∙ some))
+
+replied_told : (id : List ℕ) (t : List Entry) (e : Event) → Ordered t → Told t → refuses t e ≡ false → (k : ℕ) → ToldAt (replied id t (step_of e)) k
+replied_told id t (event.Item d i) ord told taken k =
+    by_test (d.0 == k)
+    (λ h. subst (λ (n : ℕ). ToldAt (replied id t (step_of (event.Item d i))) n) (eqb-true d.0 k h) (item_told id t d i ord told taken))
+    (λ h. row_told id t (event.Item d i) k (event_told t (event.Item d i) ord told taken k (λ some. rw h at some)))
+replied_told id t (event.Down d) ord told taken k =
+    row_told id t (event.Down d) k (event_told t (event.Down d) ord told taken k
+    (λ some. by_test (d.0 == k) (λ h. absurd (true≢false (sym (rw h at some)))) (λ h. rw h at some)))
+replied_told id t (event.Up d p) ord told taken k = row_told id t (event.Up d p) k (event_told t (event.Up d p) ord told taken k (λ some. some))
+replied_told id t (event.Tick ms) ord told taken k = row_told id t (event.Tick ms) k (event_told t (event.Tick ms) ord told taken k (λ some. some))
+replied_told id t event.Start ord told taken k = row_told id t event.Start k (event_told t event.Start ord told taken k (λ some. some))
+
+strange_at : (t : List Entry) (e : Event) → Told t → refuses t e ≡ false → (k : ℕ) → has k (with_up e (ups t)) ≡ false → terms (did e ∷ t) k ≡ None
+strange_at t (event.Up d p) told taken k absent = told.strange k (by_test (has k (ups t)) (λ h. absurd (true≢false (sym (has_push k d.0 (ups t) h) ∙ absent))) (λ h. h))
+strange_at t (event.Down d) told taken k absent = by_test (d.0 == k) (λ h. rw h refl) (λ h. rw h (told.strange k absent))
+strange_at t (event.Item d i) told taken k absent =
+    by_test (d.0 == k)
+    (λ h. absurd (true≢false (sym (subst (λ (n : ℕ). has n (ups t) ≡ true) (eqb-true d.0 k h) (live_known t d.0 taken)) ∙ absent)))
+    (λ h. rw h (told.strange k absent))
+strange_at t (event.Tick ms) told taken k absent = told.strange k absent
+strange_at t event.Start told taken k absent = told.strange k absent
+
+pub answered_told : (id : List ℕ) (t : List Entry) (e : Event) → Ordered t → Told t → refuses t e ≡ false → Told (answered id t (step_of e))
+answered_told id t e ord told taken = record {
+  told = λ k. goes_told_at (windows behind) behind k (replied_told id t e ord told taken k);
+  strange = λ k absent. goes_strange (windows behind) behind k
+      (goes_strange (own_row id t e) (heard id t (step_of e)) k (ends_strange id (due t e) (did e ∷ t) k
+      (strange_at t e told taken k (sym (ap (λ ks. has k ks) all_ups) ∙ absent))));
+}
+  where
+    behind : List Entry
+    behind = replied id t (step_of e)
+
+    all_ups : ups (answered id t (step_of e)) ≡ with_up e (ups t)
+    all_ups =
+        goes_ups (windows (replied id t (step_of e))) (replied id t (step_of e)) ∙ goes_ups (own_row id t e) (heard id t (step_of e))
+        ∙ ends_ups id (due t e) (did e ∷ t)

@@ -1,0 +1,258 @@
+-- Each row of the reply table keeps the order on a live connection.
+use Rattle.std.proofs.Common.{◌≡◌, ◌∙◌, sym, ap, refl, subst, ℕ, Bool, true, false, List, [], ◌∷◌}
+use Rattle.std.specs.Prelude.{nat_lt, nat_le, if◌then◌else◌, is_some, is_none, length, Option, Some, None, Result, Ok, Err}
+use Rattle.std.specs.List.{find}
+use Rattle.amqp_perf.specs.declared.perf.Begin.{Begin as ABegin}
+use Rattle.amqp_perf.specs.declared.perf.Flow.{Flow as AFlow}
+use Rattle.amqp_perf.specs.declared.perf.Open.{Open as AnOpen}
+use Rattle.amqp_perf.specs.declared.perf.Perf.{Perf}
+use Rattle.amqp_perf.specs.declared.perf.Perf.TheVariants as perf
+use Rattle.amqp_frames.specs.declared.item.Item.{Item}
+use Rattle.amqp_frames.specs.declared.item.Item.TheVariants as item
+use Rattle.amqp_conn.specs.declared.conn.Conn.{Conn}
+use Rattle.amqp_conn.specs.declared.fault.ConnFault.{ConnFault}
+use Rattle.amqp_conn.specs.declared.fault.ConnFault.TheVariants.{ChannelTooHigh}
+use Rattle.amqp_conn.specs.Phase.{after_frame, after_open}
+use Rattle.amqp_session.specs.declared.states.BeginState.{BeginState}
+use Rattle.amqp_session.specs.Session.{Session, TheirFlow}
+use Rattle.router_trace.specs.declared.channel.PeerChannel.{PeerChannel}
+use Rattle.router_trace.specs.declared.channel.PeerChannel.TheVariants.{Mapped, Ending}
+use Rattle.router_trace.specs.declared.condition.Condition.{Condition}
+use Rattle.router_trace.specs.Trace.{Entry}
+use Rattle.router_trace.specs.Frames.{closing}
+use Rattle.router_trace.specs.Order.{Written, have_turns}
+use Rattle.router_trace.specs.Sessions.{Place, nowhere, ending, on, on_session, place_by, session, is_free, free_channel, channels, offered_by, unless_close, begin_state, flow_state}
+use Rattle.router_conns.proofs.Lists.{by_test}
+use Rattle.router_reply.specs.declared.answer.Answer.{Answer}
+use Rattle.router_reply.specs.declared.answer.Answer.TheVariants.{Nothing, Header, Open, Close, CloseWith, Begin, End, Flow}
+use Rattle.router_reply.specs.Rows.{said, header_reply, open_by, open_reply, begin_by, begin_reply, end_reply, unattached_handle_reply, echo, flow_by, flow_reply, attach_reply, disposition_reply, in_turn, turn_by, perf_reply, item_reply}
+
+-- a live phase
+abbrev pub open_phase : Bool → Bool → Conn
+open_phase h o = record { header = h; opened = o; closed = false }
+
+pub phase_is : (p : Conn) → p.closed ≡ false → p ≡ open_phase p.header p.opened
+phase_is p live = ap (λ (b : Bool). record_of p.header p.opened b) live
+  where
+    record_of : Bool → Bool → Bool → Conn
+    record_of h o b = record { header = h; opened = o; closed = b }
+
+-- what was written, by its parts
+abbrev pub written_of : Conn → (ℕ → Bool) → Written
+written_of p b = record { phase = p; begun = b }
+
+-- the router's begin stands behind one of the peer
+abbrev pub perf_is_offered : Perf → Option BeginState → Type 0
+perf_is_offered (perf.Begin x) asked = is_some asked ≡ true
+perf_is_offered _ asked = Unit {0}
+
+abbrev pub IsOffered : Item → Option BeginState → Type 0
+IsOffered (item.Frame sasl own body payload) asked = perf_is_offered body asked
+IsOffered _ asked = Unit {0}
+
+abbrev pub AreOffered : List Item → Option BeginState → Type 0
+AreOffered [] asked = Unit {0}
+AreOffered (i ∷ is) asked = IsOffered i asked × AreOffered is (unless_close i asked)
+
+-- an answer fits what was written, and the peer's begin that came last
+abbrev pub AnswerFits : Conn → (ℕ → Bool) → Option BeginState → Answer → Type 0
+AnswerFits p b asked Nothing = Unit {0}
+AnswerFits p b asked Header = p.header ≡ false
+AnswerFits p b asked Open = p.opened ≡ false
+AnswerFits p b asked Close = p.opened ≡ true
+AnswerFits p b asked (CloseWith x) = Unit {0}
+AnswerFits p b asked (Begin own theirs) = (p.opened ≡ true) × (b own ≡ false) × (is_some asked ≡ true)
+AnswerFits p b asked (End own x) = (p.opened ≡ true) × (b own ≡ true)
+AnswerFits p b asked (Flow own told) = (p.opened ≡ true) × (b own ≡ true)
+
+-- the items of an answer that fits have their turns
+pub closing_turns : (id : List ℕ) (h o : Bool) (b : ℕ → Bool) (x : Condition) → have_turns (written_of (open_phase h o) b) (closing id (open_phase h o) x) ≡ true
+closing_turns id h true b x = refl
+closing_turns id h false b x = refl
+
+said_turns_at : (id : List ℕ) (h o : Bool) (b : ℕ → Bool) (asked : Option BeginState) (a : Answer) → AnswerFits (open_phase h o) b asked a
+    → have_turns (written_of (open_phase h o) b) (said id (open_phase h o) a) ≡ true
+said_turns_at id h o b asked Nothing fits = refl
+said_turns_at id h o b asked Header fits = rw fits refl
+said_turns_at id h o b asked Open fits = rw fits refl
+said_turns_at id h o b asked Close fits = rw fits refl
+said_turns_at id h o b asked (CloseWith x) fits = closing_turns id h o b x
+said_turns_at id h o b asked (Begin own theirs) fits = rw (fits.0, fits.1) refl
+said_turns_at id h o b asked (End own x) fits = rw (fits.0, fits.1) refl
+said_turns_at id h o b asked (Flow own told) fits = rw (fits.0, fits.1) refl
+
+pub said_turns : (id : List ℕ) (p : Conn) (b : ℕ → Bool) (asked : Option BeginState) (a : Answer) → p.closed ≡ false → AnswerFits p b asked a
+    → have_turns (written_of p b) (said id p a) ≡ true
+said_turns id p b asked a live =
+    subst (λ (q : Conn). AnswerFits q b asked a → have_turns (written_of q b) (said id q a) ≡ true) (sym (phase_is p live))
+    (said_turns_at id p.header p.opened b asked a)
+
+-- its begins are answers
+pub closing_offered : (id : List ℕ) (p : Conn) (x : Condition) (asked : Option BeginState) → AreOffered (closing id p x) asked
+closing_offered id p x asked = by_test p.opened (λ e. rw e (tt, tt)) (λ e. rw e (tt, (tt, tt)))
+
+pub said_offered : (id : List ℕ) (p : Conn) (b : ℕ → Bool) (asked : Option BeginState) (a : Answer) → AnswerFits p b asked a → AreOffered (said id p a) asked
+said_offered id p b asked Nothing fits = tt
+said_offered id p b asked Header fits = (tt, tt)
+said_offered id p b asked Open fits = (tt, tt)
+said_offered id p b asked Close fits = (tt, tt)
+said_offered id p b asked (CloseWith x) fits = closing_offered id p x asked
+said_offered id p b asked (Begin own theirs) fits = (fits.2, tt)
+said_offered id p b asked (End own x) fits = (tt, tt)
+said_offered id p b asked (Flow own told) fits = (tt, tt)
+
+-- what stands on a channel of the peer, and the free channel, fit what was written
+abbrev pub PlaceFits : Place → (ℕ → Bool) → Type 0
+PlaceFits (on own h) b = b own ≡ true
+PlaceFits _ b = Unit {0}
+
+abbrev pub FreeFits : Option ℕ → (ℕ → Bool) → Type 0
+FreeFits None b = Unit {0}
+FreeFits (Some own) b = b own ≡ false
+
+pub place_fits : (v : Option PeerChannel) (known : ℕ → Option Session) (b : ℕ → Bool) → ((o : ℕ) → b o ≡ is_some (known o)) → PlaceFits (place_by v known) b
+place_fits None known b same = tt
+place_fits (Some Ending) known b same = tt
+place_fits (Some (Mapped own)) known b same = on_fits (known own) (same own)
+  where
+    on_fits : (v : Option Session) → b own ≡ is_some v → PlaceFits (on_session own v) b
+    on_fits None e = tt
+    on_fits (Some h) e = e
+
+find_fits : (max : ℕ) (known : ℕ → Option Session) (b : ℕ → Bool) → ((o : ℕ) → b o ≡ is_some (known o)) → (xs : List ℕ) → FreeFits (find (is_free max known) xs) b
+find_fits max known b same [] = tt
+find_fits max known b same (x ∷ xs) =
+    by_test (is_free max known x)
+    (λ e. rw e (same x ∙ none_there (nat_le x max) (known x) e))
+    (λ e. rw e (find_fits max known b same xs))
+  where
+    none_there : (c : Bool) (v : Option Session) → (if c then is_none v else false) ≡ true → is_some v ≡ false
+    none_there true None h = refl
+    none_there true (Some s) h = sym h
+    none_there false v h = absurd cc
+
+pub free_fits : (t : List Entry) (c max : ℕ) (b : ℕ → Bool) → ((o : ℕ) → b o ≡ is_some (session t c o)) → FreeFits (free_channel t c max) b
+unfolding free_channel
+free_fits t c max b same = find_fits max (session t c) b same channels
+
+-- each row's answer fits
+
+header_fits : (h o : Bool) (b : ℕ → Bool) (asked : Option BeginState) → AnswerFits (open_phase h o) b asked (header_reply (open_phase h o))
+header_fits true o b asked = tt
+header_fits false o b asked = refl
+
+open_fits : (h o : Bool) (b : ℕ → Bool) (asked : Option BeginState) (x : AnOpen) → AnswerFits (open_phase h o) b asked (open_reply (open_phase h o) x)
+open_fits h true b asked x = tt
+open_fits h false b asked x =
+    by_test (nat_lt x.max_frame_size 512)
+    (λ e. rw e tt)
+    (λ e. by_test (nat_lt 1024 (length x.container_id)) (λ f. rw (e, f) tt) (λ f. rw (e, f) refl))
+
+begin_fits : (h : Bool) (b : ℕ → Bool) (asked : Option BeginState) (at : Place) (free : Option ℕ) (theirs : ℕ) (x : ABegin) → PlaceFits at b → FreeFits free b → is_some asked ≡ true
+    → AnswerFits (open_phase h true) b asked (begin_reply at free theirs x)
+begin_fits h b asked nowhere free theirs x place room some = by free x.remote_channel room
+  where
+    by : (free m : Option ℕ) → FreeFits free b → AnswerFits (open_phase h true) b asked (begin_by theirs free m)
+    by free (Some channel) room = tt
+    by None None room = tt
+    by (Some own) None room = (refl, room, some)
+begin_fits h b asked ending free theirs x place room some = tt
+begin_fits h b asked (on own s) free theirs x place room some = tt
+
+end_fits : (h : Bool) (b : ℕ → Bool) (asked : Option BeginState) (at : Place) → PlaceFits at b → AnswerFits (open_phase h true) b asked (end_reply at)
+end_fits h b asked nowhere place = tt
+end_fits h b asked ending place = tt
+end_fits h b asked (on own s) place = (refl, place)
+
+unattached_fits : (h : Bool) (b : ℕ → Bool) (asked : Option BeginState) (at : Place) → PlaceFits at b → AnswerFits (open_phase h true) b asked (unattached_handle_reply at)
+unattached_fits h b asked nowhere place = tt
+unattached_fits h b asked ending place = tt
+unattached_fits h b asked (on own s) place = (refl, place)
+
+attach_fits : (h : Bool) (b : ℕ → Bool) (asked : Option BeginState) (at : Place) → PlaceFits at b → AnswerFits (open_phase h true) b asked (attach_reply at)
+attach_fits h b asked nowhere place = tt
+attach_fits h b asked ending place = tt
+attach_fits h b asked (on own s) place = (refl, place)
+
+disposition_fits : (h : Bool) (b : ℕ → Bool) (asked : Option BeginState) (at : Place) → AnswerFits (open_phase h true) b asked (disposition_reply at)
+disposition_fits h b asked nowhere = tt
+disposition_fits h b asked ending = tt
+disposition_fits h b asked (on own s) = tt
+
+flow_fits : (h : Bool) (b : ℕ → Bool) (asked : Option BeginState) (at : Place) (f : AFlow) → PlaceFits at b → AnswerFits (open_phase h true) b asked (flow_reply at f)
+flow_fits h b asked at f place = by at f.handle place
+  where
+    wanted : (q : Bool) (own : ℕ) (s : Session) → b own ≡ true → AnswerFits (open_phase h true) b asked (echo q own s)
+    wanted true own s place = (refl, place)
+    wanted false own s place = tt
+
+    by : (at : Place) (handle : Option ℕ) → PlaceFits at b → AnswerFits (open_phase h true) b asked (flow_by at f handle)
+    by nowhere None place = tt
+    by ending None place = tt
+    by (on own s) None place = wanted f.echo own (TheirFlow (flow_state f) ∷ s) place
+    by at (Some handle) place = unattached_fits h b asked at place
+
+-- in its turn or not
+turn_fits : (h o : Bool) (b : ℕ → Bool) (asked : Option BeginState) (at : Place) (free : Option ℕ) (channel : ℕ) (body : Perf)
+    → AnswerFits (open_phase h true) b asked (in_turn at free channel body)
+    → AnswerFits (open_phase h o) b asked (turn_by at free channel body (after_frame channel (open_phase h o)))
+turn_fits h false b asked at free channel body here = tt
+turn_fits h true b asked at free channel body here = by_channel (nat_lt 14 channel)
+  where
+    by_channel : (q : Bool) → AnswerFits (open_phase h true) b asked (turn_by at free channel body (if q then Err ChannelTooHigh else Ok (open_phase h true)))
+    by_channel true = tt
+    by_channel false = here
+
+perf_fits : (h o : Bool) (b : ℕ → Bool) (asked : Option BeginState) (known : ℕ → Place) (free : Option ℕ) (payload : List ℕ) (channel : ℕ) (body : Perf)
+    → ((k : ℕ) → PlaceFits (known k) b) → FreeFits free b
+    → AnswerFits (open_phase h o) b (offered_by (item.Frame false channel body payload) asked) (perf_reply (open_phase h o) known free channel body)
+perf_fits h o b asked known free payload channel (perf.Open x) places room = open_fits h o b asked x
+perf_fits h o b asked known free payload channel (perf.Begin x) places room =
+    turn_fits h o b (Some (begin_state x)) (known channel) free channel (perf.Begin x) (begin_fits h b (Some (begin_state x)) (known channel) free channel x (places channel) room refl)
+perf_fits h o b asked known free payload channel (perf.Attach x) places room =
+    turn_fits h o b asked (known channel) free channel (perf.Attach x) (attach_fits h b asked (known channel) (places channel))
+perf_fits h o b asked known free payload channel (perf.Flow x) places room =
+    turn_fits h o b asked (known channel) free channel (perf.Flow x) (flow_fits h b asked (known channel) x (places channel))
+perf_fits h o b asked known free payload channel (perf.Transfer x) places room =
+    turn_fits h o b asked (known channel) free channel (perf.Transfer x) (unattached_fits h b asked (known channel) (places channel))
+perf_fits h o b asked known free payload channel (perf.Disposition x) places room =
+    turn_fits h o b asked (known channel) free channel (perf.Disposition x) (disposition_fits h b asked (known channel))
+perf_fits h o b asked known free payload channel (perf.Detach x) places room =
+    turn_fits h o b asked (known channel) free channel (perf.Detach x) (unattached_fits h b asked (known channel) (places channel))
+perf_fits h o b asked known free payload channel (perf.End x) places room =
+    turn_fits h o b asked (known channel) free channel (perf.End x) (end_fits h b asked (known channel) (places channel))
+perf_fits h o b asked known free payload channel (perf.Close x) places room = turn_fits h o b asked (known channel) free channel (perf.Close x) refl
+perf_fits h o b asked known free payload channel (perf.SaslMechanisms x) places room = turn_fits h o b asked (known channel) free channel (perf.SaslMechanisms x) tt
+perf_fits h o b asked known free payload channel (perf.SaslInit x) places room = turn_fits h o b asked (known channel) free channel (perf.SaslInit x) tt
+perf_fits h o b asked known free payload channel (perf.SaslChallenge x) places room = turn_fits h o b asked (known channel) free channel (perf.SaslChallenge x) tt
+perf_fits h o b asked known free payload channel (perf.SaslResponse x) places room = turn_fits h o b asked (known channel) free channel (perf.SaslResponse x) tt
+perf_fits h o b asked known free payload channel (perf.SaslOutcome x) places room = turn_fits h o b asked (known channel) free channel (perf.SaslOutcome x) tt
+
+item_fits : (h o : Bool) (b : ℕ → Bool) (asked : Option BeginState) (known : ℕ → Place) (free : Option ℕ) (i : Item)
+    → ((k : ℕ) → PlaceFits (known k) b) → FreeFits free b
+    → AnswerFits (open_phase h o) b (offered_by i asked) (item_reply (open_phase h o) known free i)
+item_fits h o b asked known free (item.Header x y z w) places room = header_fits h o b asked
+item_fits h o b asked known free (item.Frame true channel body payload) places room = tt
+item_fits h o b asked known free (item.Frame false channel body payload) places room = perf_fits h o b asked known free payload channel body places room
+item_fits h o b asked known free (item.Beat channel) places room = by_test (nat_lt 14 channel) (λ e. rw e tt) (λ e. rw e tt)
+item_fits h o b asked known free (item.Bad f) places room = tt
+
+pub reply_fits : (p : Conn) (b : ℕ → Bool) (asked : Option BeginState) (known : ℕ → Place) (free : Option ℕ) (i : Item) → p.closed ≡ false
+    → ((k : ℕ) → PlaceFits (known k) b) → FreeFits free b
+    → AnswerFits p b (offered_by i asked) (item_reply p known free i)
+reply_fits p b asked known free i live places room =
+    subst (λ (q : Conn). AnswerFits q b (offered_by i asked) (item_reply q known free i)) (sym (phase_is p live))
+    (item_fits p.header p.opened b asked known free i places room)
+
+-- the peer's open is answered by the router's, or by a close
+abbrev pub Opens : Answer → Type 0
+Opens Open = Unit {0}
+Opens (CloseWith x) = Unit {0}
+Opens _ = ⊥
+
+pub open_opens : (p : Conn) (x : AnOpen) → Opens (open_reply p x)
+open_opens p x = by (after_open x p)
+  where
+    by : (r : Result Conn ConnFault) → Opens (open_by x r)
+    by (Ok q) = by_test (nat_lt 1024 (length x.container_id)) (λ e. rw e tt) (λ e. rw e tt)
+    by (Err f) = tt
