@@ -1,13 +1,13 @@
 -- No outbox was full when an event came: then none was before, and the router hears of an event what it hears without takes.
-use Rattle.std.proofs.Common.{◌≡◌, ◌∙◌, sym, ap, refl, subst, ℕ, Bool, true, false, not, List, [], ◌∷◌}
-use Rattle.std.specs.Prelude.{Option, Some, None, is_some}
+use Rattle.std.proofs.Common.{◌≡◌, ap, refl, subst, ℕ, false, not, List, [], ◌∷◌}
+use Rattle.std.specs.Prelude.{Option, is_some}
 use Rattle.amqp_frames.specs.declared.item.Item.{Item}
 use Rattle.amqp_conn.specs.declared.conn.Conn.{Conn}
 use Rattle.router_trace.specs.declared.condition.Condition.TheVariants.{ResourceLimitExceeded}
 use Rattle.router_trace.specs.declared.event.Event.{Event}
 use Rattle.router_trace.specs.declared.event.Event.TheVariants as event
-use Rattle.router_trace.specs.Trace.{Entry, Did, Out, Took, Put, Step, goes, each_to, puts, newest, newer, step_of}
-use Rattle.router_trace.specs.Connection.{Connection, conn, due, is_full}
+use Rattle.router_trace.specs.Trace.{Entry, Did, Out, Took, Put, Step, goes, each_to, puts, newest, newer}
+use Rattle.router_trace.specs.Connection.{conn, due, is_full}
 use Rattle.router_trace.specs.Refusing.{refuses, rises}
 use Rattle.router_links.specs.Windows.{windows}
 use Rattle.router_reply.specs.Replies.{closing_of, ends, heard, own_row, replied}
@@ -15,11 +15,11 @@ use Rattle.router_core.specs.Replies.{answered}
 use Rattle.router_core.specs.Runs.{took_one}
 use Rattle.router_core.specs.Moves.{Move, handles, takes, Goes}
 use Rattle.router_core.specs.Laws.{untaken}
-use Rattle.router_core.proofs.Plain.{plain, Calm, stood}
+use Rattle.router_core.proofs.Plain.{Calm, stood}
 use Rattle.router_play.specs.Script.{Scene}
 use Rattle.router_play.specs.Pieces.{AlwaysRoom}
 use Rattle.router_play.proofs.PlayMoves.{Onward}
-use Rattle.router_play.proofs.Plainly.{plain_refuses}
+use Rattle.router_play.proofs.Courses.{plain_refuses}
 
 pub room_calm : (t : List Entry) → AlwaysRoom t → Calm t
 room_calm [] room = tt

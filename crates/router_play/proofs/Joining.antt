@@ -14,13 +14,11 @@ use Rattle.router_trace.specs.declared.event.Event.TheVariants as event
 use Rattle.router_trace.specs.Refusing.{rises}
 use Rattle.router_core.specs.declared.door.Door.{Door as DoorState}
 use Rattle.router_core.specs.Door.{Verdict, says, passes, ends, door, door_behind}
-use Rattle.route_table.specs.Settings.{Settings}
 use Rattle.router_play.specs.declared.script.Step.{Step}
 use Rattle.router_play.specs.declared.script.Step.TheVariants as step
 use Rattle.router_play.specs.Pieces.{in_front, with_bytes, joined}
 use Rattle.router_conns.proofs.Lists.{by_test}
-use Rattle.router_play.proofs.Levels.{same}
-use Rattle.router_play.proofs.Plainly.{Spot, Course, with_spot, flowing, with_stream, tell, judge, come_at, come_by, come, come_all, kept, stream_at, take_in, bytes_by, bytes_come, made_by, told_at, lost_by, moved_by, course, tell_spots}
+use Rattle.router_play.proofs.Courses.{Spot, Course, with_spot, flowing, with_stream, tell, judge, come_at, come_by, come, come_all, kept, stream_at, bytes_by, bytes_come, made_by, told_at, lost_by, moved_by, course, tell_spots}
 use Rattle.router_play.proofs.Streaming.{two_pieces, no_piece}
 
 -- what waits on each connection is less than an item

@@ -14,7 +14,7 @@ mod Making
 mod Bringing
 mod Losing
 mod Carried
-mod Plainly
+mod Courses
 mod Streaming
 mod Joining
 mod Calming

@@ -1,12 +1,10 @@
 -- Pieces make no difference.
-use Rattle.std.proofs.Common.{◌≡◌, ◌∙◌, sym, ap, refl, subst, ℕ, Bool, true, false, List, [], ◌∷◌, ◌++◌, append_assoc}
+use Rattle.std.proofs.Common.{◌≡◌, ◌∙◌, sym, ap, refl, subst, ℕ, List, [], ◌∷◌, ◌++◌, append_assoc}
 use Rattle.std.specs.Prelude.{◌==◌, Option, Some, None, if◌then◌else◌}
 use Rattle.std.proofs.lemmas.Bool.{eqb-true}
-use Rattle.amqp_frames.specs.declared.item.Item.{Item}
 use Rattle.amqp_frames.proofs.Streams.{one_cut}
 use Rattle.route_table.specs.Settings.{Settings}
 use Rattle.router_trace.specs.declared.event.ConnectionId.{ConnectionId}
-use Rattle.router_trace.specs.declared.event.PeerRole.{PeerRole}
 use Rattle.router_trace.specs.Trace.{Entry}
 use Rattle.router_trace.specs.Refusing.{rises}
 use Rattle.router_core.specs.declared.door.Door.{Door as DoorState}
@@ -17,13 +15,12 @@ use Rattle.router_play.specs.declared.line.Line.{Line}
 use Rattle.router_play.specs.declared.script.Step.{Step}
 use Rattle.router_play.specs.declared.script.Step.TheVariants as step
 use Rattle.router_play.specs.Listening.{door_for}
-use Rattle.router_play.specs.Script.{Scene, opening, Plays}
 use Rattle.router_play.specs.Carrying.{behind_up, role_in, door_in, bytes_of, bytes_in, bytes_out, spelled, door_says, Carries}
-use Rattle.router_play.specs.Pieces.{in_front, with_bytes, joined, AlwaysRoom, PiecesMakeNoDifference}
+use Rattle.router_play.specs.Pieces.{in_front, with_bytes, joined, PiecesMakeNoDifference}
 use Rattle.router_conns.proofs.Lists.{by_test}
 use Rattle.router_play.proofs.Carried.{play_carries}
 use Rattle.router_play.proofs.Calming.{room_calm}
-use Rattle.router_play.proofs.Plainly.{Course, course}
+use Rattle.router_play.proofs.Courses.{Course, course}
 use Rattle.router_play.proofs.Joining.{same_id, joined_course}
 use Rattle.router_play.proofs.Shadowing.{first, play_course}
 
@@ -34,7 +31,7 @@ front_bytes n c bytes [] = refl
 front_bytes n c bytes (step.In d others ∷ xs) =
     by_test (c.0 == d.0)
     (λ e. rw e (subst (λ (x : ConnectionId). bytes_of n (step.In c (bytes ++ others) ∷ xs) ≡ bytes_of n (step.In c bytes ∷ step.In x others ∷ xs)) (same_id c d (eqb-true c.0 d.0 e))
-      (by_test (c.0 == n) (λ f. rw f (append_assoc bytes others (bytes_of n xs))) (λ f. rw f refl))))
+    (by_test (c.0 == n) (λ f. rw f (append_assoc bytes others (bytes_of n xs))) (λ f. rw f refl))))
     (λ e. rw e refl)
 front_bytes n c bytes (step.Up d role ∷ xs) = refl
 front_bytes n c bytes (step.Down d ∷ xs) = refl
@@ -121,6 +118,9 @@ pieces_alike config steps others u w plays too room room_too is =
     = λ c. sym (joined_door config c others) ∙ ap (door_in config c) (sym is) ∙ joined_door config c steps
     in let stream : (c : ℕ) → bytes_in c others ≡ bytes_in c steps
     = λ c. sym (joined_in c others) ∙ ap (bytes_in c) (sym is) ∙ joined_in c steps
-    in (told, λ c. same_bytes (door_in config c steps) (bytes_in c steps) u.trace w.trace u.lines w.lines c (put c) (play_carries config steps u c plays)
-    (subst (λ (d : DoorState). Carries d (bytes_in c steps) w.trace w.lines c) (gate c)
-    (subst (λ (bs : List ℕ). Carries (door_in config c others) bs w.trace w.lines c) (stream c) (play_carries config others w c too))))
+    in (
+      told,
+      λ c. same_bytes (door_in config c steps) (bytes_in c steps) u.trace w.trace u.lines w.lines c (put c) (play_carries config steps u c plays)
+          (subst (λ (d : DoorState). Carries d (bytes_in c steps) w.trace w.lines c) (gate c)
+          (subst (λ (bs : List ℕ). Carries (door_in config c others) bs w.trace w.lines c) (stream c) (play_carries config others w c too))),
+    )

@@ -1,9 +1,8 @@
 -- A script of which no outbox is ever full goes as its course without takes.
-use Rattle.std.proofs.Common.{◌≡◌, ◌∙◌, sym, ap, refl, subst, true≢false, ℕ, Bool, true, false, not, ◌<◌, ◌≤◌, List, [], ◌∷◌, ◌++◌, length, arith}
-use Rattle.std.specs.Prelude.{◌==◌, Option, Some, None, is_some, map, option_map, option_and_then, nat_lt, if◌then◌else◌}
+use Rattle.std.proofs.Common.{◌≡◌, ◌∙◌, sym, ap, refl, subst, true≢false, ℕ, Bool, true, false, ◌<◌, List, [], ◌∷◌, ◌++◌, length, arith}
+use Rattle.std.specs.Prelude.{◌==◌, Option, Some, None, is_some, map, option_map, nat_lt, if◌then◌else◌}
 use Rattle.std.proofs.lemmas.Bool.{eqb-true, ltb-true, lt-ltb}
 use Rattle.amqp_frames.specs.declared.item.Item.{Item}
-use Rattle.amqp_frames.specs.Cuts.{Cuts}
 use Rattle.amqp_frames.proofs.Streams.{HasCut, has_cut}
 use Rattle.route_table.specs.Settings.{Settings}
 use Rattle.router_trace.specs.declared.event.ConnectionId.{ConnectionId}
@@ -11,8 +10,8 @@ use Rattle.router_trace.specs.declared.event.PeerRole.{PeerRole}
 use Rattle.router_trace.specs.declared.event.Event.{Event}
 use Rattle.router_trace.specs.declared.event.Event.TheVariants as event
 use Rattle.router_trace.specs.Trace.{Entry, Took}
-use Rattle.router_trace.specs.Connection.{Connection, conn, took, is_live}
-use Rattle.router_trace.specs.Refusing.{rises, reaches}
+use Rattle.router_trace.specs.Connection.{Connection, conn, is_live}
+use Rattle.router_trace.specs.Refusing.{rises}
 use Rattle.router_core.specs.declared.door.Door.{Door as DoorState}
 use Rattle.router_core.specs.Runs.{Taking, items_of, took_one}
 use Rattle.router_core.specs.Laws.{untaken}
@@ -21,15 +20,15 @@ use Rattle.router_play.specs.declared.socket.Socket.{Socket}
 use Rattle.router_play.specs.declared.script.Step.{Step}
 use Rattle.router_play.specs.declared.script.Step.TheVariants as step
 use Rattle.router_play.specs.Listening.{door_for}
-use Rattle.router_play.specs.Script.{Scene, opening, refused, say, say_all, out_line, with_socket, with_trace, stream_of, hand, enter_all, Reads, BytesCome, made, make, told, lose_by, lose, Takes, is_last, close_if, take_one, take_all, Plays}
+use Rattle.router_play.specs.Script.{Scene, opening, refused, say, say_all, out_line, with_socket, with_trace, stream_of, hand, Reads, BytesCome, made, make, told, lose_by, Takes, is_last, close_if, take_one, take_all, Plays}
 use Rattle.router_conns.proofs.Lists.{by_test}
 use Rattle.router_play.proofs.Scenes.{back}
-use Rattle.router_play.proofs.Levels.{Even, even_refl, moves, took_lives, same}
+use Rattle.router_play.proofs.Levels.{even_refl, took_lives, same}
 use Rattle.router_play.proofs.Entering.{hand_sockets, hand_last}
 use Rattle.router_play.proofs.Passing.{last_none, took_unknown}
 use Rattle.router_play.proofs.PlayMoves.{Onward, take_all_onward, plays_onward}
 use Rattle.router_play.proofs.Calming.{calm_before}
-use Rattle.router_play.proofs.Plainly.{Spot, Course, with_spot, with_stream, flowing, tell, come_all, come, come_at, come_by, kept, stream_at, take_in, bytes_by, bytes_come, made_by, told_at, lost_by, moved_by, course, tell_spots}
+use Rattle.router_play.proofs.Courses.{Spot, Course, with_spot, with_stream, flowing, tell, come_all, come, come_at, come_by, kept, stream_at, bytes_by, bytes_come, made_by, told_at, lost_by, moved_by, course, tell_spots}
 use Rattle.router_play.proofs.Streaming.{read_as}
 use Rattle.router_play.proofs.Shadows.{Unknown, Shades, Kin, Shadows, Moved, moved_on, hand_even, hand_kin, hand_shadows, dead_item, dead_down, enter_all_shadows}
 
@@ -256,7 +255,7 @@ take_shadows x s p h = by_end (is_last (length (items_of x s.trace)) (conn s.tra
       kin = record { id = h.kin.id; config = h.kin.config; last = h.kin.last; trace = h.kin.trace };
       spots = λ c. by_test (x.conn.0 == c)
           (λ e. rw e (subst (λ (m : ℕ). Shades (took_one x s.trace) m None (p.spots m)) (eqb-true x.conn.0 c e)
-            (shades_last s.trace x.conn.0 (length (items_of x s.trace)) (s.sockets x.conn.0) (p.spots x.conn.0) is (h.spots x.conn.0))))
+          (shades_last s.trace x.conn.0 (length (items_of x s.trace)) (s.sockets x.conn.0) (p.spots x.conn.0) is (h.spots x.conn.0))))
           (λ e. rw e (shades_took s.trace x.conn.0 (length (items_of x s.trace)) c (s.sockets c) (p.spots c) (h.spots c)));
       unmade = λ c r. (
         by_test (x.conn.0 == c) (λ e. rw e refl) (λ e. rw e (h.unmade c r).0),

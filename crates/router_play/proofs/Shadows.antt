@@ -1,31 +1,30 @@
 -- A scene of a script, and its course without takes: how both go on with an item.
 use Rattle.std.proofs.Common.{◌≡◌, ◌∙◌, sym, ap, refl, subst, true≢false, ℕ, Bool, true, false, not, List, [], ◌∷◌}
-use Rattle.std.specs.Prelude.{◌==◌, Option, Some, None, is_some, if◌then◌else◌}
+use Rattle.std.specs.Prelude.{◌==◌, Option, Some, None, if◌then◌else◌}
 use Rattle.std.proofs.lemmas.Bool.{eqb-true}
 use Rattle.amqp_frames.specs.declared.item.Item.{Item}
-use Rattle.route_table.specs.Settings.{Settings}
 use Rattle.router_trace.specs.declared.event.ConnectionId.{ConnectionId}
 use Rattle.router_trace.specs.declared.event.Peer.{Peer}
 use Rattle.router_trace.specs.declared.event.Event.{Event}
 use Rattle.router_trace.specs.declared.event.Event.TheVariants as event
 use Rattle.router_trace.specs.Trace.{Entry, step_of}
-use Rattle.router_trace.specs.Connection.{Connection, conn, is_live}
+use Rattle.router_trace.specs.Connection.{conn, is_live}
 use Rattle.router_trace.specs.Refusing.{refuses, rises}
 use Rattle.router_core.specs.declared.door.Door.{Door as DoorState}
-use Rattle.router_core.specs.Door.{Verdict, says, passes, ends, door, door_behind}
+use Rattle.router_core.specs.Door.{Verdict, says, passes, ends, door}
 use Rattle.router_core.specs.Replies.{answered}
 use Rattle.router_core.specs.Laws.{untaken}
 use Rattle.router_core.proofs.Plain.{Calm}
 use Rattle.router_core.proofs.Takes.{plain_answered, same_answered}
 use Rattle.router_play.specs.declared.socket.Socket.{Socket}
-use Rattle.router_play.specs.Script.{Scene, refused, say, say_all, out_line, with_socket, with_trace, hand, judged_by, enter_at, enter_by, enter, enter_all}
+use Rattle.router_play.specs.Script.{Scene, refused, say, with_socket, with_trace, hand, judged_by, enter_at, enter_by, enter, enter_all}
 use Rattle.router_conns.proofs.Lists.{by_test}
 use Rattle.router_play.proofs.Scenes.{back}
 use Rattle.router_play.proofs.Levels.{Even, even_refl, even_trans, moves, answered_even, same}
 use Rattle.router_play.proofs.Entering.{hand_cases, hand_sockets, hand_last, even_unknown}
 use Rattle.router_play.proofs.PlayMoves.{hand_onward, enter_all_onward}
 use Rattle.router_play.proofs.Calming.{answered_before, calm_before, same_refused}
-use Rattle.router_play.proofs.Plainly.{Spot, Course, with_spot, on_trace, tell, judge, come_at, come_by, come, come_all, kept, plain_refuses, tell_spots}
+use Rattle.router_play.proofs.Courses.{Spot, Course, with_spot, on_trace, tell, judge, come_at, come_by, come, come_all, kept, plain_refuses, tell_spots}
 
 -- a connection at the door isn't known to the router
 abbrev pub Unknown : List Entry → ℕ → Option DoorState → Type 0

@@ -16,7 +16,7 @@ use Rattle.router_core.proofs.Takes.{plain_answered}
 use Rattle.router_conns.proofs.Lists.{by_test}
 use Rattle.router_play.proofs.Bringing.{wrong_more, further}
 use Rattle.router_play.proofs.Levels.{same}
-use Rattle.router_play.proofs.Plainly.{Spot, Course, with_spot, on_trace, flowing, with_stream, plain_refuses, tell, judge, come_at, come_by, come, come_all, kept, stream_at, take_in, bytes_by, bytes_come, spots_same}
+use Rattle.router_play.proofs.Courses.{Spot, Course, with_spot, on_trace, flowing, with_stream, plain_refuses, tell, judge, come_at, come_by, come, come_all, kept, stream_at, take_in, bytes_by, bytes_come, spots_same}
 
 -- The stream of a connection has no part in what comes of its items.
 
@@ -129,7 +129,7 @@ pieces_on c a b r p e xs mid cut =
         in whole n.0 (xs ++ n.1) n.2 (cuts_append n.0 (r ++ a) xs mid b n.1 n.2 k.0 n.3)
         ∙ come_more c xs n.1 (with_stream c.0 st p)
         ∙ ap (come_all c n.1)
-          (sym (stream_all c st xs p) ∙ sym (stream_twice c.0 st (kept e mid) (come_all c xs p)) ∙ ap (with_stream c.0 st) (sym behind))
+        (sym (stream_all c st xs p) ∙ sym (stream_twice c.0 st (kept e mid) (come_all c xs p)) ∙ ap (with_stream c.0 st) (sym behind))
         ∙ sym (ap (bytes_by c b (take_in c e xs mid p)) at)
 
     by_spot : (o : Option Spot) → (come_all c xs p).spots c.0 ≡ o → bytes_by c (a ++ b) p (Some r) ≡ bytes_come c b (take_in c e xs mid p)

@@ -1,10 +1,8 @@
--- A script played without takes: what events and doors alone make of it, and that bytes in two pieces do what they do in one.
-use Rattle.std.proofs.Common.{◌≡◌, ◌∙◌, sym, ap, refl, subst, ℕ, Bool, true, false, not, List, [], ◌∷◌, ◌++◌, append_assoc, append-nil}
+-- A script without its takes: what events and doors alone make of it.
+use Rattle.std.proofs.Common.{◌≡◌, refl, ℕ, Bool, true, false, not, List, [], ◌∷◌, ◌++◌}
 use Rattle.std.specs.Prelude.{◌==◌, Option, Some, None, is_some, option_map, if◌then◌else◌}
-use Rattle.std.proofs.lemmas.Bool.{eqb-true}
 use Rattle.amqp_frames.specs.declared.item.Item.{Item}
-use Rattle.amqp_frames.specs.Cuts.{Cuts}
-use Rattle.amqp_frames.proofs.Streams.{has_cut, one_cut, cuts_append}
+use Rattle.amqp_frames.proofs.Streams.{has_cut}
 use Rattle.route_table.specs.Settings.{Settings}
 use Rattle.router_trace.specs.declared.event.ConnectionId.{ConnectionId}
 use Rattle.router_trace.specs.declared.event.PeerRole.{PeerRole}
@@ -19,9 +17,6 @@ use Rattle.router_core.proofs.Takes.{plain_answered}
 use Rattle.router_play.specs.declared.script.Step.{Step}
 use Rattle.router_play.specs.declared.script.Step.TheVariants as step
 use Rattle.router_play.specs.Listening.{door_for}
-use Rattle.router_conns.proofs.Lists.{by_test}
-use Rattle.router_play.proofs.Bringing.{wrong_more, further}
-use Rattle.router_play.proofs.Levels.{same}
 
 -- a connection: its door, and the bytes that wait for the rest of an item, until its stream ended
 pub record Spot : Type 0 where
