@@ -18,16 +18,16 @@ use Rattle.router_core.proofs.Untaken.{untaken_goes, same_outs, same_place, same
 use Rattle.router_core.proofs.Plain.{plain, plain_live, Calm, calm_goes, none_due, same_live, stood_found, live_found}
 
 -- an event's own row, what follows its rows, and all of it, by the plain phases
-abbrev plain_row : List ℕ → List Entry → Event → List Put
+abbrev pub plain_row : List ℕ → List Entry → Event → List Put
 plain_row id x (event.Item c i) = each_to c.0 (answer id (plain x c.0) (place x c.0) (free_for x c.0) i)
 plain_row id x (event.Down c) = each_to c.0 down_reply
 plain_row id x (event.Tick ms) = beats_over x ms (plain_live x)
 plain_row id x _ = []
 
-abbrev plain_followed : List Entry → List Entry
+abbrev pub plain_followed : List Entry → List Entry
 plain_followed x = goes (windows_over x (plain_live x)) x
 
-abbrev plain_answered : List ℕ → List Entry → Step → List Entry
+abbrev pub plain_answered : List ℕ → List Entry → Step → List Entry
 plain_answered id x s = plain_followed (goes (plain_row id x s.event) (Did s ∷ x))
 
 -- what events alone make of a trace
@@ -50,7 +50,7 @@ same_followed t calm =
     ∙ ap (λ (ps : List Put). goes ps (untaken t)) (ap (windows_over t) (same_live t calm) ∙ same_windows t (plain_live (untaken t)))
 
 -- an event with all that it has put
-same_answered : (id : List ℕ) (t : List Entry) (s : Step) → Calm t → ((c : ℕ) → is_full (conn t c) ≡ false)
+pub same_answered : (id : List ℕ) (t : List Entry) (s : Step) → Calm t → ((c : ℕ) → is_full (conn t c) ≡ false)
     → Calm (answered id t s) × (untaken (answered id t s) ≡ plain_answered id (untaken t) s)
 same_answered id t s calm roomy =
     let none : due t s.event ≡ [] = none_due t s.event roomy

@@ -194,7 +194,7 @@ beats_known t u now known there [] = tt
 beats_known t u now known there (k ∷ ks) =
     by_test (is_live (known k))
     (λ l. rw l (known_join (beat_if (needs_beat (terms t k) (written t k) now) k) (beats_over t now (live_of ks known)) u
-      (beat_known (needs_beat (terms t k) (written t k) now) k u (there k l)) (beats_known t u now known there ks)))
+    (beat_known (needs_beat (terms t k) (written t k) now) k u (there k l)) (beats_known t u now known there ks)))
     (λ l. rw l (beats_known t u now known there ks))
 
 flow_known : (c o : ℕ) (v : Option Session) (u : List Entry) → is_some (conn u c) ≡ true → AllKnown (flow_due c o v) u
@@ -239,7 +239,7 @@ row_even id t (event.Tick ms) c =
     let e : Event = event.Tick ms
     in goes_even (beats t e ms) (heard id t (step_of e)) c
     (beats_known t (heard id t (step_of e)) ms (found t e)
-      (λ k l. (ends_even id (due t e) (did e ∷ t) k).known ∙ live_known (found t e k) l) (ups t))
+    (λ k l. (ends_even id (due t e) (did e ∷ t) k).known ∙ live_known (found t e k) l) (ups t))
 row_even id t event.Start c = even_refl (heard id t (step_of event.Start)) c
 
 -- an event with its replies

@@ -14,3 +14,10 @@ mod Making
 mod Bringing
 mod Losing
 mod Carried
+mod Courses
+mod Streaming
+mod Joining
+mod Calming
+mod Shadows
+mod Shadowing
+mod Pieces

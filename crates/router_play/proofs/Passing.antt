@@ -303,7 +303,7 @@ closes true d m D P h over =
     }
 
 -- with the last item of a connection that is over nothing is known of it any more
-last_none : (n : ℕ) (o : Option Connection) → is_last n o ≡ true → (is_some o ≡ true) × (option_and_then (took n) o ≡ None)
+pub last_none : (n : ℕ) (o : Option Connection) → is_last n o ≡ true → (is_some o ≡ true) × (option_and_then (took n) o ≡ None)
 last_none n None h = absurd (true≢false (sym h))
 last_none n (Some v) h = (refl, gone (took n v) h)
   where
@@ -404,7 +404,7 @@ close_trace false d m = refl
 close_trace true d m = refl
 
 -- what isn't known stays so
-took_unknown : (t : List Entry) (d n c : ℕ) → conn t c ≡ None → conn (Took d n ∷ t) c ≡ None
+pub took_unknown : (t : List Entry) (d n c : ℕ) → conn t c ≡ None → conn (Took d n ∷ t) c ≡ None
 took_unknown t d n c h =
     by_test (d == c) (λ e. rw e (ap (λ (o : Option Connection). option_and_then (took n) o) h)) (λ e. rw e h)
 

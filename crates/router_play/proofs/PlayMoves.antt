@@ -42,7 +42,7 @@ stays_put s u id config trace = record {
   leads = leads_same s.id s.trace u.trace trace;
 }
 
-hand_onward : (e : Event) (s : Scene) → Onward s (hand e s)
+pub hand_onward : (e : Event) (s : Scene) → Onward s (hand e s)
 hand_onward e s = by_answer (refuses s.trace e) refl
   where
     by_answer : (b : Bool) → refuses s.trace e ≡ b → Onward s (if b then say refused s else with_trace (answered s.id s.trace (step_of e)) s)
@@ -53,7 +53,7 @@ hand_onward e s = by_answer (refuses s.trace e) refl
       leads = leads_event s.id s.trace e is;
     }
 
-judged_onward : (c : ConnectionId) (i : Item) (k : Socket) (d : DoorState) (s : Scene) (v : Verdict) → Onward s (judged_by c i k d s v)
+pub judged_onward : (c : ConnectionId) (i : Item) (k : Socket) (d : DoorState) (s : Scene) (v : Verdict) → Onward s (judged_by c i k d s v)
 judged_onward c i k d s (says items) = stays_put s (judged_by c i k d s (says items)) refl refl refl
 judged_onward c i k d s (passes user) =
     let inside : Scene = with_socket c (Some (record { door = None; reader = k.reader })) s
@@ -62,7 +62,7 @@ judged_onward c i k d s (passes user) =
     (onward_on inside up (hand (event.Item c i) up) (hand_onward (event.Up c (record { user = user; role = d.role })) inside) (hand_onward (event.Item c i) up))
 judged_onward c i k d s (ends items) = stays_put s (judged_by c i k d s (ends items)) refl refl refl
 
-enter_onward : (c : ConnectionId) (i : Item) (s : Scene) → Onward s (enter c i s)
+pub enter_onward : (c : ConnectionId) (i : Item) (s : Scene) → Onward s (enter c i s)
 enter_onward c i s = by_socket (s.sockets c.0)
   where
     by_door : (k : Socket) (d : Option DoorState) → Onward s (enter_at c i k s d)
@@ -73,7 +73,7 @@ enter_onward c i s = by_socket (s.sockets c.0)
     by_socket None = stays_put s s refl refl refl
     by_socket (Some k) = by_door k k.door
 
-enter_all_onward : (c : ConnectionId) (is : List Item) (s : Scene) → Onward s (enter_all c is s)
+pub enter_all_onward : (c : ConnectionId) (is : List Item) (s : Scene) → Onward s (enter_all c is s)
 enter_all_onward c [] s = stays_put s s refl refl refl
 enter_all_onward c (i ∷ is) s = onward_on s (enter c i s) (enter_all c is (enter c i s)) (enter_onward c i s) (enter_all_onward c is (enter c i s))
 

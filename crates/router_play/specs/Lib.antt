@@ -4,6 +4,7 @@ pub mod Playing
 pub mod Asking
 pub mod Carrying
 pub mod ScriptOrder
+pub mod Pieces
 pub mod Printing
 pub use Rattle.router_trace.specs.Trace
 pub use Rattle.router_trace.specs.Connection

@@ -1,4 +1,5 @@
 //! What holds of every script. The function does nothing: its contract is the law.
+ghost use Rattle.router_play.specs.Pieces.{PiecesMakeNoDifference};
 ghost use Rattle.router_play.specs.ScriptOrder.{PlaysKeepOrder, PlaysBeginWithHeaders};
 
 /// In every script of bytes the router puts out for each connection at most one header, one open and one close, a close
@@ -8,4 +9,11 @@ ghost use Rattle.router_play.specs.ScriptOrder.{PlaysKeepOrder, PlaysBeginWithHe
 pub fn scripts_keep_order()
     ensures plays { PlaysKeepOrder }
     ensures headers { PlaysBeginWithHeaders }
+{}
+
+/// How the bytes of a connection are cut into pieces makes no difference, for any number of connections: two scripts that differ
+/// only in that go alike where no outbox of a live connection is full when an event comes. The router is told the same events in the
+/// same order and puts out the same items, and on each connection the same bytes go out.
+pub fn pieces_make_no_difference()
+    ensures { PiecesMakeNoDifference }
 {}

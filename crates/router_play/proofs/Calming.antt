@@ -1,0 +1,67 @@
+-- No outbox was full when an event came: then none was before, and the router hears of an event what it hears without takes.
+use Rattle.std.proofs.Common.{◌≡◌, ap, refl, subst, ℕ, false, not, List, [], ◌∷◌}
+use Rattle.std.specs.Prelude.{Option, is_some}
+use Rattle.amqp_frames.specs.declared.item.Item.{Item}
+use Rattle.amqp_conn.specs.declared.conn.Conn.{Conn}
+use Rattle.router_trace.specs.declared.condition.Condition.TheVariants.{ResourceLimitExceeded}
+use Rattle.router_trace.specs.declared.event.Event.{Event}
+use Rattle.router_trace.specs.declared.event.Event.TheVariants as event
+use Rattle.router_trace.specs.Trace.{Entry, Did, Out, Took, Put, Step, goes, each_to, puts, newest, newer}
+use Rattle.router_trace.specs.Connection.{conn, due, is_full}
+use Rattle.router_trace.specs.Refusing.{refuses, rises}
+use Rattle.router_links.specs.Windows.{windows}
+use Rattle.router_reply.specs.Replies.{closing_of, ends, heard, own_row, replied}
+use Rattle.router_core.specs.Replies.{answered}
+use Rattle.router_core.specs.Runs.{took_one}
+use Rattle.router_core.specs.Moves.{Move, handles, takes, Goes}
+use Rattle.router_core.specs.Laws.{untaken}
+use Rattle.router_core.proofs.Plain.{Calm, stood}
+use Rattle.router_play.specs.Script.{Scene}
+use Rattle.router_play.specs.Pieces.{AlwaysRoom}
+use Rattle.router_play.proofs.PlayMoves.{Onward}
+use Rattle.router_play.proofs.Courses.{plain_refuses}
+
+pub room_calm : (t : List Entry) → AlwaysRoom t → Calm t
+room_calm [] room = tt
+room_calm (Did s ∷ t) room = (room.0, room_calm t room.1)
+room_calm (Out c i ∷ t) room = room_calm t room
+room_calm (Took c n ∷ t) room = room_calm t room
+
+-- what was before
+
+goes_before : (ps : List Put) (t : List Entry) → Calm (goes ps t) → Calm t
+goes_before [] t calm = calm
+goes_before (p ∷ ps) t calm = goes_before ps (Out p.conn p.item ∷ t) calm
+
+ends_before : (id : List ℕ) (cs : List ℕ) (t : List Entry) → Calm (ends id cs t) → Calm t
+ends_before id [] t calm = calm
+ends_before id (c ∷ cs) t calm =
+    let items : List Item = closing_of id (conn t c) ResourceLimitExceeded
+    in goes_before (each_to c items) t (ends_before id cs (puts c items t) calm)
+
+pub answered_before : (id : List ℕ) (t : List Entry) (s : Step) → Calm (answered id t s) → ((c : ℕ) → is_full (conn t c) ≡ false) × Calm t
+answered_before id t s calm =
+    ends_before id (due t s.event) (Did s ∷ t) (goes_before (own_row id t s.event) (heard id t s) (goes_before (windows (replied id t s)) (replied id t s) calm))
+
+moves_before : (id : List ℕ) (ms : List Move) (t u : List Entry) → Goes id ms t u → Calm u → Calm t
+moves_before id [] t u went calm = subst (λ (w : List Entry). Calm w) went calm
+moves_before id (handles s ∷ ms) t u went calm = (answered_before id t s (moves_before id ms (answered id t s) u went.1 calm)).1
+moves_before id (takes x ∷ ms) t u went calm = moves_before id ms (took_one x t) u went calm
+
+pub calm_before : (s u : Scene) → Onward s u → Calm u.trace → Calm s.trace
+calm_before s u onward calm = moves_before s.id onward.leads.0 s.trace u.trace onward.leads.1 calm
+
+-- what is refused
+
+same_newest : (t : List Entry) → newest t ≡ newest (untaken t)
+same_newest [] = refl
+same_newest (Did s ∷ t) = ap (newer s.event) (same_newest t)
+same_newest (Out c i ∷ t) = same_newest t
+same_newest (Took c n ∷ t) = same_newest t
+
+pub same_refused : (t : List Entry) (e : Event) → Calm t → refuses t e ≡ plain_refuses (untaken t) e
+same_refused t (event.Up c p) calm = ap (λ (l : Option ℕ). not (rises c.0 l)) (same_newest t)
+same_refused t (event.Item c i) calm = ap (λ (v : Option Conn). not (is_some v)) (stood t calm c.0)
+same_refused t (event.Down c) calm = ap (λ (v : Option Conn). not (is_some v)) (stood t calm c.0)
+same_refused t (event.Tick ms) calm = refl
+same_refused t event.Start calm = refl
