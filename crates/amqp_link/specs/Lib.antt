@@ -1,0 +1,2 @@
+pub mod Credit
+pub mod Figures
