@@ -1,3 +1,4 @@
 pub mod Left
 pub mod Uses
 pub mod Within
+pub mod Receives

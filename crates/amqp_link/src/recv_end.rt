@@ -76,12 +76,15 @@ impl RecvEnd {
 
     /// Takes a transfer and what it carries. One that starts a delivery uses one credit, and is `BeyondCredit` and changes
     /// nothing where none is unused.
+    #[tactic(auto, using(crate::proofs::Receives::given_same, crate::proofs::Receives::behind_same))]
     pub fn on_transfer(
         &mut self,
         transfer: &Transfer,
         payload: Bytes,
     ) -> Result<Part, AllocError>
-        ensures part { IfOk result (λ p. p ≡ given_by (record { transfer = transfer.now; payload = payload }) self.old) }
+        ensures part { (t : Received) → Receives self.old t → IfOk result (λ p. p ≡ given (record { transfer = transfer.now; payload = payload }) t) }
+        ensures fits { (t : Received) → Receives self.old t → OnOk result (Receives self.new (behind (record { transfer = transfer.now; payload = payload }) t)) }
+        ensures gives { IfOk result (λ p. p ≡ given_by (record { transfer = transfer.now; payload = payload }) self.old) }
         ensures figures { OnOk result (self.new ≡ behind_transfer (record { transfer = transfer.now; payload = payload }) self.old) }
         ensures err { OnErr result (self.new ≡ self.old) }
     {
