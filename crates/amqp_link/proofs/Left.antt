@@ -1,5 +1,5 @@
 -- What is left up to a limit, as the count goes on.
-use Rattle.std.proofs.Common.{◌≡◌, ◌∙◌, ◌<◌, ◌≤◌, ◌⊎◌, inl, inr, ℕ, refl, sym, ap, true, false, ◌+◌, ◌-◌, ◌%◌, ◌^◌, arith}
+use Rattle.std.proofs.Common.{◌≡◌, ◌<◌, ◌≤◌, ℕ, refl, true, false, ◌+◌, ◌-◌, ◌%◌, ◌^◌, arith}
 use Rattle.std.specs.Prelude.{nat_lt, if◌then◌else◌}
 use Rattle.amqp_session.specs.Serials.{distance}
 use Rattle.amqp_link.specs.Credit.{left}

@@ -1,15 +1,14 @@
 -- The figures of an end that receives follow what happens on its link.
-use Rattle.std.proofs.Common.{◌≡◌, ◌∙◌, ◌<◌, ℕ, Bool, true, false, refl, sym, ap, subst, ◌+◌, ◌%◌, ◌^◌, ◌++◌, List, [], ◌∷◌, length, Option, Some, None, arith, length-append}
-use Rattle.std.specs.Prelude.{not, ◌&&◌, ◌||◌, nat_eq, nat_lt, is_none, if◌then◌else◌}
-use Rattle.amqp_link.specs.declared.part.Delivery.{Delivery}
+use Rattle.std.proofs.Common.{◌≡◌, ◌∙◌, ◌<◌, ℕ, Bool, true, false, refl, sym, ap, ◌+◌, ◌%◌, ◌^◌, ◌++◌, List, [], ◌∷◌, length, Option, Some, None, arith, length-append}
+use Rattle.std.specs.Prelude.{not, ◌&&◌, nat_eq, nat_lt, is_none, if◌then◌else◌}
 use Rattle.amqp_link.specs.declared.part.Part.{Part}
 use Rattle.amqp_link.specs.declared.part.Part.TheVariants as part
 use Rattle.amqp_link.specs.declared.recv_end.RecvEnd.{RecvEnd}
 use Rattle.amqp_link.specs.Credit as link
 use Rattle.amqp_link.specs.Credit.{left_of}
 use Rattle.amqp_link.proofs.Uses.{count_started}
-use Rattle.amqp_link.specs.Deliveries.{Frame, bytes, goes_on, still, told, is_settled, first, delivery, is_too_large, part_of}
-use Rattle.amqp_link.specs.Gathering.{Gathered, fitting, gathered, begun, joined, with_frame, whole, more, turned, next}
+use Rattle.amqp_link.specs.Deliveries.{Frame, bytes, still, delivery, is_too_large, part_of}
+use Rattle.amqp_link.specs.Gathering.{Gathered, fitting, gathered, joined, with_frame, whole, more, turned, next}
 use Rattle.amqp_link.specs.Receiving.{Received, TheirTransfer, middle, is_empty, seen, unused, is_beyond, given, behind}
 use Rattle.amqp_link.specs.Figures.{Receives, unused_at, starts_beyond, count_behind_transfer, given_by, behind_transfer}
 

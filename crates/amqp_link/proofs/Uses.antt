@@ -1,11 +1,11 @@
 -- What a start and a count that is told use up of the credit.
-use Rattle.std.proofs.Common.{◌≡◌, ◌∙◌, ◌<◌, ◌≤◌, ℕ, Bool, true, false, refl, sym, ap, subst, cond, ◌+◌, ◌-◌, ◌%◌, ◌^◌, List, [], ◌∷◌, Option, Some, None, arith}
+use Rattle.std.proofs.Common.{◌≡◌, ◌∙◌, ◌<◌, ◌≤◌, ℕ, false, ap, cond, ◌+◌, ◌%◌, ◌^◌, ◌∷◌, Option, Some, None, arith}
 use Rattle.std.specs.Prelude.{count_by}
 use Rattle.std.proofs.lemmas.List.Sums.{sum_by-cons}
 use Rattle.amqp_session.specs.Serials.{distance}
 use Rattle.amqp_link.specs.declared.grant.Grant.{Grant}
-use Rattle.amqp_link.specs.Credit.{Happened, Link, Attached, Granted, Started, Counted, is_start, is_grant, tells_count, since, from, count_told, count, granted, limit, left, left_of, credit, WithinCredit}
-use Rattle.amqp_link.proofs.Left.{one_less, goes_on, used_up}
+use Rattle.amqp_link.specs.Credit.{Happened, Link, Started, Counted, is_start, tells_count, since, count_told, count, granted, limit, left_of, credit}
+use Rattle.amqp_link.proofs.Left.{one_less, goes_on}
 
 none_plus : (n : ℕ) → 0 + n ≡ n
 none_plus n = omega arith

@@ -1,5 +1,5 @@
 -- Where no start is beyond the credit, no more deliveries are started than a grant left.
-use Rattle.std.proofs.Common.{◌≡◌, ◌≤◌, ℕ, refl, sym, ap, subst, ◌+◌, List, [], ◌∷◌, arith}
+use Rattle.std.proofs.Common.{◌≡◌, ◌≤◌, ℕ, refl, ◌+◌, [], ◌∷◌, arith}
 use Rattle.std.specs.Prelude.{count_by}
 use Rattle.amqp_session.specs.Serials.{distance}
 use Rattle.amqp_link.specs.Credit.{Link, Attached, Granted, Started, Counted, is_start, is_grant, since, from, count, credit, WithinCredit}

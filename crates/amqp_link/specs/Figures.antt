@@ -1,5 +1,5 @@
 -- The figures of a link's end are those of what happened on its link.
-use Rattle.std.specs.Prelude.{◌≡◌, ◌<◌, ℕ, ◌+◌, ◌%◌, ◌^◌, Bool, ◌&&◌, nat_eq, if◌then◌else◌, Option, Some, None, is_none, unwrap_or}
+use Rattle.std.specs.Prelude.{◌≡◌, ◌<◌, ℕ, ◌+◌, ◌%◌, ◌^◌, Bool, ◌&&◌, nat_eq, if◌then◌else◌, Option, Some, is_none, unwrap_or}
 use Rattle.amqp_link.specs.declared.grant.Grant.{Grant}
 use Rattle.amqp_link.specs.declared.part.Part.{Part}
 use Rattle.amqp_link.specs.declared.part.Part.TheVariants as part

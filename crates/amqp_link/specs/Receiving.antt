@@ -3,7 +3,7 @@ use Rattle.std.specs.Prelude.{ℕ, Bool, true, false, ◌&&◌, nat_eq, if◌the
 use Rattle.amqp_link.specs.declared.grant.Grant.{Grant}
 use Rattle.amqp_link.specs.declared.part.Part.{Part}
 use Rattle.amqp_link.specs.declared.part.Part.TheVariants as part
-use Rattle.amqp_link.specs.Credit.{Link, Attached, Granted, Started, Counted, credit}
+use Rattle.amqp_link.specs.Credit.{Link, Attached, Granted, Started, Counted, count, credit}
 use Rattle.amqp_link.specs.Deliveries.{Frame, still, part_of}
 
 pub data Event : Type 0 where
@@ -38,7 +38,11 @@ seen (OurGrant g ∷ t) = Granted (Some g.count) g.credit ∷ seen t
 seen (TheirCount n ∷ t) = Counted n ∷ seen t
 seen (TheirTransfer f ∷ t) = if is_empty (middle t) then Started ∷ seen t else seen t
 
--- credit that the peer was granted and hasn't used
+-- the peer's delivery-count
+abbrev pub delivery_count : Received → ℕ
+delivery_count t = count (seen t)
+
+-- credit that it was granted and hasn't used
 abbrev pub unused : Received → ℕ
 unused t = credit (seen t)
 

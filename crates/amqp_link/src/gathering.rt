@@ -1,5 +1,5 @@
 //! Gathers what the frames of a delivery carry.
-ghost use Rattle.std.specs.Prelude.{◌≡◌, ℕ, [], ◌++◌, List, Some, None, if◌then◌else◌, IfOk, IfErr, OnErr, OnOk};
+ghost use Rattle.std.specs.Prelude.{◌≡◌, ℕ, [], ◌++◌, List, Some, None, if◌then◌else◌, IfOk, IfErr, OnErr, OnOk, IsOk, true, false};
 ghost use Rattle.amqp_link.specs.Deliveries.{Frame};
 ghost use Rattle.amqp_link.specs.Gathering.{begun, with_frame, fitting, more, whole, next};
 
@@ -91,12 +91,17 @@ impl Gathering {
         } = self;
         let settled = transfer.settled || delivery.settled;
         match bytes {
-            Some(bytes) if payload.len() + bytes.len() <= MAX_MESSAGE_SIZE => match join(bytes, payload) {
+            Some(bytes) if payload.len() + bytes.len() <= MAX_MESSAGE_SIZE => match join(
+                bytes, payload,
+            ) {
                 Ok(joined) => {
                     delivery.settled = settled;
                     Ok(Part::Whole(delivery, joined))
                 }
-                Err(bytes) => Err(Gathering { delivery, bytes: Some(bytes) }),
+                Err(bytes) => Err(Gathering {
+                    delivery,
+                    bytes: Some(bytes),
+                }),
             },
             _ => Ok(Part::TooLarge),
         }
@@ -109,7 +114,9 @@ pub(crate) fn first(
     transfer: &Transfer,
     payload: Bytes,
 ) -> Result<(Part, Option<Gathering>), AllocError>
-    ensures { IfOk result (λ found. found ≡ next (record { transfer = transfer.now; payload = payload }) None) }
+    ensures ok { IfOk result (λ found. found ≡ next (record { transfer = transfer.now; payload = payload }) None) }
+    ensures alone { transfer.now.more ≡ false → IsOk result }
+    ensures aborted { transfer.now.aborted ≡ true → IsOk result }
 {
     if transfer.aborted {
         return Ok((Part::Aborted, None));
@@ -132,6 +139,7 @@ pub(crate) fn later(
 ) -> Result<(Part, Option<Gathering>), Gathering>
     ensures ok { IfOk result (λ found. found ≡ next (record { transfer = transfer.now; payload = payload }) (Some gathering)) }
     ensures err { IfErr result (λ same. same ≡ gathering) }
+    ensures aborted { transfer.now.aborted ≡ true → IsOk result }
 {
     if transfer.aborted {
         return Ok((Part::Aborted, None));

@@ -1,7 +1,9 @@
 //! What holds of the credit of every link. These functions do nothing: their contracts are the laws.
-ghost use Rattle.std.specs.Prelude.{◌≡◌, ◌≤◌, ◌<◌, ◌^◌, ◌+◌, ◌-◌, ◌∷◌, ℕ, Some, count_by};
+ghost use Rattle.std.specs.Prelude.{◌≡◌, ◌≤◌, ◌<◌, ◌^◌, ◌+◌, ◌-◌, ◌∷◌, ℕ, true, false, Some, count_by};
 ghost use Rattle.amqp_session.specs.Serials.{distance};
 ghost use Rattle.amqp_link.specs.Credit.{Link, Granted, Started, Counted, is_start, is_grant, since, from, count, credit, WithinCredit};
+ghost use Rattle.amqp_link.specs.Deliveries.{Frame};
+ghost use Rattle.amqp_link.specs.Receiving.{Received, middle, is_empty, seen, unused, behind};
 
 /// A sender that stays within its credit never starts more deliveries than the receiver granted: what a grant leaves it is the
 /// link-credit less the deliveries that were on the way to the receiver (those from its delivery-count on), and it starts no
@@ -21,4 +23,12 @@ pub fn each_start_uses_one()
 /// What a receiver grants from the sender's own count on is what the sender has left.
 pub fn both_ends_agree()
     ensures { (t : Link) (k : ℕ) → k < 2 ^ 31 → credit (Granted (Some (count t)) k ∷ t) ≡ k }
+{}
+
+/// No delivery is taken that was started beyond the credit: where the peer stayed within it, it still does behind whatever
+/// transfer came, since one beyond it is none of the link's. One that starts a delivery uses one credit, a later one none.
+pub fn only_what_was_granted_is_taken()
+    ensures within { (t : Received) (f : Frame) → WithinCredit (seen t) → WithinCredit (seen (behind f t)) }
+    ensures start { (t : Received) (f : Frame) → is_empty (middle t) ≡ true → 1 ≤ unused t → unused (behind f t) + 1 ≡ unused t }
+    ensures later { (t : Received) (f : Frame) → is_empty (middle t) ≡ false → unused (behind f t) ≡ unused t }
 {}

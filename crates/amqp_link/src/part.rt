@@ -1,5 +1,5 @@
 //! What transfers make of a delivery.
-ghost use Rattle.std.specs.Prelude.{◌≡◌, IfOk};
+ghost use Rattle.std.specs.Prelude.{◌≡◌, IsOk, IfOk};
 ghost use Rattle.amqp_link.specs.Deliveries.{told};
 
 use amqp_perf::{DeliveryTag, Transfer};
@@ -40,7 +40,8 @@ pub enum Part {
 impl Delivery {
     /// The delivery that a transfer starts.
     pub(crate) fn begun(transfer: &Transfer) -> Result<Delivery, AllocError>
-        ensures { IfOk result (λ d. d ≡ told transfer.now transfer.now.settled) }
+        ensures told { IfOk result (λ d. d ≡ told transfer.now transfer.now.settled) }
+        ensures succeeds { IsOk result }
     {
         Ok(Delivery {
             id: transfer.delivery_id,
@@ -54,7 +55,8 @@ impl Delivery {
 
 /// The same tag.
 fn copy_of(tag: &Option<DeliveryTag>) -> Result<Option<DeliveryTag>, AllocError>
-    ensures { IfOk result (λ copy. copy ≡ tag.now) }
+    ensures same { IfOk result (λ copy. copy ≡ tag.now) }
+    ensures succeeds { IsOk result }
 {
     match tag {
         None => Ok(None),

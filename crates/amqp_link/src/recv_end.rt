@@ -1,15 +1,13 @@
 //! The end of a link that receives.
-ghost use Rattle.std.specs.Prelude.{◌≡◌, ◌≤◌, ◌+◌, ◌-◌, ◌^◌, ◌↔◌, ◌∷◌, min, None, IsOk, IfOk, OnOk, OnErr};
+ghost use Rattle.std.specs.Prelude.{◌≡◌, ◌≤◌, ◌+◌, ◌-◌, ◌^◌, ◌↔◌, [], ◌∷◌, true, false, min, None, IsOk, IfOk, OnOk, OnErr};
 ghost use Rattle.std.specs.Option.{option_map};
 ghost use Rattle.amqp_session.specs.Serials.{distance};
-ghost use Rattle.amqp_link.specs.Credit.{count, count as count_of};
-ghost use Rattle.amqp_link.specs.Receiving.{Received, TheirAttach, OurGrant, TheirCount, TheirTransfer, middle, seen, unused, given, behind};
+ghost use Rattle.amqp_link.specs.Receiving.{Received, TheirAttach, OurGrant, TheirCount, TheirTransfer, middle, is_beyond, delivery_count, unused, given, behind};
 ghost use Rattle.amqp_link.specs.Gathering.{gathered, next};
 ghost use Rattle.amqp_link.specs.Figures.{Receives, unused_at, behind_our_grant, behind_count, given_by, behind_transfer};
 
 use crate::fault::LinkFault;
-use crate::gathering::{first, later};
-use crate::gathering::Gathering;
+use crate::gathering::{Gathering, first, later};
 use crate::grant::Grant;
 use crate::part::{Delivery, Part};
 use amqp_perf::Transfer;
@@ -48,7 +46,7 @@ impl RecvEnd {
     /// count on. It is never more than `MAX_CREDIT`.
     pub fn grant(&mut self, credit: u32) -> Grant
         ensures fits { (t : Received) → Receives self.old t → Receives self.new (OurGrant result ∷ t) }
-        ensures told { (t : Received) → Receives self.old t → result ≡ record { count = count (seen t); credit = min (unused t + credit) (2 ^ 31 - 1) } }
+        ensures told { (t : Received) → Receives self.old t → result ≡ record { count = delivery_count t; credit = min (unused t + credit) (2 ^ 31 - 1) } }
         ensures unused { (t : Received) → Receives self.old t → unused (OurGrant result ∷ t) ≡ result.credit }
         ensures figures { self.new ≡ behind_our_grant result self.old }
         ensures tells { result ≡ record { count = self.old.count; credit = min (unused_at self.old + credit) (2 ^ 31 - 1) } }
@@ -63,7 +61,7 @@ impl RecvEnd {
     /// Fails, and changes nothing, exactly where it is behind, or ahead by more than the credit that is unused.
     pub fn count_forward(&mut self, count: Serial) -> Result<(), LinkFault>
         ensures fits { (t : Received) → Receives self.old t → OnOk result (Receives self.new (TheirCount count ∷ t)) }
-        ensures within { (t : Received) → Receives self.old t → (IsOk result ↔ (distance (count_of (seen t)) count ≤ unused t)) }
+        ensures within { (t : Received) → Receives self.old t → (IsOk result ↔ (distance (delivery_count t) count ≤ unused t)) }
         ensures figures { OnOk result (self.new ≡ behind_count count self.old) }
         ensures err { OnErr result (self.new ≡ self.old) }
     {
@@ -75,15 +73,14 @@ impl RecvEnd {
     }
 
     /// Takes a transfer and what it carries. One that starts a delivery uses one credit, and is `BeyondCredit` and changes
-    /// nothing where none is unused.
+    /// nothing where none is unused. That takes no memory, and neither does a delivery of one frame or an aborted one.
     #[tactic(auto, using(crate::proofs::Receives::given_same, crate::proofs::Receives::behind_same))]
-    pub fn on_transfer(
-        &mut self,
-        transfer: &Transfer,
-        payload: Bytes,
-    ) -> Result<Part, AllocError>
+    pub fn on_transfer(&mut self, transfer: &Transfer, payload: Bytes) -> Result<Part, AllocError>
         ensures part { (t : Received) → Receives self.old t → IfOk result (λ p. p ≡ given (record { transfer = transfer.now; payload = payload }) t) }
         ensures fits { (t : Received) → Receives self.old t → OnOk result (Receives self.new (behind (record { transfer = transfer.now; payload = payload }) t)) }
+        ensures beyond { (t : Received) → Receives self.old t → is_beyond t ≡ true → IsOk result }
+        ensures alone { (t : Received) → Receives self.old t → middle t ≡ [] → transfer.now.more ≡ false → IsOk result }
+        ensures aborted { transfer.now.aborted ≡ true → IsOk result }
         ensures gives { IfOk result (λ p. p ≡ given_by (record { transfer = transfer.now; payload = payload }) self.old) }
         ensures figures { OnOk result (self.new ≡ behind_transfer (record { transfer = transfer.now; payload = payload }) self.old) }
         ensures err { OnErr result (self.new ≡ self.old) }
@@ -111,7 +108,7 @@ impl RecvEnd {
 
     /// The delivery-count of the sender.
     pub fn count(&self) -> Serial
-        ensures fits { (t : Received) → Receives self.now t → result ≡ count (seen t) }
+        ensures fits { (t : Received) → Receives self.now t → result ≡ delivery_count t }
         ensures figure { result ≡ self.now.count }
     {
         self.count
