@@ -1,16 +1,17 @@
 -- The figures of an end that receives follow what happens on its link.
 use Rattle.std.proofs.Common.{◌≡◌, ◌∙◌, ◌<◌, ℕ, Bool, true, false, refl, sym, ap, ◌+◌, ◌%◌, ◌^◌, ◌++◌, List, [], ◌∷◌, length, Option, Some, None, arith, length-append}
 use Rattle.std.specs.Prelude.{not, ◌&&◌, nat_eq, nat_lt, is_none, if◌then◌else◌}
+use Rattle.amqp_link.specs.declared.grant.Grant.{Grant}
 use Rattle.amqp_link.specs.declared.part.Part.{Part}
 use Rattle.amqp_link.specs.declared.part.Part.TheVariants as part
 use Rattle.amqp_link.specs.declared.recv_end.RecvEnd.{RecvEnd}
 use Rattle.amqp_link.specs.Credit as link
 use Rattle.amqp_link.specs.Credit.{left_of}
-use Rattle.amqp_link.proofs.Uses.{count_started}
+use Rattle.amqp_link.proofs.Uses.{skipped, count_started}
 use Rattle.amqp_link.specs.Deliveries.{Frame, bytes, still, delivery, is_too_large, part_of}
 use Rattle.amqp_link.specs.Gathering.{Gathered, fitting, gathered, joined, with_frame, whole, more, turned, next}
-use Rattle.amqp_link.specs.Receiving.{Received, TheirTransfer, middle, is_empty, seen, unused, is_beyond, given, behind}
-use Rattle.amqp_link.specs.Figures.{Receives, unused_at, starts_beyond, count_behind_transfer, given_by, behind_transfer}
+use Rattle.amqp_link.specs.Receiving.{Received, OurGrant, TheirCount, TheirTransfer, middle, is_empty, seen, unused, is_beyond, given, behind}
+use Rattle.amqp_link.specs.Figures.{Receives, unused_at, starts_beyond, count_behind_transfer, behind_our_grant, behind_count, given_by, behind_transfer}
 
 -- bytes that follow too many are too many
 longer : (b payload : List ℕ) → nat_lt 65536 (length b) ≡ true → nat_lt 65536 (length (b ++ payload)) ≡ true
@@ -100,3 +101,16 @@ behind_same f e t r = by_credit (is_beyond t) (starts_beyond e) (beyond_same e t
     by_credit true false same = absurd (cc)
     by_credit false true same = absurd (cc)
     by_credit false false same = taken_in f e t r
+
+pub grant_told : (g : Grant) (e : RecvEnd) (t : Received) → Receives e t → Receives (behind_our_grant g e) (OurGrant g ∷ t)
+grant_told g e t r = record {
+  count = r.count ∙ ap (λ n. (link.count_told (seen t) + n) % 2 ^ 32) (sym (skipped (link.Granted (Some g.count) g.credit) (link.since link.tells_count (seen t)) refl));
+  granted = refl;
+  middle = r.middle;
+}
+
+small_count : (n : ℕ) → n < 2 ^ 32 → n ≡ (n + 0) % 2 ^ 32
+small_count n small = omega arith
+
+pub count_taken : (n : ℕ) (e : RecvEnd) (t : Received) → n < 2 ^ 32 → Receives e t → Receives (behind_count n e) (TheirCount n ∷ t)
+count_taken n e t small r = record { count = small_count n small; granted = r.granted; middle = r.middle }

@@ -10,6 +10,9 @@ pub record Frame : Type 0 where
   pub transfer : Transfer
   pub payload : List ℕ
 
+abbrev pub frame : Transfer → List ℕ → Frame
+frame x carried = record { transfer = x; payload = carried }
+
 -- more frames of its delivery are to come
 abbrev pub goes_on : Frame → Bool
 goes_on f = f.transfer.more && not f.transfer.aborted

@@ -1,6 +1,6 @@
 //! Gathers what the frames of a delivery carry.
-ghost use Rattle.std.specs.Prelude.{◌≡◌, ℕ, [], ◌++◌, List, Some, None, if◌then◌else◌, IfOk, IfErr, OnErr, OnOk, IsOk, true, false};
-ghost use Rattle.amqp_link.specs.Deliveries.{Frame};
+ghost use Rattle.std.specs.Prelude.{◌≡◌, ℕ, [], ◌++◌, List, Some, None, if◌then◌else◌, IfOk, IfErr, OnErr, OnOk, IsOk, true, false, not, nat_lt, length};
+ghost use Rattle.amqp_link.specs.Deliveries.{frame};
 ghost use Rattle.amqp_link.specs.Gathering.{begun, with_frame, fitting, more, whole, next};
 
 use crate::part::{Delivery, Part};
@@ -36,7 +36,7 @@ impl Gathering {
         transfer: &Transfer,
         payload: &Bytes,
     ) -> Result<Gathering, AllocError>
-        ensures { IfOk result (λ g. g ≡ begun (record { transfer = transfer.now; payload = payload.now })) }
+        ensures { IfOk result (λ g. g ≡ begun (frame transfer.now payload.now)) }
     {
         let delivery = Delivery::begun(transfer)?;
         let mut bytes = Vec::new(alloc);
@@ -56,7 +56,7 @@ impl Gathering {
 
     /// Takes one frame more. An error changes nothing.
     fn add(&mut self, transfer: &Transfer, payload: &Bytes) -> Result<(), AllocError>
-        ensures ok { OnOk result (self.new ≡ with_frame (record { transfer = transfer.now; payload = payload.now }) self.old) }
+        ensures ok { OnOk result (self.new ≡ with_frame (frame transfer.now payload.now) self.old) }
         ensures err { OnErr result (self.new ≡ self.old) }
     {
         let fits = match &mut self.bytes {
@@ -82,28 +82,28 @@ impl Gathering {
 
     /// The whole delivery, with its last frame. An error gives it back as it was.
     fn finish(self, transfer: &Transfer, payload: &Bytes) -> Result<Part, Gathering>
-        ensures ok { let f : Frame = record { transfer = transfer.now; payload = payload.now } in IfOk result (λ p. p ≡ whole (with_frame f self).delivery (with_frame f self).kept) }
+        ensures ok { let f = frame transfer.now payload.now in IfOk result (λ p. p ≡ whole (with_frame f self).delivery (with_frame f self).kept) }
         ensures err { IfErr result (λ same. same ≡ self) }
     {
         let Gathering {
             mut delivery,
             bytes,
         } = self;
-        let settled = transfer.settled || delivery.settled;
-        match bytes {
-            Some(bytes) if payload.len() + bytes.len() <= MAX_MESSAGE_SIZE => match join(
-                bytes, payload,
-            ) {
-                Ok(joined) => {
-                    delivery.settled = settled;
-                    Ok(Part::Whole(delivery, joined))
-                }
-                Err(bytes) => Err(Gathering {
-                    delivery,
-                    bytes: Some(bytes),
-                }),
-            },
-            _ => Ok(Part::TooLarge),
+        let Some(bytes) = bytes else {
+            return Ok(Part::TooLarge);
+        };
+        if !fits(&bytes, payload) {
+            return Ok(Part::TooLarge);
+        }
+        match join(bytes, payload) {
+            Ok(joined) => {
+                delivery.settled = transfer.settled || delivery.settled;
+                Ok(Part::Whole(delivery, joined))
+            }
+            Err(bytes) => Err(Gathering {
+                delivery,
+                bytes: Some(bytes),
+            }),
         }
     }
 }
@@ -114,7 +114,7 @@ pub(crate) fn first(
     transfer: &Transfer,
     payload: Bytes,
 ) -> Result<(Part, Option<Gathering>), AllocError>
-    ensures ok { IfOk result (λ found. found ≡ next (record { transfer = transfer.now; payload = payload }) None) }
+    ensures ok { IfOk result (λ found. found ≡ next (frame transfer.now payload) None) }
     ensures alone { transfer.now.more ≡ false → IsOk result }
     ensures aborted { transfer.now.aborted ≡ true → IsOk result }
 {
@@ -137,7 +137,7 @@ pub(crate) fn later(
     transfer: &Transfer,
     payload: Bytes,
 ) -> Result<(Part, Option<Gathering>), Gathering>
-    ensures ok { IfOk result (λ found. found ≡ next (record { transfer = transfer.now; payload = payload }) (Some gathering)) }
+    ensures ok { IfOk result (λ found. found ≡ next (frame transfer.now payload) (Some gathering)) }
     ensures err { IfErr result (λ same. same ≡ gathering) }
     ensures aborted { transfer.now.aborted ≡ true → IsOk result }
 {
@@ -158,11 +158,18 @@ fn append(bytes: &mut Vec<u8>, payload: &Bytes) -> Result<bool, AllocError>
     ensures fits { IfOk result (λ fits. (if fits then Some bytes.new.items else None) ≡ fitting (bytes.old.items ++ payload.now)) }
     ensures err { OnErr result (bytes.new.items ≡ bytes.old.items) }
 {
-    if bytes.len() + payload.len() > MAX_MESSAGE_SIZE {
+    if !fits(bytes, payload) {
         return Ok(false);
     }
     bytes.extend_from_slice(payload.as_slice())?;
     Ok(true)
+}
+
+/// Whether a message may carry these bytes and then those.
+fn fits(bytes: &Vec<u8>, payload: &Bytes) -> bool
+    ensures { result ≡ not (nat_lt 65536 (length (bytes.now.items ++ payload.now))) }
+{
+    bytes.len() + payload.len() <= MAX_MESSAGE_SIZE
 }
 
 /// These bytes and then those, in one. An error gives them back as they were.

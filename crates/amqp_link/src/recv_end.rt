@@ -2,6 +2,7 @@
 ghost use Rattle.std.specs.Prelude.{◌≡◌, ◌≤◌, ◌+◌, ◌-◌, ◌^◌, ◌↔◌, [], ◌∷◌, true, false, min, None, IsOk, IfOk, OnOk, OnErr};
 ghost use Rattle.std.specs.Option.{option_map};
 ghost use Rattle.amqp_session.specs.Serials.{distance};
+ghost use Rattle.amqp_link.specs.Deliveries.{frame};
 ghost use Rattle.amqp_link.specs.Receiving.{Received, TheirAttach, OurGrant, TheirCount, TheirTransfer, middle, is_beyond, delivery_count, unused, given, behind};
 ghost use Rattle.amqp_link.specs.Gathering.{gathered, next};
 ghost use Rattle.amqp_link.specs.Figures.{Receives, unused_at, behind_our_grant, behind_count, given_by, behind_transfer};
@@ -76,13 +77,13 @@ impl RecvEnd {
     /// nothing where none is unused. That takes no memory, and neither does a delivery of one frame or an aborted one.
     #[tactic(auto, using(crate::proofs::Receives::given_same, crate::proofs::Receives::behind_same))]
     pub fn on_transfer(&mut self, transfer: &Transfer, payload: Bytes) -> Result<Part, AllocError>
-        ensures part { (t : Received) → Receives self.old t → IfOk result (λ p. p ≡ given (record { transfer = transfer.now; payload = payload }) t) }
-        ensures fits { (t : Received) → Receives self.old t → OnOk result (Receives self.new (behind (record { transfer = transfer.now; payload = payload }) t)) }
+        ensures part { (t : Received) → Receives self.old t → IfOk result (λ p. p ≡ given (frame transfer.now payload) t) }
+        ensures fits { (t : Received) → Receives self.old t → OnOk result (Receives self.new (behind (frame transfer.now payload) t)) }
         ensures beyond { (t : Received) → Receives self.old t → is_beyond t ≡ true → IsOk result }
         ensures alone { (t : Received) → Receives self.old t → middle t ≡ [] → transfer.now.more ≡ false → IsOk result }
         ensures aborted { transfer.now.aborted ≡ true → IsOk result }
-        ensures gives { IfOk result (λ p. p ≡ given_by (record { transfer = transfer.now; payload = payload }) self.old) }
-        ensures figures { OnOk result (self.new ≡ behind_transfer (record { transfer = transfer.now; payload = payload }) self.old) }
+        ensures gives { IfOk result (λ p. p ≡ given_by (frame transfer.now payload) self.old) }
+        ensures figures { OnOk result (self.new ≡ behind_transfer (frame transfer.now payload) self.old) }
         ensures err { OnErr result (self.new ≡ self.old) }
     {
         match self.middle.take() {
