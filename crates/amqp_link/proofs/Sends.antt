@@ -3,7 +3,6 @@ use Rattle.std.proofs.Common.{◌≡◌, ◌∙◌, ◌<◌, ℕ, refl, sym, ap,
 use Rattle.std.specs.Prelude.{unwrap_or}
 use Rattle.amqp_link.specs.declared.grant.Grant.{Grant}
 use Rattle.amqp_link.specs.declared.send_end.SendEnd.{SendEnd}
-use Rattle.amqp_link.specs.Credit as link
 use Rattle.amqp_link.specs.Credit.{Link, Attached, Granted, Started, Counted, tells_count, since, count_told}
 use Rattle.amqp_link.specs.Figures.{Sends, left_at, behind_grant, behind_start, behind_drain, drained_count}
 use Rattle.amqp_link.proofs.Uses.{skipped, count_started}
