@@ -1,7 +1,7 @@
 //! What holds of the credit of every link. These functions do nothing: their contracts are the laws.
-ghost use Rattle.std.specs.Prelude.{◌≡◌, ◌≤◌, ◌<◌, ◌^◌, ◌+◌, ◌-◌, ◌∷◌, ℕ, true, false, Some, count_by};
+ghost use Rattle.std.specs.Prelude.{◌≡◌, ◌≤◌, ◌<◌, ◌^◌, ◌+◌, ◌-◌, [], ◌∷◌, ℕ, true, false, Some, count_by};
 ghost use Rattle.amqp_session.specs.Serials.{distance};
-ghost use Rattle.amqp_link.specs.Credit.{Link, Granted, Started, Counted, is_start, is_grant, since, from, count, credit, WithinCredit};
+ghost use Rattle.amqp_link.specs.Credit.{Link, Attached, Granted, Started, Counted, is_start, is_grant, since, from, count, credit, WithinCredit};
 ghost use Rattle.amqp_link.specs.Deliveries.{Frame};
 ghost use Rattle.amqp_link.specs.Receiving.{Received, middle, is_empty, seen, unused, behind};
 
@@ -23,6 +23,13 @@ pub fn each_start_uses_one()
 /// What a receiver grants from the sender's own count on is what the sender has left.
 pub fn both_ends_agree()
     ensures { (t : Link) (k : ℕ) → k < 2 ^ 31 → credit (Granted (Some (count t)) k ∷ t) ≡ k }
+{}
+
+/// Behind the count 2^32 - 1 comes 0: of 2 granted there, one delivery is started at each of the two, and none is left then.
+pub fn counts_go_on_behind_the_highest()
+    ensures granted { let t : Link = Granted (Some 4294967295) 2 ∷ Attached 4294967295 ∷ [] in (count t ≡ 4294967295) × (credit t ≡ 2) }
+    ensures one_started { let t : Link = Started ∷ Granted (Some 4294967295) 2 ∷ Attached 4294967295 ∷ [] in (count t ≡ 0) × (credit t ≡ 1) }
+    ensures both_started { let t : Link = Started ∷ Started ∷ Granted (Some 4294967295) 2 ∷ Attached 4294967295 ∷ [] in (count t ≡ 1) × (credit t ≡ 0) }
 {}
 
 /// No delivery is taken that was started beyond the credit: where the peer stayed within it, it still does behind whatever
