@@ -1,0 +1,5 @@
+pub mod Left
+pub mod Uses
+pub mod Within
+pub mod Sends
+pub mod Receives

@@ -1,0 +1,60 @@
+-- Deliveries, of the transfer frames that carry them (AMQP 1.0 part 2, sections 2.6.14 and 2.7.5).
+use Rattle.std.specs.Prelude.{ℕ, Bool, ◌&&◌, ◌||◌, not, nat_lt, if◌then◌else◌, List, [], ◌∷◌, ◌++◌, length}
+use Rattle.amqp_perf.specs.declared.perf.Transfer.{Transfer}
+use Rattle.amqp_link.specs.declared.part.Delivery.{Delivery}
+use Rattle.amqp_link.specs.declared.part.Part.{Part}
+use Rattle.amqp_link.specs.declared.part.Part.TheVariants as part
+
+-- A transfer frame: what it says, and what it carries. The frames of a delivery stand newest first.
+pub record Frame : Type 0 where
+  pub transfer : Transfer
+  pub payload : List ℕ
+
+abbrev pub frame : Transfer → List ℕ → Frame
+frame x carried = record { transfer = x; payload = carried }
+
+-- more frames of its delivery are to come
+abbrev pub goes_on : Frame → Bool
+goes_on f = f.transfer.more && not f.transfer.aborted
+
+-- the frames of the delivery in the middle, behind a frame and those of its delivery that came before
+abbrev pub still : Frame → List Frame → List Frame
+still f fs = if goes_on f then f ∷ fs else []
+
+-- what a delivery carries: what its frames do, in the order in which they came
+abbrev pub bytes : List Frame → List ℕ
+bytes [] = []
+bytes (f ∷ fs) = bytes fs ++ f.payload
+
+abbrev pub is_too_large : List Frame → Bool
+is_too_large fs = nat_lt 65536 (length (bytes fs))
+
+-- a delivery is settled where any of its frames says so, of which this one came last
+abbrev pub is_settled : Frame → List Frame → Bool
+is_settled f [] = f.transfer.settled
+is_settled f (g ∷ fs) = f.transfer.settled || is_settled g fs
+
+-- all else that is told of it, its first frame tells
+abbrev pub first : Frame → List Frame → Frame
+first f [] = f
+first f (g ∷ fs) = first g fs
+
+abbrev pub told : Transfer → Bool → Delivery
+told x settled = record {
+  id = x.delivery_id;
+  tag = x.delivery_tag;
+  format = x.message_format;
+  resume = x.resume;
+  settled = settled;
+}
+
+abbrev pub delivery : Frame → List Frame → Delivery
+delivery f fs = told (first f fs).transfer (is_settled f fs)
+
+-- what becomes of a delivery with a frame, behind those of it that came before
+abbrev pub part_of : Frame → List Frame → Part
+part_of f fs =
+    if f.transfer.aborted then part.Aborted
+    else if is_too_large (f ∷ fs) then part.TooLarge
+    else if f.transfer.more then part.More
+    else part.Whole (delivery f fs) (bytes (f ∷ fs))

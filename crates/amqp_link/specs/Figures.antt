@@ -1,0 +1,72 @@
+-- The figures of a link's end are those of what happened on its link.
+use Rattle.std.specs.Prelude.{◌≡◌, ◌<◌, ℕ, ◌+◌, ◌%◌, ◌^◌, Bool, ◌&&◌, nat_eq, if◌then◌else◌, Option, Some, is_none, unwrap_or}
+use Rattle.amqp_link.specs.declared.grant.Grant.{Grant}
+use Rattle.amqp_link.specs.declared.part.Part.{Part}
+use Rattle.amqp_link.specs.declared.part.Part.TheVariants as part
+use Rattle.amqp_link.specs.declared.send_end.SendEnd.{SendEnd}
+use Rattle.amqp_link.specs.declared.recv_end.RecvEnd.{RecvEnd}
+use Rattle.amqp_link.specs.Credit as link
+use Rattle.amqp_link.specs.Credit.{Link, left_of}
+use Rattle.amqp_link.specs.Deliveries.{Frame}
+use Rattle.amqp_link.specs.Gathering.{gathered, next}
+use Rattle.amqp_link.specs.Receiving.{Received, middle, seen}
+
+-- of an end that sends
+pub record Sends (e : SendEnd) (t : Link) : Type 0 where
+  pub initial : e.initial ≡ link.initial t
+  pub count : e.count ≡ link.count t
+  pub granted : e.granted ≡ link.granted t
+
+-- the credit that it has left
+abbrev pub left_at : SendEnd → ℕ
+left_at e = left_of e.granted e.count
+
+-- a delivery may be started
+abbrev pub CanStart : SendEnd → Type 0
+CanStart e = 0 < left_at e
+
+-- What becomes of its figures, for a table of ends: behind a flow of the receiver, ...
+abbrev pub behind_grant : Option ℕ → ℕ → SendEnd → SendEnd
+behind_grant count credit e = record e { granted = Some (record { count = unwrap_or count e.initial; credit = credit }) }
+
+-- ... the start of a delivery, ...
+abbrev pub behind_start : SendEnd → SendEnd
+behind_start e = record e { count = (e.count + 1) % 2 ^ 32 }
+
+-- ... and a drain, whose count is that at which the credit is used up
+abbrev pub drained_count : SendEnd → ℕ
+drained_count e = (e.count + left_at e) % 2 ^ 32
+
+abbrev pub behind_drain : SendEnd → SendEnd
+behind_drain e = record e { count = drained_count e }
+
+-- of an end that receives
+pub record Receives (e : RecvEnd) (t : Received) : Type 0 where
+  pub count : e.count ≡ link.count (seen t)
+  pub granted : e.granted ≡ link.granted (seen t)
+  pub middle : e.middle ≡ gathered (middle t)
+
+abbrev pub unused_at : RecvEnd → ℕ
+unused_at e = left_of e.granted e.count
+
+-- What becomes of it behind a grant of this end, ...
+abbrev pub behind_our_grant : Grant → RecvEnd → RecvEnd
+behind_our_grant g e = record e { granted = Some g }
+
+-- ... a count that the peer told, ...
+abbrev pub behind_count : ℕ → RecvEnd → RecvEnd
+behind_count n e = record e { count = n }
+
+-- ... and a transfer of the peer, beside what that gives
+abbrev pub starts_beyond : RecvEnd → Bool
+starts_beyond e = is_none e.middle && nat_eq (unused_at e) 0
+
+abbrev pub count_behind_transfer : RecvEnd → ℕ
+count_behind_transfer e = if is_none e.middle then (e.count + 1) % 2 ^ 32 else e.count
+
+abbrev pub given_by : Frame → RecvEnd → Part
+given_by f e = if starts_beyond e then part.BeyondCredit else (next f e.middle).0
+
+abbrev pub behind_transfer : Frame → RecvEnd → RecvEnd
+behind_transfer f e =
+    if starts_beyond e then e else record e { count = count_behind_transfer e; middle = (next f e.middle).1 }

@@ -1,0 +1,65 @@
+//! What transfers make of a delivery.
+ghost use Rattle.std.specs.Prelude.{◌≡◌, IsOk, IfOk};
+ghost use Rattle.amqp_link.specs.Deliveries.{told};
+
+use amqp_perf::{DeliveryTag, Transfer};
+use bytes::Bytes;
+use std::alloc::AllocError;
+
+/// What the transfers of a delivery tell of it: the first one all of it, but that any may settle it (AMQP 1.0 part 2,
+/// section 2.7.5).
+#[derive(Debug, Drop)]
+pub struct Delivery {
+    /// Its number in its session.
+    pub id: Option<u32>,
+    /// Its sender's name of it.
+    pub tag: Option<DeliveryTag>,
+    /// The format of its message; absent means 0.
+    pub format: Option<u32>,
+    /// Whether it goes on where it was.
+    pub resume: bool,
+    /// Whether its sender has settled it.
+    pub settled: bool,
+}
+
+/// What a transfer makes of its delivery.
+#[derive(Debug, Drop)]
+pub enum Part {
+    /// More frames of it are to come.
+    More,
+    /// It is whole: what is told of it, and what it carries.
+    Whole(Delivery, Bytes),
+    /// Its sender has given it up.
+    Aborted,
+    /// It carries more than 65,536 bytes.
+    TooLarge,
+    /// It would be started without credit.
+    BeyondCredit,
+}
+
+impl Delivery {
+    /// The delivery that a transfer starts.
+    pub(crate) fn begun(transfer: &Transfer) -> Result<Delivery, AllocError>
+        ensures told { IfOk result (λ d. d ≡ told transfer.now transfer.now.settled) }
+        ensures succeeds { IsOk result }
+    {
+        Ok(Delivery {
+            id: transfer.delivery_id,
+            tag: copy_of(&transfer.delivery_tag)?,
+            format: transfer.message_format,
+            resume: transfer.resume,
+            settled: transfer.settled,
+        })
+    }
+}
+
+/// The same tag.
+fn copy_of(tag: &Option<DeliveryTag>) -> Result<Option<DeliveryTag>, AllocError>
+    ensures same { IfOk result (λ copy. copy ≡ tag.now) }
+    ensures succeeds { IsOk result }
+{
+    match tag {
+        None => Ok(None),
+        Some(tag) => Ok(Some(tag.clone()?)),
+    }
+}

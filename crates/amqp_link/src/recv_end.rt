@@ -1,0 +1,139 @@
+//! The end of a link that receives.
+ghost use Rattle.std.specs.Prelude.{◌≡◌, ◌≤◌, ◌+◌, ◌-◌, ◌^◌, ◌↔◌, [], ◌∷◌, true, false, min, None, IsOk, IfOk, OnOk, OnErr};
+ghost use Rattle.std.specs.Option.{option_map};
+ghost use Rattle.amqp_session.specs.Serials.{distance};
+ghost use Rattle.amqp_link.specs.Deliveries.{frame};
+ghost use Rattle.amqp_link.specs.Receiving.{Received, TheirAttach, OurGrant, TheirCount, TheirTransfer, middle, is_beyond, delivery_count, unused, given, behind};
+ghost use Rattle.amqp_link.specs.Gathering.{gathered, next};
+ghost use Rattle.amqp_link.specs.Figures.{Receives, unused_at, behind_our_grant, behind_count, given_by, behind_transfer};
+
+use crate::fault::LinkFault;
+use crate::gathering::{Gathering, first, later};
+use crate::grant::Grant;
+use crate::part::{Delivery, Part};
+use amqp_perf::Transfer;
+use amqp_session::Serial;
+use bytes::Bytes;
+use std::alloc::{AllocError, Global};
+
+/// The most credit that a link may have: a grant that reaches further would be behind the sender's count (RFC 1982, section 3.2).
+pub const MAX_CREDIT: u32 = 0x7fff_ffff;
+
+/// The end of a link that receives: the sender's delivery-count, what was granted to it last, and the delivery of which more
+/// frames are to come (AMQP 1.0 part 2, sections 2.6.7 and 2.6.14).
+#[derive(Debug, Drop)]
+pub struct RecvEnd {
+    alloc: Global,
+    count: Serial,
+    granted: Option<Grant>,
+    middle: Option<Gathering>,
+}
+
+impl RecvEnd {
+    /// The end of a link that was just attached with this initial-delivery-count. Its sender has no credit.
+    pub fn new(alloc: Global, initial: Serial) -> RecvEnd
+        ensures fits { (t : Received) → Receives result (TheirAttach initial ∷ t) }
+        ensures figures { result ≡ record { alloc = alloc; count = initial; granted = None; middle = None } }
+    {
+        RecvEnd {
+            alloc,
+            count: initial,
+            granted: None,
+            middle: None,
+        }
+    }
+
+    /// Grants so many deliveries more, and gives what a flow tells of it: all credit that is unused then, from the sender's
+    /// count on. It is never more than `MAX_CREDIT`.
+    pub fn grant(&mut self, credit: u32) -> Grant
+        ensures fits { (t : Received) → Receives self.old t → Receives self.new (OurGrant result ∷ t) }
+        ensures told { (t : Received) → Receives self.old t → result ≡ record { count = delivery_count t; credit = min (unused t + credit) (2 ^ 31 - 1) } }
+        ensures unused { (t : Received) → Receives self.old t → unused (OurGrant result ∷ t) ≡ result.credit }
+        ensures figures { self.new ≡ behind_our_grant result self.old }
+        ensures tells { result ≡ record { count = self.old.count; credit = min (unused_at self.old + credit) (2 ^ 31 - 1) } }
+    {
+        let count = self.count;
+        let credit = self.unused().saturating_add(credit).min(MAX_CREDIT);
+        self.granted = Some(Grant { count, credit });
+        Grant { count, credit }
+    }
+
+    /// Takes the delivery-count of a flow of the sender: its own changes nothing, and one ahead of that uses up as much credit.
+    /// Fails, and changes nothing, exactly where it is behind, or ahead by more than the credit that is unused.
+    pub fn count_forward(&mut self, count: Serial) -> Result<(), LinkFault>
+        ensures fits { (t : Received) → Receives self.old t → OnOk result (Receives self.new (TheirCount count ∷ t)) }
+        ensures within { (t : Received) → Receives self.old t → (IsOk result ↔ (distance (delivery_count t) count ≤ unused t)) }
+        ensures figures { OnOk result (self.new ≡ behind_count count self.old) }
+        ensures err { OnErr result (self.new ≡ self.old) }
+    {
+        if self.count.distance_to(count) > self.unused() {
+            return Err(LinkFault::CountOutOfReach);
+        }
+        self.count = count;
+        Ok(())
+    }
+
+    /// Takes a transfer and what it carries. One that starts a delivery uses one credit, and is `BeyondCredit` and changes
+    /// nothing where none is unused. That takes no memory, and neither does a delivery of one frame or an aborted one.
+    #[tactic(auto, using(crate::proofs::Receives::given_same, crate::proofs::Receives::behind_same))]
+    pub fn on_transfer(&mut self, transfer: &Transfer, payload: Bytes) -> Result<Part, AllocError>
+        ensures part { (t : Received) → Receives self.old t → IfOk result (λ p. p ≡ given (frame transfer.now payload) t) }
+        ensures fits { (t : Received) → Receives self.old t → OnOk result (Receives self.new (behind (frame transfer.now payload) t)) }
+        ensures beyond { (t : Received) → Receives self.old t → is_beyond t ≡ true → IsOk result }
+        ensures alone { (t : Received) → Receives self.old t → middle t ≡ [] → transfer.now.more ≡ false → IsOk result }
+        ensures aborted { transfer.now.aborted ≡ true → IsOk result }
+        ensures gives { IfOk result (λ p. p ≡ given_by (frame transfer.now payload) self.old) }
+        ensures figures { OnOk result (self.new ≡ behind_transfer (frame transfer.now payload) self.old) }
+        ensures err { OnErr result (self.new ≡ self.old) }
+    {
+        match self.middle.take() {
+            Some(gathering) => match later(gathering, transfer, payload) {
+                Ok((part, middle)) => {
+                    self.middle = middle;
+                    Ok(part)
+                }
+                Err(same) => {
+                    self.middle = Some(same);
+                    Err(AllocError)
+                }
+            },
+            None if self.unused() == 0 => Ok(Part::BeyondCredit),
+            None => {
+                let (part, middle) = first(self.alloc, transfer, payload)?;
+                self.count = self.count.plus(1);
+                self.middle = middle;
+                Ok(part)
+            }
+        }
+    }
+
+    /// The delivery-count of the sender.
+    pub fn count(&self) -> Serial
+        ensures fits { (t : Received) → Receives self.now t → result ≡ delivery_count t }
+        ensures figure { result ≡ self.now.count }
+    {
+        self.count
+    }
+
+    /// The credit that the sender was granted and hasn't used.
+    pub fn unused(&self) -> u32
+        ensures fits { (t : Received) → Receives self.now t → result ≡ unused t }
+        ensures figure { result ≡ unused_at self.now }
+    {
+        match self.granted {
+            None => 0,
+            Some(grant) => grant.left(self.count),
+        }
+    }
+
+    /// What is told of the delivery in the middle, where one is.
+    pub fn in_middle(&self) -> Option<&Delivery>
+        ensures fits { (t : Received) → Receives self.now t → option_map (λ d. d.now) result ≡ option_map (λ g. g.delivery) (gathered (middle t)) }
+        ensures figure { option_map (λ d. d.now) result ≡ option_map (λ g. g.delivery) self.now.middle }
+    {
+        match &self.middle {
+            None => None,
+            Some(gathering) => Some(gathering.delivery()),
+        }
+    }
+}
