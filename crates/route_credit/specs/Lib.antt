@@ -1,0 +1,3 @@
+pub mod Indexed
+pub mod Links
+pub mod Ranks

@@ -1,0 +1,11 @@
+//! The links of one address: which consumer gets the next delivery, and which producers get credit.
+//!
+//! [`Pool`] is told what each link has, and answers both.
+#![tactic(auto)]
+
+mod ids;
+mod links;
+mod ranking;
+mod weigh;
+
+pub use ids::{ConsumerId, ProducerId};
