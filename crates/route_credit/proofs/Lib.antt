@@ -1,3 +1,5 @@
+pub mod Choices
 pub mod Firsts
+pub mod Indices
 pub mod Moved
 pub mod Sums

@@ -1,3 +1,4 @@
 pub mod Indexed
 pub mod Links
+pub mod Pool
 pub mod Ranks

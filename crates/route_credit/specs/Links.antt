@@ -16,6 +16,11 @@ with_link links id link = insert_entry nat_cmp links id link
 abbrev pub without_link : {X : Type 0} → List (ℕ × X) → ℕ → List (ℕ × X)
 without_link links id = remove_entry (is_at (nat_cmp id)) links
 
+-- an amount of a link, 0 where nothing is known of it
+abbrev pub amount_at : {X : Type 0} → (X → ℕ) → Option X → ℕ
+amount_at amount None = 0
+amount_at amount (Some link) = amount link
+
 -- the sum of an amount over all links
 abbrev pub total : {X : Type 0} → (X → ℕ) → List (ℕ × X) → ℕ
 total amount [] = 0

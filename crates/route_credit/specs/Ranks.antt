@@ -4,6 +4,9 @@ use Rattle.std.specs.BTreeSet.{BTreeSet, contains}
 use Rattle.std.specs.Ordering.{nat_cmp, ordering_then}
 use Rattle.std.specs.declared.cmp.Ordering.{Ordering}
 use Rattle.route_credit.specs.Links.{link_at}
+use Rattle.route_credit.specs.declared.offer.Offer.{Offer}
+use Rattle.route_table.specs.declared.sections.Distribution.{Distribution}
+use Rattle.route_table.specs.declared.sections.Distribution.TheVariants.{Balanced, Closest, Multicast}
 use Rattle.route_credit.specs.declared.ranking.Place.{Place}
 use Rattle.route_credit.specs.declared.ranking.Ranking.{Ranking}
 
@@ -35,10 +38,12 @@ Ranks ranking ranks = (place : Place) → has ranking place ≡ is_rank (ranks p
 abbrev pub rank_at : {X : Type 0} → (X → Option ℕ) → List (ℕ × X) → ℕ → Option ℕ
 rank_at rank links id = option_and_then rank (link_at links id)
 
--- an amount of what may be known of a link
-abbrev pub amount_in : {X : Type 0} → (X → ℕ) → Option X → ℕ
-amount_in amount link = unwrap_or (option_map amount link) 0
-
 -- the ranks of the links behind this one
 abbrev pub behind : ℕ → (ℕ → Option ℕ) → ℕ → Option ℕ
 behind id ranks other = if nat_lt id other then ranks other else None
+
+-- the rank of a consumer: where it has free credit, its undecided deliveries; in turn, all are alike
+abbrev pub offer_rank : Distribution → Offer → Option ℕ
+offer_rank Balanced offer = if nat_lt 0 offer.free then Some offer.undecided else None
+offer_rank Closest offer = if nat_lt 0 offer.free then Some 0 else None
+offer_rank Multicast offer = None

@@ -3,9 +3,13 @@
 //! [`Pool`] is told what each link has, and answers both.
 #![tactic(auto)]
 
+mod demand;
 mod ids;
 mod links;
+mod offer;
+mod pool;
 mod ranking;
 mod weigh;
 
 pub use ids::{ConsumerId, ProducerId};
+pub use pool::Pool;
