@@ -20,11 +20,13 @@ choice_first Balanced last links r apart least = least_agree _ _ r (λ id. refl)
 choice_first Closest last links r apart least = absurd (apart refl)
 choice_first Multicast last links r apart least = least_agree _ _ r (λ id. refl) least
 
-pub not_closest : (distribution : Distribution) → distribution ≡ Balanced → distribution ≡ Closest → ⊥
-not_closest distribution is other = differ (sym is ∙ other)
+pub not_closest : (distribution : Distribution) → (distribution ≡ Balanced) ⊎ (distribution ≡ Multicast) → distribution ≡ Closest → ⊥
+not_closest distribution is other = ⊎_elim (λ e. differ (sym e ∙ other)) (λ e. differ2 (sym e ∙ other)) is
   where
     differ : Balanced ≡ Closest → ⊥
     differ h = cc
+    differ2 : Multicast ≡ Closest → ⊥
+    differ2 h = cc
 
 -- first those behind a number, then the others
 abbrev round : ℕ → (ℕ → Option ℕ) → ℕ → Option ℕ

@@ -2,4 +2,5 @@ pub mod Choices
 pub mod Firsts
 pub mod Indices
 pub mod Moved
+pub mod Steps
 pub mod Sums

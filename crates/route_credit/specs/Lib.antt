@@ -1,3 +1,4 @@
+pub mod Giving
 pub mod Indexed
 pub mod Links
 pub mod Pool
