@@ -28,18 +28,18 @@ pub ranks_agree : (ranking : Ranking) (one other : ℕ → Option ℕ) → Ranks
 ranks_agree ranking one other fits same place = fits place ∙ ap (λ r. is_rank r place.rank) (same place.id)
 
 module _ {X : Type 0} (rank : X → Option ℕ) (amount : X → ℕ) where
-  pub indexed_set : (old new : Links X) (id : ℕ) (link : X) → IsStrictlySortedBy nat_cmp (keys_of old.rows.entries) → IsIndexed rank amount old
-      → Ranks new.ranking (ranked (rank_at rank old.rows.entries) id (rank link))
+  pub indexed_set : (old new : Links X) (id : ℕ) (link : X) (after : Option ℕ) → after ≡ rank link → IsStrictlySortedBy nat_cmp (keys_of old.rows.entries) → IsIndexed rank amount old
+      → Ranks new.ranking (ranked (rank_at rank old.rows.entries) id after)
       → new.rows.entries ≡ with_link old.rows.entries id link
       → ((q : ℕ) → get nat_cmp new.rows q ≡ cond (is_at (nat_cmp id) q) (Some link) (get nat_cmp old.rows q))
       → new.total ≡ old.total - amount_at amount (link_at old.rows.entries id) + amount link
       → IsIndexed rank amount new
-  indexed_set old new id link sorted is ranks rows found sum = record {
+  indexed_set old new id link after is_after sorted is ranks rows found sum = record {
       ranks = ranks_agree new.ranking _ _ ranks (λ q. sym (ap (option_and_then rank) (found q ∙ ap (λ b. cond b (Some link) (get nat_cmp old.rows q)) (same_test id q)) ∙ inside (id == q) (get nat_cmp old.rows q)));
       total = summed }
     where
-      inside : (b : Bool) (x : Option X) → option_and_then rank (cond b (Some link) x) ≡ (if b then rank link else option_and_then rank x)
-      inside true x = refl
+      inside : (b : Bool) (x : Option X) → option_and_then rank (cond b (Some link) x) ≡ (if b then after else option_and_then rank x)
+      inside true x = sym is_after
       inside false x = refl
       summed : new.total ≡ total amount new.rows.entries
       summed =

@@ -1,5 +1,5 @@
 -- What one grant does.
-use Rattle.std.proofs.Common.{◌≡◌, ◌∙◌, sym, ap, refl, subst, ℕ, Bool, true, false, true≢false, cond, ◌+◌, ◌-◌, ◌<◌, ◌≤◌, Option, Some, None, List, [], ◌∷◌, arith}
+use Rattle.std.proofs.Common.{◌≡◌, ◌∙◌, sym, ap, refl, subst, ℕ, Bool, true, false, true≢false, cond, ◌+◌, ◌-◌, ◌<◌, ◌≤◌, ◌⊎◌, inl, inr, Option, Some, None, List, [], ◌∷◌, arith}
 use Rattle.std.specs.Prelude.{◌==◌, nat_lt, nat_le, if◌then◌else◌, option_and_then}
 use Rattle.std.specs.BTreeMap.{insert_entry, is_at}
 use Rattle.std.specs.Map.{keys_of}
@@ -10,7 +10,7 @@ use Rattle.std.specs.declared.cmp.Ordering.TheVariants.{Less, Equal, Greater}
 use Rattle.std.proofs.lemmas.Bool.{eqb-true, eq-eqb, ltb-true, leb-true}
 use Rattle.route_credit.specs.Giving.{IsGiving, room}
 use Rattle.route_credit.specs.Links.{amount_at, link_at, with_link, total, IsLeast}
-use Rattle.route_credit.specs.Pool.{Sharing, Granted, given, need, need_of, is_short, IsNext, IsNextIf, lent_at, part_of}
+use Rattle.route_credit.specs.Pool.{Sharing, Granted, given, need, need_of, is_short, IsNext, IsNextIf, free, lent, lent_at, part_of, short_by, WithinFree}
 use Rattle.route_credit.specs.Pool.Granted.{none, more}
 use Rattle.route_credit.specs.declared.demand.Demand.{Demand}
 use Rattle.route_table.specs.declared.sections.Distribution.{Distribution}
@@ -81,15 +81,51 @@ next_needs pool id next = by_short (is_short pool) next
     by_short true least = in_need pool.distribution (link_at pool.producers id) least.0 least.1
     by_short false is = absurd (some_none id is)
 
+-- behind a grant no more is lent than is free
+pub within_more : (now after : Sharing) (id : ℕ) → IsNext now (Some id)
+    → ((demand : Demand) → link_at now.producers id ≡ Some demand → after ≡ given now id demand)
+    → ((demand : Demand) → link_at now.producers id ≡ Some demand → IsStrictlySortedBy nat_cmp (keys_of now.producers))
+    → WithinFree after.distribution (lent after) (free after)
+within_more now after id next gives ordered =
+    subst (λ p. WithinFree p.distribution (lent p) (free p)) (sym (gives needs.demand needs.there))
+      (by_kind now.distribution refl (nat_lt (lent now) (free now)) refl)
+  where
+    needs : InNeed now.distribution (link_at now.producers id)
+    needs = next_needs now id next
+    raised_demand : Demand
+    raised_demand = record needs.demand { lent = needs.demand.lent + part_of now.distribution needs.demand }
+    some_none : (id : ℕ) → Some id ≡ None → ⊥
+    some_none id h = cc
+    sum : total (λ d. d.lent) (with_link now.producers id raised_demand) ≡ lent now + part_of now.distribution needs.demand
+    sum =
+      let set : total (λ d. d.lent) (with_link now.producers id raised_demand) + amount_at (λ d. d.lent) (link_at now.producers id) ≡ lent now + raised_demand.lent = total_set (λ d. d.lent) now.producers id raised_demand (ordered needs.demand needs.there) in
+      let was : amount_at (λ d. d.lent) (link_at now.producers id) ≡ needs.demand.lent = ap (amount_at (λ d. d.lent)) needs.there in
+      omega (arith, set, was)
+    below : (d : Distribution) → now.distribution ≡ d → (b : Bool) → nat_lt (lent now) (free now) ≡ b → short_by d b ≡ b → lent now < free now
+    below d is true e same = ltb-true (lent now) (free now) e
+    below d is false e same = absurd (some_none id (subst (λ t. IsNextIf t now (Some id)) (ap (λ k. short_by k (nat_lt (lent now) (free now))) is ∙ ap (short_by d) e ∙ same) next))
+    by_kind : (d : Distribution) → now.distribution ≡ d → (b : Bool) → nat_lt (lent now) (free now) ≡ b → WithinFree d (total (λ k. k.lent) (with_link now.producers id raised_demand)) (free now)
+    by_kind Balanced is b e =
+      let l : lent now < free now = below Balanced is b e refl in
+      let p : part_of now.distribution needs.demand ≡ 1 = ap (λ k. part_of k needs.demand) is in
+      let s = sum in omega (arith, l, p, s)
+    by_kind Closest is b e =
+      let l : lent now < free now = below Closest is b e refl in
+      let p : part_of now.distribution needs.demand ≡ 1 = ap (λ k. part_of k needs.demand) is in
+      let s = sum in omega (arith, l, p, s)
+    by_kind Multicast is b e = tt
+
 -- one more grant
 pub giving_more : (old now after : Sharing) (id part : ℕ) (sums sums_after : List (ℕ × ℕ)) → IsGiving old now sums → IsNext now (Some id)
     → ((demand : Demand) → link_at now.producers id ≡ Some demand → after ≡ given now id demand)
     → ((demand : Demand) → link_at now.producers id ≡ Some demand → part ≡ part_of now.distribution demand)
     → ((q : ℕ) → link_at sums_after q ≡ (if id == q then Some (amount_at (λ n. n) (link_at sums id) + part) else link_at sums q))
+    → ((demand : Demand) → link_at now.producers id ≡ Some demand → IsStrictlySortedBy nat_cmp (keys_of now.producers))
     → IsGiving old after sums_after
-giving_more old now after id part sums sums_after is next gives parts adds =
+giving_more old now after id part sums sums_after is next gives parts adds ordered =
     record {
       granted = subst (λ p. Granted old p) (sym (gives demand there)) (more now id demand is.granted next there);
+      within = inr (within_more now after id next gives ordered);
       some = λ q n h. by_test (id == q)
         (λ e. above n (sym (ap (λ b. if b then Some (amount_at (λ n. n) (link_at sums id) + part) else link_at sums q) e) ∙ sym (adds q) ∙ h))
         (λ e. is.some q n (sym (ap (λ b. if b then Some (amount_at (λ n. n) (link_at sums id) + part) else link_at sums q) e) ∙ sym (adds q) ∙ h));
@@ -148,6 +184,7 @@ less_room now after id next gives ordered =
 pub giving_none : (pool : Sharing) (sums : List (ℕ × ℕ)) → sums ≡ [] → IsGiving pool pool sums
 giving_none pool sums is = record {
     granted = none;
+    within = inl refl;
     some = λ id n h. absurd (none_some n (sym (ap (λ s. link_at s id) is) ∙ h));
     raised = λ id. let e : amount_at (λ n. n) (link_at sums id) ≡ 0 = ap (λ s. amount_at (λ n. n) (link_at s id)) is in omega (arith, e) }
   where

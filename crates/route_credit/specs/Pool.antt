@@ -103,6 +103,12 @@ pub data Granted (pool : Sharing) : Sharing → Type 0 where
   none : Granted pool pool
   more : (now : Sharing) (id : ℕ) (demand : Demand) → Granted pool now → IsNext now (Some id) → link_at now.producers id ≡ Some demand → Granted pool (given now id demand)
 
+-- what is lent is at most what is free, where the address lends by what is free
+abbrev pub WithinFree : Distribution → ℕ → ℕ → Type 0
+WithinFree Balanced lent free = lent ≤ free
+WithinFree Closest lent free = lent ≤ free
+WithinFree Multicast lent free = Unit {0}
+
 -- the lent credit of a producer, 0 of one that isn't there
 abbrev pub lent_at : Sharing → ℕ → ℕ
 lent_at pool id = amount_at (λ demand. demand.lent) (link_at pool.producers id)

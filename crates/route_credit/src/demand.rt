@@ -14,10 +14,10 @@ const LOW: u64 = 32;
 /// What a producer link has: unused credit, in two parts (what is due, and what is lent), and deliveries that the router
 /// holds.
 #[derive(Clone, Copy, Debug, PartialEq, Eq)]
-pub(crate) struct Demand {
-    pub(crate) lent: u32,
-    pub(crate) due: u32,
-    pub(crate) held: u32,
+pub struct Demand {
+    pub lent: u32,
+    pub due: u32,
+    pub held: u32,
 }
 
 impl Demand {

@@ -5,11 +5,14 @@
 
 mod demand;
 mod ids;
+pub mod laws;
 mod links;
 mod offer;
 mod pool;
 mod ranking;
 mod weigh;
 
+pub use demand::Demand;
 pub use ids::{ConsumerId, ProducerId};
+pub use offer::Offer;
 pub use pool::Pool;

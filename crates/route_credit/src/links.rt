@@ -14,7 +14,7 @@ use std::alloc::{AllocError, Global};
 use std::collections::BTreeMap;
 
 /// Links by number, with the order of their turns and the sum of their amounts.
-#[derive(Drop)]
+#[derive(Debug, Drop)]
 pub(crate) struct Links<T> {
     rows: BTreeMap<u64, T>,
     ranking: Ranking,

@@ -6,9 +6,9 @@ use route_table::Distribution;
 
 /// What a consumer link has: credit that is free, and deliveries that it hasn't decided yet.
 #[derive(Clone, Copy, Debug, PartialEq, Eq)]
-pub(crate) struct Offer {
-    pub(crate) free: u64,
-    pub(crate) undecided: u64,
+pub struct Offer {
+    pub free: u64,
+    pub undecided: u64,
 }
 
 impl Weigh for Offer {

@@ -1,11 +1,11 @@
 //! The pool of an address.
-ghost use Rattle.std.specs.Prelude.{◌≡◌, ◌+◌, ◌<◌, ℕ, List, [], None, Some, OnOk, OnErr, IfOk, option_map, nat_lt, ◌==◌, if◌then◌else◌};
+ghost use Rattle.std.specs.Prelude.{◌≡◌, ◌+◌, ◌⊎◌, ℕ, List, [], None, Some, OnOk, OnErr, IfOk, option_map, nat_lt, ◌==◌, if◌then◌else◌};
 ghost use Rattle.std.specs.BTreeMap.{get};
 ghost use Rattle.std.specs.List.Sorted.{IsStrictlySortedBy};
 ghost use Rattle.std.specs.Map.{keys_of};
 ghost use Rattle.std.specs.Ordering.{nat_cmp};
 ghost use Rattle.route_credit.specs.Links.{amount_at, link_at};
-ghost use Rattle.route_credit.specs.Pool.{by_id, chose, given, Granted, IsChoice, IsNext, IsTold, is_short, no_links, offered, part_of, wanted, without_consumer, without_producer};
+ghost use Rattle.route_credit.specs.Pool.{by_id, chose, given, Granted, IsChoice, IsNext, IsTold, free, is_short, lent, no_links, offered, part_of, wanted, without_consumer, without_producer, WithinFree};
 ghost use Rattle.route_credit.specs.declared.demand.Demand.{Demand};
 
 use crate::demand::Demand;
@@ -21,7 +21,7 @@ use std::marker::Model;
 ///
 /// Each call costs a logarithm of the number of links; `grants` costs that for each credit that it gives, at most 64 for
 /// each producer.
-#[derive(Drop)]
+#[derive(Debug, Drop)]
 pub struct Pool {
     alloc: Global,
     distribution: Distribution,
@@ -110,6 +110,7 @@ impl Pool {
     pub fn grants(&mut self) -> Result<Vec<(ProducerId, u32)>, AllocError>
         ensures granted { Granted self.old self.new }
         ensures done { OnOk result (IsNext self.new None) }
+        ensures within { (self.new ≡ self.old) ⊎ WithinFree self.new.distribution (lent self.new) (free self.new) }
         ensures told { IfOk result (λ sums. IsTold self.old self.new sums.items) }
     {
         let mut sums = BTreeMap::new(self.alloc);

@@ -98,7 +98,7 @@ impl Ranking {
             .range((Bound::Excluded(from), Bound::Unbounded));
         match places.next() {
             None => None,
-            Some(place) => Some(place.id),
+            Some(next) => Some(next.id),
         }
     }
 }

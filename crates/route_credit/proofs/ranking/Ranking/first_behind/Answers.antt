@@ -13,5 +13,5 @@ returns-in-Some c ranks fits zero =
     let range = c.range-places.ensures.in_range tt in
     let first = ap (λ r. slice_get r 0) c.in-Some.ensures.steps in
     let here = rw first at range.1 in
-    behind_some c.args.self.now ranks c.args.id c.in-Some.place.now fits zero here.0.0 here.1
+    behind_some c.args.self.now ranks c.args.id c.in-Some.next.now fits zero here.0.0 here.1
       (λ q less there. rw first at (range.2 q (less, tt) there))
