@@ -1,8 +1,8 @@
 -- The choice, by the ranks of consumers.
-use Rattle.std.proofs.Common.{◌≡◌, ◌∙◌, sym, ap, refl, subst, ℕ, Bool, true, false, true≢false, ◌⊎◌, inl, inr, ⊎_elim, ◌<◌, ◌≤◌, Option, Some, None, List, arith}
+use Rattle.std.proofs.Common.{◌≡◌, ◌∙◌, sym, refl, subst, ℕ, Bool, true, false, ◌⊎◌, inl, inr, ⊎_elim, ◌<◌, ◌≤◌, Option, Some, None, List, arith}
 use Rattle.std.specs.Prelude.{nat_lt, if◌then◌else◌, option_and_then, option_map}
 use Rattle.route_credit.specs.Links.{link_at, IsLeast}
-use Rattle.route_credit.specs.Pool.{Sharing, turn_of, IsChoice, need, is_short, IsNext, IsNextIf}
+use Rattle.route_credit.specs.Pool.{Sharing, turn_of, need, is_short, IsNext, IsNextIf}
 use Rattle.route_credit.specs.Ranks.{behind, offer_rank, rank_at}
 use Rattle.route_credit.specs.declared.offer.Offer.{Offer}
 use Rattle.route_table.specs.declared.sections.Distribution.{Distribution}
@@ -25,6 +25,7 @@ not_closest distribution is other = ⊎_elim (λ e. differ (sym e ∙ other)) (�
   where
     differ : Balanced ≡ Closest → ⊥
     differ h = cc
+
     differ2 : Multicast ≡ Closest → ⊥
     differ2 h = cc
 
@@ -47,18 +48,18 @@ round_behind : (last : ℕ) (f : ℕ → Option ℕ) (id : ℕ) → Flat f → I
 round_behind last f id flat least =
     by_test (nat_lt last id)
     (λ e. let here : f id ≡ Some least.0 = rw e at least.1 in
-      (0, rw (e, here) refl, λ other m h. against other m (map_some (f other) _ m h)))
+    (0, rw (e, here) refl, λ other m h. against other m (map_some (f other) _ m h)))
     (λ e. none_some least.0 (rw e at least.1))
   where
     against : (other m : ℕ) → (k : ℕ) × (f other ≡ Some k) × ((if nat_lt last other then 0 else 1) ≡ m) → (0 < m) ⊎ ((0 ≡ m) × (id ≤ other))
     against other m found =
-      by_test (nat_lt last other)
-      (λ e. let zero_is : 0 ≡ m = rw e at found.2 in
+        by_test (nat_lt last other)
+        (λ e. let zero_is : 0 ≡ m = rw e at found.2 in
         ⊎_elim
-          (λ below. let k : found.0 ≡ 0 = flat other found.0 found.1 in absurd (omega (arith, below, k)))
-          (λ alike. inr (zero_is, alike.1))
-          (least.2 other found.0 (rw e found.1)))
-      (λ e. let one_is : 1 ≡ m = rw e at found.2 in inl (omega (arith, one_is)))
+        (λ below. let k : found.0 ≡ 0 = flat other found.0 found.1 in absurd (omega (arith, below, k)))
+        (λ alike. inr (zero_is, alike.1))
+        (least.2 other found.0 (rw e found.1)))
+        (λ e. let one_is : 1 ≡ m = rw e at found.2 in inl (omega (arith, one_is)))
 
 -- where nobody is behind the number, the first of all is
 round_first : (last : ℕ) (f : ℕ → Option ℕ) (r : Option ℕ) → Flat f → IsLeast (behind last f) None → IsLeast f r → IsLeast (round last f) r
@@ -68,10 +69,11 @@ round_first last f (Some id) flat none least =
   where
     not_behind : (other n : ℕ) → f other ≡ Some n → nat_lt last other ≡ false
     not_behind other n is = by_test (nat_lt last other) (λ e. none_some n (sym (rw e at (none other)) ∙ is)) (λ e. e)
+
     against : (other m : ℕ) → (k : ℕ) × (f other ≡ Some k) × ((if nat_lt last other then 0 else 1) ≡ m) → (1 < m) ⊎ ((1 ≡ m) × (id ≤ other))
     against other m found =
-      let one_is : 1 ≡ m = rw (not_behind other found.0 found.1) at found.2 in
-      ⊎_elim
+        let one_is : 1 ≡ m = rw (not_behind other found.0 found.1) at found.2 in
+        ⊎_elim
         (λ below. let k : found.0 ≡ 0 = flat other found.0 found.1 in absurd (omega (arith, below, k)))
         (λ alike. inr (one_is, alike.1))
         (least.2 other found.0 found.1)

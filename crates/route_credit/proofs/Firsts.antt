@@ -1,13 +1,11 @@
 -- What the first place of the index says.
-use Rattle.std.proofs.Common.{◌≡◌, ◌∙◌, sym, ap, refl, ℕ, Bool, true, false, true≢false, not, ◌&&◌, ◌||◌, ◌⊎◌, inl, inr, ◌<◌, ◌≤◌, Option, Some, None, List, [], ◌∷◌, length, zero, suc, arith}
-use Rattle.std.specs.Prelude.{◌==◌, nat_lt, if◌then◌else◌, IsTrue, slice_get}
-use Rattle.std.specs.BTreeSet.{contains}
+use Rattle.std.proofs.Common.{◌≡◌, ◌∙◌, sym, ap, refl, ℕ, true, false, true≢false, ◌⊎◌, inl, inr, ◌<◌, ◌≤◌, Option, Some, None, List, [], ◌∷◌, length, zero, suc, arith}
+use Rattle.std.specs.Prelude.{◌==◌, nat_lt}
 use Rattle.std.specs.Ordering.{nat_cmp, ordering_then, is_gt}
-use Rattle.std.specs.declared.cmp.Ordering.{Ordering}
 use Rattle.std.specs.declared.cmp.Ordering.TheVariants.{Less, Equal, Greater}
-use Rattle.std.proofs.lemmas.Bool.{eqb-true, eq-eqb, ltb-true, ltb-false}
+use Rattle.std.proofs.lemmas.Bool.{eqb-true, eq-eqb, ltb-true}
 use Rattle.route_credit.specs.Links.{IsLeast}
-use Rattle.route_credit.specs.Ranks.{behind, has, is_rank, is_place, place_cmp, ranked, Ranks}
+use Rattle.route_credit.specs.Ranks.{behind, has, is_rank, place_cmp, Ranks}
 use Rattle.route_credit.specs.declared.ranking.Place.{Place}
 use Rattle.route_credit.specs.declared.ranking.Ranking.{Ranking}
 use Rattle.route_credit.proofs.Moved.{by_test}
@@ -38,17 +36,19 @@ not_behind a b c d h =
     by_test (nat_lt a b)
     (λ e. inl (ltb-true a b e))
     (λ e. by_test (a == b)
-      (λ f. by_test (nat_lt c d)
-        (λ g. inr (eqb-true a b f, (let l : c < d = ltb-true c d g in omega arith)))
-        (λ g. by_test (c == d) (λ k. inr (eqb-true a b f, (let l : c ≡ d = eqb-true c d k in omega arith))) (λ k. absurd (true≢false (rw (e, f, g, k) at h)))))
-      (λ f. absurd (true≢false (rw (e, f) at h))))
+    (λ f. by_test (nat_lt c d)
+    (λ g. inr (eqb-true a b f, (let l : c < d = ltb-true c d g in omega arith)))
+    (λ g. by_test (c == d) (λ k. inr (eqb-true a b f, (let l : c ≡ d = eqb-true c d k in omega arith))) (λ k. absurd (true≢false (rw (e, f, g, k) at h)))))
+    (λ f. absurd (true≢false (rw (e, f) at h))))
 
 -- the first place is that of the link whose turn is first
 pub first_some : (ranking : Ranking) (ranks : ℕ → Option ℕ) (place : Place) → Ranks ranking ranks → has ranking place ≡ true
     → ((q : Place) → has ranking q ≡ true → is_gt (place_cmp place q) ≡ false) → IsLeast ranks (Some place.id)
-first_some ranking ranks place fits there least =
-    (place.rank, some_rank (ranks place.id) place.rank (sym (fits place) ∙ there),
-    λ other m is. not_behind place.rank m place.id other (least (record { rank = m; id = other }) (fits (record { rank = m; id = other }) ∙ is_some_rank (ranks other) m is)))
+first_some ranking ranks place fits there least = (
+  place.rank,
+  some_rank (ranks place.id) place.rank (sym (fits place) ∙ there),
+  λ other m is. not_behind place.rank m place.id other (least (record { rank = m; id = other }) (fits (record { rank = m; id = other }) ∙ is_some_rank (ranks other) m is)),
+)
 
 -- a length that isn't above 0
 pub no_length : (n : ℕ) → (0 < n → false ≡ true) → n ≡ 0
@@ -63,6 +63,7 @@ less_here id other less = by_test (nat_lt id other) (λ e. e) (λ e. by_test (id
   where
     not_less : Equal ≡ Less → ⊥
     not_less h = cc
+
     not_less' : Greater ≡ Less → ⊥
     not_less' h = cc
 
@@ -79,8 +80,8 @@ pub behind_none : (ranking : Ranking) (ranks : ℕ → Option ℕ) (id : ℕ) �
 behind_none ranking ranks id fits flat none other =
     by_test (nat_lt id other)
     (λ e. rw e (not_some (ranks other) (λ m is.
-      let q : Place = record { rank = m; id = other } in
-      true≢false (sym (fits q ∙ is_some_rank (ranks other) m is) ∙ none q (here_less id other m (flat other m is) e)))))
+    let q : Place = record { rank = m; id = other } in
+    true≢false (sym (fits q ∙ is_some_rank (ranks other) m is) ∙ none q (here_less id other m (flat other m is) e)))))
     (λ e. rw e refl)
 
 -- the first place behind a link is that of the next one
@@ -96,7 +97,8 @@ behind_some ranking ranks id place fits flat from there least =
   where
     none_some : (m : ℕ) → None ≡ Some m → ⊥
     none_some m h = cc
+
     next : (other m : ℕ) → (nat_lt id other ≡ true) × (ranks other ≡ Some m) → (place.rank < m) ⊎ ((place.rank ≡ m) × (place.id ≤ other))
     next other m both =
-      let q : Place = record { rank = m; id = other } in
-      not_behind place.rank m place.id other (least q (here_less id other m (flat other m both.1) both.0) (fits q ∙ is_some_rank (ranks other) m both.1))
+        let q : Place = record { rank = m; id = other } in
+        not_behind place.rank m place.id other (least q (here_less id other m (flat other m both.1) both.0) (fits q ∙ is_some_rank (ranks other) m both.1))

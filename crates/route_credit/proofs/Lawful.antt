@@ -1,10 +1,10 @@
 -- The laws of choices and grants.
-use Rattle.std.proofs.Common.{◌≡◌, ◌∙◌, sym, ap, refl, subst, ℕ, Bool, true, false, true≢false, ◌+◌, ◌<◌, ◌≤◌, ◌⊎◌, inl, inr, ⊎_elim, Option, Some, None, List, arith}
+use Rattle.std.proofs.Common.{◌≡◌, ◌∙◌, sym, ap, refl, subst, ℕ, Bool, true, false, ◌+◌, ◌<◌, ◌≤◌, inl, inr, ⊎_elim, Option, Some, None, arith}
 use Rattle.std.specs.Prelude.{nat_lt, nat_le, if◌then◌else◌, option_and_then}
 use Rattle.std.proofs.lemmas.Bool.{ltb-true, ltb-false, leb-false}
-use Rattle.route_credit.specs.Laws.{ChoiceIsOne, ChosenIsFree, EachProducer, GrantsAreEnough, NobodyFree, NobodyWhereNoneIsFree, NothingLeft}
+use Rattle.route_credit.specs.Laws.{ChoiceIsOne, ChosenIsFree, GrantsAreEnough, NobodyWhereNoneIsFree, NothingLeft}
 use Rattle.route_credit.specs.Links.{link_at, IsLeast}
-use Rattle.route_credit.specs.Pool.{Sharing, free, lent, need_of, short_by, turn, turn_of, IsChoice, IsNext, IsNextIf}
+use Rattle.route_credit.specs.Pool.{Sharing, free, lent, need_of, short_by, turn, turn_of, IsNextIf}
 use Rattle.route_credit.specs.declared.demand.Demand.{Demand}
 use Rattle.route_credit.specs.declared.offer.Offer.{Offer}
 use Rattle.route_table.specs.declared.sections.Distribution.{Distribution}
@@ -20,15 +20,15 @@ least_is_one figure None (Some y) a b = none_some b.0 (sym (a y) ∙ b.1)
 least_is_one figure (Some x) None a b = none_some a.0 (sym (b x) ∙ a.1)
 least_is_one figure (Some x) (Some y) a b =
     ap Some (⊎_elim
-      (λ l. ⊎_elim
-        (λ k. absurd (omega (arith, l, k)))
-        (λ k. let e : b.0 ≡ a.0 = k.0 in absurd (omega (arith, l, e)))
-        (b.2 x a.0 a.1))
-      (λ l. ⊎_elim
-        (λ k. let e : a.0 ≡ b.0 = l.0 in absurd (omega (arith, k, e)))
-        (λ k. let p : x ≤ y = l.1 in let q : y ≤ x = k.1 in omega (arith, p, q))
-        (b.2 x a.0 a.1))
-      (a.2 y b.0 b.1))
+    (λ l. ⊎_elim
+    (λ k. absurd (omega (arith, l, k)))
+    (λ k. let e : b.0 ≡ a.0 = k.0 in absurd (omega (arith, l, e)))
+    (b.2 x a.0 a.1))
+    (λ l. ⊎_elim
+    (λ k. let e : a.0 ≡ b.0 = l.0 in absurd (omega (arith, k, e)))
+    (λ k. let p : x ≤ y = l.1 in let q : y ≤ x = k.1 in omega (arith, p, q))
+    (b.2 x a.0 a.1))
+    (a.2 y b.0 b.1))
 
 pub choice_is_one : ChoiceIsOne
 choice_is_one pool one other a b = least_is_one (turn pool) one other a b
@@ -63,10 +63,12 @@ never distribution last id (Some offer) is = ap (λ d. turn_of d last id offer) 
 
 pub nobody_where_none_is_free : NobodyWhereNoneIsFree
 nobody_where_none_is_free pool = (
-    λ apart. (
-      λ none id offer there. no_turn pool.distribution pool.last id offer apart (sym (ap (option_and_then (turn_of pool.distribution pool.last id)) there) ∙ none id),
-      λ none id. nobody pool.distribution pool.last id (link_at pool.consumers id) (none id)),
-    λ is id. never pool.distribution pool.last id (link_at pool.consumers id) is)
+  λ apart. (
+    λ none id offer there. no_turn pool.distribution pool.last id offer apart (sym (ap (option_and_then (turn_of pool.distribution pool.last id)) there) ∙ none id),
+    λ none id. nobody pool.distribution pool.last id (link_at pool.consumers id) (none id),
+  ),
+  λ is id. never pool.distribution pool.last id (link_at pool.consumers id) is,
+)
 
 low_no : (n : ℕ) (demand : Demand) → (if nat_lt n 64 then Some demand.lent else None) ≡ None → 64 ≤ n
 low_no n demand none = by_test (nat_lt n 64) (λ e. none_some demand.lent (sym (rw e at none))) (λ e. ltb-false n 64 e)
@@ -82,6 +84,7 @@ grants_are_enough pool next = by_kind pool.distribution refl (nat_lt (lent pool)
   where
     none_is : (d : Distribution) (b : Bool) → pool.distribution ≡ d → nat_lt (lent pool) (free pool) ≡ b → short_by d b ≡ true → (id : ℕ) (demand : Demand) → link_at pool.producers id ≡ Some demand → need_of d demand ≡ None
     none_is d b is e short = no_need d pool is (subst (λ t. IsNextIf t pool None) (ap (λ k. short_by k (nat_lt (lent pool) (free pool))) is ∙ ap (short_by d) e ∙ short) next)
+
     by_kind : (d : Distribution) → pool.distribution ≡ d → (b : Bool) → nat_lt (lent pool) (free pool) ≡ b → NothingLeft d pool
     by_kind Balanced is true e = inr (λ id demand there. low_no (demand.lent + demand.held) demand (none_is Balanced true is e refl id demand there))
     by_kind Balanced is false e = inl (ltb-false (lent pool) (free pool) e)

@@ -1,7 +1,7 @@
 -- How the index follows one link.
-use Rattle.std.proofs.Common.{◌≡◌, ◌∙◌, sym, ap, refl, ℕ, Bool, true, false, true≢false, not, ◌&&◌, ◌||◌, Option, Some, None}
-use Rattle.std.specs.Prelude.{◌==◌, if◌then◌else◌}
-use Rattle.std.proofs.lemmas.Bool.{eqb-true, eq-eqb}
+use Rattle.std.proofs.Common.{◌≡◌, ◌∙◌, sym, ap, refl, ℕ, Bool, true, false, not, ◌&&◌, ◌||◌, Option, Some, None}
+use Rattle.std.specs.Prelude.{◌==◌}
+use Rattle.std.proofs.lemmas.Bool.{eqb-true}
 use Rattle.route_credit.specs.Ranks.{has, is_rank, is_place, ranked, Ranks}
 use Rattle.route_credit.specs.declared.ranking.Place.{Place}
 use Rattle.route_credit.specs.declared.ranking.Ranking.{Ranking}
@@ -30,7 +30,7 @@ pub ranks_moved : (old new : Ranking) (ranks : ℕ → Option ℕ) (id : ℕ) (b
 ranks_moved old new ranks id before after fits is other moved place =
     by_test (id == place.id)
     (λ e. let here : ranks place.id ≡ before = ap ranks (sym (eqb-true id place.id e)) ∙ is in
-      rw (moved place, fits place, here, e) (moved_here (is_rank after place.rank) (is_rank before place.rank) (λ a b. other (one_rank before after place.rank b a))))
+    rw (moved place, fits place, here, e) (moved_here (is_rank after place.rank) (is_rank before place.rank) (λ a b. other (one_rank before after place.rank b a))))
     (λ e. rw (moved place, fits place, e) refl)
 
 -- nothing has moved

@@ -1,8 +1,7 @@
 -- How a sum over links follows one link.
-use Rattle.std.proofs.Common.{◌≡◌, ◌∙◌, sym, ap, refl, subst, ℕ, Bool, true, false, true≢false, cond, ◌+◌, ◌-◌, ◌≤◌, Option, Some, None, List, [], ◌∷◌, arith}
-use Rattle.std.specs.Prelude.{◌==◌, nat_lt, if◌then◌else◌}
-use Rattle.std.specs.BTreeMap.{insert_entry, is_at}
-use Rattle.std.specs.Map.{keys_of, lookup, remove_entry}
+use Rattle.std.proofs.Common.{◌≡◌, ap, refl, ℕ, Bool, true, false, cond, ◌+◌, ◌≤◌, Some, List, [], ◌∷◌, arith}
+use Rattle.std.specs.BTreeMap.{is_at}
+use Rattle.std.specs.Map.{keys_of}
 use Rattle.std.specs.List.Sorted.{IsStrictlySortedBy}
 use Rattle.std.proofs.lemmas.Cmp.{nat_cmp_total}
 use Rattle.std.proofs.lemmas.Map.{lookup-none}
@@ -32,8 +31,8 @@ module _ {X : Type 0} (amount : X → ℕ) where
       by_order : (o : Ordering) → nat_cmp id e.0 ≡ o → total amount (with_link es id link) + amount_at amount (link_at es id) ≡ total amount es + amount link
           → total amount (match_ordering o ((id, link) ∷ e ∷ es) ((e.0, link) ∷ es) (e ∷ with_link es id link)) + amount_at amount (cond (is_eq o) (Some e.1) (link_at es id)) ≡ amount e.1 + total amount es + amount link
       by_order Less is rest =
-        let none : amount_at amount (link_at es id) ≡ 0 = ap (amount_at amount) (lookup-none (is_at (nat_cmp id)) es (none_below_head nat_cmp_total id e es sorted is).1) in
-        omega (arith, none)
+          let none : amount_at amount (link_at es id) ≡ 0 = ap (amount_at amount) (lookup-none (is_at (nat_cmp id)) es (none_below_head nat_cmp_total id e es sorted is).1) in
+          omega (arith, none)
       by_order Equal is rest = omega arith
       by_order Greater is rest = omega (arith, rest)
 

@@ -1,5 +1,5 @@
 -- The pool of an address: who gets the next delivery, and who gets credit.
-use Rattle.std.specs.Prelude.{◌≡◌, ◌+◌, ◌-◌, ◌≤◌, ◌<◌, ℕ, Bool, true, false, Option, None, Some, option_and_then, nat_lt, nat_le, min, List, [], ◌∷◌, All, map, if◌then◌else◌, unwrap_or, option_map}
+use Rattle.std.specs.Prelude.{◌≡◌, ◌+◌, ◌-◌, ◌≤◌, ◌<◌, ℕ, Bool, true, false, Option, None, Some, option_and_then, nat_lt, nat_le, min, List, [], map, if◌then◌else◌}
 use Rattle.std.specs.Ordering.{nat_cmp}
 use Rattle.std.specs.List.Sorted.{IsStrictlySortedBy}
 use Rattle.route_credit.specs.Links.{amount_at, link_at, with_link, without_link, total, IsLeast}

@@ -1,6 +1,6 @@
 -- What the index of the links of an address says.
-use Rattle.std.specs.Prelude.{◌≡◌, ◌==◌, ◌&&◌, ℕ, Bool, true, false, Option, None, Some, List, option_and_then, if◌then◌else◌, unwrap_or, option_map, nat_lt}
-use Rattle.std.specs.BTreeSet.{BTreeSet, contains}
+use Rattle.std.specs.Prelude.{◌≡◌, ◌==◌, ◌&&◌, ℕ, Bool, false, Option, None, Some, List, option_and_then, if◌then◌else◌, nat_lt}
+use Rattle.std.specs.BTreeSet.{contains}
 use Rattle.std.specs.Ordering.{nat_cmp, ordering_then}
 use Rattle.std.specs.declared.cmp.Ordering.{Ordering}
 use Rattle.route_credit.specs.Links.{link_at}

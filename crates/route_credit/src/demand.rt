@@ -33,7 +33,7 @@ impl Demand {
     }
 
     /// How much the next grant gives, where the link is in need.
-    pub(crate) fn part(self, distribution: Distribution) -> u32 
+    pub(crate) fn part(self, distribution: Distribution) -> u32
         ensures { result ≡ part_of distribution self }
     {
         match distribution {

@@ -48,7 +48,12 @@ impl<T: Weigh> Links<T> {
     }
 
     /// Notes what is known of a link, in place of what was.
-    pub(crate) fn set(&mut self, distribution: Distribution, id: u64, link: T) -> Result<(), AllocError>
+    pub(crate) fn set(
+        &mut self,
+        distribution: Distribution,
+        id: u64,
+        link: T,
+    ) -> Result<(), AllocError>
         ensures set { OnOk result (self.new.rows.entries ≡ with_link self.old.rows.entries id link) }
         ensures ordered { OnOk result (IsStrictlySortedBy nat_cmp (keys_of self.old.rows.entries)) }
         ensures err { OnErr result (self.new.rows.entries ≡ self.old.rows.entries) }

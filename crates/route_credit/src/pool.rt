@@ -58,7 +58,12 @@ impl Pool {
 
     /// Notes what a consumer link has now: its free credit and its undecided deliveries. The first call for a link is
     /// its attach.
-    pub fn offer(&mut self, consumer: ConsumerId, free: u64, undecided: u64) -> Result<(), AllocError>
+    pub fn offer(
+        &mut self,
+        consumer: ConsumerId,
+        free: u64,
+        undecided: u64,
+    ) -> Result<(), AllocError>
         ensures offered { OnOk result (self.new ≡ offered self.old consumer.0 free undecided) }
         ensures err { OnErr result (self.new ≡ self.old) }
     {
@@ -68,7 +73,13 @@ impl Pool {
 
     /// Notes what a producer link has now: its unused credit, how much of that is due, and its deliveries that are
     /// undecided or not forgotten. The first call for a link is its attach.
-    pub fn want(&mut self, producer: ProducerId, unused: u32, due: u32, held: u32) -> Result<(), AllocError>
+    pub fn want(
+        &mut self,
+        producer: ProducerId,
+        unused: u32,
+        due: u32,
+        held: u32,
+    ) -> Result<(), AllocError>
         ensures wanted { OnOk result (self.new ≡ wanted self.old producer.0 unused due held) }
         ensures err { OnErr result (self.new ≡ self.old) }
     {

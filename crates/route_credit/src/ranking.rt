@@ -58,7 +58,12 @@ impl Ranking {
 
     /// Moves a link from its rank to another one.
     #[tactic(auto, using(crate::proofs::Moved::ranks_moved, crate::proofs::Moved::ranks_same, crate::proofs::Moved::ranks_kept))]
-    pub(crate) fn set(&mut self, id: u64, before: Option<u64>, after: Option<u64>) -> Result<(), AllocError>
+    pub(crate) fn set(
+        &mut self,
+        id: u64,
+        before: Option<u64>,
+        after: Option<u64>,
+    ) -> Result<(), AllocError>
         ensures ranks { (ranks : ℕ → Option ℕ) → Ranks self.old ranks → ranks id ≡ before → OnOk result (Ranks self.new (ranked ranks id after)) }
         ensures err { (ranks : ℕ → Option ℕ) → Ranks self.old ranks → OnErr result (Ranks self.new ranks) }
     {
@@ -93,9 +98,7 @@ impl Ranking {
         ensures { (ranks : ℕ → Option ℕ) → Ranks self.now ranks → ((other m : ℕ) → ranks other ≡ Some m → m ≡ 0) → IsLeast (behind id ranks) result }
     {
         let from = Place { rank: 0, id };
-        let mut places = self
-            .places
-            .range((Bound::Excluded(from), Bound::Unbounded));
+        let mut places = self.places.range((Bound::Excluded(from), Bound::Unbounded));
         match places.next() {
             None => None,
             Some(next) => Some(next.id),

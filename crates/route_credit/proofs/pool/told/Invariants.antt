@@ -1,4 +1,4 @@
-use Rattle.std.proofs.Common.{◌≡◌, ◌++◌, List, ℕ}
+use Rattle.std.proofs.Common.{◌≡◌, ◌++◌}
 use Rattle.route_credit.specs.Pool.{by_id}
 use Rattle.route_credit.proofs.pool.told.Given as goal
 

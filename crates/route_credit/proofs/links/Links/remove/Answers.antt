@@ -1,7 +1,7 @@
-use Rattle.std.proofs.Common.{rules, arith, ◌≡◌, ◌∙◌, sym, ap, ◌+◌, ◌-◌, ℕ}
+use Rattle.std.proofs.Common.{◌∙◌, sym, ap, ◌-◌}
 use Rattle.std.specs.Prelude.{option_and_then}
 use Rattle.route_credit.specs.Ranks.{rank_at}
-use Rattle.route_credit.specs.Links.{amount_at, link_at}
+use Rattle.route_credit.specs.Links.{amount_at}
 use Rattle.route_credit.proofs.Indices.{indexed_less}
 use Rattle.route_credit.proofs.links.Links.remove.Goals as goal
 
@@ -11,4 +11,4 @@ returns-clause-whole g c is =
     let ranks = rank_at rank c.args.self.now.rows.entries in
     let before = sym (c.rank_of.ensures ∙ ap (option_and_then rank) c.get-old.ensures) in
     indexed_less rank g.T.Weigh.amount c.args.self.now _ c.args.id is
-      (c.unset.ensures ranks is.ranks before) c.remove.ensures.entries c.remove.ensures.updates.0 (c.saturating_sub-self.ensures ∙ ap (λ n. c.args.self.now.total - n) (c.amount_of.ensures ∙ ap (amount_at g.T.Weigh.amount) c.get-old.ensures))
+    (c.unset.ensures ranks is.ranks before) c.remove.ensures.entries c.remove.ensures.updates.0 (c.saturating_sub-self.ensures ∙ ap (λ n. c.args.self.now.total - n) (c.amount_of.ensures ∙ ap (amount_at g.T.Weigh.amount) c.get-old.ensures))

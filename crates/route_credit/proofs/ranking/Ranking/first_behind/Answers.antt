@@ -1,4 +1,4 @@
-use Rattle.std.proofs.Common.{◌≡◌, sym, ap, refl, ◌∙◌}
+use Rattle.std.proofs.Common.{ap}
 use Rattle.std.specs.Prelude.{slice_get}
 use Rattle.route_credit.proofs.Firsts.{behind_none, behind_some}
 use Rattle.route_credit.proofs.ranking.Ranking.first_behind.Goals as goal
@@ -14,4 +14,4 @@ returns-in-Some c ranks fits zero =
     let first = ap (λ r. slice_get r 0) c.in-Some.ensures.steps in
     let here = rw first at range.1 in
     behind_some c.args.self.now ranks c.args.id c.in-Some.next.now fits zero here.0.0 here.1
-      (λ q less there. rw first at (range.2 q (less, tt) there))
+    (λ q less there. rw first at (range.2 q (less, tt) there))
