@@ -2,12 +2,12 @@
 use Rattle.std.proofs.Common.{◌≡◌, ◌∙◌, sym, ap, refl, ℕ, Bool, true, false, cond, ◌+◌, ◌-◌, ◌<◌, ◌≤◌, Option, Some, None, arith}
 use Rattle.std.specs.Prelude.{◌==◌, nat_lt, if◌then◌else◌, option_and_then}
 use Rattle.std.specs.BTreeMap.{get, is_at}
-use Rattle.std.specs.Map.{keys_of}
+use Rattle.std.specs.Map.{keys_of, remove_entry}
 use Rattle.std.specs.List.Sorted.{IsStrictlySortedBy}
 use Rattle.std.specs.Ordering.{nat_cmp}
 use Rattle.std.proofs.lemmas.Bool.{eqb-true, eq-eqb, ltb-true}
 use Rattle.route_credit.specs.Indexed.{IsIndexed}
-use Rattle.route_credit.specs.Links.{amount_at, link_at, with_link, without_link, total}
+use Rattle.route_credit.specs.Links.{amount_at, link_at, with_link, total}
 use Rattle.route_credit.specs.Ranks.{is_rank, rank_at, ranked, Ranks}
 use Rattle.route_credit.specs.declared.links.Links.{Links}
 use Rattle.route_credit.specs.declared.ranking.Ranking.{Ranking}
@@ -52,7 +52,7 @@ module _ {X : Type 0} (rank : X → Option ℕ) (amount : X → ℕ) where
 
   pub indexed_less : (old new : Links X) (id : ℕ) → IsIndexed rank amount old
       → Ranks new.ranking (ranked (rank_at rank old.rows.entries) id None)
-      → new.rows.entries ≡ without_link old.rows.entries id
+      → new.rows.entries ≡ remove_entry (is_at (nat_cmp id)) old.rows.entries
       → ((q : ℕ) → get nat_cmp new.rows q ≡ cond (is_at (nat_cmp id) q) None (get nat_cmp old.rows q))
       → new.total ≡ old.total - amount_at amount (link_at old.rows.entries id)
       → IsIndexed rank amount new
@@ -67,8 +67,8 @@ module _ {X : Type 0} (rank : X → Option ℕ) (amount : X → ℕ) where
 
       summed : new.total ≡ total amount new.rows.entries
       summed =
-          let less : total amount (without_link old.rows.entries id) + amount_at amount (link_at old.rows.entries id) ≡ total amount old.rows.entries = total_less amount old.rows.entries id in
-          let now : total amount new.rows.entries ≡ total amount (without_link old.rows.entries id) = ap (total amount) rows in
+          let less : total amount (remove_entry (is_at (nat_cmp id)) old.rows.entries) + amount_at amount (link_at old.rows.entries id) ≡ total amount old.rows.entries = total_less amount old.rows.entries id in
+          let now : total amount new.rows.entries ≡ total amount (remove_entry (is_at (nat_cmp id)) old.rows.entries) = ap (total amount) rows in
           let before : old.total ≡ total amount old.rows.entries = is.total in
           omega (arith, less, now, before, sum)
 

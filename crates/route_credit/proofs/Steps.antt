@@ -16,32 +16,9 @@ use Rattle.route_credit.specs.declared.demand.Demand.{Demand}
 use Rattle.route_table.specs.declared.sections.Distribution.{Distribution}
 use Rattle.route_table.specs.declared.sections.Distribution.TheVariants.{Balanced, Closest, Multicast}
 use Rattle.route_credit.proofs.Indices.{same_test}
+use Rattle.route_credit.proofs.Lookups.{link_with}
 use Rattle.route_credit.proofs.Moved.{by_test}
 use Rattle.route_credit.proofs.Sums.{total_set}
-
-test_sym : (a b : ℕ) → (a == b) ≡ (b == a)
-test_sym a b = by_test (b == a) (λ e. rw e (eq-eqb a b (sym (eqb-true b a e)))) (λ e. by_test (a == b) (λ f. absurd (true≢false (sym (eq-eqb b a (sym (eqb-true a b f))) ∙ e))) (λ f. f ∙ sym e))
-
-is_test : (a b : ℕ) (o : Ordering) → nat_cmp a b ≡ o → is_eq o ≡ (a == b)
-is_test a b o is = ap is_eq (sym is) ∙ same_test a b
-
--- what is known behind a change of one link
-pub link_with : {X : Type 0} (links : List (ℕ × X)) (id : ℕ) (x : X) (q : ℕ) → link_at (with_link links id x) q ≡ cond (id == q) (Some x) (link_at links q)
-link_with [] id x q = ap (λ b. cond b (Some x) None) (same_test q id ∙ test_sym q id)
-link_with {X} (e ∷ es) id x q = by_order (nat_cmp id e.0) refl (link_with es id x q)
-  where
-    by_order : (o : Ordering) → nat_cmp id e.0 ≡ o → link_at (with_link es id x) q ≡ cond (id == q) (Some x) (link_at es q)
-        → link_at (match_ordering o ((id, x) ∷ e ∷ es) ((e.0, x) ∷ es) (e ∷ with_link es id x)) q ≡ cond (id == q) (Some x) (link_at (e ∷ es) q)
-    by_order Less is rest = ap (λ b. cond b (Some x) (link_at (e ∷ es) q)) (same_test q id ∙ test_sym q id)
-    by_order Equal is rest =
-        let same : id ≡ e.0 = eqb-true id e.0 (sym (is_test id e.0 Equal is)) in
-        let test : is_at (nat_cmp q) e.0 ≡ (id == q) = same_test q e.0 ∙ ap (λ n. q == n) (sym same) ∙ test_sym q id in
-        by_test (id == q) (λ f. rw (test, f) refl) (λ f. rw (test, f) refl)
-    by_order Greater is rest =
-        by_test (id == q)
-        (λ f. let other : is_at (nat_cmp q) e.0 ≡ false = same_test q e.0 ∙ ap (λ n. n == e.0) (sym (eqb-true id q f)) ∙ sym (is_test id e.0 Greater is) in
-        rw (other, f) (rest ∙ ap (λ b. cond b (Some x) (link_at es q)) f))
-        (λ f. rw f (ap (λ l. cond (is_at (nat_cmp q) e.0) (Some e.1) l) (rest ∙ ap (λ b. cond b (Some x) (link_at es q)) f)))
 
 -- a producer in need
 pub record InNeed (distribution : Distribution) (link : Option Demand) : Type 0 where

@@ -1,7 +1,7 @@
 -- How a sum over links follows one link.
 use Rattle.std.proofs.Common.{◌≡◌, ap, refl, ℕ, Bool, true, false, cond, ◌+◌, ◌≤◌, Some, List, [], ◌∷◌, arith}
 use Rattle.std.specs.BTreeMap.{is_at}
-use Rattle.std.specs.Map.{keys_of}
+use Rattle.std.specs.Map.{keys_of, remove_entry}
 use Rattle.std.specs.List.Sorted.{IsStrictlySortedBy}
 use Rattle.std.proofs.lemmas.Cmp.{nat_cmp_total}
 use Rattle.std.proofs.lemmas.Map.{lookup-none}
@@ -10,7 +10,7 @@ use Rattle.std.proofs.lemmas.Map.Keys.{sorted_tail}
 use Rattle.std.specs.Ordering.{nat_cmp, match_ordering, is_eq}
 use Rattle.std.specs.declared.cmp.Ordering.{Ordering}
 use Rattle.std.specs.declared.cmp.Ordering.TheVariants.{Less, Equal, Greater}
-use Rattle.route_credit.specs.Links.{amount_at, link_at, with_link, without_link, total}
+use Rattle.route_credit.specs.Links.{amount_at, link_at, with_link, total}
 
 module _ {X : Type 0} (amount : X → ℕ) where
   -- what a link has is part of the sum
@@ -37,11 +37,11 @@ module _ {X : Type 0} (amount : X → ℕ) where
       by_order Greater is rest = omega (arith, rest)
 
   -- a link that is gone
-  pub total_less : (links : List (ℕ × X)) (id : ℕ) → total amount (without_link links id) + amount_at amount (link_at links id) ≡ total amount links
+  pub total_less : (links : List (ℕ × X)) (id : ℕ) → total amount (remove_entry (is_at (nat_cmp id)) links) + amount_at amount (link_at links id) ≡ total amount links
   total_less [] id = refl
   total_less (e ∷ es) id = by_cases (is_at (nat_cmp id) e.0) (total_less es id)
     where
-      by_cases : (b : Bool) → total amount (without_link es id) + amount_at amount (link_at es id) ≡ total amount es
-          → total amount (cond b es (e ∷ without_link es id)) + amount_at amount (cond b (Some e.1) (link_at es id)) ≡ amount e.1 + total amount es
+      by_cases : (b : Bool) → total amount (remove_entry (is_at (nat_cmp id)) es) + amount_at amount (link_at es id) ≡ total amount es
+          → total amount (cond b es (e ∷ remove_entry (is_at (nat_cmp id)) es)) + amount_at amount (cond b (Some e.1) (link_at es id)) ≡ amount e.1 + total amount es
       by_cases true rest = omega arith
       by_cases false rest = omega (arith, rest)

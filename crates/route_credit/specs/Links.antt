@@ -1,8 +1,8 @@
 -- Links by number, which is their order of attach, with what is known of each.
-use Rattle.std.specs.Prelude.{◌≡◌, ◌<◌, ◌≤◌, ◌+◌, ◌⊎◌, ℕ, Option, None, Some, List, [], ◌∷◌}
+use Rattle.std.specs.Prelude.{◌≡◌, ◌<◌, ◌≤◌, ◌+◌, ◌⊎◌, ℕ, Option, None, Some, List, [], ◌∷◌, ◌==◌, not, filter}
 use Rattle.std.specs.Ordering.{nat_cmp}
 use Rattle.std.specs.BTreeMap.{insert_entry, is_at}
-use Rattle.std.specs.Map.{lookup, remove_entry}
+use Rattle.std.specs.Map.{lookup}
 
 -- what is known of a link
 abbrev pub link_at : {X : Type 0} → List (ℕ × X) → ℕ → Option X
@@ -14,7 +14,7 @@ with_link links id link = insert_entry nat_cmp links id link
 
 -- the links without this one
 abbrev pub without_link : {X : Type 0} → List (ℕ × X) → ℕ → List (ℕ × X)
-without_link links id = remove_entry (is_at (nat_cmp id)) links
+without_link links id = filter (λ link. not (id == link.0)) links
 
 -- an amount of a link, 0 where nothing is known of it
 abbrev pub amount_at : {X : Type 0} → (X → ℕ) → Option X → ℕ
