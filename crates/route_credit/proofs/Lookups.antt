@@ -1,8 +1,8 @@
 -- What is known of links behind a change of one.
-use Rattle.std.proofs.Common.{◌≡◌, ◌∙◌, sym, ap, refl, ℕ, Bool, true, false, true≢false, not, cond, Option, Some, None, List, [], ◌∷◌}
+use Rattle.std.proofs.Common.{◌≡◌, ◌∙◌, sym, ap, refl, ℕ, Bool, true, false, true≢false, not, cond, Some, None, List, [], ◌∷◌}
 use Rattle.std.specs.Prelude.{◌==◌, filter}
 use Rattle.std.specs.BTreeMap.{is_at}
-use Rattle.std.specs.Map.{lookup, remove_entry}
+use Rattle.std.specs.Map.{remove_entry}
 use Rattle.std.specs.Ordering.{nat_cmp, match_ordering, is_eq}
 use Rattle.std.specs.declared.cmp.Ordering.{Ordering}
 use Rattle.std.specs.declared.cmp.Ordering.TheVariants.{Less, Equal, Greater}
@@ -43,15 +43,15 @@ link_without {X} (e ∷ es) id q = by_head (id == e.0) refl (link_without es id 
     by_head : (b : Bool) → (id == e.0) ≡ b → link_at (without_link es id) q ≡ cond (id == q) None (link_at es q)
         → link_at (cond (not b) (e ∷ without_link es id) (without_link es id)) q ≡ cond (id == q) None (link_at (e ∷ es) q)
     by_head true is rest =
-      by_test (id == q)
-      (λ f. rw f (rest ∙ ap (λ b. cond b None (link_at es q)) f))
-      (λ f. let other : is_at (nat_cmp q) e.0 ≡ false = same_test q e.0 ∙ ap (λ n. q == n) (sym (eqb-true id e.0 is)) ∙ test_sym q id ∙ f in
+        by_test (id == q)
+        (λ f. rw f (rest ∙ ap (λ b. cond b None (link_at es q)) f))
+        (λ f. let other : is_at (nat_cmp q) e.0 ≡ false = same_test q e.0 ∙ ap (λ n. q == n) (sym (eqb-true id e.0 is)) ∙ test_sym q id ∙ f in
         rw (f, other) (rest ∙ ap (λ b. cond b None (link_at es q)) f))
     by_head false is rest =
-      by_test (id == q)
-      (λ f. let other : is_at (nat_cmp q) e.0 ≡ false = same_test q e.0 ∙ ap (λ n. n == e.0) (sym (eqb-true id q f)) ∙ is in
+        by_test (id == q)
+        (λ f. let other : is_at (nat_cmp q) e.0 ≡ false = same_test q e.0 ∙ ap (λ n. n == e.0) (sym (eqb-true id q f)) ∙ is in
         rw (f, other) (rest ∙ ap (λ b. cond b None (link_at es q)) f))
-      (λ f. rw f (ap (λ l. cond (is_at (nat_cmp q) e.0) (Some e.1) l) (rest ∙ ap (λ b. cond b None (link_at es q)) f)))
+        (λ f. rw f (ap (λ l. cond (is_at (nat_cmp q) e.0) (Some e.1) l) (rest ∙ ap (λ b. cond b None (link_at es q)) f)))
 
 none_gone : {X : Type 0} (links : List (ℕ × X)) (id : ℕ) → link_at links id ≡ None → filter (λ link. not (id == link.0)) links ≡ links
 none_gone [] id none = refl
