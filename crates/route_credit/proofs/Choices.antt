@@ -1,0 +1,110 @@
+-- The choice, by the ranks of consumers.
+use Rattle.std.proofs.Common.{◌≡◌, ◌∙◌, sym, refl, subst, ℕ, Bool, true, false, ◌⊎◌, inl, inr, ⊎_elim, ◌<◌, ◌≤◌, Option, Some, None, List, arith}
+use Rattle.std.specs.Prelude.{nat_lt, if◌then◌else◌, option_and_then, option_map}
+use Rattle.route_credit.specs.Links.{link_at, IsLeast}
+use Rattle.route_credit.specs.Pool.{Sharing, turn_of, need, is_short, IsNext, IsNextIf}
+use Rattle.route_credit.specs.Ranks.{behind, offer_rank, rank_at}
+use Rattle.route_credit.specs.declared.offer.Offer.{Offer}
+use Rattle.route_table.specs.declared.sections.Distribution.{Distribution}
+use Rattle.route_table.specs.declared.sections.Distribution.TheVariants.{Balanced, Closest, Multicast}
+use Rattle.route_credit.proofs.Moved.{by_test}
+
+-- figures that are the same everywhere
+pub least_agree : (f g : ℕ → Option ℕ) (r : Option ℕ) → ((id : ℕ) → f id ≡ g id) → IsLeast f r → IsLeast g r
+least_agree f g None same none = λ id. sym (same id) ∙ none id
+least_agree f g (Some id) same least = (least.0, sym (same id) ∙ least.1, λ other m is. least.2 other m (same other ∙ is))
+
+pub choice_first : (distribution : Distribution) (last : ℕ) (links : List (ℕ × Offer)) (r : Option ℕ) → (distribution ≡ Closest → ⊥)
+    → IsLeast (rank_at (offer_rank distribution) links) r → IsLeast (λ id. option_and_then (turn_of distribution last id) (link_at links id)) r
+choice_first Balanced last links r apart least = least_agree _ _ r (λ id. refl) least
+choice_first Closest last links r apart least = absurd (apart refl)
+choice_first Multicast last links r apart least = least_agree _ _ r (λ id. refl) least
+
+pub not_closest : (distribution : Distribution) → (distribution ≡ Balanced) ⊎ (distribution ≡ Multicast) → distribution ≡ Closest → ⊥
+not_closest distribution is other = ⊎_elim (λ e. differ (sym e ∙ other)) (λ e. differ2 (sym e ∙ other)) is
+  where
+    differ : Balanced ≡ Closest → ⊥
+    differ h = cc
+
+    differ2 : Multicast ≡ Closest → ⊥
+    differ2 h = cc
+
+-- first those behind a number, then the others
+abbrev round : ℕ → (ℕ → Option ℕ) → ℕ → Option ℕ
+round last f other = option_map {U = ℕ} (λ n. if nat_lt last other then 0 else 1) (f other)
+
+map_some : (x : Option ℕ) (n m : ℕ) → option_map {U = ℕ} (λ k. n) x ≡ Some m → (k : ℕ) × (x ≡ Some k) × (n ≡ m)
+map_some None n m h = absurd cc
+map_some (Some k) n m h = (k, refl, cc)
+
+none_some : {P : Type 0} (m : ℕ) → None ≡ Some m → P
+none_some m h = absurd cc
+
+abbrev Flat : (ℕ → Option ℕ) → Type 0
+Flat f = (other m : ℕ) → f other ≡ Some m → m ≡ 0
+
+-- the first of those behind the number is the first of all
+round_behind : (last : ℕ) (f : ℕ → Option ℕ) (id : ℕ) → Flat f → IsLeast (behind last f) (Some id) → IsLeast (round last f) (Some id)
+round_behind last f id flat least =
+    by_test (nat_lt last id)
+    (λ e. let here : f id ≡ Some least.0 = rw e at least.1 in
+    (0, rw (e, here) refl, λ other m h. against other m (map_some (f other) _ m h)))
+    (λ e. none_some least.0 (rw e at least.1))
+  where
+    against : (other m : ℕ) → (k : ℕ) × (f other ≡ Some k) × ((if nat_lt last other then 0 else 1) ≡ m) → (0 < m) ⊎ ((0 ≡ m) × (id ≤ other))
+    against other m found =
+        by_test (nat_lt last other)
+        (λ e. let zero_is : 0 ≡ m = rw e at found.2 in
+        ⊎_elim
+        (λ below. let k : found.0 ≡ 0 = flat other found.0 found.1 in absurd (omega (arith, below, k)))
+        (λ alike. inr (zero_is, alike.1))
+        (least.2 other found.0 (rw e found.1)))
+        (λ e. let one_is : 1 ≡ m = rw e at found.2 in inl (omega (arith, one_is)))
+
+-- where nobody is behind the number, the first of all is
+round_first : (last : ℕ) (f : ℕ → Option ℕ) (r : Option ℕ) → Flat f → IsLeast (behind last f) None → IsLeast f r → IsLeast (round last f) r
+round_first last f None flat none least = λ id. rw (least id) refl
+round_first last f (Some id) flat none least =
+    (1, rw (not_behind id least.0 least.1, least.1) refl, λ other m h. against other m (map_some (f other) _ m h))
+  where
+    not_behind : (other n : ℕ) → f other ≡ Some n → nat_lt last other ≡ false
+    not_behind other n is = by_test (nat_lt last other) (λ e. none_some n (sym (rw e at (none other)) ∙ is)) (λ e. e)
+
+    against : (other m : ℕ) → (k : ℕ) × (f other ≡ Some k) × ((if nat_lt last other then 0 else 1) ≡ m) → (1 < m) ⊎ ((1 ≡ m) × (id ≤ other))
+    against other m found =
+        let one_is : 1 ≡ m = rw (not_behind other found.0 found.1) at found.2 in
+        ⊎_elim
+        (λ below. let k : found.0 ≡ 0 = flat other found.0 found.1 in absurd (omega (arith, below, k)))
+        (λ alike. inr (one_is, alike.1))
+        (least.2 other found.0 found.1)
+
+in_turn : (b : Bool) (x : Option Offer) → option_map {U = ℕ} (λ (n : ℕ). if b then 0 else 1) (option_and_then (offer_rank Closest) x) ≡ option_and_then (λ offer. if nat_lt 0 offer.free then Some (if b then 0 else 1) else None) x
+in_turn b None = refl
+in_turn b (Some offer) = by_test (nat_lt 0 offer.free) (λ e. rw e refl) (λ e. rw e refl)
+
+flat_rank : (x : Option Offer) (m : ℕ) → option_and_then (offer_rank Closest) x ≡ Some m → m ≡ 0
+flat_rank None m h = none_some m h
+flat_rank (Some offer) m h = by_test (nat_lt 0 offer.free) (λ e. zero_of m (rw e at h)) (λ e. none_some m (rw e at h))
+  where
+    zero_of : (m : ℕ) → Some 0 ≡ Some m → m ≡ 0
+    zero_of m h = cc
+
+-- in turn, all have one rank
+pub flat_ranks : (distribution : Distribution) (links : List (ℕ × Offer)) → distribution ≡ Closest → (other m : ℕ) → rank_at (offer_rank distribution) links other ≡ Some m → m ≡ 0
+flat_ranks distribution links is other m h = flat_rank (link_at links other) m (rw is at h)
+
+pub choice_behind : (distribution : Distribution) (last : ℕ) (links : List (ℕ × Offer)) (id : ℕ) → distribution ≡ Closest
+    → IsLeast (behind last (rank_at (offer_rank distribution) links)) (Some id) → IsLeast (λ other. option_and_then (turn_of distribution last other) (link_at links other)) (Some id)
+choice_behind Closest last links id is least = least_agree _ _ (Some id) (λ other. in_turn (nat_lt last other) (link_at links other)) (round_behind last (rank_at (offer_rank Closest) links) id (flat_ranks Closest links refl) least)
+choice_behind Balanced last links id is least = absurd cc
+choice_behind Multicast last links id is least = absurd cc
+
+pub choice_round : (distribution : Distribution) (last : ℕ) (links : List (ℕ × Offer)) (r : Option ℕ) → distribution ≡ Closest
+    → IsLeast (behind last (rank_at (offer_rank distribution) links)) None → IsLeast (rank_at (offer_rank distribution) links) r → IsLeast (λ other. option_and_then (turn_of distribution last other) (link_at links other)) r
+choice_round Closest last links r is none least = least_agree _ _ r (λ other. in_turn (nat_lt last other) (link_at links other)) (round_first last (rank_at (offer_rank Closest) links) r (flat_ranks Closest links refl) none least)
+choice_round Balanced last links r is none least = absurd cc
+choice_round Multicast last links r is none least = absurd cc
+
+-- the next one to be given credit, where some is to be given
+pub next_first : (pool : Sharing) (r : Option ℕ) → is_short pool ≡ true → IsLeast (need pool) r → IsNext pool r
+next_first pool r short least = subst (λ b. IsNextIf b pool r) (sym short) least

@@ -1,0 +1,18 @@
+use Rattle.std.proofs.Common.{inr}
+use Rattle.route_credit.proofs.Steps.{giving_more, giving_none, granted_more, less_room, within_more}
+use Rattle.route_credit.proofs.pool.Pool.grants.Goals as goal
+
+pub loop-id-init : goal.loop-id-init
+loop-id-init c = giving_none c.args.self.now c.new-sums.result.entries c.new-sums.ensures.empty
+
+pub loop-id-smaller : goal.loop-id-smaller
+loop-id-smaller c = less_room c.loop-id.self c.give.new.self c.in-Some.id c.in-Some.ensures c.in_ok-part.ensures.given c.in_ok-part.ensures.ordered
+
+pub loop-id-preserved : goal.loop-id-preserved
+loop-id-preserved c = giving_more c.args.self.now c.loop-id.self c.give.new.self c.in-Some.id c.in_ok-part.part c.loop-id.sums.entries c.add.new.sums.entries c.loop-id.invariant c.in-Some.ensures c.in_ok-part.ensures.given c.in_ok-part.ensures.part c.in_ok-add.ensures c.in_ok-part.ensures.ordered
+
+pub returns-in_err-add-clause-granted : goal.returns-in_err-add-clause-granted
+returns-in_err-add-clause-granted c = granted_more c.args.self.now c.loop-id.self c.give.new.self c.in-Some.id c.loop-id.invariant.granted c.in-Some.ensures c.in_ok-part.ensures.given
+
+pub returns-in_err-add-clause-within : goal.returns-in_err-add-clause-within
+returns-in_err-add-clause-within c = inr (within_more c.loop-id.self c.give.new.self c.in-Some.id c.in-Some.ensures c.in_ok-part.ensures.given c.in_ok-part.ensures.ordered)

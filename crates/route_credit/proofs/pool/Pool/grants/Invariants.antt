@@ -1,0 +1,8 @@
+use Rattle.route_credit.specs.Giving.{IsGiving, room}
+use Rattle.route_credit.proofs.pool.Pool.grants.Given as goal
+
+abbrev pub invariant-loop-id : goal.invariant-loop-id
+invariant-loop-id l = IsGiving l.fn.self l.self l.sums.entries
+
+abbrev pub decreases-loop-id : goal.decreases-loop-id
+decreases-loop-id l = room l.self

@@ -1,0 +1,15 @@
+-- How far the grants of a pool have come.
+use Rattle.std.specs.Prelude.{◌≡◌, ◌+◌, ◌-◌, ◌<◌, ◌⊎◌, ℕ, Some, List}
+use Rattle.route_credit.specs.Links.{amount_at, link_at, total}
+use Rattle.route_credit.specs.Pool.{free, Granted, lent, lent_at, Sharing, WithinFree}
+
+-- these sums were given between two pools
+pub record IsGiving (old now : Sharing) (sums : List (ℕ × ℕ)) : Type 0 where
+  pub granted : Granted old now
+  pub within : (now ≡ old) ⊎ WithinFree now.distribution (lent now) (free now)
+  pub some : (id n : ℕ) → link_at sums id ≡ Some n → 0 < n
+  pub raised : (id : ℕ) → lent_at now id ≡ lent_at old id + amount_at (λ n. n) (link_at sums id)
+
+-- how much could be lent at most
+abbrev pub room : Sharing → ℕ
+room pool = total (λ demand. 64 - demand.lent) pool.producers

@@ -1,0 +1,18 @@
+//! The links of one address: which consumer gets the next delivery, and which producers get credit.
+//!
+//! [`Pool`] is told what each link has, and answers both.
+#![tactic(auto)]
+
+mod demand;
+mod ids;
+pub mod laws;
+mod links;
+mod offer;
+mod pool;
+mod ranking;
+mod weigh;
+
+pub use demand::Demand;
+pub use ids::{ConsumerId, ProducerId};
+pub use offer::Offer;
+pub use pool::Pool;

@@ -1,0 +1,122 @@
+//! The links of one side of an address, with an index.
+ghost use Rattle.std.specs.Prelude.{◌≡◌, ℕ, List, [], Option, None, Some, OnOk, OnErr, option_and_then};
+ghost use Rattle.std.specs.List.Sorted.{IsStrictlySortedBy};
+ghost use Rattle.std.specs.Map.{keys_of};
+ghost use Rattle.std.specs.Ordering.{nat_cmp};
+ghost use Rattle.route_credit.specs.Links.{amount_at, link_at, with_link, without_link, total, IsLeast};
+ghost use Rattle.route_credit.specs.Ranks.{behind, rank_at};
+ghost use Rattle.route_credit.specs.Indexed.{IsIndexed};
+
+use crate::ranking::Ranking;
+use crate::weigh::Weigh;
+use route_table::Distribution;
+use std::alloc::{AllocError, Global};
+use std::collections::BTreeMap;
+
+/// Links by number, with the order of their turns and the sum of their amounts.
+#[derive(Debug, Drop)]
+pub(crate) struct Links<T> {
+    rows: BTreeMap<u64, T>,
+    ranking: Ranking,
+    total: u64,
+}
+
+impl<T: Weigh> Links<T> {
+    pub(crate) fn new(alloc: Global, distribution: Distribution) -> Links<T>
+        ensures rows { result.rows.entries ≡ [] }
+        ensures whole { IsIndexed (T.rank distribution) T.amount result }
+    {
+        Links {
+            rows: BTreeMap::new(alloc),
+            ranking: Ranking::new(alloc),
+            total: 0,
+        }
+    }
+
+    /// What is known of a link.
+    pub(crate) fn get(&self, id: u64) -> Option<T>
+        ensures { result ≡ link_at self.now.rows.entries id }
+    {
+        self.rows.get(&id).copied()
+    }
+
+    /// The sum of the amounts of all links.
+    pub(crate) fn total(&self) -> u64
+        ensures { result ≡ self.now.total }
+    {
+        self.total
+    }
+
+    /// Notes what is known of a link, in place of what was.
+    pub(crate) fn set(
+        &mut self,
+        distribution: Distribution,
+        id: u64,
+        link: T,
+    ) -> Result<(), AllocError>
+        ensures set { OnOk result (self.new.rows.entries ≡ with_link self.old.rows.entries id link) }
+        ensures ordered { OnOk result (IsStrictlySortedBy nat_cmp (keys_of self.old.rows.entries)) }
+        ensures err { OnErr result (self.new.rows.entries ≡ self.old.rows.entries) }
+        ensures whole { IsIndexed (T.rank distribution) T.amount self.old → IsIndexed (T.rank distribution) T.amount self.new }
+    {
+        let old = self.get(id);
+        let after = link.rank(distribution);
+        let rest = self.total.saturating_sub(amount_of(old));
+        let Some(total) = rest.checked_add(link.amount()) else {
+            return Err(AllocError);
+        };
+        self.ranking.set(id, rank_of(distribution, old), after)?;
+        match self.rows.insert(id, link) {
+            Ok(_) => {}
+            Err(_) => {
+                self.ranking.unset(id, after);
+                return Err(AllocError);
+            }
+        }
+        self.total = total;
+        Ok(())
+    }
+
+    /// Takes a link out.
+    pub(crate) fn remove(&mut self, distribution: Distribution, id: u64)
+        ensures removed { self.new.rows.entries ≡ without_link self.old.rows.entries id }
+        ensures whole { IsIndexed (T.rank distribution) T.amount self.old → IsIndexed (T.rank distribution) T.amount self.new }
+    {
+        let old = self.get(id);
+        self.ranking.unset(id, rank_of(distribution, old));
+        self.total = self.total.saturating_sub(amount_of(old));
+        let _ = self.rows.remove(&id);
+    }
+
+    /// The link whose turn is first.
+    pub(crate) fn first(&self) -> Option<u64>
+        ensures { (rank : T → Option ℕ) → IsIndexed rank T.amount self.now → IsLeast (rank_at rank self.now.rows.entries) result }
+    {
+        self.ranking.first()
+    }
+
+    /// The first link behind this one, in the order of their numbers, where every rank is 0.
+    pub(crate) fn first_behind(&self, id: u64) -> Option<u64>
+        ensures { (rank : T → Option ℕ) → IsIndexed rank T.amount self.now → ((other m : ℕ) → rank_at rank self.now.rows.entries other ≡ Some m → m ≡ 0) → IsLeast (behind id (rank_at rank self.now.rows.entries)) result }
+    {
+        self.ranking.first_behind(id)
+    }
+}
+
+fn rank_of<T: Weigh>(distribution: Distribution, link: Option<T>) -> Option<u64>
+    ensures { result ≡ option_and_then (T.rank distribution) link }
+{
+    match link {
+        None => None,
+        Some(link) => link.rank(distribution),
+    }
+}
+
+fn amount_of<T: Weigh>(link: Option<T>) -> u64
+    ensures { result ≡ amount_at T.amount link }
+{
+    match link {
+        None => 0,
+        Some(link) => link.amount(),
+    }
+}

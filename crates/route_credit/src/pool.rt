@@ -1,0 +1,220 @@
+//! The pool of an address.
+ghost use Rattle.std.specs.Prelude.{◌≡◌, ◌+◌, ◌⊎◌, ℕ, List, [], None, Some, OnOk, OnErr, IfOk, option_map, nat_lt, ◌==◌, if◌then◌else◌};
+ghost use Rattle.std.specs.BTreeMap.{get};
+ghost use Rattle.std.specs.List.Sorted.{IsStrictlySortedBy};
+ghost use Rattle.std.specs.Map.{keys_of};
+ghost use Rattle.std.specs.Ordering.{nat_cmp};
+ghost use Rattle.route_credit.specs.Links.{amount_at, link_at};
+ghost use Rattle.route_credit.specs.Pool.{by_id, chose, given, Granted, IsChoice, IsNext, IsTold, free, is_short, lent, no_links, offered, part_of, wanted, without_consumer, without_producer, WithinFree};
+ghost use Rattle.route_credit.specs.declared.demand.Demand.{Demand};
+
+use crate::demand::Demand;
+use crate::ids::{ConsumerId, ProducerId};
+use crate::links::Links;
+use crate::offer::Offer;
+use route_table::Distribution;
+use std::alloc::{AllocError, Global};
+use std::collections::BTreeMap;
+use std::marker::Model;
+
+/// The links of one address: who gets the next delivery, and who gets credit.
+///
+/// Each call costs a logarithm of the number of links; `grants` costs that for each credit that it gives, at most 64 for
+/// each producer.
+#[derive(Debug, Drop)]
+pub struct Pool {
+    alloc: Global,
+    distribution: Distribution,
+    consumers: Links<Offer>,
+    producers: Links<Demand>,
+    last: u64,
+}
+
+impl Model for Pool {
+    ghost use Rattle.route_credit.specs.Indexed.{IsIndexed};
+    ghost use Rattle.route_credit.specs.Pool.{need_of, Sharing};
+    ghost use Rattle.route_credit.specs.Ranks.{offer_rank};
+
+    ghost Value = { Sharing };
+
+    ghost view = { λ p. record { distribution = p.distribution; consumers = p.consumers.rows.entries; producers = p.producers.rows.entries; last = p.last } };
+
+    ghost invariant = { λ p. IsIndexed (offer_rank p.distribution) (λ offer. offer.free) p.consumers × IsIndexed (need_of p.distribution) (λ demand. demand.lent) p.producers };
+}
+
+impl Pool {
+    /// A pool of no links.
+    pub fn new(alloc: Global, distribution: Distribution) -> Pool
+        ensures { result ≡ no_links distribution }
+    {
+        Pool {
+            alloc,
+            distribution,
+            consumers: Links::new(alloc, distribution),
+            producers: Links::new(alloc, distribution),
+            last: 0,
+        }
+    }
+
+    /// Notes what a consumer link has now: its free credit and its undecided deliveries. The first call for a link is
+    /// its attach.
+    pub fn offer(
+        &mut self,
+        consumer: ConsumerId,
+        free: u64,
+        undecided: u64,
+    ) -> Result<(), AllocError>
+        ensures offered { OnOk result (self.new ≡ offered self.old consumer.0 free undecided) }
+        ensures err { OnErr result (self.new ≡ self.old) }
+    {
+        let offer = Offer { free, undecided };
+        self.consumers.set(self.distribution, consumer.0, offer)
+    }
+
+    /// Notes what a producer link has now: its unused credit, how much of that is due, and its deliveries that are
+    /// undecided or not forgotten. The first call for a link is its attach.
+    pub fn want(
+        &mut self,
+        producer: ProducerId,
+        unused: u32,
+        due: u32,
+        held: u32,
+    ) -> Result<(), AllocError>
+        ensures wanted { OnOk result (self.new ≡ wanted self.old producer.0 unused due held) }
+        ensures err { OnErr result (self.new ≡ self.old) }
+    {
+        let demand = Demand::new(unused, due, held);
+        self.producers.set(self.distribution, producer.0, demand)
+    }
+
+    /// Forgets a consumer link. The one last chosen is remembered all the same.
+    pub fn drop_consumer(&mut self, consumer: ConsumerId)
+        ensures { self.new ≡ without_consumer self.old consumer.0 }
+    {
+        self.consumers.remove(self.distribution, consumer.0);
+    }
+
+    /// Forgets a producer link.
+    pub fn drop_producer(&mut self, producer: ProducerId)
+        ensures { self.new ≡ without_producer self.old producer.0 }
+    {
+        self.producers.remove(self.distribution, producer.0);
+    }
+
+    /// Chooses the consumer of the next delivery and notes that it was chosen; none where no consumer has free credit.
+    /// A multicast address chooses nobody. It takes no memory.
+    pub fn choose(&mut self) -> Option<ConsumerId>
+        ensures choice { IsChoice self.old (option_map (λ c. c.0) result) }
+        ensures noted { self.new ≡ chose self.old (option_map (λ c. c.0) result) }
+    {
+        match self.next_consumer() {
+            None => None,
+            Some(id) => {
+                self.last = id;
+                Some(ConsumerId(id))
+            }
+        }
+    }
+
+    /// Gives credit to producers, one credit after the other, while there is a producer that is next, and tells each
+    /// producer's sum, in order of attach. Where memory was refused, the credit that was given so far is told to nobody.
+    pub fn grants(&mut self) -> Result<Vec<(ProducerId, u32)>, AllocError>
+        ensures granted { Granted self.old self.new }
+        ensures done { OnOk result (IsNext self.new None) }
+        ensures within { (self.new ≡ self.old) ⊎ WithinFree self.new.distribution (lent self.new) (free self.new) }
+        ensures told { IfOk result (λ sums. IsTold self.old self.new sums.items) }
+    {
+        let mut sums = BTreeMap::new(self.alloc);
+        while let Some(id) = self.next_producer() {
+            let part = self.give(id)?;
+            add(&mut sums, id, part)?;
+        }
+        told(self.alloc, &sums)
+    }
+
+    /// The consumer whose turn is first.
+    fn next_consumer(&self) -> Option<u64>
+        ensures { IsChoice self.now result }
+    {
+        match self.distribution {
+            Distribution::Balanced | Distribution::Multicast => self.consumers.first(),
+            Distribution::Closest => match self.consumers.first_behind(self.last) {
+                None => self.consumers.first(),
+                Some(id) => Some(id),
+            },
+        }
+    }
+
+    /// Whether any credit is to be given.
+    fn is_short(&self) -> bool
+        ensures { result ≡ is_short self.now }
+    {
+        match self.distribution {
+            Distribution::Balanced | Distribution::Closest => {
+                self.producers.total() < self.consumers.total()
+            }
+            Distribution::Multicast => true,
+        }
+    }
+
+    /// The producer that is given credit next.
+    fn next_producer(&self) -> Option<u64>
+        ensures { IsNext self.now result }
+    {
+        if !self.is_short() {
+            return None;
+        }
+        self.producers.first()
+    }
+
+    /// Gives a producer its part, and says how much that is.
+    fn give(&mut self, id: u64) -> Result<u32, AllocError>
+        ensures given { (demand : Demand) → link_at self.old.producers id ≡ Some demand → OnOk result (self.new ≡ given self.old id demand) }
+        ensures part { (demand : Demand) → link_at self.old.producers id ≡ Some demand → IfOk result (λ part. part ≡ part_of self.old.distribution demand) }
+        ensures ordered { (demand : Demand) → link_at self.old.producers id ≡ Some demand → OnOk result (IsStrictlySortedBy nat_cmp (keys_of self.old.producers)) }
+        ensures err { OnErr result (self.new ≡ self.old) }
+    {
+        let Some(demand) = self.producers.get(id) else {
+            return Ok(0);
+        };
+        let part = demand.part(self.distribution);
+        let Some(lent) = demand.lent.checked_add(part) else {
+            return Err(AllocError);
+        };
+        let more = Demand { lent, ..demand };
+        self.producers.set(self.distribution, id, more)?;
+        Ok(part)
+    }
+}
+
+/// Adds a part to the sum of a producer.
+fn add(sums: &mut BTreeMap<u64, u32>, id: u64, part: u32) -> Result<(), AllocError>
+    ensures { OnOk result ((q : ℕ) → get nat_cmp sums.new q ≡ (if id == q then Some (amount_at (λ n. n) (get nat_cmp sums.old id) + part) else get nat_cmp sums.old q)) }
+{
+    let before = match sums.get(&id) {
+        None => 0,
+        Some(sum) => *sum,
+    };
+    let Some(sum) = before.checked_add(part) else {
+        return Err(AllocError);
+    };
+    match sums.insert(id, sum) {
+        Ok(_) => Ok(()),
+        Err(_) => Err(AllocError),
+    }
+}
+
+/// The sums in order of attach.
+fn told(alloc: Global, sums: &BTreeMap<u64, u32>) -> Result<Vec<(ProducerId, u32)>, AllocError>
+    ensures told { IfOk result (λ told. by_id told.items ≡ sums.now.entries) }
+    ensures ordered { IsStrictlySortedBy nat_cmp (keys_of sums.now.entries) }
+{
+    let mut told = Vec::with_capacity(alloc, sums.len())?;
+    for (id, sum) in sums {
+        match told.push((ProducerId(*id), *sum)) {
+            Ok(()) => {}
+            Err(_) => return Err(AllocError),
+        }
+    }
+    Ok(told)
+}
