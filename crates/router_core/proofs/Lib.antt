@@ -14,3 +14,4 @@ pub mod Kept
 pub mod Untaken
 pub mod Plain
 pub mod Takes
+pub mod Mine
