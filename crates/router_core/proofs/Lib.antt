@@ -15,3 +15,5 @@ pub mod Untaken
 pub mod Plain
 pub mod Takes
 pub mod Mine
+pub mod Only
+pub mod Settling

@@ -11,7 +11,7 @@ use Rattle.router_trace.specs.declared.terms.Terms.{Terms}
 use Rattle.router_trace.specs.declared.event.Event.{Event}
 use Rattle.router_trace.specs.declared.event.Event.TheVariants as event
 use Rattle.router_trace.specs.Trace.{Entry, Did, Out, Took, Put, goes, ups}
-use Rattle.router_trace.specs.Connection.{conn, fresh, standing, is_full, due, has, found, live_of}
+use Rattle.router_trace.specs.Connection.{conn, fresh, standing, due, has, found, live_of}
 use Rattle.router_trace.specs.Clocks.{moment, moment_at, terms, terms_at, written, written_at, channel_max_of}
 use Rattle.router_trace.specs.Sessions.{unless_close, offered, offered_at, answered_channel, answered_at, answered_by, theirs, theirs_at, theirs_behind, session, session_at, behind_item, place, place_by, free_channel, is_free, channels}
 use Rattle.router_reply.specs.Replies.{free_for}
