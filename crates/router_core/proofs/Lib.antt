@@ -17,3 +17,4 @@ pub mod Takes
 pub mod Mine
 pub mod Only
 pub mod Settling
+pub mod Apart
