@@ -1,8 +1,7 @@
 -- Each connection is answered alone: what a trace has of it is what the events about it alone make.
-use Rattle.std.proofs.Common.{◌≡◌, ◌∙◌, sym, ap, refl, subst, true≢false, ℕ, Bool, true, false, List, [], ◌∷◌}
-use Rattle.std.specs.Prelude.{◌==◌, Option, is_some, if◌then◌else◌}
+use Rattle.std.proofs.Common.{◌≡◌, ◌∙◌, sym, ap, refl, true≢false, ℕ, Bool, true, false, List, [], ◌∷◌}
+use Rattle.std.specs.Prelude.{is_some, if◌then◌else◌}
 use Rattle.std.proofs.lemmas.Bool.{eqb-true}
-use Rattle.amqp_conn.specs.declared.conn.Conn.{Conn}
 use Rattle.router_trace.specs.declared.event.Event.{Event}
 use Rattle.router_trace.specs.declared.event.Event.TheVariants as event
 use Rattle.router_trace.specs.Trace.{Entry, Did, Put, Step, goes, each_to, ups}
@@ -12,7 +11,7 @@ use Rattle.router_trace.specs.Sessions.{place, session}
 use Rattle.router_trace.specs.Refusing.{refuses}
 use Rattle.router_links.specs.Windows.{flows_below, windows}
 use Rattle.router_state.specs.Tables.{beat_if}
-use Rattle.router_reply.specs.Replies.{answer, ends, free_for, heard, own_row, replied}
+use Rattle.router_reply.specs.Replies.{answer, free_for, heard, own_row, replied}
 use Rattle.router_after.specs.After.{followed}
 use Rattle.router_core.specs.Replies.{answered}
 use Rattle.router_core.specs.Runs.{Taking, took_one}

@@ -1,5 +1,5 @@
 -- What a trace has of one connection says the same of it as the whole trace does.
-use Rattle.std.proofs.Common.{◌≡◌, ◌∙◌, sym, ap, refl, true≢false, ℕ, Bool, true, false, List, [], ◌∷◌, ◌++◌}
+use Rattle.std.proofs.Common.{◌≡◌, ◌∙◌, sym, ap, refl, true≢false, ℕ, true, false, List, [], ◌∷◌, ◌++◌}
 use Rattle.std.specs.Prelude.{◌==◌, nat_lt, Option, Some, None, is_some, if◌then◌else◌, option_and_then, length}
 use Rattle.std.specs.List.{find}
 use Rattle.amqp_frames.specs.declared.item.Item.{Item}
