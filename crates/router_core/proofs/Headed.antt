@@ -251,7 +251,7 @@ answered_headed id t e ord taken was = record {
 }
 
 -- takes
-took_told : (t : List Entry) (d n : ℕ) → Told t → Told (Took d n ∷ t)
+pub took_told : (t : List Entry) (d n : ℕ) → Told t → Told (Took d n ∷ t)
 took_told t d n told = record {
   told = λ c w is live some. by_test (d == c)
       (λ e. let v = took_inv n (conn t c) w (rw e at is) live

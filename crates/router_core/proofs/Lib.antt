@@ -14,3 +14,7 @@ pub mod Kept
 pub mod Untaken
 pub mod Plain
 pub mod Takes
+pub mod Mine
+pub mod Only
+pub mod Settling
+pub mod Apart

@@ -70,7 +70,7 @@ stand_item i p =
     (λ e. stand_over (behind i p) (stays_over i p e) ∙ sym (ap (option_and_then (stand_behind i)) (stand_over p e)))
     (λ e. sym (ap (option_and_then (stand_behind i)) (stand_open p e)))
 
-standing_item : (b : Bool) (i : Item) (v : Option Connection)
+pub standing_item : (b : Bool) (i : Item) (v : Option Connection)
     → standing (if b then option_map (with_item i) v else v) ≡ (if b then option_and_then (stand_behind i) (standing v) else standing v)
 standing_item true i None = refl
 standing_item true i (Some v) = stand_item i v.phase
@@ -81,7 +81,7 @@ standing_gone true x [] e = sym (stand_over x.phase e)
 standing_gone true x (i ∷ is) e = refl
 standing_gone false x rest e = refl
 
-standing_took : (b : Bool) (n : ℕ) (v : Option Connection) → standing (if b then option_and_then (took n) v else v) ≡ standing v
+pub standing_took : (b : Bool) (n : ℕ) (v : Option Connection) → standing (if b then option_and_then (took n) v else v) ≡ standing v
 standing_took true n None = refl
 standing_took true n (Some v) = standing_gone v.phase.closed (drained n v) (drop n v.waiting) refl
 standing_took false n v = refl
@@ -90,7 +90,7 @@ standing_if : (b : Bool) (x y : Option Connection) → standing (if b then x els
 standing_if true x y = refl
 standing_if false x y = refl
 
-standing_at : (e : Event) (c live : ℕ) (v : Option Connection) → standing (at_event e c live v) ≡ plain_at e c live (standing v)
+pub standing_at : (e : Event) (c live : ℕ) (v : Option Connection) → standing (at_event e c live v) ≡ plain_at e c live (standing v)
 standing_at (event.Up d p) c live v = standing_if (d.0 == c) (Some (fresh live)) v
 standing_at (event.Down d) c live v = standing_if (d.0 == c) None v
 standing_at (event.Item d i) c live v = refl

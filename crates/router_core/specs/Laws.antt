@@ -1,14 +1,15 @@
 -- What holds of every trace of the router.
-use Rattle.std.specs.Prelude.{◌≡◌, ◌≤◌, ℕ, Bool, true, false, List, [], ◌∷◌, Option, Some, None}
+use Rattle.std.specs.Prelude.{◌≡◌, ◌≤◌, ℕ, Bool, true, false, ◌==◌, if◌then◌else◌, List, [], ◌∷◌, filter, Option, Some, None}
 use Rattle.amqp_perf.specs.declared.perf.Perf.{Perf}
 use Rattle.amqp_perf.specs.declared.perf.Perf.TheVariants as perf
 use Rattle.amqp_session.specs.Session.{Session, remote_window}
 use Rattle.amqp_frames.specs.declared.item.Item.{Item}
 use Rattle.amqp_frames.specs.declared.item.Item.TheVariants as item
 use Rattle.router_trace.specs.declared.event.Event.{Event}
+use Rattle.router_trace.specs.declared.event.Event.TheVariants as event
 use Rattle.router_core.specs.declared.driving.Sent.{Sent}
 use Rattle.router_trace.specs.Trace.{Trace, Did, Out, Took, Step}
-use Rattle.router_trace.specs.Connection.{conn, is_full}
+use Rattle.router_trace.specs.Connection.{conn, is_full, is_live}
 use Rattle.router_trace.specs.Sessions.{session}
 use Rattle.router_core.specs.Replies.{answered}
 use Rattle.router_trace.specs.Order.{unwritten, have_turns}
@@ -102,3 +103,38 @@ NeverFull id (takes x ∷ ms) t = NeverFull id ms (took_one x t)
 abbrev pub TakesMakeNoDifference : Type 0
 TakesMakeNoDifference = (id : List ℕ) (ms ns : List Move) (t u : Trace) → Goes id ms [] t → Goes id ns [] u → NeverFull id ms [] → NeverFull id ns []
     → events_of ms ≡ events_of ns → (untaken t ≡ untaken u) × ((c : ℕ) → outs t c ≡ outs u c)
+
+-- An event is about a connection: it comes up, it is lost, or an item of it comes. A tick is about all of them.
+abbrev pub is_about : ℕ → Event → Bool
+is_about c (event.Up d p) = d.0 == c
+is_about c (event.Item d i) = d.0 == c
+is_about c (event.Down d) = d.0 == c
+is_about c (event.Tick ms) = true
+is_about c event.Start = false
+
+abbrev pub own_events : ℕ → List Step → List Step
+own_events c ss = filter (λ s. is_about c s.event) ss
+
+-- what a trace has of a connection: the events that are about it and the items put out for it, in order
+abbrev pub own_part : ℕ → Trace → Trace
+own_part c [] = []
+own_part c (Did s ∷ t) = if is_about c s.event then Did s ∷ own_part c t else own_part c t
+own_part c (Out d i ∷ t) = if d == c then Out d i ∷ own_part c t else own_part c t
+own_part c (Took d n ∷ t) = own_part c t
+
+abbrev pub comes_up : ℕ → Event → Bool
+comes_up c (event.Up d p) = d.0 == c
+comes_up c _ = false
+
+-- its own outbox is not full when an event comes, and it is live once it comes up: it isn't over at once for many others
+abbrev pub Undisturbed : List ℕ → ℕ → List Move → Trace → Type 0
+Undisturbed id c [] t = Unit {0}
+Undisturbed id c (handles s ∷ ms) t =
+    (is_full (conn t c) ≡ false) × (comes_up c s.event ≡ true → is_live (conn (Did s ∷ t) c) ≡ true) × Undisturbed id c ms (answered id t s)
+Undisturbed id c (takes x ∷ ms) t = Undisturbed id c ms (took_one x t)
+
+-- Each connection is answered alone: where the same events are about it, in the same order, the same is put out for it, and behind
+-- the same of these events, whatever comes on other connections, and whatever becomes of them
+abbrev pub AnsweredAlone : Type 0
+AnsweredAlone = (id : List ℕ) (c : ℕ) (ms ns : List Move) (t u : Trace) → Goes id ms [] t → Goes id ns [] u → Undisturbed id c ms [] → Undisturbed id c ns []
+    → own_events c (events_of ms) ≡ own_events c (events_of ns) → (own_part c t ≡ own_part c u) × (outs t c ≡ outs u c)

@@ -1,6 +1,6 @@
 //! What holds of every trace of the router, in the words of the protocol. The functions do nothing: their contracts are the
 //! laws.
-ghost use Rattle.router_core.specs.Laws.{TracesKeepOrder, RunsKeepOrder, TracesKeepWindows, RunsKeepWindows, TakesMakeNoDifference};
+ghost use Rattle.router_core.specs.Laws.{TracesKeepOrder, RunsKeepOrder, TracesKeepWindows, RunsKeepWindows, TakesMakeNoDifference, AnsweredAlone};
 
 /// In every trace of the router each connection is written at most one header, one open and one close, a close never
 /// without an open before it, and nothing behind the close. Heartbeats and frames of sessions stand between open and close;
@@ -23,4 +23,12 @@ pub fn windows_are_kept()
 /// when an event comes, the same items are put out in the same order, whenever items are taken and however many.
 pub fn takes_make_no_difference()
     ensures { TakesMakeNoDifference }
+{}
+
+/// Each connection is answered alone: where the same events are about it in the same order (it comes up, an item of it comes, it
+/// is lost, a tick), the same items are put out for it in the same order, each behind the same of these events, whatever comes on
+/// other connections and whatever becomes of them. Its own outbox isn't full when an event comes, and it comes up live, with
+/// fewer than 64 others.
+pub fn connections_are_answered_alone()
+    ensures { AnsweredAlone }
 {}

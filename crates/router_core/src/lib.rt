@@ -11,7 +11,10 @@ mod router;
 pub use door::{Door, DoorAnswer};
 pub use driving::{Driven, Sent, drive};
 pub use fault::CoreFault;
-pub use laws::{connections_keep_order, takes_make_no_difference, windows_are_kept};
+pub use laws::{
+    connections_are_answered_alone, connections_keep_order, takes_make_no_difference,
+    windows_are_kept,
+};
 pub use logins::only_proved_users_pass;
 pub use route_table::Config;
 pub use router::{Batch, Core, Done};

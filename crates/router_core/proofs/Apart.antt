@@ -1,0 +1,182 @@
+-- Each connection is answered alone: what a trace has of it is what the events about it alone make.
+use Rattle.std.proofs.Common.{◌≡◌, ◌∙◌, sym, ap, refl, true≢false, ℕ, Bool, true, false, List, [], ◌∷◌}
+use Rattle.std.specs.Prelude.{is_some, if◌then◌else◌}
+use Rattle.std.proofs.lemmas.Bool.{eqb-true}
+use Rattle.router_trace.specs.declared.event.Event.{Event}
+use Rattle.router_trace.specs.declared.event.Event.TheVariants as event
+use Rattle.router_trace.specs.Trace.{Entry, Did, Put, Step, goes, each_to, ups}
+use Rattle.router_trace.specs.Connection.{conn, due, found, has, is_due, is_full, is_live, standing}
+use Rattle.router_trace.specs.Clocks.{terms, written, needs_beat}
+use Rattle.router_trace.specs.Sessions.{place, session}
+use Rattle.router_trace.specs.Refusing.{refuses}
+use Rattle.router_links.specs.Windows.{flows_below, windows}
+use Rattle.router_state.specs.Tables.{beat_if}
+use Rattle.router_reply.specs.Replies.{answer, free_for, heard, own_row, replied}
+use Rattle.router_after.specs.After.{followed}
+use Rattle.router_core.specs.Replies.{answered}
+use Rattle.router_core.specs.Runs.{Taking, took_one}
+use Rattle.router_core.specs.Moves.{Move, handles, takes, Goes, outs}
+use Rattle.router_core.specs.Laws.{events_of, is_about, own_events, own_part, comes_up, Undisturbed}
+use Rattle.router_conns.proofs.Lists.{by_test}
+use Rattle.router_conns.proofs.Turns.{due_none}
+use Rattle.router_core.proofs.Once.{NoTwice, filter_has}
+use Rattle.router_core.proofs.Ordered.{Ordered}
+use Rattle.router_core.proofs.Order.{took_turns, ordered_empty}
+use Rattle.router_core.proofs.Told.{Told}
+use Rattle.router_core.proofs.Replied.{replied_turns, answered_turns, answered_told}
+use Rattle.router_core.proofs.Headed.{took_told}
+use Rattle.router_core.proofs.Mine.{apart, own_terms, own_written, own_session, own_outs, own_place, own_free, Eased, eased_goes, found_same, own_phase}
+use Rattle.router_core.proofs.Only.{only, own_goes, each_all, each_none, lives_known, only_windows, only_beats, own_ends, eased_ends}
+use Rattle.router_core.proofs.Settling.{settled}
+
+-- what is put out for a connection by its own part of a trace: an event's row, the flows that follow, and all of it
+abbrev own_answer : List ℕ → ℕ → List Entry → Event → List Put
+own_answer id c x (event.Item d i) = each_to c (answer id (apart x c) (place x c) (free_for x c) i)
+own_answer id c x (event.Tick ms) = if is_some (apart x c) then beat_if (needs_beat (terms x c) (written x c) ms) c else []
+own_answer id c x _ = []
+
+abbrev own_flows : ℕ → List Entry → List Put
+own_flows c x = if is_some (apart x c) then flows_below c (session x c) 15 else []
+
+abbrev own_followed : ℕ → List Entry → List Entry
+own_followed c x = goes (own_flows c x) x
+
+abbrev own_answered : List ℕ → ℕ → List Entry → Step → List Entry
+own_answered id c x s = own_followed c (goes (own_answer id c x s.event) (Did s ∷ x))
+
+-- what events alone make
+abbrev own_all : List ℕ → ℕ → List Step → List Entry → List Entry
+own_all id c [] x = x
+own_all id c (s ∷ ss) x = own_all id c ss (own_answered id c x s)
+
+-- behind the flows no more are due
+settled_followed : (c : ℕ) (y : List Entry) → own_flows c (own_followed c y) ≡ []
+settled_followed c y =
+    by_test (is_some (apart y c))
+    (λ e. let flows : own_flows c y ≡ flows_below c (session y c) 15 = rw e refl
+    in ap (λ (ps : List Put). own_flows c (goes ps y)) flows
+    ∙ none_if (is_some (apart (goes (flows_below c (session y c) 15) y) c)) (flows_below c (session (goes (flows_below c (session y c) 15) y) c) 15) (settled y c))
+    (λ e. let none : own_flows c y ≡ [] = rw e refl
+    in ap (λ (ps : List Put). own_flows c (goes ps y)) none ∙ none)
+  where
+    none_if : (b : Bool) (ps : List Put) → ps ≡ [] → (if b then ps else []) ≡ []
+    none_if true ps h = h
+    none_if false ps h = refl
+
+same_flows : (t : List Entry) (c : ℕ) → Eased c t → NoTwice (ups t) → only c (windows t) ≡ own_flows c (own_part c t)
+same_flows t c eased once =
+    only_windows t c once ∙ (λ j. if is_some (own_phase t c eased j) then flows_below c (λ o. own_session t c o j) 15 else [])
+
+same_followed : (t : List Entry) (c : ℕ) → Eased c t → NoTwice (ups t) → own_part c (followed t) ≡ own_followed c (own_part c t)
+same_followed t c eased once = own_goes c (windows t) t ∙ ap (λ (ps : List Put). goes ps (own_part c t)) (same_flows t c eased once)
+
+-- an event's row
+
+row_about : (id : List ℕ) (t : List Entry) (e : Event) (c : ℕ) → has c (due t e) ≡ false → Eased c t → NoTwice (ups t) → is_about c e ≡ true
+    → only c (own_row id t e) ≡ own_answer id c (own_part c t) e
+row_about id t (event.Item d i) c spared eased once about =
+    let e : Event = event.Item d i
+    in let same : d.0 ≡ c = eqb-true d.0 c about
+    in let phase : standing (found t e c) ≡ apart (own_part c t) c = ap standing (found_same t e c spared) ∙ own_phase t c eased
+    in each_all (answer id (standing (found t e d.0)) (place t d.0) (free_for t d.0) i) d.0 c about
+    ∙ (λ j. each_to (same j) (answer id (standing (found t e (same j))) (place t (same j)) (free_for t (same j)) i))
+    ∙ (λ j. each_to c (answer id (phase j) (λ p. own_place t c p j) (own_free t c j) i))
+row_about id t (event.Tick ms) c spared eased once about =
+    let e : Event = event.Tick ms
+    in let same = found_same t e c spared
+    in let phase : standing (found t e c) ≡ apart (own_part c t) c = ap standing same ∙ own_phase t c eased
+    in only_beats t (found t e) ms c once (λ h. lives_known t c (sym (ap is_live same) ∙ h))
+    ∙ (λ j. if is_some (phase j) then beat_if (needs_beat (own_terms t c j) (own_written t c j) ms) c else [])
+row_about id t (event.Down d) c spared eased once about = refl
+row_about id t (event.Up d p) c spared eased once about = refl
+row_about id t event.Start c spared eased once about = refl
+
+row_else : (id : List ℕ) (t : List Entry) (e : Event) (c : ℕ) → is_about c e ≡ false → only c (own_row id t e) ≡ []
+row_else id t (event.Item d i) c other = each_none (answer id (standing (found t (event.Item d i) d.0)) (place t d.0) (free_for t d.0) i) d.0 c other
+row_else id t (event.Tick ms) c other = absurd cc
+row_else id t (event.Down d) c other = refl
+row_else id t (event.Up d p) c other = refl
+row_else id t event.Start c other = refl
+
+-- the state of a trace along moves
+record Fine (c : ℕ) (t : List Entry) : Type 0 where
+  ordered : Ordered t
+  told : Told t
+  eased : Eased c t
+  settled : own_flows c (own_part c t) ≡ []
+
+not_due : (t : List Entry) (e : Event) (c : ℕ) → is_full (conn t c) ≡ false → has c (due t e) ≡ false
+not_due t e c roomy =
+    by_test (has c (due t e))
+    (λ h. absurd (true≢false (sym (filter_has (λ k. is_due e k (conn t k)) c (ups t) h).0 ∙ due_none e c (conn t c) roomy)))
+    (λ h. h)
+
+-- an event with all that it has put
+record Stepped (id : List ℕ) (c : ℕ) (t : List Entry) (s : Step) : Type 0 where
+  fine : Fine c (answered id t s)
+  about : is_about c s.event ≡ true → own_part c (answered id t s) ≡ own_answered id c (own_part c t) s
+  other : is_about c s.event ≡ false → own_part c (answered id t s) ≡ own_part c t
+
+stepped : (id : List ℕ) (c : ℕ) (t : List Entry) (s : Step) → Fine c t → refuses t s.event ≡ false → is_full (conn t c) ≡ false
+    → (comes_up c s.event ≡ true → is_live (conn (Did s ∷ t) c) ≡ true) → Stepped id c t s
+stepped id c t s fine taken roomy lives =
+    let spared : has c (due t s.event) ≡ false = not_due t s.event c roomy
+    in let row : List Put = own_row id t s.event
+    in let behind : List Entry = replied id t s
+    in let eased : Eased c behind = eased_goes c row (heard id t s) (eased_ends id (due t s.event) (Did s ∷ t) c ((spared, lives), fine.eased))
+    in let once : NoTwice (ups behind) = (replied_turns id t s.event fine.ordered fine.told taken).once
+    in let part : own_part c behind ≡ goes (only c row) (own_part c (Did s ∷ t))
+    = own_goes c row (heard id t s) ∙ ap (goes (only c row)) (own_ends id (due t s.event) (Did s ∷ t) c spared)
+    in let all : own_part c (answered id t s) ≡ own_followed c (own_part c behind) = same_followed behind c eased once
+    in record {
+      fine = record {
+        ordered = answered_turns id t s.event fine.ordered fine.told taken;
+        told = answered_told id t s.event fine.ordered fine.told taken;
+        eased = eased_goes c (windows behind) behind eased;
+        settled = ap (own_flows c) all ∙ settled_followed c (own_part c behind);
+      };
+      about = λ e.
+          let did : own_part c (Did s ∷ t) ≡ Did s ∷ own_part c t = rw e refl
+          in all ∙ ap (own_followed c) (part ∙ (λ j. goes (row_about id t s.event c spared fine.eased fine.ordered.once e j) (did j)));
+      other = λ e.
+          let did : own_part c (Did s ∷ t) ≡ own_part c t = rw e refl
+          in all ∙ ap (own_followed c) (part ∙ (λ j. goes (row_else id t s.event c e j) (did j))) ∙ ap (λ (ps : List Put). goes ps (own_part c t)) fine.settled;
+    }
+
+-- moves
+
+fine_took : (c : ℕ) (t : List Entry) (x : Taking) → Fine c t → Fine c (took_one x t)
+fine_took c t x fine = record {
+  ordered = took_turns t x.conn.0 _ fine.ordered;
+  told = took_told t x.conn.0 _ fine.told;
+  eased = fine.eased;
+  settled = fine.settled;
+}
+
+own_moves : (id : List ℕ) (c : ℕ) (ms : List Move) (t u : List Entry) → Fine c t → Undisturbed id c ms t → Goes id ms t u
+    → own_part c u ≡ own_all id c (own_events c (events_of ms)) (own_part c t)
+own_moves id c [] t u fine alone went = ap (own_part c) went
+own_moves id c (handles s ∷ ms) t u fine alone went =
+    let next : Stepped id c t s = stepped id c t s fine went.0 alone.0 alone.1
+    in let rest : own_part c u ≡ own_all id c (own_events c (events_of ms)) (own_part c (answered id t s))
+    = own_moves id c ms (answered id t s) u next.fine alone.2 went.1
+    in by_test (is_about c s.event)
+    (λ e. rw e (rest ∙ ap (own_all id c (own_events c (events_of ms))) (next.about e)))
+    (λ e. rw e (rest ∙ ap (own_all id c (own_events c (events_of ms))) (next.other e)))
+own_moves id c (takes x ∷ ms) t u fine alone went = own_moves id c ms (took_one x t) u (fine_took c t x fine) alone went
+
+fine_empty : (c : ℕ) → Fine c []
+fine_empty c = record {
+  ordered = ordered_empty;
+  told = record { told = λ k v is live some. absurd cc; strange = λ k absent. refl };
+  eased = tt;
+  settled = refl;
+}
+
+pub answered_alone : (id : List ℕ) (c : ℕ) (ms ns : List Move) (t u : List Entry) → Goes id ms [] t → Goes id ns [] u → Undisturbed id c ms [] → Undisturbed id c ns []
+    → own_events c (events_of ms) ≡ own_events c (events_of ns) → (own_part c t ≡ own_part c u) × (outs t c ≡ outs u c)
+answered_alone id c ms ns t u went too alone alone_too same =
+    let alike : own_part c t ≡ own_part c u
+    = own_moves id c ms [] t (fine_empty c) alone went ∙ ap (λ (ss : List Step). own_all id c ss []) same
+    ∙ sym (own_moves id c ns [] u (fine_empty c) alone_too too)
+    in (alike, own_outs t c ∙ ap (λ (x : List Entry). outs x c) alike ∙ sym (own_outs u c))
