@@ -12,5 +12,7 @@ pub use channel::PeerChannel;
 pub use condition::Condition;
 pub use event::{ConnectionId, Event, Peer, PeerRole};
 pub use outgoing::Outgoing;
-pub use router_id::{HANDLE_MAX, MAX_FRAME_SIZE, RouterId, SESSION_WINDOW, beat_item, flow_item, header_item};
+pub use router_id::{
+    HANDLE_MAX, MAX_FRAME_SIZE, RouterId, SESSION_WINDOW, beat_item, flow_item, header_item,
+};
 pub use terms::Terms;
