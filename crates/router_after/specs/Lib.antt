@@ -1,3 +1,3 @@
 pub mod After
 pub use Rattle.router_trace.specs.Trace
-pub use Rattle.router_links.specs.Windows
+pub use Rattle.router_sessions.specs.Windows

@@ -9,7 +9,7 @@ use Rattle.router_trace.specs.Connection.{conn, due, found, has, is_due, is_full
 use Rattle.router_trace.specs.Clocks.{terms, written, needs_beat}
 use Rattle.router_trace.specs.Sessions.{place, session}
 use Rattle.router_trace.specs.Refusing.{refuses}
-use Rattle.router_links.specs.Windows.{flows_below, windows}
+use Rattle.router_sessions.specs.Windows.{flows_below, windows}
 use Rattle.router_state.specs.Tables.{beat_if}
 use Rattle.router_reply.specs.Replies.{answer, free_for, heard, own_row, replied}
 use Rattle.router_after.specs.After.{followed}

@@ -4,7 +4,7 @@ use Rattle.router_trace.specs.declared.event.Event.{Event}
 use Rattle.router_trace.specs.Trace.{Entry, Out, Put, did, goes, each_to, puts, step_of}
 use Rattle.router_trace.specs.Connection.{conn, due}
 use Rattle.router_trace.specs.declared.condition.Condition.TheVariants.{ResourceLimitExceeded}
-use Rattle.router_links.specs.Windows.{windows}
+use Rattle.router_sessions.specs.Windows.{windows}
 use Rattle.router_reply.specs.Replies.{closing_of, ends, heard, own_row, replied}
 use Rattle.router_core.specs.Replies.{answered}
 use Rattle.router_core.specs.Moves.{with_came, ins}

@@ -15,7 +15,7 @@ use Rattle.router_trace.specs.Frames.{flow_item, beat_item, told_of}
 use Rattle.router_trace.specs.Sessions.{session}
 use Rattle.router_trace.specs.Clocks.{terms, written, needs_beat}
 use Rattle.router_trace.specs.Order.{Written, unwritten, begun_behind_perf, written_behind, is_open, has_turn}
-use Rattle.router_links.specs.Windows.{is_narrow, flow_due, flows_below, windows_over, windows}
+use Rattle.router_sessions.specs.Windows.{is_narrow, flow_due, flows_below, windows_over, windows}
 use Rattle.router_state.specs.Tables.{beat_if, beats_over}
 use Rattle.router_after.specs.After.{followed}
 use Rattle.router_core.specs.Moves.{outs}

@@ -18,7 +18,7 @@ use Rattle.router_trace.specs.Refusing.{refuses}
 use Rattle.router_trace.specs.Frames.{header_item}
 use Rattle.router_trace.specs.Sessions.{Place, place, session}
 use Rattle.router_trace.specs.Clocks.{terms, terms_at, written, needs_beat}
-use Rattle.router_links.specs.Windows.{is_narrow, flow_due, flows_below, windows_over, windows}
+use Rattle.router_sessions.specs.Windows.{is_narrow, flow_due, flows_below, windows_over, windows}
 use Rattle.router_state.specs.Tables.{beat_if, beats_over}
 use Rattle.router_reply.specs.Replies.{closing_of, ends, heard, answer, free_for, own_row, replied}
 use Rattle.router_core.specs.Replies.{answered}

@@ -16,7 +16,7 @@ use Rattle.router_trace.specs.Connection.{Connection, conn, standing, found, liv
 use Rattle.router_trace.specs.Frames.{closing}
 use Rattle.router_trace.specs.Sessions.{Place, place, session}
 use Rattle.router_trace.specs.Clocks.{terms, written, needs_beat}
-use Rattle.router_links.specs.Windows.{is_narrow, flow_due, flows_below, windows_over, windows}
+use Rattle.router_sessions.specs.Windows.{is_narrow, flow_due, flows_below, windows_over, windows}
 use Rattle.router_state.specs.Tables.{beat_if, beats_over}
 use Rattle.router_reply.specs.declared.answer.Answer.{Answer}
 use Rattle.router_reply.specs.declared.answer.Answer.TheVariants.{Nothing, Header, Open, Close, CloseWith, Begin, End, Flow}

@@ -9,7 +9,7 @@ use Rattle.router_trace.specs.Trace.{Entry, Out, Put, goes, each_to, puts, ups}
 use Rattle.router_trace.specs.Connection.{Connection, conn, has, is_live, live, live_of}
 use Rattle.router_trace.specs.Sessions.{session}
 use Rattle.router_trace.specs.Clocks.{terms, written, needs_beat}
-use Rattle.router_links.specs.Windows.{is_narrow, flow_due, flows_below, windows_over, windows}
+use Rattle.router_sessions.specs.Windows.{is_narrow, flow_due, flows_below, windows_over, windows}
 use Rattle.router_state.specs.Tables.{beat_if, beats_over}
 use Rattle.router_reply.specs.Replies.{closing_of, ends}
 use Rattle.router_core.specs.Laws.{own_part}

@@ -23,7 +23,7 @@ use Rattle.router_state.specs.Tables.{beats}
 use Rattle.router_reply.specs.declared.answer.Answer.{Answer}
 use Rattle.router_reply.specs.Rows.{said, perf_reply, item_reply}
 use Rattle.router_reply.specs.Replies.{heard, answer, free_for, own_row, replied}
-use Rattle.router_links.specs.Windows.{windows}
+use Rattle.router_sessions.specs.Windows.{windows}
 use Rattle.router_core.specs.Replies.{answered}
 use Rattle.router_conns.proofs.Lists.{by_test, has_push}
 use Rattle.router_conns.proofs.Turns.{known}

@@ -6,7 +6,7 @@ use Rattle.amqp_session.specs.Session.{Session, OurFlow}
 use Rattle.router_trace.specs.Trace.{Entry, Out, Put, goes}
 use Rattle.router_trace.specs.Frames.{flow_item, told_of, session_flow}
 use Rattle.router_trace.specs.Sessions.{session, flow_state}
-use Rattle.router_links.specs.Windows.{is_narrow, flow_due, flows_below}
+use Rattle.router_sessions.specs.Windows.{is_narrow, flow_due, flows_below}
 use Rattle.router_conns.proofs.Lists.{by_test}
 
 -- these are flows that tell windows anew

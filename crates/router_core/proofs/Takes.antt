@@ -5,7 +5,7 @@ use Rattle.router_trace.specs.declared.event.Event.TheVariants as event
 use Rattle.router_trace.specs.Trace.{Entry, Did, Put, Step, goes, each_to}
 use Rattle.router_trace.specs.Connection.{conn, due, is_full, live}
 use Rattle.router_trace.specs.Sessions.{place}
-use Rattle.router_links.specs.Windows.{windows_over}
+use Rattle.router_sessions.specs.Windows.{windows_over}
 use Rattle.router_state.specs.Tables.{beats_over}
 use Rattle.router_reply.specs.Rows.{down_reply}
 use Rattle.router_reply.specs.Replies.{answer, ends, free_for, own_row}

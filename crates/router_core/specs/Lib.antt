@@ -17,4 +17,4 @@ pub use Rattle.router_reply.specs.Rows
 pub use Rattle.router_trace.specs.Sessions
 pub use Rattle.router_trace.specs.Clocks
 pub use Rattle.router_after.specs.After
-pub use Rattle.router_links.specs.Windows
+pub use Rattle.router_sessions.specs.Windows

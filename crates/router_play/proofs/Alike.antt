@@ -7,7 +7,7 @@ use Rattle.router_trace.specs.declared.event.Event.TheVariants as event
 use Rattle.router_trace.specs.declared.condition.Condition.TheVariants.{ResourceLimitExceeded}
 use Rattle.router_trace.specs.Trace.{Entry, Out, Put, did, goes, each_to, puts, ups, step_of}
 use Rattle.router_trace.specs.Connection.{Connection, conn, behind, with_item, took, unless_empty, drained, is_live, has, due, found, live_of, at_event}
-use Rattle.router_links.specs.Windows.{windows}
+use Rattle.router_sessions.specs.Windows.{windows}
 use Rattle.router_reply.specs.Replies.{closing_of, ends as ends_of, heard, own_row, replied}
 use Rattle.router_core.specs.Replies.{answered}
 use Rattle.router_core.specs.Moves.{ins, with_came}

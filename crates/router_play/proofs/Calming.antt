@@ -9,7 +9,7 @@ use Rattle.router_trace.specs.declared.event.Event.TheVariants as event
 use Rattle.router_trace.specs.Trace.{Entry, Did, Out, Took, Put, Step, goes, each_to, puts, newest, newer}
 use Rattle.router_trace.specs.Connection.{conn, due, is_full}
 use Rattle.router_trace.specs.Refusing.{refuses, rises}
-use Rattle.router_links.specs.Windows.{windows}
+use Rattle.router_sessions.specs.Windows.{windows}
 use Rattle.router_reply.specs.Replies.{closing_of, ends, heard, own_row, replied}
 use Rattle.router_core.specs.Replies.{answered}
 use Rattle.router_core.specs.Runs.{took_one}

@@ -15,7 +15,7 @@ use Rattle.amqp_session.specs.Session.{Session}
 use Rattle.router_trace.specs.Sessions.{Place, place, session}
 use Rattle.router_trace.specs.Clocks.{terms, written, needs_beat}
 use Rattle.router_trace.specs.Frames.{flow_item, told_of}
-use Rattle.router_links.specs.Windows.{is_narrow, flow_due, flows_below, windows_over, windows}
+use Rattle.router_sessions.specs.Windows.{is_narrow, flow_due, flows_below, windows_over, windows}
 use Rattle.router_state.specs.Tables.{beat_if, beats_over, beats}
 use Rattle.router_reply.specs.Replies.{closing_of, ends, heard, answer, free_for, own_row, replied}
 use Rattle.router_after.specs.After.{followed}

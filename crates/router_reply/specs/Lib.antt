@@ -10,4 +10,4 @@ pub use Rattle.router_state.specs.Tables
 pub use Rattle.router_trace.specs.Sessions
 pub use Rattle.router_trace.specs.Clocks
 pub use Rattle.router_conns.specs.Timing
-pub use Rattle.router_links.specs.Windows
+pub use Rattle.router_sessions.specs.Windows

@@ -20,8 +20,8 @@ use Rattle.router_trace.specs.declared.condition.Condition.{Condition}
 use Rattle.router_trace.specs.declared.condition.Condition.TheVariants.{NotAllowed, FramingError, DecodeError, ResourceLimitExceeded, NotImplemented, UnattachedHandle}
 use Rattle.router_trace.specs.Frames.{header_item, open_item, close_item, begin_item, end_item, flow_item, closing, told_of}
 use Rattle.router_trace.specs.Sessions.{Place, nowhere, ending, on, flow_state}
-use Rattle.router_links.specs.declared.place.Place.{Place as Found}
-use Rattle.router_links.specs.declared.place.Place.TheVariants as found
+use Rattle.router_sessions.specs.declared.place.Place.{Place as Found}
+use Rattle.router_sessions.specs.declared.place.Place.TheVariants as found
 use Rattle.router_reply.specs.declared.answer.Answer.{Answer}
 use Rattle.router_reply.specs.declared.answer.Answer.TheVariants.{Nothing, Header, Open, Close, CloseWith, Begin, End, Flow}
 

@@ -2,7 +2,7 @@
 //! finds.
 ghost use Rattle.std.specs.Prelude.{◌≡◌};
 ghost use Rattle.router_trace.specs.Sessions.{Place as At};
-ghost use Rattle.router_links.specs.Fits.{found_of};
+ghost use Rattle.router_sessions.specs.Fits.{found_of};
 ghost use Rattle.router_reply.specs.Rows.{header_reply, bad_frame_reply, open_reply, early_frame_reply, channel_reply, no_session_reply, close_reply, beat_reply, begin_reply, begin_by, end_reply, unattached_handle_reply, session_flow_reply, flow_reply, attach_reply, disposition_reply, condition_of, ended_with};
 
 use crate::answer::Answer;
@@ -10,7 +10,7 @@ use amqp_conn::Conn;
 use amqp_conn::conn::CHANNEL_MAX;
 use amqp_frames::FrameFault;
 use amqp_perf::{Begin, Flow, Open};
-use router_links::{Place, flow_state};
+use router_sessions::{Place, flow_state};
 use router_trace::{Condition, SESSION_WINDOW};
 
 /// The longest container-id that the router takes, in bytes.

@@ -8,4 +8,4 @@ pub use Rattle.router_conns.specs.Fits
 pub use Rattle.router_trace.specs.Sessions
 pub use Rattle.router_trace.specs.Clocks
 pub use Rattle.router_conns.specs.Timing
-pub use Rattle.router_links.specs.Windows
+pub use Rattle.router_sessions.specs.Windows

@@ -7,8 +7,8 @@ ghost use Rattle.router_trace.specs.Trace.{Entry, Out, Took, did, newest, goes, 
 ghost use Rattle.router_trace.specs.Sessions.{place, free_channel};
 ghost use Rattle.router_trace.specs.Clocks.{terms, channel_max_of};
 ghost use Rattle.router_conns.specs.Timing.{ClocksFit};
-ghost use Rattle.router_links.specs.Fits.{LinksFit, found_of};
-ghost use Rattle.router_links.specs.Windows.{windows};
+ghost use Rattle.router_sessions.specs.Fits.{SessionsFit, found_of};
+ghost use Rattle.router_sessions.specs.Windows.{windows};
 ghost use Rattle.router_trace.specs.Connection.{conn as known, standing, found, is_ready, has};
 ghost use Rattle.router_conns.specs.Fits.{IsLeast, IsBatch, count};
 ghost use Rattle.router_trace.specs.Refusing.{rises, refuses};
@@ -19,7 +19,7 @@ ghost use Rattle.router_trace.specs.declared.event.Event.TheVariants as event;
 use amqp_conn::Conn;
 use amqp_frames::Item;
 use router_conns::{Clocks, Connections, Ready, Taken};
-use router_links::{Links, Place};
+use router_sessions::{Sessions, Place};
 use router_trace::{ConnectionId, Event, Outgoing, Peer, beat_item};
 use std::alloc::{AllocError, Global};
 
@@ -30,7 +30,7 @@ pub struct State {
     connections: Connections,
     ready: Ready,
     clocks: Clocks,
-    links: Links,
+    sessions: Sessions,
 }
 
 impl State {
@@ -43,7 +43,7 @@ impl State {
             connections: Connections::new(alloc),
             ready: Ready::new(alloc),
             clocks: Clocks::new(alloc),
-            links: Links::new(alloc),
+            sessions: Sessions::new(alloc),
         }
     }
 
@@ -73,14 +73,14 @@ impl State {
     pub fn place(&self, conn: u64, channel: u16) -> Place
         ensures { (t : List Entry) (e : E) (ends : List ℕ) → TablesAt self.now t e ends → result ≡ found_of (place t conn channel) }
     {
-        self.links.place(conn, channel)
+        self.sessions.place(conn, channel)
     }
 
     /// The lowest channel of the router, as an event finds it, that the peer takes too and on which no session stands.
     pub fn free_channel(&self, conn: u64) -> Option<u16>
         ensures { (t : List Entry) (e : E) (ends : List ℕ) → TablesAt self.now t e ends → result ≡ free_channel t conn (channel_max_of (terms t conn)) }
     {
-        self.links.free_channel(conn, self.clocks.channel_max(conn))
+        self.sessions.free_channel(conn, self.clocks.channel_max(conn))
     }
 
     /// The heartbeats that are due at a moment on the connections that are live as an event finds them, by number.
@@ -94,7 +94,7 @@ impl State {
     pub fn is_calm(&self) -> bool
         ensures { result ≡ true → (t : List Entry) → TablesFit self.now t → windows t ≡ [] }
     {
-        self.links.is_calm()
+        self.sessions.is_calm()
     }
 
     /// The flows that tell windows anew, by connection and by the router's channel.
@@ -103,7 +103,7 @@ impl State {
     {
         let mut flows = Vec::new(self.alloc);
         for conn in self.connections.live() {
-            self.links.due_on(*conn, &mut flows)?;
+            self.sessions.due_on(*conn, &mut flows)?;
         }
         Ok(flows)
     }
@@ -112,7 +112,7 @@ impl State {
     pub fn settle(&mut self)
         ensures { (t : List Entry) → TablesFit self.old t → TablesFit self.new t }
     {
-        settle_all(&mut self.links, self.connections.live());
+        settle_all(&mut self.sessions, self.connections.live());
     }
 
     /// Ends the connections that an event ends for their full outboxes, and gives them by number. Their closes are the
@@ -138,7 +138,7 @@ impl State {
         ensures { OnOk result ((t : List Entry) (ends : List ℕ) → TablesAt self.old t (event.Item conn item.now) ends → TablesFit self.new (did (event.Item conn item.now) ∷ t)) }
     {
         self.clocks.hear(conn, item)?;
-        self.links.hear(conn, item)?;
+        self.sessions.hear(conn, item)?;
         Ok(())
     }
 
@@ -155,7 +155,7 @@ impl State {
     {
         self.connections.down(conn);
         self.clocks.down(conn);
-        self.links.down(conn);
+        self.sessions.down(conn);
         note(&mut self.ready, &self.connections, conn.0)
     }
 
@@ -164,7 +164,7 @@ impl State {
         ensures { OnOk result ((t : List Entry) → TablesFit self.old t → TablesFit self.new (Out conn item ∷ t)) }
     {
         self.clocks.put(conn, &item)?;
-        self.links.put(conn, &item)?;
+        self.sessions.put(conn, &item)?;
         self.connections.put(conn, item)?;
         note(&mut self.ready, &self.connections, conn)?;
         Ok(())
@@ -233,11 +233,11 @@ fn add_beat(due: &mut Vec<Outgoing>, conn: u64, needed: bool) -> Result<(), Allo
 }
 
 /// Forgets which windows of these connections were narrow, where they aren't any more.
-fn settle_all(links: &mut Links, conns: &[u64])
-    ensures { (t : List Entry) → LinksFit links.old t → LinksFit links.new t }
+fn settle_all(sessions: &mut Sessions, conns: &[u64])
+    ensures { (t : List Entry) → SessionsFit sessions.old t → SessionsFit sessions.new t }
 {
     for conn in conns {
-        links.settle(*conn);
+        sessions.settle(*conn);
     }
 }
 

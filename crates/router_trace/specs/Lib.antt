@@ -5,6 +5,11 @@ pub mod Order
 pub mod Frames
 pub mod Sessions
 pub mod Clocks
+pub mod Peers
+pub mod Links
 pub use Rattle.amqp_conn.specs.Phase
 pub use Rattle.amqp_conn.specs.Heartbeats
 pub use Rattle.amqp_session.specs.Session
+pub use Rattle.amqp_link.specs.Credit
+pub use Rattle.amqp_link.specs.Receiving
+pub use Rattle.book_core.specs.Keys

@@ -18,9 +18,9 @@ started s t cs at = record {
   };
   ready = at.ready;
   clocks = record { moment = at.clocks.moment; terms = at.clocks.terms; written = at.clocks.written };
-  links = record {
-    rows = record { offered = at.links.rows.offered; answered = at.links.rows.answered; theirs = at.links.rows.theirs; windows = at.links.rows.windows };
-    marks = at.links.marks;
+  sessions = record {
+    rows = record { offered = at.sessions.rows.offered; answered = at.sessions.rows.answered; theirs = at.sessions.rows.theirs; windows = at.sessions.rows.windows };
+    marks = at.sessions.marks;
   };
 }
 

@@ -1,0 +1,426 @@
+-- What a trace says of links (AMQP 1.0 part 2, section 2.6): the peer's attach and the router's answer make one, on a handle of the
+-- router and one of the peer. A link that the router takes has an address at the router's own terminus; one that it refuses has none.
+use Rattle.std.specs.Prelude.{ℕ, zero, suc, ◌+◌, Bool, true, false, not, ◌&&◌, ◌==◌, nat_eq, nat_le, if◌then◌else◌, is_none, is_some, List, ◌∷◌, [], Option, Some, None, option_map, unwrap_or}
+use Rattle.std.specs.BTreeMap.{is_at}
+use Rattle.amqp_perf.specs.declared.perf.Attach.{Attach}
+use Rattle.amqp_perf.specs.declared.perf.Detach.{Detach}
+use Rattle.amqp_perf.specs.declared.perf.Flow.{Flow}
+use Rattle.amqp_perf.specs.declared.perf.Perf.{Perf}
+use Rattle.amqp_perf.specs.declared.perf.Perf.TheVariants as perf
+use Rattle.amqp_perf.specs.declared.perf.Role.{Role}
+use Rattle.amqp_perf.specs.declared.perf.Role.TheVariants.{Sender, Receiver}
+use Rattle.amqp_perf.specs.declared.perf.Transfer.{Transfer}
+use Rattle.amqp_perf.specs.declared.terminus.Address.{Address}
+use Rattle.amqp_perf.specs.declared.terminus.Address.TheVariants as address
+use Rattle.amqp_perf.specs.declared.terminus.Source.{Source as ASource}
+use Rattle.amqp_perf.specs.declared.terminus.SourceTerminus.{SourceTerminus}
+use Rattle.amqp_perf.specs.declared.terminus.SourceTerminus.TheVariants as source
+use Rattle.amqp_perf.specs.declared.terminus.TargetTerminus.{TargetTerminus}
+use Rattle.amqp_perf.specs.declared.terminus.TargetTerminus.TheVariants as target
+use Rattle.book_core.specs.declared.terminus.LinkKey.{LinkKey}
+use Rattle.book_core.specs.declared.terminus.LinkRole.{LinkRole}
+use Rattle.book_core.specs.declared.terminus.LinkRole.TheVariants.{Producer, Consumer}
+use Rattle.book_core.specs.Keys.{key_cmp}
+use Rattle.amqp_frames.specs.declared.item.Item.{Item}
+use Rattle.amqp_frames.specs.declared.item.Item.TheVariants as item
+use Rattle.amqp_session.specs.Serials.{distance}
+use Rattle.amqp_link.specs.Credit as credit
+use Rattle.amqp_link.specs.Receiving as receiving
+use Rattle.amqp_link.specs.Receiving.{Received}
+use Rattle.amqp_link.specs.Deliveries.{frame}
+use Rattle.router_trace.specs.declared.event.Event.{Event}
+use Rattle.router_trace.specs.declared.event.Event.TheVariants as event
+use Rattle.router_trace.specs.declared.channel.PeerChannel.{PeerChannel}
+use Rattle.router_trace.specs.declared.handle.PeerHandle.{PeerHandle}
+use Rattle.router_trace.specs.declared.handle.PeerHandle.TheVariants.{Mapped, Detaching}
+use Rattle.router_trace.specs.declared.handle.Asked.{Asked}
+use Rattle.router_trace.specs.declared.handle.Attachment.{Attachment}
+use Rattle.router_trace.specs.declared.event.ConnectionId.{ConnectionId}
+use Rattle.router_trace.specs.Trace.{Did, Out, Took, Trace}
+use Rattle.router_trace.specs.Sessions.{maps, unless_close, theirs}
+use Rattle.router_trace.specs.Peers.{user, container, container_id, Container}
+
+-- What the attach that came last on a connection asks; none where the connection is closed or lost.
+abbrev pub asked_of : Attach → Asked
+asked_of a = record { handle = a.handle; initial = unwrap_or a.initial_delivery_count 0 }
+
+abbrev pub asked_in : Perf → Option Asked → Option Asked
+asked_in (perf.Attach a) last = Some (asked_of a)
+asked_in _ last = last
+
+abbrev pub asked_by : Item → Option Asked → Option Asked
+asked_by (item.Frame sasl channel body payload) last = if sasl then last else asked_in body last
+asked_by _ last = last
+
+abbrev pub asked_at : Event → ℕ → Option Asked → Option Asked
+asked_at (event.Item d i) c last = if d.0 == c then asked_by i last else last
+asked_at (event.Down d) c last = if d.0 == c then None else last
+asked_at _ c last = last
+
+abbrev pub asked : Trace → ℕ → Option Asked
+asked [] c = None
+asked (Did s ∷ t) c = asked_at s.event c (asked t c)
+asked (Out d i ∷ t) c = if d == c then unless_close i (asked t c) else asked t c
+asked (Took d n ∷ t) c = asked t c
+
+-- What an item of the router ends: the handle of a detach on this session, or all handles of the session or the connection.
+abbrev pub ends_handle_in : Perf → ℕ → ℕ → ℕ → Bool
+ends_handle_in (perf.Detach x) own o h = (own == o) && (x.handle == h)
+ends_handle_in (perf.End x) own o h = own == o
+ends_handle_in (perf.Close x) own o h = true
+ends_handle_in _ own o h = false
+
+abbrev pub ends_handle : Item → ℕ → ℕ → Bool
+ends_handle (item.Frame sasl own body payload) o h = ends_handle_in body own o h
+ends_handle _ o h = false
+
+abbrev pub is_lost : Event → ℕ → Bool
+is_lost (event.Down d) c = d.0 == c
+is_lost _ c = false
+
+-- The handle of the peer whose attach the router's attach on a handle of its own answers.
+abbrev pub handle_asked : Option Asked → Option ℕ
+handle_asked None = None
+handle_asked (Some a) = Some a.handle
+
+abbrev pub answers_in : Perf → ℕ → ℕ → ℕ → Option Asked → Option ℕ → Option ℕ
+answers_in (perf.Attach a) own o h last p = if (own == o) && (a.handle == h) then handle_asked last else p
+answers_in body own o h last p = if ends_handle_in body own o h then None else p
+
+abbrev pub answers_by : Item → ℕ → ℕ → Option Asked → Option ℕ → Option ℕ
+answers_by (item.Frame sasl own body payload) o h last p = answers_in body own o h last p
+answers_by _ o h last p = p
+
+abbrev pub answered_handle : Trace → ℕ → ℕ → ℕ → Option ℕ
+answered_handle [] c o h = None
+answered_handle (Did s ∷ t) c o h = if is_lost s.event c then None else answered_handle t c o h
+answered_handle (Out d i ∷ t) c o h = if d == c then answers_by i o h (asked t c) (answered_handle t c o h) else answered_handle t c o h
+answered_handle (Took d n ∷ t) c o h = answered_handle t c o h
+
+-- What a handle of the peer stands for, on the session of a channel of the router: a link, on a handle of the router; one that the
+-- router detached, until the peer's detach; or nothing. A detach on a handle on which nothing was attached answers the attach that
+-- came last.
+abbrev pub is_handle : Option ℕ → ℕ → Bool
+is_handle None p = false
+is_handle (Some handle) p = handle == p
+
+abbrev pub detached : Option ℕ → Option Asked → ℕ → Option PeerHandle → Option PeerHandle
+detached None last p v = if is_handle (handle_asked last) p then Some Detaching else v
+detached (Some handle) last p v = if handle == p then option_map (λ w. Detaching) v else v
+
+abbrev pub their_handle_in : Perf → ℕ → ℕ → ℕ → (ℕ → Option ℕ) → Option Asked → Option PeerHandle → Option PeerHandle
+their_handle_in (perf.Attach a) own o p known last v = if (own == o) && is_handle (handle_asked last) p then Some (Mapped a.handle) else v
+their_handle_in (perf.Detach x) own o p known last v = if own == o then detached (known x.handle) last p v else v
+their_handle_in (perf.End x) own o p known last v = if own == o then None else v
+their_handle_in (perf.Close x) own o p known last v = None
+their_handle_in _ own o p known last v = v
+
+abbrev pub their_handle_behind : Item → ℕ → ℕ → (ℕ → Option ℕ) → Option Asked → Option PeerHandle → Option PeerHandle
+their_handle_behind (item.Frame sasl own body payload) o p known last v = their_handle_in body own o p known last v
+their_handle_behind _ o p known last v = v
+
+abbrev pub behind_their_detach : Perf → ℕ → Option PeerHandle → Option PeerHandle
+behind_their_detach (perf.Detach x) p v = if x.handle == p then None else v
+behind_their_detach _ p v = v
+
+abbrev pub their_handle_by : Item → ℕ → ℕ → (ℕ → Option PeerChannel) → Option PeerHandle → Option PeerHandle
+their_handle_by (item.Frame sasl channel body payload) o p known v =
+    if sasl then v else (if maps (known channel) o then behind_their_detach body p v else v)
+their_handle_by _ o p known v = v
+
+abbrev pub their_handle_at : Event → ℕ → ℕ → ℕ → (ℕ → Option PeerChannel) → Option PeerHandle → Option PeerHandle
+their_handle_at (event.Item d i) c o p known v = if d.0 == c then their_handle_by i o p known v else v
+their_handle_at (event.Down d) c o p known v = if d.0 == c then None else v
+their_handle_at _ c o p known v = v
+
+abbrev pub their_handle : Trace → ℕ → ℕ → ℕ → Option PeerHandle
+their_handle [] c o p = None
+their_handle (Did s ∷ t) c o p = their_handle_at s.event c o p (theirs t c) (their_handle t c o p)
+their_handle (Out d i ∷ t) c o p =
+    if d == c then their_handle_behind i o p (answered_handle t c o) (asked t c) (their_handle t c o p) else their_handle t c o p
+their_handle (Took d n ∷ t) c o p = their_handle t c o p
+
+-- The address at the router's own terminus of its attach: of a sender its source's, of a receiver its target's.
+abbrev pub text_of : Option Address → Option (List ℕ)
+text_of (Some (address.Text a)) = Some a
+text_of _ = None
+
+abbrev pub source_address : Option SourceTerminus → Option (List ℕ)
+source_address (Some (source.Source s)) = text_of s.address
+source_address _ = None
+
+abbrev pub target_address : Option TargetTerminus → Option (List ℕ)
+target_address (Some (target.Target x)) = text_of x.address
+target_address _ = None
+
+abbrev pub address_by : Role → Attach → Option (List ℕ)
+address_by Sender a = source_address a.source
+address_by Receiver a = target_address a.target
+
+-- Attachments are numbered by the router's attaches that have an address: its number is one more than that of those before it.
+abbrev pub is_taken_in : Perf → Bool
+is_taken_in (perf.Attach a) = is_some (address_by a.role a)
+is_taken_in _ = false
+
+abbrev pub is_taken : Item → Bool
+is_taken (item.Frame sasl own body payload) = is_taken_in body
+is_taken _ = false
+
+abbrev pub attachments : Trace → ℕ
+attachments [] = 0
+attachments (Did s ∷ t) = attachments t
+attachments (Out d i ∷ t) = if is_taken i then attachments t + 1 else attachments t
+attachments (Took d n ∷ t) = attachments t
+
+-- A link is known by its user, container and name, and by the way in which deliveries go on it.
+abbrev pub way_of : Role → LinkRole
+way_of Sender = Consumer
+way_of Receiver = Producer
+
+abbrev pub key_of : Option (List ℕ) → Option Container → Attach → LinkKey
+key_of user told a = record { role = way_of a.role; user = unwrap_or user []; container = container_id told; name = a.name }
+
+-- What happened on a link, newest first, as the router sends on it or as the peer does.
+pub data Happened : Type 0 where
+  sends : (list : credit.Link) → Happened
+  receives : (list : Received) → Happened
+
+pub record Link : Type 0 where
+  pub number : ℕ
+  pub key : LinkKey
+  pub address : List ℕ
+  pub happened : Happened
+  -- the router has begun a delivery on it, of which more frames are to go
+  pub going_on : Bool
+  -- the peer's last flow asks for a drain, which was not told yet
+  pub drains : Bool
+  pub owes_drain : Bool
+
+-- what an attach begins
+abbrev pub begins : Role → Option ℕ → ℕ → Happened
+begins Sender initial theirs = sends (credit.Attached (unwrap_or initial 0) ∷ [])
+begins Receiver initial theirs = receives (receiving.TheirAttach theirs ∷ [])
+
+abbrev pub initial_of : Option Asked → ℕ
+initial_of None = 0
+initial_of (Some a) = a.initial
+
+abbrev pub begun_link : ℕ → LinkKey → Attach → Option Asked → List ℕ → Link
+begun_link number key a last address = record {
+  number = number;
+  key = key;
+  address = address;
+  happened = begins a.role a.initial_delivery_count (initial_of last);
+  going_on = false;
+  drains = false;
+  owes_drain = false;
+}
+
+-- A flow of the peer: on a link on which the router sends, what it grants; on another the count that it tells, unless that is
+-- behind the peer's own or further ahead than the credit that is unused.
+abbrev pub with_grant : Flow → Option ℕ → credit.Link → credit.Link
+with_grant f None h = h
+with_grant f (Some k) h = credit.Granted f.delivery_count k ∷ h
+
+abbrev pub with_count : Option ℕ → Received → Received
+with_count None h = h
+with_count (Some n) h = if nat_le (distance (receiving.delivery_count h) n) (receiving.unused h) then receiving.TheirCount n ∷ h else h
+
+abbrev pub flowed_to : Flow → Happened → Happened
+flowed_to f (sends h) = sends (with_grant f f.link_credit h)
+flowed_to f (receives h) = receives (with_count f.delivery_count h)
+
+abbrev pub behind_their_flow : Flow → Link → Link
+behind_their_flow f l = record l { happened = flowed_to f l.happened; drains = f.drain; owes_drain = f.drain }
+
+-- a transfer of the peer, with what it carries
+abbrev pub came_to : Transfer → List ℕ → Happened → Happened
+came_to x payload (sends h) = sends h
+came_to x payload (receives h) = receives (receiving.behind (frame x payload) h)
+
+abbrev pub behind_their_transfer : Transfer → List ℕ → Link → Link
+behind_their_transfer x payload l = record l { happened = came_to x payload l.happened }
+
+-- a flow of the router: where it sends, the count that it tells; where the peer does, what it grants
+abbrev pub with_our_count : Option ℕ → credit.Link → credit.Link
+with_our_count None h = h
+with_our_count (Some n) h = credit.Counted n ∷ h
+
+abbrev pub with_our_grant : Option ℕ → Option ℕ → Received → Received
+with_our_grant (Some n) (Some k) h = receiving.OurGrant (record { count = n; credit = k }) ∷ h
+with_our_grant _ _ h = h
+
+abbrev pub flowed_from : Flow → Happened → Happened
+flowed_from f (sends h) = sends (with_our_count f.delivery_count h)
+flowed_from f (receives h) = receives (with_our_grant f.delivery_count f.link_credit h)
+
+abbrev pub behind_our_flow : Flow → Link → Link
+behind_our_flow f l = record l { happened = flowed_from f l.happened; owes_drain = l.owes_drain && not f.drain }
+
+-- a transfer of the router, which starts a delivery where none goes on
+abbrev pub started : Bool → Happened → Happened
+started going_on (sends h) = sends (if going_on then h else credit.Started ∷ h)
+started going_on (receives h) = receives h
+
+abbrev pub behind_our_transfer : Transfer → Link → Link
+behind_our_transfer x l = record l { happened = started l.going_on l.happened; going_on = x.more && not x.aborted }
+
+-- The link on a handle of the router, of the session on a channel of the router; none where none is attached.
+abbrev pub attached : ℕ → LinkKey → Attach → Option Asked → Option (List ℕ) → Option Link
+attached number key a last None = None
+attached number key a last (Some address) = Some (begun_link number key a last address)
+
+abbrev pub link_in : Perf → ℕ → ℕ → ℕ → ℕ → (Attach → LinkKey) → Option Asked → Option Link → Option Link
+link_in (perf.Attach a) own o h number key last v =
+    if (own == o) && (a.handle == h) then attached number (key a) a last (address_by a.role a) else v
+link_in (perf.Flow f) own o h number key last v = if (own == o) && is_handle f.handle h then option_map (behind_our_flow f) v else v
+link_in (perf.Transfer x) own o h number key last v = if (own == o) && (x.handle == h) then option_map (behind_our_transfer x) v else v
+link_in body own o h number key last v = if ends_handle_in body own o h then None else v
+
+abbrev pub link_behind : Item → ℕ → ℕ → ℕ → (Attach → LinkKey) → Option Asked → Option Link → Option Link
+link_behind (item.Frame sasl own body payload) o h number key last v = link_in body own o h number key last v
+link_behind _ o h number key last v = v
+
+-- a frame of the peer names this handle of the router
+abbrev pub names : Option PeerHandle → ℕ → Bool
+names (Some (Mapped handle)) h = handle == h
+names _ h = false
+
+abbrev pub names_by : Option ℕ → (ℕ → Option PeerHandle) → ℕ → Bool
+names_by None known h = false
+names_by (Some p) known h = names (known p) h
+
+abbrev pub heard_link : Perf → List ℕ → ℕ → (ℕ → Option PeerHandle) → Option Link → Option Link
+heard_link (perf.Flow f) payload h known v = if names_by f.handle known h then option_map (behind_their_flow f) v else v
+heard_link (perf.Transfer x) payload h known v = if names (known x.handle) h then option_map (behind_their_transfer x payload) v else v
+heard_link _ payload h known v = v
+
+abbrev pub link_by : Item → ℕ → ℕ → (ℕ → Option PeerChannel) → (ℕ → Option PeerHandle) → Option Link → Option Link
+link_by (item.Frame sasl channel body payload) o h channels handles v =
+    if sasl then v else (if maps (channels channel) o then heard_link body payload h handles v else v)
+link_by _ o h channels handles v = v
+
+abbrev pub link_at : Event → ℕ → ℕ → ℕ → (ℕ → Option PeerChannel) → (ℕ → Option PeerHandle) → Option Link → Option Link
+link_at (event.Item d i) c o h channels handles v = if d.0 == c then link_by i o h channels handles v else v
+link_at (event.Down d) c o h channels handles v = if d.0 == c then None else v
+link_at _ c o h channels handles v = v
+
+-- the key of an attach of the router on a connection
+abbrev pub key_at : Trace → ℕ → Attach → LinkKey
+key_at t c a = key_of (user t c) (container t c) a
+
+abbrev pub link : Trace → ℕ → ℕ → ℕ → Option Link
+link [] c o h = None
+link (Did s ∷ t) c o h = link_at s.event c o h (theirs t c) (their_handle t c o) (link t c o h)
+link (Out d i ∷ t) c o h =
+    if d == c then link_behind i o h (attachments t + 1) (key_at t c) (asked t c) (link t c o h) else link t c o h
+link (Took d n ∷ t) c o h = link t c o h
+
+-- An attachment still has its link.
+abbrev pub has_number : ℕ → Option Link → Bool
+has_number n None = false
+has_number n (Some l) = l.number == n
+
+abbrev pub is_attached : Trace → Attachment → Bool
+is_attached t a = has_number a.number (link t a.conn.0 a.channel a.handle)
+
+abbrev pub if_attached : Trace → Option Attachment → Option Attachment
+if_attached t None = None
+if_attached t (Some a) = if is_attached t a then Some a else None
+
+-- the attachment of a key that came last, and the one of a number
+abbrev pub same_key : LinkKey → LinkKey → Bool
+same_key k l = is_at (key_cmp k) l
+
+abbrev pub newest_in : Perf → ℕ → ℕ → ℕ → (Attach → Bool) → Option Attachment → Option Attachment
+newest_in (perf.Attach a) own c number passes v =
+    if is_some (address_by a.role a) && passes a then Some (record { number = number; conn = record { 0 = c }; channel = own; handle = a.handle }) else v
+newest_in _ own c number passes v = v
+
+abbrev pub newest_by : Item → ℕ → ℕ → (Attach → Bool) → Option Attachment → Option Attachment
+newest_by (item.Frame sasl own body payload) c number passes v = newest_in body own c number passes v
+newest_by _ c number passes v = v
+
+abbrev pub last_of_key : Trace → LinkKey → Option Attachment
+last_of_key [] k = None
+last_of_key (Did s ∷ t) k = last_of_key t k
+last_of_key (Out d i ∷ t) k = newest_by i d (attachments t + 1) (λ a. same_key (key_at t d a) k) (last_of_key t k)
+last_of_key (Took d n ∷ t) k = last_of_key t k
+
+abbrev pub numbered : Trace → ℕ → Option Attachment
+numbered [] n = None
+numbered (Did s ∷ t) n = numbered t n
+numbered (Out d i ∷ t) n = newest_by i d (attachments t + 1) (λ a. attachments t + 1 == n) (numbered t n)
+numbered (Took d k ∷ t) n = numbered t n
+
+-- the link that has a key, and the one of a number, while they are attached
+abbrev pub holder : Trace → LinkKey → Option Attachment
+holder t k = if_attached t (last_of_key t k)
+
+abbrev pub place_of : Trace → ℕ → Option Attachment
+place_of t n = if_attached t (numbered t n)
+
+-- What a handle of the peer stands for: nothing, a link that the router detached, or a link on a handle of the router.
+pub data LinkPlace : Type 0 where
+  nowhere : LinkPlace
+  detaching : LinkPlace
+  on : (handle : ℕ) (link : Link) → LinkPlace
+
+abbrev pub on_link : ℕ → Option Link → LinkPlace
+on_link h None = nowhere
+on_link h (Some l) = on h l
+
+abbrev pub link_place_by : Option PeerHandle → (ℕ → Option Link) → LinkPlace
+link_place_by None known = nowhere
+link_place_by (Some Detaching) known = detaching
+link_place_by (Some (Mapped h)) known = on_link h (known h)
+
+abbrev pub link_place : Trace → ℕ → ℕ → ℕ → LinkPlace
+link_place t c o p = link_place_by (their_handle t c o p) (link t c o)
+
+-- The highest handle that the peer takes on the session of a channel of the router: that of its begin (2.7.2).
+abbrev pub handle_max_in : Perf → Option ℕ → Option ℕ
+handle_max_in (perf.Begin b) last = Some b.handle_max
+handle_max_in _ last = last
+
+abbrev pub handle_max_by : Item → Option ℕ → Option ℕ
+handle_max_by (item.Frame sasl channel body payload) last = if sasl then last else handle_max_in body last
+handle_max_by _ last = last
+
+abbrev pub handle_max_at : Event → ℕ → Option ℕ → Option ℕ
+handle_max_at (event.Item d i) c last = if d.0 == c then handle_max_by i last else last
+handle_max_at (event.Down d) c last = if d.0 == c then None else last
+handle_max_at _ c last = last
+
+abbrev pub told_handle_max : Trace → ℕ → Option ℕ
+told_handle_max [] c = None
+told_handle_max (Did s ∷ t) c = handle_max_at s.event c (told_handle_max t c)
+told_handle_max (Out d i ∷ t) c = if d == c then unless_close i (told_handle_max t c) else told_handle_max t c
+told_handle_max (Took d n ∷ t) c = told_handle_max t c
+
+abbrev pub most_in : Perf → ℕ → ℕ → Option ℕ → Option ℕ → Option ℕ
+most_in (perf.Begin b) own o told most = if own == o then told else most
+most_in (perf.End x) own o told most = if own == o then None else most
+most_in (perf.Close x) own o told most = None
+most_in _ own o told most = most
+
+abbrev pub most_behind : Item → ℕ → Option ℕ → Option ℕ → Option ℕ
+most_behind (item.Frame sasl own body payload) o told most = most_in body own o told most
+most_behind _ o told most = most
+
+abbrev pub highest_handle : Trace → ℕ → ℕ → Option ℕ
+highest_handle [] c o = None
+highest_handle (Did s ∷ t) c o = if is_lost s.event c then None else highest_handle t c o
+highest_handle (Out d i ∷ t) c o = if d == c then most_behind i o (told_handle_max t c) (highest_handle t c o) else highest_handle t c o
+highest_handle (Took d n ∷ t) c o = highest_handle t c o
+
+-- The lowest handle of the router's on which nothing is attached, of 64 and up to the highest that the peer takes.
+abbrev pub is_free_handle : ℕ → (ℕ → Option ℕ) → ℕ → Bool
+is_free_handle most known h = if nat_le h most then is_none (known h) else false
+
+unfoldable pub first_free_below : ℕ → (ℕ → Bool) → ℕ → Option ℕ
+first_free_below zero free at = None
+first_free_below (suc n) free at = if free at then Some at else first_free_below n free (at + 1)
+
+unfoldable pub free_handle : Trace → ℕ → ℕ → Option ℕ
+free_handle t c o = first_free_below 64 (is_free_handle (unwrap_or (highest_handle t c o) 63) (answered_handle t c o)) 0
