@@ -12,9 +12,9 @@ use Rattle.amqp_conn.specs.declared.conn.Conn.{Conn}
 use Rattle.amqp_session.specs.declared.states.FlowState.{FlowState}
 use Rattle.amqp_session.specs.Session.{Session, next_incoming, next_outgoing}
 use Rattle.router_trace.specs.declared.condition.Condition.{Condition}
-use Rattle.router_trace.specs.declared.condition.Condition.TheVariants.{NotAllowed, FramingError, DecodeError, ResourceLimitExceeded, NotImplemented, UnattachedHandle}
+use Rattle.router_trace.specs.declared.condition.Condition.TheVariants.{NotAllowed, FramingError, DecodeError, ResourceLimitExceeded, NotImplemented, UnattachedHandle, HandleInUse, WindowViolation, NotFound, FrameSizeTooSmall, Stolen, TransferLimitExceeded, MessageSizeExceeded}
 
--- the symbol of an error condition (2.8.15, 2.8.16)
+-- the symbol of an error condition (2.8.15 to 2.8.18)
 abbrev pub text_of : Condition → List ℕ
 text_of NotAllowed = codes "amqp:not-allowed"
 text_of FramingError = codes "amqp:connection:framing-error"
@@ -22,6 +22,13 @@ text_of DecodeError = codes "amqp:decode-error"
 text_of ResourceLimitExceeded = codes "amqp:resource-limit-exceeded"
 text_of NotImplemented = codes "amqp:not-implemented"
 text_of UnattachedHandle = codes "amqp:session:unattached-handle"
+text_of HandleInUse = codes "amqp:session:handle-in-use"
+text_of WindowViolation = codes "amqp:session:window-violation"
+text_of NotFound = codes "amqp:not-found"
+text_of FrameSizeTooSmall = codes "amqp:frame-size-too-small"
+text_of Stolen = codes "amqp:link:stolen"
+text_of TransferLimitExceeded = codes "amqp:link:transfer-limit-exceeded"
+text_of MessageSizeExceeded = codes "amqp:link:message-size-exceeded"
 
 -- the protocol header of AMQP 1.0.0
 abbrev pub header_item : Item

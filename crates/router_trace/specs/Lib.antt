@@ -7,6 +7,7 @@ pub mod Sessions
 pub mod Clocks
 pub mod Peers
 pub mod Links
+pub mod LinkFrames
 pub use Rattle.amqp_conn.specs.Phase
 pub use Rattle.amqp_conn.specs.Heartbeats
 pub use Rattle.amqp_session.specs.Session

@@ -35,6 +35,8 @@ use Rattle.router_trace.specs.declared.handle.PeerHandle.{PeerHandle}
 use Rattle.router_trace.specs.declared.handle.PeerHandle.TheVariants.{Mapped, Detaching}
 use Rattle.router_trace.specs.declared.handle.Asked.{Asked}
 use Rattle.router_trace.specs.declared.handle.Attachment.{Attachment}
+use Rattle.router_trace.specs.declared.handle.LinkAt.{LinkAt}
+use Rattle.router_trace.specs.declared.handle.LinkAt.TheVariants as found
 use Rattle.router_trace.specs.declared.event.ConnectionId.{ConnectionId}
 use Rattle.router_trace.specs.Trace.{Did, Out, Took, Trace}
 use Rattle.router_trace.specs.Sessions.{maps, unless_close, theirs}
@@ -377,6 +379,16 @@ link_place_by (Some (Mapped h)) known = on_link h (known h)
 
 abbrev pub link_place : Trace → ℕ → ℕ → ℕ → LinkPlace
 link_place t c o p = link_place_by (their_handle t c o p) (link t c o)
+
+-- the same with the figures of the link alone
+abbrev pub found_on : ℕ → Happened → LinkAt
+found_on h (sends list) = found.Sends h (record { initial = credit.initial list; count = credit.count list; granted = credit.granted list })
+found_on h (receives list) = found.Receives h (receiving.delivery_count list) (receiving.unused list)
+
+abbrev pub found_link : LinkPlace → LinkAt
+found_link nowhere = found.Nowhere
+found_link detaching = found.Detaching
+found_link (on h l) = found_on h l.happened
 
 -- The highest handle that the peer takes on the session of a channel of the router: that of its begin (2.7.2).
 abbrev pub handle_max_in : Perf → Option ℕ → Option ℕ

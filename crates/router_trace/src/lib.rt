@@ -4,6 +4,7 @@
 mod channel;
 mod condition;
 mod event;
+mod frames;
 mod handle;
 mod outgoing;
 mod router_id;
@@ -12,7 +13,8 @@ mod terms;
 pub use channel::PeerChannel;
 pub use condition::Condition;
 pub use event::{ConnectionId, Event, Peer, PeerRole};
-pub use handle::{Asked, Attachment, PeerHandle};
+pub use frames::{LinkState, MAX_MESSAGE_SIZE, answer_to, attach_item, link_flow_item, refusal_of};
+pub use handle::{Asked, Attachment, LinkAt, PeerHandle};
 pub use outgoing::Outgoing;
 pub use router_id::{
     HANDLE_MAX, MAX_FRAME_SIZE, RouterId, SESSION_WINDOW, beat_item, flow_item, header_item,

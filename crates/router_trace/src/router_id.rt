@@ -76,7 +76,7 @@ pub fn flow_item(own: u16, told: FlowState) -> Item
 }
 
 /// A frame on a channel.
-fn frame_on(channel: u16, perf: Perf) -> Item
+pub(crate) fn frame_on(channel: u16, perf: Perf) -> Item
     ensures { result ≡ frame_on channel perf }
 {
     Item::Frame {
@@ -166,7 +166,7 @@ impl RouterId {
     }
 
     /// An error that has its condition alone.
-    fn error_of(&self, condition: Condition) -> Result<Fault, AllocError>
+    pub(crate) fn error_of(&self, condition: Condition) -> Result<Fault, AllocError>
         ensures { IfOk result (λ error. error ≡ error_of condition) }
     {
         Ok(Fault {

@@ -1,0 +1,104 @@
+-- The frames of links that the router writes (AMQP 1.0 part 2, sections 2.7.3, 2.7.4 and 2.7.7).
+use Rattle.std.specs.Prelude.{ℕ, Bool, true, false, ◌==◌, nat_le, if◌then◌else◌, List, [], ◌∷◌, length, Option, Some, None, option_map}
+use Rattle.amqp_perf.specs.declared.perf.Attach.{Attach}
+use Rattle.amqp_perf.specs.declared.perf.Detach.{Detach}
+use Rattle.amqp_perf.specs.declared.perf.Flow.{Flow}
+use Rattle.amqp_perf.specs.declared.perf.Perf.{Perf}
+use Rattle.amqp_perf.specs.declared.perf.Perf.TheVariants as perf
+use Rattle.amqp_perf.specs.declared.perf.Role.{Role}
+use Rattle.amqp_perf.specs.declared.perf.Role.TheVariants.{Sender, Receiver}
+use Rattle.amqp_perf.specs.declared.terminus.Source.{Source as ASource}
+use Rattle.amqp_perf.specs.declared.terminus.SourceTerminus.{SourceTerminus}
+use Rattle.amqp_perf.specs.declared.terminus.SourceTerminus.TheVariants as source
+use Rattle.amqp_perf.specs.declared.terminus.Target.{Target as ATarget}
+use Rattle.amqp_perf.specs.declared.terminus.TargetTerminus.{TargetTerminus}
+use Rattle.amqp_perf.specs.declared.terminus.TargetTerminus.TheVariants as target
+use Rattle.amqp_frames.specs.declared.item.Item.{Item}
+use Rattle.amqp_frames.specs.ItemSpelling.{item_spelling}
+use Rattle.amqp_session.specs.declared.states.FlowState.{FlowState}
+use Rattle.router_trace.specs.declared.condition.Condition.{Condition}
+use Rattle.router_trace.specs.declared.frames.LinkState.{LinkState}
+use Rattle.router_trace.specs.Frames.{frame_on, error_of, session_flow}
+
+-- a detach on a handle of the router
+abbrev pub detach_item : ℕ → ℕ → Bool → Option Condition → Item
+detach_item own handle closed x = frame_on own (perf.Detach (record { handle = handle; closed = closed; error = option_map error_of x }))
+
+-- The answer to an attach: the name, the other role, both termini as they came, but that no filter is in place and that the
+-- router keeps no configuration of a terminus (durable 1 becomes 0).
+abbrev pub other : Role → Role
+other Sender = Receiver
+other Receiver = Sender
+
+abbrev pub kept : ℕ → ℕ
+kept durable = if durable == 1 then 0 else durable
+
+abbrev pub source_answer : Option SourceTerminus → Option SourceTerminus
+source_answer (Some (source.Source s)) = Some (source.Source (record s { durable = kept s.durable; filter = None }))
+source_answer s = s
+
+abbrev pub target_answer : Option TargetTerminus → Option TargetTerminus
+target_answer (Some (target.Target x)) = Some (target.Target (record x { durable = kept x.durable }))
+target_answer x = x
+
+-- As it sends, it begins at the delivery-count 0 and leaves it open whether it settles; as it receives, the first to settle is the
+-- peer, and a message has at most 65,536 bytes.
+abbrev pub sender_mode : Role → ℕ → ℕ
+sender_mode Sender mode = mode
+sender_mode Receiver mode = 2
+
+abbrev pub receiver_mode : Role → ℕ → ℕ
+receiver_mode Sender mode = 0
+receiver_mode Receiver mode = mode
+
+abbrev pub first_count : Role → Option ℕ
+first_count Sender = None
+first_count Receiver = Some 0
+
+abbrev pub largest_message : Role → Option ℕ
+largest_message Sender = Some 65536
+largest_message Receiver = None
+
+abbrev pub answer_to : Attach → ℕ → Attach
+answer_to a handle = record {
+  name = a.name;
+  handle = handle;
+  role = other a.role;
+  snd_settle_mode = sender_mode a.role a.snd_settle_mode;
+  rcv_settle_mode = receiver_mode a.role a.rcv_settle_mode;
+  source = source_answer a.source;
+  target = target_answer a.target;
+  unsettled = None;
+  incomplete_unsettled = false;
+  initial_delivery_count = first_count a.role;
+  max_message_size = largest_message a.role;
+  offered_capabilities = [];
+  desired_capabilities = [];
+  properties = None;
+}
+
+-- the same without the terminus at the router's side: the link is refused
+abbrev pub refused_source : Role → Option SourceTerminus → Option SourceTerminus
+refused_source Sender s = s
+refused_source Receiver s = None
+
+abbrev pub refused_target : Role → Option TargetTerminus → Option TargetTerminus
+refused_target Sender x = None
+refused_target Receiver x = x
+
+abbrev pub refusal_of : Attach → ℕ → Attach
+refusal_of a handle = record (answer_to a handle) { source = refused_source a.role (source_answer a.source); target = refused_target a.role (target_answer a.target) }
+
+abbrev pub attach_item : ℕ → Attach → Item
+attach_item own a = frame_on own (perf.Attach a)
+
+-- an item's frame is no longer than the peer takes
+abbrev pub fits : ℕ → Item → Bool
+fits largest i = nat_le (length (item_spelling i)) largest
+
+-- a flow of a link: the session's figures, and the link's
+abbrev pub link_flow : FlowState → LinkState → Flow
+link_flow told at = record (session_flow told) { handle = Some at.handle; delivery_count = Some at.count; link_credit = Some at.credit; drain = at.drain }
+
+abbrev pub link_flow_item : ℕ → FlowState → LinkState → Item
+link_flow_item own told at = frame_on own (perf.Flow (link_flow told at))

@@ -1,0 +1,167 @@
+//! The frames of links that the router writes.
+ghost use Rattle.std.specs.Prelude.{◌≡◌, IfOk};
+ghost use Rattle.router_trace.specs.LinkFrames.{detach_item, kept, source_answer, target_answer, other, sender_mode, receiver_mode, first_count, largest_message, answer_to, refusal_of, attach_item, link_flow_item};
+
+use crate::condition::Condition;
+use crate::router_id::{RouterId, SESSION_WINDOW, frame_on};
+use amqp_frames::Item;
+use amqp_perf::{Attach, Detach, Flow, Perf, Role, SourceTerminus, Symbols, TargetTerminus};
+use amqp_session::{FlowState, Serial};
+use std::alloc::{AllocError, Global};
+
+/// The largest message that the router takes, in bytes.
+pub const MAX_MESSAGE_SIZE: u64 = 65_536;
+
+/// What a flow tells of a link (AMQP 1.0 part 2, section 2.7.4).
+#[derive(Clone, Copy, Debug, PartialEq, Eq)]
+pub struct LinkState {
+    /// The router's handle of it.
+    pub handle: u32,
+    /// The sender's delivery-count.
+    pub count: Serial,
+    /// The credit of the link from there on.
+    pub credit: u32,
+    /// Whether the sender has used up, without deliveries, what credit it had.
+    pub drain: bool,
+}
+
+/// A flow of a link, on this channel of the router.
+pub fn link_flow_item(own: u16, told: FlowState, at: LinkState) -> Item
+    ensures { result ≡ link_flow_item own told at }
+{
+    frame_on(
+        own,
+        Perf::Flow(Flow {
+            next_incoming_id: told.next_incoming.map(Serial::number),
+            incoming_window: told.incoming_window,
+            next_outgoing_id: told.next_outgoing.number(),
+            outgoing_window: SESSION_WINDOW,
+            handle: Some(at.handle),
+            delivery_count: Some(at.count.number()),
+            link_credit: Some(at.credit),
+            available: None,
+            drain: at.drain,
+            echo: false,
+            properties: None,
+        }),
+    )
+}
+
+/// An attach of the router, on this channel of its own.
+pub fn attach_item(own: u16, attach: Attach) -> Item
+    ensures { result ≡ attach_item own attach }
+{
+    frame_on(own, Perf::Attach(attach))
+}
+
+impl RouterId {
+    /// A detach of the router on this channel and handle of its own, with an error or none (AMQP 1.0 part 2, section 2.7.7).
+    pub fn detach_item(
+        &self,
+        own: u16,
+        handle: u32,
+        closed: bool,
+        condition: Option<Condition>,
+    ) -> Result<Item, AllocError>
+        ensures { IfOk result (λ item. item ≡ detach_item own handle closed condition) }
+    {
+        let error = match condition {
+            None => None,
+            Some(condition) => Some(self.error_of(condition)?),
+        };
+        Ok(frame_on(
+            own,
+            Perf::Detach(Detach {
+                handle,
+                closed,
+                error,
+            }),
+        ))
+    }
+}
+
+/// What the router keeps of a terminus: of a configuration nothing.
+fn kept(durable: u32) -> u32
+    ensures { result ≡ kept durable }
+{
+    if durable == 1 { 0 } else { durable }
+}
+
+/// The source of an answer: as it came, without a filter.
+fn source_answer(source: Option<SourceTerminus>) -> Option<SourceTerminus>
+    ensures { result ≡ source_answer source }
+{
+    match source {
+        Some(SourceTerminus::Source(mut source)) => {
+            source.durable = kept(source.durable);
+            source.filter = None;
+            Some(SourceTerminus::Source(source))
+        }
+        source => source,
+    }
+}
+
+/// The target of an answer: as it came.
+fn target_answer(target: Option<TargetTerminus>) -> Option<TargetTerminus>
+    ensures { result ≡ target_answer target }
+{
+    match target {
+        Some(TargetTerminus::Target(mut target)) => {
+            target.durable = kept(target.durable);
+            Some(TargetTerminus::Target(target))
+        }
+        target => target,
+    }
+}
+
+/// The other role.
+fn other(role: Role) -> Role
+    ensures { result ≡ other role }
+{
+    match role {
+        Role::Sender => Role::Receiver,
+        Role::Receiver => Role::Sender,
+    }
+}
+
+/// The router's answer to an attach, on this handle of its own (AMQP 1.0 part 2, section 2.7.3): the name, the other role, both
+/// termini as they came, but that no filter is in place and no configuration of a terminus is kept.
+pub fn answer_to(alloc: Global, attach: Attach, handle: u32) -> Attach
+    ensures { result ≡ answer_to attach handle }
+{
+    let receives = attach.role == Role::Sender;
+    Attach {
+        name: attach.name,
+        handle,
+        role: other(attach.role),
+        snd_settle_mode: if receives { attach.snd_settle_mode } else { 2 },
+        rcv_settle_mode: if receives { 0 } else { attach.rcv_settle_mode },
+        source: source_answer(attach.source),
+        target: target_answer(attach.target),
+        unsettled: None,
+        incomplete_unsettled: false,
+        initial_delivery_count: if receives { None } else { Some(0) },
+        max_message_size: if receives {
+            Some(MAX_MESSAGE_SIZE)
+        } else {
+            None
+        },
+        offered_capabilities: Symbols::new(Vec::new(alloc)),
+        desired_capabilities: Symbols::new(Vec::new(alloc)),
+        properties: None,
+    }
+}
+
+/// The same of a link that is refused: without the terminus at the router's side.
+pub fn refusal_of(alloc: Global, attach: Attach, handle: u32) -> Attach
+    ensures { result ≡ refusal_of attach handle }
+{
+    let receives = attach.role == Role::Sender;
+    let mut answer = answer_to(alloc, attach, handle);
+    if receives {
+        answer.target = None;
+    } else {
+        answer.source = None;
+    }
+    answer
+}
