@@ -1,3 +1,4 @@
+pub mod LinkRows
 pub mod Rows
 pub mod Replies
 pub use Rattle.router_trace.specs.Trace
@@ -11,3 +12,6 @@ pub use Rattle.router_trace.specs.Sessions
 pub use Rattle.router_trace.specs.Clocks
 pub use Rattle.router_conns.specs.Timing
 pub use Rattle.router_sessions.specs.Windows
+pub use Rattle.router_trace.specs.Links
+pub use Rattle.router_trace.specs.LinkFrames
+pub use Rattle.router_trace.specs.Peers

@@ -2,10 +2,13 @@
 -- phase, what stands on the item's channel, and the lowest channel that is free for a session (AMQP 1.0 part 2, sections 2.2,
 -- 2.4, 2.5 and 2.7).
 use Rattle.std.specs.Prelude.{ℕ, Bool, nat_lt, if◌then◌else◌, List, [], ◌∷◌, length, Option, Some, None, Result, Ok, Err}
+use Rattle.amqp_perf.specs.declared.perf.Attach.{Attach as AnAttach}
 use Rattle.amqp_perf.specs.declared.perf.Begin.{Begin as ABegin}
+use Rattle.amqp_perf.specs.declared.perf.Detach.{Detach as ADetach}
 use Rattle.amqp_perf.specs.declared.perf.Flow.{Flow as AFlow}
 use Rattle.amqp_perf.specs.declared.perf.Open.{Open as AnOpen}
 use Rattle.amqp_perf.specs.declared.perf.Perf.{Perf}
+use Rattle.amqp_perf.specs.declared.perf.Transfer.{Transfer as ATransfer}
 use Rattle.amqp_perf.specs.declared.perf.Perf.TheVariants as perf
 use Rattle.amqp_frames.specs.declared.fault.FrameFault.{FrameFault}
 use Rattle.amqp_frames.specs.declared.fault.FrameFault.TheVariants as fault
@@ -19,11 +22,12 @@ use Rattle.amqp_session.specs.Session.{Session, TheirFlow}
 use Rattle.router_trace.specs.declared.condition.Condition.{Condition}
 use Rattle.router_trace.specs.declared.condition.Condition.TheVariants.{NotAllowed, FramingError, DecodeError, ResourceLimitExceeded, NotImplemented, UnattachedHandle}
 use Rattle.router_trace.specs.Frames.{header_item, open_item, close_item, begin_item, end_item, flow_item, closing, told_of}
+use Rattle.router_trace.specs.LinkFrames.{detach_item, link_flow_item}
+use Rattle.router_trace.specs.Links.{LinkPlace}
 use Rattle.router_trace.specs.Sessions.{Place, nowhere, ending, on, flow_state}
-use Rattle.router_sessions.specs.declared.place.Place.{Place as Found}
-use Rattle.router_sessions.specs.declared.place.Place.TheVariants as found
+use Rattle.router_reply.specs.LinkRows.{session_attach_reply, session_detach_reply, link_flow_reply, session_transfer_reply}
 use Rattle.router_reply.specs.declared.answer.Answer.{Answer}
-use Rattle.router_reply.specs.declared.answer.Answer.TheVariants.{Nothing, Header, Open, Close, CloseWith, Begin, End, Flow}
+use Rattle.router_reply.specs.declared.answer.Answer.TheVariants.{Nothing, Header, Open, Close, CloseWith, Begin, End, Flow, Detach, LinkFlow}
 
 -- the items that say an answer, on a connection in this phase
 abbrev pub said : List ℕ → Conn → Answer → List Item
@@ -35,6 +39,9 @@ said id p (CloseWith x) = closing id p x
 said id p (Begin own theirs) = begin_item own theirs ∷ []
 said id p (End own x) = end_item own x ∷ []
 said id p (Flow own told) = flow_item own told ∷ []
+said id p (Detach own handle closed x) = detach_item own handle closed x ∷ []
+said id p (LinkFlow own told at) = link_flow_item own told at ∷ []
+said id p _ = []
 
 -- a header: the first is answered by the header, a later one is a framing error
 abbrev pub header_by : Result Conn ConnFault → Answer
@@ -110,33 +117,37 @@ end_reply nowhere = no_session_reply
 end_reply ending = silent_reply
 end_reply (on own h) = End own None
 
--- a frame that names a handle: no link is attached
-abbrev pub unattached_handle_reply : Place → Answer
-unattached_handle_reply nowhere = no_session_reply
-unattached_handle_reply ending = silent_reply
-unattached_handle_reply (on own h) = End own (Some UnattachedHandle)
-
 -- a flow without handle: the router's flow where one is wanted, with the figures behind it
 abbrev pub echo : Bool → ℕ → Session → Answer
 echo wanted own h = if wanted then Flow own (told_of h) else silent_reply
 
-abbrev pub session_flow_reply : Place → AFlow → Answer
-session_flow_reply nowhere f = no_session_reply
-session_flow_reply ending f = silent_reply
-session_flow_reply (on own h) f = echo f.echo own (TheirFlow (flow_state f) ∷ h)
+-- a flow, an attach, a transfer and a detach, where the handles of a session stand for these links
+abbrev pub Links : Type 0
+Links = ℕ → ℕ → LinkPlace
 
-abbrev pub flow_by : Place → AFlow → Option ℕ → Answer
-flow_by at f None = session_flow_reply at f
-flow_by at f (Some handle) = unattached_handle_reply at
+abbrev pub flow_on : ℕ → Session → (ℕ → LinkPlace) → AFlow → Option ℕ → Answer
+flow_on own h links f None = echo f.echo own (TheirFlow (flow_state f) ∷ h)
+flow_on own h links f (Some handle) = link_flow_reply own h (links handle) f
 
-abbrev pub flow_reply : Place → AFlow → Answer
-flow_reply at f = flow_by at f f.handle
+abbrev pub flow_reply : Place → Links → AFlow → Answer
+flow_reply nowhere links f = no_session_reply
+flow_reply ending links f = silent_reply
+flow_reply (on own h) links f = flow_on own h (links own) f f.handle
 
--- an attach: links aren't served yet
-abbrev pub attach_reply : Place → Answer
-attach_reply nowhere = no_session_reply
-attach_reply ending = silent_reply
-attach_reply (on own h) = End own (Some NotImplemented)
+abbrev pub attach_reply : Place → Links → (ℕ → Option ℕ) → AnAttach → Answer
+attach_reply nowhere links free a = no_session_reply
+attach_reply ending links free a = silent_reply
+attach_reply (on own h) links free a = session_attach_reply own (links own a.handle) (free own) a
+
+abbrev pub transfer_reply : Place → Links → ATransfer → Answer
+transfer_reply nowhere links x = no_session_reply
+transfer_reply ending links x = silent_reply
+transfer_reply (on own h) links x = session_transfer_reply own h (links own x.handle) x
+
+abbrev pub detach_reply : Place → Links → ADetach → Answer
+detach_reply nowhere links x = no_session_reply
+detach_reply ending links x = silent_reply
+detach_reply (on own h) links x = session_detach_reply own (links own x.handle) x
 
 -- a disposition names no delivery
 abbrev pub disposition_reply : Place → Answer
@@ -144,39 +155,41 @@ disposition_reply nowhere = no_session_reply
 disposition_reply ending = silent_reply
 disposition_reply (on own h) = silent_reply
 
+-- What an item finds: what stands on the channels of the peer, the lowest free channel of the router, what the peer's handles stand for
+-- on the sessions of the router's channels, and the lowest free handle of the router on each.
+pub record Finds : Type 0 where
+  pub places : ℕ → Place
+  pub free_channel : Option ℕ
+  pub links : Links
+  pub free_handle : ℕ → Option ℕ
+
 -- a performative other than open, in its turn and on a channel in range, or not
-abbrev pub in_turn : Place → Option ℕ → ℕ → Perf → Answer
-in_turn at free channel (perf.Begin b) = begin_reply at free channel b
-in_turn at free channel (perf.Attach x) = attach_reply at
-in_turn at free channel (perf.Flow f) = flow_reply at f
-in_turn at free channel (perf.Transfer x) = unattached_handle_reply at
-in_turn at free channel (perf.Disposition x) = disposition_reply at
-in_turn at free channel (perf.Detach x) = unattached_handle_reply at
-in_turn at free channel (perf.End x) = end_reply at
-in_turn at free channel (perf.Close x) = close_reply
-in_turn at free channel _ = early_frame_reply
+abbrev pub in_turn : Finds → ℕ → Perf → Answer
+in_turn k channel (perf.Begin b) = begin_reply (k.places channel) k.free_channel channel b
+in_turn k channel (perf.Attach a) = attach_reply (k.places channel) k.links k.free_handle a
+in_turn k channel (perf.Flow f) = flow_reply (k.places channel) k.links f
+in_turn k channel (perf.Transfer x) = transfer_reply (k.places channel) k.links x
+in_turn k channel (perf.Disposition x) = disposition_reply (k.places channel)
+in_turn k channel (perf.Detach x) = detach_reply (k.places channel) k.links x
+in_turn k channel (perf.End x) = end_reply (k.places channel)
+in_turn k channel (perf.Close x) = close_reply
+in_turn k channel _ = early_frame_reply
 
 abbrev pub out_of_turn : ConnFault → Answer
 out_of_turn ChannelTooHigh = channel_reply
 out_of_turn _ = early_frame_reply
 
-abbrev pub turn_by : Place → Option ℕ → ℕ → Perf → Result Conn ConnFault → Answer
-turn_by at free channel body (Ok q) = in_turn at free channel body
-turn_by at free channel body (Err f) = out_of_turn f
+abbrev pub turn_by : Finds → ℕ → Perf → Result Conn ConnFault → Answer
+turn_by k channel body (Ok q) = in_turn k channel body
+turn_by k channel body (Err f) = out_of_turn f
 
-abbrev pub perf_reply : Conn → (ℕ → Place) → Option ℕ → ℕ → Perf → Answer
-perf_reply p known free channel (perf.Open o) = open_reply p o
-perf_reply p known free channel body = turn_by (known channel) free channel body (after_frame channel p)
+abbrev pub perf_reply : Conn → Finds → ℕ → Perf → Answer
+perf_reply p k channel (perf.Open o) = open_reply p o
+perf_reply p k channel body = turn_by k channel body (after_frame channel p)
 
 -- an item on a live connection in this phase
-abbrev pub item_reply : Conn → (ℕ → Place) → Option ℕ → Item → Answer
-item_reply p known free (item.Header i major minor revision) = header_reply p
-item_reply p known free (item.Frame sasl channel body payload) = if sasl then early_frame_reply else perf_reply p known free channel body
-item_reply p known free (item.Beat channel) = beat_reply channel
-item_reply p known free (item.Bad f) = bad_frame_reply f
-
--- the end of what was found on a channel, with an error
-abbrev pub ended_with : Found → Condition → Answer
-ended_with found.Nowhere x = no_session_reply
-ended_with found.Ending x = silent_reply
-ended_with (found.On own window) x = End own (Some x)
+abbrev pub item_reply : Conn → Finds → Item → Answer
+item_reply p k (item.Header i major minor revision) = header_reply p
+item_reply p k (item.Frame sasl channel body payload) = if sasl then early_frame_reply else perf_reply p k channel body
+item_reply p k (item.Beat channel) = beat_reply channel
+item_reply p k (item.Bad f) = bad_frame_reply f

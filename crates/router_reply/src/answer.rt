@@ -1,6 +1,6 @@
 //! What the rows of the reply table answer.
 use amqp_session::FlowState;
-use router_trace::Condition;
+use router_trace::{Condition, LinkState};
 
 /// What a row of the reply table answers to an item.
 #[derive(Clone, Copy, Debug, PartialEq, Eq)]
@@ -35,5 +35,39 @@ pub enum Answer {
         own: u16,
         /// What it tells.
         told: FlowState,
+    },
+    /// The answer to an attach that is taken; an older link of its key is detached before.
+    Attach {
+        /// The router's channel of the session.
+        own: u16,
+    },
+    /// The answer to an attach that is refused, and the detach behind it.
+    Refuse {
+        /// The router's channel of the session.
+        own: u16,
+        /// The router's handle of the link.
+        handle: u32,
+        /// The error.
+        error: Condition,
+    },
+    /// The router's detach, with an error or none.
+    Detach {
+        /// The router's channel of the session.
+        own: u16,
+        /// The router's handle of the link.
+        handle: u32,
+        /// Whether the link is over for good.
+        closed: bool,
+        /// The error.
+        error: Option<Condition>,
+    },
+    /// A flow of a link.
+    LinkFlow {
+        /// The router's channel of the session.
+        own: u16,
+        /// What it tells of the session.
+        told: FlowState,
+        /// What it tells of the link.
+        at: LinkState,
     },
 }

@@ -5,8 +5,10 @@ mod answer;
 mod closing;
 mod deciding;
 mod events;
+mod link_rows;
 mod rows;
 
 pub use answer::Answer;
 pub use events::reply;
+pub use link_rows::LINK_TEXT;
 pub use rows::CONTAINER_ID;

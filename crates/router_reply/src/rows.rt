@@ -1,9 +1,12 @@
 //! The rows of the reply table, a function each: what the router answers to an item on a live connection, by what the item
 //! finds.
-ghost use Rattle.std.specs.Prelude.{◌≡◌};
+ghost use Rattle.std.specs.Prelude.{◌≡◌, ◌∷◌};
 ghost use Rattle.router_trace.specs.Sessions.{Place as At};
 ghost use Rattle.router_sessions.specs.Fits.{found_of};
-ghost use Rattle.router_reply.specs.Rows.{header_reply, bad_frame_reply, open_reply, early_frame_reply, channel_reply, no_session_reply, close_reply, beat_reply, begin_reply, begin_by, end_reply, unattached_handle_reply, session_flow_reply, flow_reply, attach_reply, disposition_reply, condition_of, ended_with};
+ghost use Rattle.router_reply.specs.Rows.{header_reply, bad_frame_reply, open_reply, early_frame_reply, channel_reply, no_session_reply, close_reply, beat_reply, begin_reply, begin_by, end_reply, echo, disposition_reply, condition_of};
+ghost use Rattle.amqp_session.specs.Session.{Session, TheirFlow};
+ghost use Rattle.amqp_session.specs.Figures.{window_of};
+ghost use Rattle.router_trace.specs.Sessions.{flow_state};
 
 use crate::answer::Answer;
 use amqp_conn::Conn;
@@ -11,6 +14,7 @@ use amqp_conn::conn::CHANNEL_MAX;
 use amqp_frames::FrameFault;
 use amqp_perf::{Begin, Flow, Open};
 use router_sessions::{Place, flow_state};
+use amqp_session::Window;
 use router_trace::{Condition, SESSION_WINDOW};
 
 /// The longest container-id that the router takes, in bytes.
@@ -142,64 +146,20 @@ pub fn end_reply(place: Place) -> Answer
     }
 }
 
-/// A frame that names a handle: no link is attached, so the session ends with `amqp:session:unattached-handle`.
-pub fn unattached_handle_reply(place: Place) -> Answer
-    ensures { (at : At) → place ≡ found_of at → result ≡ unattached_handle_reply at }
-{
-    end_with(place, Condition::UnattachedHandle)
-}
-
-/// A session's end with an error; a close with `amqp:not-allowed` where there is no session, and nothing where the router
-/// ended it.
-fn end_with(place: Place, error: Condition) -> Answer
-    ensures { result ≡ ended_with place error }
-{
-    match place {
-        Place::Nowhere => no_session_reply(),
-        Place::Ending => Answer::Nothing,
-        Place::On { own, .. } => Answer::End {
-            own,
-            error: Some(error),
-        },
-    }
-}
-
 /// A flow without handle: where one is wanted, the router's flow with the session's figures behind it (AMQP 1.0 part 2,
 /// sections 2.5.6 and 2.7.4).
-pub fn session_flow_reply(place: Place, flow: &Flow) -> Answer
-    ensures { (at : At) → place ≡ found_of at → result ≡ session_flow_reply at flow.now }
+pub fn session_flow_reply(own: u16, window: Window, flow: &Flow) -> Answer
+    ensures { (h : Session) → window ≡ window_of h → result ≡ echo flow.now.echo own (TheirFlow (flow_state flow.now) ∷ h) }
 {
-    match place {
-        Place::Nowhere => no_session_reply(),
-        Place::Ending => Answer::Nothing,
-        Place::On { own, mut window } => {
-            if !flow.echo {
-                return Answer::Nothing;
-            }
-            window.on_flow(flow_state(flow));
-            Answer::Flow {
-                own,
-                told: window.flow_state(SESSION_WINDOW),
-            }
-        }
+    if !flow.echo {
+        return Answer::Nothing;
     }
-}
-
-/// A flow; one with a handle names no link that is attached.
-pub fn flow_reply(place: Place, flow: &Flow) -> Answer
-    ensures { (at : At) → place ≡ found_of at → result ≡ flow_reply at flow.now }
-{
-    match flow.handle {
-        None => session_flow_reply(place, flow),
-        Some(_) => unattached_handle_reply(place),
+    let mut window = window;
+    window.on_flow(flow_state(flow));
+    Answer::Flow {
+        own,
+        told: window.flow_state(SESSION_WINDOW),
     }
-}
-
-/// An attach: links aren't served yet, so the session ends with `amqp:not-implemented`.
-pub fn attach_reply(place: Place) -> Answer
-    ensures { (at : At) → place ≡ found_of at → result ≡ attach_reply at }
-{
-    end_with(place, Condition::NotImplemented)
 }
 
 /// A disposition: it names no delivery.

@@ -62,7 +62,7 @@ impl Sessions {
     }
 
     /// The lowest of the router's channels that the peer takes too and on which no session stands.
-    #[tactic(auto, unfolding(router_trace::specs::ConnectionSessions::free_channel))]
+    #[tactic(auto, unfolding(router_trace::specs::Sessions::free_channel))]
     pub fn free_channel(&self, conn: u64, channel_max: u16) -> Option<u16>
         ensures { (t : List Entry) → SessionsFit self.now t → result ≡ free_channel t conn channel_max }
     {

@@ -7,7 +7,7 @@ use crate::router_id::{RouterId, SESSION_WINDOW, frame_on};
 use amqp_frames::Item;
 use amqp_perf::{Attach, Detach, Flow, Perf, Role, SourceTerminus, Symbols, TargetTerminus};
 use amqp_session::{FlowState, Serial};
-use std::alloc::{AllocError, Global};
+use std::alloc::AllocError;
 
 /// The largest message that the router takes, in bytes.
 pub const MAX_MESSAGE_SIZE: u64 = 65_536;
@@ -124,44 +124,46 @@ fn other(role: Role) -> Role
     }
 }
 
-/// The router's answer to an attach, on this handle of its own (AMQP 1.0 part 2, section 2.7.3): the name, the other role, both
-/// termini as they came, but that no filter is in place and no configuration of a terminus is kept.
-pub fn answer_to(alloc: Global, attach: Attach, handle: u32) -> Attach
-    ensures { result ≡ answer_to attach handle }
-{
-    let receives = attach.role == Role::Sender;
-    Attach {
-        name: attach.name,
-        handle,
-        role: other(attach.role),
-        snd_settle_mode: if receives { attach.snd_settle_mode } else { 2 },
-        rcv_settle_mode: if receives { 0 } else { attach.rcv_settle_mode },
-        source: source_answer(attach.source),
-        target: target_answer(attach.target),
-        unsettled: None,
-        incomplete_unsettled: false,
-        initial_delivery_count: if receives { None } else { Some(0) },
-        max_message_size: if receives {
-            Some(MAX_MESSAGE_SIZE)
-        } else {
-            None
-        },
-        offered_capabilities: Symbols::new(Vec::new(alloc)),
-        desired_capabilities: Symbols::new(Vec::new(alloc)),
-        properties: None,
+impl RouterId {
+    /// The router's answer to an attach, on this handle of its own (AMQP 1.0 part 2, section 2.7.3): the name, the other role, both
+    /// termini as they came, but that no filter is in place and no configuration of a terminus is kept.
+    pub fn answer_to(&self, attach: Attach, handle: u32) -> Attach
+        ensures { result ≡ answer_to attach handle }
+    {
+        let receives = attach.role == Role::Sender;
+        Attach {
+            name: attach.name,
+            handle,
+            role: other(attach.role),
+            snd_settle_mode: if receives { attach.snd_settle_mode } else { 2 },
+            rcv_settle_mode: if receives { 0 } else { attach.rcv_settle_mode },
+            source: source_answer(attach.source),
+            target: target_answer(attach.target),
+            unsettled: None,
+            incomplete_unsettled: false,
+            initial_delivery_count: if receives { None } else { Some(0) },
+            max_message_size: if receives {
+                Some(MAX_MESSAGE_SIZE)
+            } else {
+                None
+            },
+            offered_capabilities: Symbols::new(Vec::new(self.alloc())),
+            desired_capabilities: Symbols::new(Vec::new(self.alloc())),
+            properties: None,
+        }
     }
-}
 
-/// The same of a link that is refused: without the terminus at the router's side.
-pub fn refusal_of(alloc: Global, attach: Attach, handle: u32) -> Attach
-    ensures { result ≡ refusal_of attach handle }
-{
-    let receives = attach.role == Role::Sender;
-    let mut answer = answer_to(alloc, attach, handle);
-    if receives {
-        answer.target = None;
-    } else {
-        answer.source = None;
+    /// The same of a link that is refused: without the terminus at the router's side.
+    pub fn refusal_of(&self, attach: Attach, handle: u32) -> Attach
+        ensures { result ≡ refusal_of attach handle }
+    {
+        let receives = attach.role == Role::Sender;
+        let mut answer = self.answer_to(attach, handle);
+        if receives {
+            answer.target = None;
+        } else {
+            answer.source = None;
+        }
+        answer
     }
-    answer
 }

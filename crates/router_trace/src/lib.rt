@@ -13,7 +13,7 @@ mod terms;
 pub use channel::PeerChannel;
 pub use condition::Condition;
 pub use event::{ConnectionId, Event, Peer, PeerRole};
-pub use frames::{LinkState, MAX_MESSAGE_SIZE, answer_to, attach_item, link_flow_item, refusal_of};
+pub use frames::{LinkState, MAX_MESSAGE_SIZE, attach_item, link_flow_item};
 pub use handle::{Asked, Attachment, LinkAt, PeerHandle};
 pub use outgoing::Outgoing;
 pub use router_id::{

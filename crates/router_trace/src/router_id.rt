@@ -105,6 +105,11 @@ impl RouterId {
         })
     }
 
+    /// Where what the router writes is allocated.
+    pub(crate) fn alloc(&self) -> Global {
+        self.alloc
+    }
+
     /// The router's open (AMQP 1.0 part 2, section 2.7.1).
     pub fn open_item(&self) -> Result<Item, AllocError>
         ensures { IfOk result (λ item. item ≡ open_item self.now) }
