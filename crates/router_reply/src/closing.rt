@@ -9,7 +9,7 @@ ghost use Rattle.router_reply.specs.Replies.{ends};
 use crate::answer::Answer;
 use amqp_conn::Conn;
 use router_state::State;
-use router_trace::{Condition, RouterId, flow_item, header_item};
+use router_trace::{Condition, RouterId, flow_item, header_item, link_flow_item};
 use std::alloc::AllocError;
 
 /// Closes a connection in this phase with an error; the router's open stands before the close where it isn't written
@@ -90,6 +90,17 @@ pub fn say(
             state.put(conn, item)?;
         }
         Answer::Flow { own, told } => state.put(conn, flow_item(own, told))?,
+        Answer::Detach {
+            own,
+            handle,
+            closed,
+            error,
+        } => {
+            let item = id.detach_item(own, handle, closed, error)?;
+            state.put(conn, item)?;
+        }
+        Answer::LinkFlow { own, told, at } => state.put(conn, link_flow_item(own, told, at))?,
+        Answer::Attach { .. } | Answer::Refuse { .. } => {}
     }
     Ok(())
 }

@@ -2,35 +2,104 @@
 ghost use Rattle.std.specs.Prelude.{◌≡◌, ℕ, List};
 ghost use Rattle.amqp_conn.specs.Phase.{after_frame};
 ghost use Rattle.router_trace.specs.Trace.{Entry};
-ghost use Rattle.router_trace.specs.Sessions.{place};
+ghost use Rattle.router_trace.specs.Sessions.{Place as At};
+ghost use Rattle.router_trace.specs.Links.{link_place, free_handle};
+ghost use Rattle.router_sessions.specs.Fits.{found_of};
 ghost use Rattle.router_state.specs.Tables.{TablesAt};
-ghost use Rattle.router_reply.specs.Rows.{in_turn, turn_by, perf_reply, item_reply};
-ghost use Rattle.router_reply.specs.Replies.{free_for};
+ghost use Rattle.router_reply.specs.Rows.{attach_reply, flow_reply, transfer_reply, detach_reply, in_turn, turn_by, perf_reply, item_reply};
+ghost use Rattle.router_reply.specs.Replies.{finds};
 ghost use Rattle.router_trace.specs.declared.event.Event.{Event as E};
 
 use crate::answer::Answer;
+use crate::link_rows::{
+    link_flow_reply, session_attach_reply, session_detach_reply, session_transfer_reply,
+};
 use crate::rows::{
-    attach_reply, bad_frame_reply, beat_reply, begin_reply, channel_reply, close_reply,
-    disposition_reply, early_frame_reply, end_reply, flow_reply, header_reply, open_reply,
-    unattached_handle_reply,
+    bad_frame_reply, beat_reply, begin_reply, channel_reply, close_reply, disposition_reply,
+    early_frame_reply, end_reply, header_reply, no_session_reply, open_reply, session_flow_reply,
 };
 use amqp_conn::{Conn, ConnFault};
 use amqp_frames::Item;
-use amqp_perf::Perf;
+use amqp_perf::{Attach, Detach, Flow, Perf, Transfer};
+use router_sessions::Place;
 use router_state::State;
+
+/// An attach on what was found on its channel.
+fn attach_reply(state: &State, conn: u64, place: Place, attach: &Attach) -> Answer
+    ensures { (t : List Entry) (e : E) (ends : List ℕ) (at : At) → TablesAt state.now t e ends → place ≡ found_of at
+        → result ≡ attach_reply at (link_place t conn) (free_handle t conn) attach.now }
+{
+    match place {
+        Place::Nowhere => no_session_reply(),
+        Place::Ending => Answer::Nothing,
+        Place::On { own, .. } => {
+            let at = state.link_place(conn, own, attach.handle);
+            let free = state.free_handle(conn, own);
+            session_attach_reply(own, at, free, attach)
+        }
+    }
+}
+
+/// A flow on what was found on its channel.
+fn flow_reply(state: &State, conn: u64, place: Place, flow: &Flow) -> Answer
+    ensures { (t : List Entry) (e : E) (ends : List ℕ) (at : At) → TablesAt state.now t e ends → place ≡ found_of at
+        → result ≡ flow_reply at (link_place t conn) flow.now }
+{
+    match place {
+        Place::Nowhere => no_session_reply(),
+        Place::Ending => Answer::Nothing,
+        Place::On { own, window } => match flow.handle {
+            None => session_flow_reply(own, window, flow),
+            Some(handle) => {
+                let at = state.link_place(conn, own, handle);
+                link_flow_reply(own, window, at, flow)
+            }
+        },
+    }
+}
+
+/// A transfer on what was found on its channel.
+fn transfer_reply(state: &State, conn: u64, place: Place, transfer: &Transfer) -> Answer
+    ensures { (t : List Entry) (e : E) (ends : List ℕ) (at : At) → TablesAt state.now t e ends → place ≡ found_of at
+        → result ≡ transfer_reply at (link_place t conn) transfer.now }
+{
+    match place {
+        Place::Nowhere => no_session_reply(),
+        Place::Ending => Answer::Nothing,
+        Place::On { own, window } => {
+            let at = state.link_place(conn, own, transfer.handle);
+            session_transfer_reply(own, window, at, transfer)
+        }
+    }
+}
+
+/// A detach on what was found on its channel.
+fn detach_reply(state: &State, conn: u64, place: Place, detach: &Detach) -> Answer
+    ensures { (t : List Entry) (e : E) (ends : List ℕ) (at : At) → TablesAt state.now t e ends → place ≡ found_of at
+        → result ≡ detach_reply at (link_place t conn) detach.now }
+{
+    match place {
+        Place::Nowhere => no_session_reply(),
+        Place::Ending => Answer::Nothing,
+        Place::On { own, .. } => {
+            let at = state.link_place(conn, own, detach.handle);
+            session_detach_reply(own, at, detach)
+        }
+    }
+}
 
 /// A performative other than open in its turn.
 fn in_turn(state: &State, conn: u64, channel: u16, perf: &Perf) -> Answer
-    ensures { (t : List Entry) (e : E) (ends : List ℕ) → TablesAt state.now t e ends → result ≡ in_turn (place t conn channel) (free_for t conn) channel perf.now }
+    ensures { (t : List Entry) (e : E) (ends : List ℕ) → TablesAt state.now t e ends → result ≡ in_turn (finds t conn) channel perf.now }
 {
     let place = state.place(conn, channel);
     match perf {
         Perf::Begin(begin) => begin_reply(place, state.free_channel(conn), channel, begin),
-        Perf::Attach(_) => attach_reply(place),
-        Perf::Flow(flow) => flow_reply(place, flow),
-        Perf::Transfer(_) => unattached_handle_reply(place),
+        Perf::Attach(attach) => attach_reply(state, conn, place, attach),
+        Perf::Flow(flow) => flow_reply(state, conn, place, flow),
+        Perf::Transfer(transfer) => transfer_reply(state, conn, place, transfer),
         Perf::Disposition(_) => disposition_reply(place),
-        Perf::Detach(_) => unattached_handle_reply(place),
+        Perf::Detach(detach) => detach_reply(state, conn, place, detach),
         Perf::End(_) => end_reply(place),
         Perf::Close(_) => close_reply(),
         _ => early_frame_reply(),
@@ -40,7 +109,7 @@ fn in_turn(state: &State, conn: u64, channel: u16, perf: &Perf) -> Answer
 /// A performative other than open, on this channel.
 fn turn_by(state: &State, conn: u64, phase: Conn, channel: u16, perf: &Perf) -> Answer
     ensures { (t : List Entry) (e : E) (ends : List ℕ) → TablesAt state.now t e ends
-        → result ≡ turn_by (place t conn channel) (free_for t conn) channel perf.now (after_frame channel phase) }
+        → result ≡ turn_by (finds t conn) channel perf.now (after_frame channel phase) }
 {
     match phase.take_frame(channel) {
         Ok(()) => in_turn(state, conn, channel, perf),
@@ -51,7 +120,7 @@ fn turn_by(state: &State, conn: u64, phase: Conn, channel: u16, perf: &Perf) -> 
 
 /// A performative in a frame that is no SASL frame.
 fn perf_reply(state: &State, conn: u64, phase: Conn, channel: u16, perf: &Perf) -> Answer
-    ensures { (t : List Entry) (e : E) (ends : List ℕ) → TablesAt state.now t e ends → result ≡ perf_reply phase (place t conn) (free_for t conn) channel perf.now }
+    ensures { (t : List Entry) (e : E) (ends : List ℕ) → TablesAt state.now t e ends → result ≡ perf_reply phase (finds t conn) channel perf.now }
 {
     match perf {
         Perf::Open(open) => open_reply(phase, open),
@@ -61,7 +130,7 @@ fn perf_reply(state: &State, conn: u64, phase: Conn, channel: u16, perf: &Perf) 
 
 /// What the router answers to an item on a live connection in this phase.
 pub fn item_reply(state: &State, conn: u64, phase: Conn, item: &Item) -> Answer
-    ensures { (t : List Entry) (e : E) (ends : List ℕ) → TablesAt state.now t e ends → result ≡ item_reply phase (place t conn) (free_for t conn) item.now }
+    ensures { (t : List Entry) (e : E) (ends : List ℕ) → TablesAt state.now t e ends → result ≡ item_reply phase (finds t conn) item.now }
 {
     match item {
         Item::Header { .. } => header_reply(phase),

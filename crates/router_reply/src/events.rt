@@ -6,6 +6,7 @@ ghost use Rattle.router_state.specs.Tables.{TablesFit, TablesAt};
 ghost use Rattle.router_reply.specs.Replies.{replied, heard};
 ghost use Rattle.router_trace.specs.declared.event.Event.TheVariants as event;
 
+use crate::attaching::put_links;
 use crate::closing::{close_all, say};
 use crate::deciding::item_reply;
 use amqp_frames::Item;
@@ -34,17 +35,18 @@ fn on_item(
     id: &RouterId,
     ends: &[u64],
     conn: ConnectionId,
-    item: &Item,
+    item: Item,
 ) -> Result<(), AllocError>
-    ensures { OnOk result ((t : List Entry) → TablesAt state.old t (event.Item conn item.now) ends.now → TablesFit state.new (replied id.now t (step_of (event.Item conn item.now)))) }
+    ensures { OnOk result ((t : List Entry) → TablesAt state.old t (event.Item conn item) ends.now → TablesFit state.new (replied id.now t (step_of (event.Item conn item)))) }
 {
     let Some(phase) = state.standing(conn.0) else {
-        hear_item(state, id, ends, conn, item)?;
+        hear_item(state, id, ends, conn, &item)?;
         return Ok(());
     };
-    let answer = item_reply(state, conn.0, phase, item);
-    hear_item(state, id, ends, conn, item)?;
+    let answer = item_reply(state, conn.0, phase, &item);
+    hear_item(state, id, ends, conn, &item)?;
     say(state, id, conn.0, phase, answer)?;
+    put_links(state, id, conn.0, item, answer)?;
     Ok(())
 }
 
@@ -114,15 +116,15 @@ pub fn reply(
     state: &mut State,
     id: &RouterId,
     ends: &[u64],
-    event: &Event,
+    event: Event,
 ) -> Result<(), AllocError>
-    ensures { OnOk result ((t : List Entry) → TablesAt state.old t event.now ends.now → refuses t event.now ≡ false → TablesFit state.new (replied id.now t (step_of event.now))) }
+    ensures { OnOk result ((t : List Entry) → TablesAt state.old t event ends.now → refuses t event ≡ false → TablesFit state.new (replied id.now t (step_of event))) }
 {
     match event {
-        Event::Up(conn, peer) => on_up(state, id, ends, *conn, peer)?,
-        Event::Item(conn, item) => on_item(state, id, ends, *conn, item)?,
-        Event::Down(conn) => on_down(state, id, ends, *conn)?,
-        Event::Tick(moment) => on_tick(state, id, ends, *moment)?,
+        Event::Up(conn, peer) => on_up(state, id, ends, conn, &peer)?,
+        Event::Item(conn, item) => on_item(state, id, ends, conn, item)?,
+        Event::Down(conn) => on_down(state, id, ends, conn)?,
+        Event::Tick(moment) => on_tick(state, id, ends, moment)?,
         Event::Start => on_start(state, id, ends)?,
     }
     Ok(())

@@ -2,6 +2,7 @@
 #![tactic(auto)]
 
 mod answer;
+mod attaching;
 mod closing;
 mod deciding;
 mod events;

@@ -106,7 +106,7 @@ impl RouterId {
     }
 
     /// Where what the router writes is allocated.
-    pub(crate) fn alloc(&self) -> Global {
+    pub fn alloc(&self) -> Global {
         self.alloc
     }
 

@@ -2,12 +2,11 @@ use Rattle.std.proofs.Common.{◌∙◌, ap, sym}
 use Rattle.std.specs.Prelude.{Result}
 use Rattle.amqp_conn.specs.declared.conn.Conn.{Conn}
 use Rattle.amqp_conn.specs.declared.fault.ConnFault.{ConnFault}
-use Rattle.router_trace.specs.Sessions.{place}
 use Rattle.router_reply.specs.Rows.{turn_by}
-use Rattle.router_reply.specs.Replies.{free_for}
+use Rattle.router_reply.specs.Replies.{finds}
 use Rattle.router_reply.proofs.deciding.turn_by.Goals as goal
 
 pub returns-in-Ok : goal.returns-in-Ok
 returns-in-Ok c = λ t e ends at.
     c.in_turn.ensures t e ends at
-    ∙ ap (λ (r : Result Conn ConnFault). turn_by (place t c.args.conn c.args.channel) (free_for t c.args.conn) c.args.channel c.args.perf.now r) (sym c.in-Ok.ensures)
+    ∙ ap (λ (r : Result Conn ConnFault). turn_by (finds t c.args.conn) c.args.channel c.args.perf.now r) (sym c.in-Ok.ensures)

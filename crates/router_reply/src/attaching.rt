@@ -1,0 +1,142 @@
+//! Attaches, taken or refused.
+ghost use Rattle.std.specs.Prelude.{◌≡◌, ◌∷◌, [], List, ℕ, OnOk, IfOk};
+ghost use Rattle.router_trace.specs.Trace.{Entry, goes, puts};
+ghost use Rattle.router_trace.specs.Links.{holder};
+ghost use Rattle.router_trace.specs.LinkFrames.{fits};
+ghost use Rattle.router_state.specs.Tables.{TablesFit};
+ghost use Rattle.router_reply.specs.Replies.{stolen_by, unless_too_large, attach_answer, taken, refused, put_for_attach, links_put};
+ghost use Rattle.router_trace.specs.Peers.{largest_frame};
+
+use crate::answer::Answer;
+use amqp_frames::{Item, item_len};
+use amqp_perf::{Attach, Perf};
+use book_core::LinkKey;
+use router_state::State;
+use router_trace::{Condition, RouterId, attach_item};
+use std::alloc::AllocError;
+
+/// Whether an item's frame is no longer than the peer takes, in bytes.
+fn fits(id: &RouterId, largest: u32, item: &Item) -> Result<bool, AllocError>
+    ensures { IfOk result (λ fit. fit ≡ fits largest item.now) }
+{
+    let length = item_len(id.alloc(), item)?;
+    Ok(length as u64 <= u64::from(largest))
+}
+
+/// Detaches the link of this key, if one is attached, for another that takes its place (AMQP 1.0 part 2, section 2.6.1).
+fn steal(state: &mut State, id: &RouterId, key: &LinkKey) -> Result<(), AllocError>
+    ensures { OnOk result ((t : List Entry) → TablesFit state.old t → TablesFit state.new (goes (stolen_by (holder t key.now)) t)) }
+{
+    let Some(older) = state.holder(key) else {
+        return Ok(());
+    };
+    let item = id.detach_item(older.channel, older.handle, false, Some(Condition::Stolen))?;
+    state.put(older.conn.0, item)?;
+    Ok(())
+}
+
+/// Puts the answer to an attach, or a detach in its place where it doesn't fit.
+fn put_answer(
+    state: &mut State,
+    id: &RouterId,
+    conn: u64,
+    largest: u32,
+    own: u16,
+    answer: Attach,
+) -> Result<(), AllocError>
+    ensures { OnOk result ((t : List Entry) → TablesFit state.old t → TablesFit state.new (puts conn (unless_too_large largest own answer.handle answer) t)) }
+{
+    let handle = answer.handle;
+    let item = attach_item(own, answer);
+    if fits(id, largest, &item)? {
+        state.put(conn, item)?;
+        return Ok(());
+    }
+    let item = id.detach_item(own, handle, true, Some(Condition::FrameSizeTooSmall))?;
+    state.put(conn, item)?;
+    Ok(())
+}
+
+/// Answers an attach that is taken: the older link of its key is detached, and the answer put on the lowest handle that is free then.
+fn take_link(
+    state: &mut State,
+    id: &RouterId,
+    conn: u64,
+    own: u16,
+    attach: Attach,
+) -> Result<(), AllocError>
+    ensures { OnOk result ((t : List Entry) → TablesFit state.old t → TablesFit state.new (goes (taken t conn own attach) t)) }
+{
+    let largest = state.largest_frame(conn);
+    let mut answer = id.answer_to(attach, 0);
+    let key = state.key_of(conn, &answer)?;
+    steal(state, id, &key)?;
+    if let Some(handle) = state.free_handle_now(conn, own) {
+        answer.handle = handle;
+        put_answer(state, id, conn, largest, own, answer)?;
+    }
+    Ok(())
+}
+
+/// Answers an attach that is refused: an answer without the terminus at the router's side, and a detach; the detach alone where that
+/// doesn't fit (AMQP 1.0 part 2, section 2.6.3).
+fn refuse_link(
+    state: &mut State,
+    id: &RouterId,
+    conn: u64,
+    own: u16,
+    handle: u32,
+    error: Condition,
+    attach: Attach,
+) -> Result<(), AllocError>
+    ensures { OnOk result ((t : List Entry) → TablesFit state.old t → TablesFit state.new (puts conn (refused (largest_frame t conn) own handle error attach) t)) }
+{
+    let largest = state.largest_frame(conn);
+    let item = attach_item(own, id.refusal_of(attach, handle));
+    let detach = id.detach_item(own, handle, true, Some(error))?;
+    if fits(id, largest, &item)? {
+        state.put(conn, item)?;
+    }
+    state.put(conn, detach)?;
+    Ok(())
+}
+
+/// Puts what an answer to an attach has put in outboxes.
+fn answer_attach(
+    state: &mut State,
+    id: &RouterId,
+    conn: u64,
+    attach: Attach,
+    answer: Answer,
+) -> Result<(), AllocError>
+    ensures { OnOk result ((t : List Entry) → TablesFit state.old t → TablesFit state.new (goes (put_for_attach t conn attach answer) t)) }
+{
+    match answer {
+        Answer::Attach { own } => take_link(state, id, conn, own, attach)?,
+        Answer::Refuse { own, handle, error } => {
+            refuse_link(state, id, conn, own, handle, error, attach)?
+        }
+        _ => {}
+    }
+    Ok(())
+}
+
+/// Puts what an answer to an item has put in outboxes beyond its own items, where it is about a link.
+pub fn put_links(
+    state: &mut State,
+    id: &RouterId,
+    conn: u64,
+    item: Item,
+    answer: Answer,
+) -> Result<(), AllocError>
+    ensures { OnOk result ((t : List Entry) → TablesFit state.old t → TablesFit state.new (goes (links_put t conn item answer) t)) }
+{
+    match item {
+        Item::Frame {
+            perf: Perf::Attach(attach),
+            ..
+        } => answer_attach(state, id, conn, attach, answer)?,
+        _ => {}
+    }
+    Ok(())
+}
