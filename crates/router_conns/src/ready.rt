@@ -1,11 +1,12 @@
 //! The connections of which something can be taken.
-ghost use Rattle.std.specs.Prelude.{◌≡◌, ◌==◌, ℕ, Bool, false, true, OnOk, if◌then◌else◌};
+ghost use Rattle.std.specs.Prelude.{◌≡◌, ◌==◌, ◌&&◌, nat_lt, ℕ, Bool, false, true, OnOk, if◌then◌else◌};
 ghost use Rattle.std.specs.Ordering.{nat_cmp};
 ghost use Rattle.std.specs.BTreeSet.{contains};
 ghost use Rattle.router_conns.specs.Fits.{IsLeast};
 
 use std::alloc::{AllocError, Global};
 use std::collections::BTreeSet;
+use std::ops::Bound;
 
 /// The numbers of the connections of which something can be taken.
 #[derive(Debug, Drop)]
@@ -35,6 +36,24 @@ impl Ready {
         }
         let _ = self.set.remove(&conn);
         Ok(())
+    }
+
+    /// Whether something can be taken of a connection.
+    pub fn has(&self, conn: u64) -> bool
+        ensures { result ≡ contains nat_cmp self.now.set conn }
+    {
+        self.set.contains(&conn)
+    }
+
+    /// The lowest of them above a number.
+    pub fn behind(&self, conn: u64) -> Option<u64>
+        ensures { IsLeast (λ c. nat_lt conn c && contains nat_cmp self.now.set c) result }
+    {
+        let mut above = self.set.range((Bound::Excluded(conn), Bound::Unbounded));
+        match above.next() {
+            None => None,
+            Some(next) => Some(*next),
+        }
     }
 
     /// The lowest of them.

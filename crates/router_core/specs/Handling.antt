@@ -2,6 +2,7 @@
 use Rattle.std.specs.Prelude.{ℕ, Bool, List, Option, Some, None}
 use Rattle.router_core.specs.declared.router.Core.{Core}
 use Rattle.router_core.specs.declared.router.Batch.{Batch}
+use Rattle.router_core.specs.declared.counts.Counts.{Counts}
 use Rattle.router_trace.specs.Trace.{Trace}
 use Rattle.router_trace.specs.Connection.{Connection, Batched}
 use Rattle.router_state.specs.Tables.{TablesFit}
@@ -17,6 +18,10 @@ is_failed core = core.failed
 -- its id
 abbrev pub id_of : Core → List ℕ
 id_of core = core.id
+
+-- how many events it handled, and how many batches it gave
+abbrev pub counts_of : Core → Counts
+counts_of core = core.counts
 
 -- a batch of a connection that is known: its outbox's first items, up to so many
 abbrev pub IsBatchOf : Option Connection → ℕ → Batch → Type 0

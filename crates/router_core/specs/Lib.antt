@@ -1,3 +1,4 @@
+pub mod Counting
 pub mod Faults
 pub mod Handling
 pub mod Replies

@@ -70,7 +70,7 @@ fn take_one(
         return Err(CoreFault::Memory);
     }
     let batch = core.take(conn, MOST)?;
-    append(taken, event, conn, batch.items);
+    append(taken, event, conn, batch.into_items());
     Ok(())
 }
 

@@ -1,6 +1,7 @@
 //! The router's core: events in, items out.
 #![tactic(auto)]
 
+mod counts;
 mod door;
 mod driving;
 mod fault;
@@ -8,6 +9,7 @@ mod laws;
 mod logins;
 mod router;
 
+pub use counts::Counts;
 pub use door::{Door, DoorAnswer};
 pub use driving::{Driven, Sent, drive};
 pub use fault::CoreFault;

@@ -1,14 +1,16 @@
 //! The router: one event or one take at a time.
-ghost use Rattle.std.specs.Prelude.{◌≡◌, ◌≤◌, ◌∷◌, ℕ, List, [], length, true, false, Ok, Err, None, option_map, OnOk, IfOk, IfErr};
+ghost use Rattle.std.specs.Prelude.{◌≡◌, ◌≤◌, ◌∷◌, ◌&&◌, nat_lt, ℕ, List, [], length, true, false, Ok, Err, None, option_map, OnOk, OnErr, IfOk, IfErr};
 ghost use Rattle.router_trace.specs.Trace.{Entry, Took, step_of};
 ghost use Rattle.router_trace.specs.Connection.{conn as known, is_ready};
 ghost use Rattle.router_trace.specs.Refusing.{refuses};
 ghost use Rattle.router_conns.specs.Fits.{IsLeast};
 ghost use Rattle.router_core.specs.Replies.{Replies, answered};
 ghost use Rattle.router_state.specs.Tables.{TablesFit};
-ghost use Rattle.router_core.specs.Handling.{Fits, is_failed, id_of, IsBatchOf};
+ghost use Rattle.router_core.specs.Handling.{Fits, is_failed, id_of, counts_of, IsBatchOf};
+ghost use Rattle.router_core.specs.Counting.{uncounted, with_event, with_batch};
 ghost use Rattle.router_core.specs.declared.fault.CoreFault.TheVariants.{Disk, Memory, Failed, NoConnection};
 
+use crate::counts::Counts;
 use crate::fault::CoreFault;
 use amqp_frames::Item;
 use route_table::Config;
@@ -22,17 +24,50 @@ use std::alloc::{AllocError, Global};
 #[derive(Clone, Copy, Debug, PartialEq, Eq)]
 pub struct Done {}
 
-/// Items that were taken of an outbox.
+/// Items that were taken of an outbox. `Core::take` alone makes one.
 #[derive(Debug, Drop)]
 pub struct Batch {
+    conn: ConnectionId,
+    first: u64,
+    items: Vec<Item>,
+    ended: bool,
+}
+
+impl Batch {
     /// The connection.
-    pub conn: ConnectionId,
+    pub fn conn(&self) -> ConnectionId
+        ensures { result ≡ self.now.conn }
+    {
+        self.conn
+    }
+
     /// The number of the first item, counted from 0: so many left the outbox before.
-    pub first: u64,
+    pub fn first(&self) -> u64
+        ensures { result ≡ self.now.first }
+    {
+        self.first
+    }
+
     /// The items, in order.
-    pub items: Vec<Item>,
+    pub fn items(&self) -> &[Item]
+        ensures { result.now ≡ self.now.items.items }
+    {
+        self.items.as_slice()
+    }
+
+    /// The items, in order.
+    pub fn into_items(self) -> Vec<Item>
+        ensures { result ≡ self.items }
+    {
+        self.items
+    }
+
     /// Whether the router ended the connection and these were its last items.
-    pub ended: bool,
+    pub fn is_last(&self) -> bool
+        ensures { result ≡ self.now.ended }
+    {
+        self.ended
+    }
 }
 
 /// The router. It handles one event at a time, and gives the items that it puts out where they are asked for.
@@ -40,6 +75,7 @@ pub struct Batch {
 pub struct Core {
     id: RouterId,
     state: State,
+    counts: Counts,
     failed: bool,
 }
 
@@ -49,10 +85,12 @@ impl Core {
         ensures fits { IfOk result (λ core. Fits core []) }
         ensures works { IfOk result (λ core. is_failed core ≡ false) }
         ensures named { IfOk result (λ core. id_of core ≡ config.now.router_id) }
+        ensures counts { IfOk result (λ core. counts_of core ≡ uncounted) }
     {
         Ok(Core {
             id: RouterId::new(alloc, config.router_id())?,
             state: State::new(alloc),
+            counts: Counts::none(),
             failed: false,
         })
     }
@@ -64,6 +102,13 @@ impl Core {
         self.failed
     }
 
+    /// How many events it handled with `Ok`, by their kind, and how many batches `take` gave.
+    pub fn counts(&self) -> Counts
+        ensures { result ≡ counts_of self.now }
+    {
+        self.counts
+    }
+
     /// Handles an event. It answers `NoConnection` exactly where the event tells of a connection that isn't live, or of
     /// one that comes up with a number that doesn't rise, and `Failed` exactly where an earlier call answered `Memory`;
     /// both change nothing. Behind `Memory` the router is failed.
@@ -73,6 +118,10 @@ impl Core {
         ensures taken { OnOk result ((t : List Entry) → Fits self.old t → refuses t event ≡ false) }
         ensures works { OnOk result (is_failed self.new ≡ false) }
         ensures named { id_of self.new ≡ id_of self.old }
+
+        // One event more is counted exactly where it answers Ok.
+        ensures counted { OnOk result (counts_of self.new ≡ with_event event (counts_of self.old)) }
+        ensures uncounted { OnErr result (counts_of self.new ≡ counts_of self.old) }
 
         // Which fault comes, and what it leaves.
         ensures refused { IfErr result (λ f. f ≡ NoConnection → (self.new ≡ self.old) × ((t : List Entry) → Fits self.old t → refuses t event ≡ true)) }
@@ -88,13 +137,27 @@ impl Core {
         if self.state.refuses(&event) {
             return Err(CoreFault::NoConnection);
         }
-        match answer(&mut self.state, &self.id, &event) {
+        match self.answer(&event) {
             Ok(()) => Ok(Done {}),
             Err(AllocError) => {
                 self.failed = true;
                 Err(CoreFault::Memory)
             }
         }
+    }
+
+    /// Answers an event that is not refused, and counts it.
+    fn answer(&mut self, event: &Event) -> Result<(), AllocError>
+        ensures tables { OnOk result ((t : List Entry) → Fits self.old t → refuses t event.now ≡ false → Fits self.new (answered (id_of self.old) t (step_of event.now))) }
+        ensures counted { OnOk result (counts_of self.new ≡ with_event event.now (counts_of self.old)) }
+        ensures uncounted { OnErr result (counts_of self.new ≡ counts_of self.old) }
+        ensures named { id_of self.new ≡ id_of self.old }
+        ensures works { is_failed self.new ≡ is_failed self.old }
+    {
+        let counts = self.counts.with_event(event)?;
+        answer(&mut self.state, &self.id, event)?;
+        self.counts = counts;
+        Ok(())
     }
 
     /// Takes up to `most` items out of the outbox of a connection, the first of them first. It answers `NoConnection`
@@ -108,6 +171,10 @@ impl Core {
         ensures most { IfOk result (λ b. length b.items.items ≤ most) }
         ensures works { OnOk result (is_failed self.new ≡ false) }
         ensures named { id_of self.new ≡ id_of self.old }
+
+        // One batch more is counted exactly where it answers Ok.
+        ensures counted { OnOk result (counts_of self.new ≡ with_batch (counts_of self.old)) }
+        ensures uncounted { OnErr result (counts_of self.new ≡ counts_of self.old) }
 
         // Which fault comes, and what it leaves.
         ensures refused { IfErr result (λ f. f ≡ NoConnection → (self.new ≡ self.old) × ((t : List Entry) → Fits self.old t → known t conn.0 ≡ None)) }
@@ -123,13 +190,20 @@ impl Core {
         if self.state.phase(conn.0).is_none() {
             return Err(CoreFault::NoConnection);
         }
+        let Ok(counts) = self.counts.with_batch() else {
+            self.failed = true;
+            return Err(CoreFault::Memory);
+        };
         match self.state.take(conn.0, most) {
-            Ok(Some(taken)) => Ok(Batch {
-                conn,
-                first: taken.first,
-                items: taken.items,
-                ended: taken.ended,
-            }),
+            Ok(Some(taken)) => {
+                self.counts = counts;
+                Ok(Batch {
+                    conn,
+                    first: taken.first,
+                    items: taken.items,
+                    ended: taken.ended,
+                })
+            }
             _ => {
                 self.failed = true;
                 Err(CoreFault::Memory)
@@ -145,6 +219,23 @@ impl Core {
             None => None,
             Some(conn) => Some(ConnectionId(conn)),
         }
+    }
+
+    /// The lowest connection above another of which something can be taken.
+    pub fn ready_behind(&self, conn: ConnectionId) -> Option<ConnectionId>
+        ensures { (t : List Entry) → Fits self.now t → IsLeast (λ c. nat_lt conn.0 c && is_ready (known t c)) (option_map (λ c. c.0) result) }
+    {
+        match self.state.ready_behind(conn.0) {
+            None => None,
+            Some(next) => Some(ConnectionId(next)),
+        }
+    }
+
+    /// Whether something can be taken of a connection.
+    pub fn is_ready(&self, conn: ConnectionId) -> bool
+        ensures { (t : List Entry) → Fits self.now t → result ≡ is_ready (known t conn.0) }
+    {
+        self.state.is_ready(conn.0)
     }
 }
 

@@ -317,8 +317,8 @@ impl<'a> Player<'a> {
         ensures follows { OnOk result ((s : Scene) → Follows self.old s → Follows self.new (close_if batch.ended conn (say_all (map (out_line conn) batch.items.items) s))) }
         ensures core { self.new.core ≡ self.old.core }
     {
-        self.say_all(conn, &batch.items)?;
-        self.close_if(conn, batch.ended)?;
+        self.say_all(conn, batch.items())?;
+        self.close_if(conn, batch.is_last())?;
         Ok(())
     }
 

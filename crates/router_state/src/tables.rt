@@ -1,5 +1,5 @@
 //! All tables, changed together.
-ghost use Rattle.std.specs.Prelude.{◌≡◌, ◌==◌, ◌≤◌, if◌then◌else◌, ◌∷◌, ◌++◌, ℕ, List, [], true, option_map, OnOk, IfOk};
+ghost use Rattle.std.specs.Prelude.{◌≡◌, ◌==◌, ◌≤◌, ◌&&◌, nat_lt, if◌then◌else◌, ◌∷◌, ◌++◌, ℕ, List, [], true, option_map, OnOk, IfOk};
 ghost use Rattle.std.specs.Ordering.{nat_cmp};
 ghost use Rattle.std.specs.BTreeMap.{get};
 ghost use Rattle.std.specs.BTreeSet.{contains};
@@ -189,6 +189,20 @@ impl State {
         let taken = self.connections.take(conn, most)?;
         note(&mut self.ready, &self.connections, conn)?;
         Ok(taken)
+    }
+
+    /// Whether something can be taken of a connection: an item waits, or it is over.
+    pub fn is_ready(&self, conn: u64) -> bool
+        ensures { (t : List Entry) → TablesFit self.now t → result ≡ is_ready (known t conn) }
+    {
+        self.ready.has(conn)
+    }
+
+    /// The lowest connection above a number of which something can be taken.
+    pub fn ready_behind(&self, conn: u64) -> Option<u64>
+        ensures { (t : List Entry) → TablesFit self.now t → IsLeast (λ c. nat_lt conn c && is_ready (known t c)) result }
+    {
+        self.ready.behind(conn)
     }
 
     /// The lowest connection of which something can be taken: an item waits, or it is over.
