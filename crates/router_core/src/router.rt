@@ -137,7 +137,7 @@ impl Core {
         if self.state.refuses(&event) {
             return Err(CoreFault::NoConnection);
         }
-        match self.answer(&event) {
+        match self.answer(event) {
             Ok(()) => Ok(Done {}),
             Err(AllocError) => {
                 self.failed = true;
@@ -147,14 +147,14 @@ impl Core {
     }
 
     /// Answers an event that is not refused, and counts it.
-    fn answer(&mut self, event: &Event) -> Result<(), AllocError>
-        ensures tables { OnOk result ((t : List Entry) → Fits self.old t → refuses t event.now ≡ false → Fits self.new (answered (id_of self.old) t (step_of event.now))) }
-        ensures counted { OnOk result (counts_of self.new ≡ with_event event.now (counts_of self.old)) }
+    fn answer(&mut self, event: Event) -> Result<(), AllocError>
+        ensures tables { OnOk result ((t : List Entry) → Fits self.old t → refuses t event ≡ false → Fits self.new (answered (id_of self.old) t (step_of event))) }
+        ensures counted { OnOk result (counts_of self.new ≡ with_event event (counts_of self.old)) }
         ensures uncounted { OnErr result (counts_of self.new ≡ counts_of self.old) }
         ensures named { id_of self.new ≡ id_of self.old }
         ensures works { is_failed self.new ≡ is_failed self.old }
     {
-        let counts = self.counts.with_event(event)?;
+        let counts = self.counts.with_event(&event)?;
         answer(&mut self.state, &self.id, event)?;
         self.counts = counts;
         Ok(())
@@ -241,10 +241,10 @@ impl Core {
 
 /// What an event that is not refused does: it ends connections for their full outboxes, its rows answer it, and what
 /// follows them is put.
-fn answer(state: &mut State, id: &RouterId, event: &Event) -> Result<(), AllocError>
-    ensures { OnOk result ((t : List Entry) → TablesFit state.old t → refuses t event.now ≡ false → TablesFit state.new (answered id.now t (step_of event.now))) }
+fn answer(state: &mut State, id: &RouterId, event: Event) -> Result<(), AllocError>
+    ensures { OnOk result ((t : List Entry) → TablesFit state.old t → refuses t event ≡ false → TablesFit state.new (answered id.now t (step_of event))) }
 {
-    let ends = state.turn(event)?;
+    let ends = state.turn(&event)?;
     reply(state, id, &ends, event)?;
     after(state)?;
     Ok(())

@@ -1,8 +1,11 @@
 -- Each row of the reply table keeps the order on a live connection.
 use Rattle.std.proofs.Common.{◌≡◌, ◌∙◌, sym, ap, refl, subst, ℕ, Bool, true, false, List, [], ◌∷◌}
-use Rattle.std.specs.Prelude.{nat_lt, nat_le, if◌then◌else◌, is_some, is_none, length, Option, Some, None, Result, Ok, Err}
+use Rattle.std.specs.Prelude.{nat_lt, nat_le, nat_eq, if◌then◌else◌, is_some, is_none, length, Option, Some, None, Result, Ok, Err}
 use Rattle.std.specs.List.{find}
+use Rattle.amqp_perf.specs.declared.perf.Attach.{Attach as AnAttach}
 use Rattle.amqp_perf.specs.declared.perf.Begin.{Begin as ABegin}
+use Rattle.amqp_perf.specs.declared.perf.Detach.{Detach as ADetach}
+use Rattle.amqp_perf.specs.declared.perf.Transfer.{Transfer as ATransfer}
 use Rattle.amqp_perf.specs.declared.perf.Flow.{Flow as AFlow}
 use Rattle.amqp_perf.specs.declared.perf.Open.{Open as AnOpen}
 use Rattle.amqp_perf.specs.declared.perf.Perf.{Perf}
@@ -14,7 +17,7 @@ use Rattle.amqp_conn.specs.declared.fault.ConnFault.{ConnFault}
 use Rattle.amqp_conn.specs.declared.fault.ConnFault.TheVariants.{ChannelTooHigh}
 use Rattle.amqp_conn.specs.Phase.{after_frame, after_open}
 use Rattle.amqp_session.specs.declared.states.BeginState.{BeginState}
-use Rattle.amqp_session.specs.Session.{Session, TheirFlow}
+use Rattle.amqp_session.specs.Session.{Session, TheirFlow, allowance}
 use Rattle.router_trace.specs.declared.channel.PeerChannel.{PeerChannel}
 use Rattle.router_trace.specs.declared.channel.PeerChannel.TheVariants.{Mapped, Ending}
 use Rattle.router_trace.specs.declared.condition.Condition.{Condition}
@@ -24,8 +27,12 @@ use Rattle.router_trace.specs.Order.{Written, have_turns}
 use Rattle.router_trace.specs.Sessions.{Place, nowhere, ending, on, on_session, place_by, session, is_free, free_channel, channels, offered_by, unless_close, begin_state, flow_state}
 use Rattle.router_conns.proofs.Lists.{by_test}
 use Rattle.router_reply.specs.declared.answer.Answer.{Answer}
-use Rattle.router_reply.specs.declared.answer.Answer.TheVariants.{Nothing, Header, Open, Close, CloseWith, Begin, End, Flow}
-use Rattle.router_reply.specs.Rows.{said, header_reply, open_by, open_reply, begin_by, begin_reply, end_reply, unattached_handle_reply, echo, flow_by, flow_reply, attach_reply, disposition_reply, in_turn, turn_by, perf_reply, item_reply}
+use Rattle.router_reply.specs.declared.answer.Answer.TheVariants.{Nothing, Header, Open, Close, CloseWith, Begin, End, Flow, Attach, Refuse, Detach, LinkFlow}
+use Rattle.router_reply.specs.Rows.{Finds, Links, said, header_reply, open_by, open_reply, begin_by, begin_reply, end_reply, echo, flow_on, flow_reply, attach_reply, transfer_reply, detach_reply, disposition_reply, in_turn, turn_by, perf_reply, item_reply}
+use Rattle.router_reply.specs.LinkRows.{refusal, attach_or, attach_at, session_attach_reply, session_detach_reply, link_echo, is_reached, link_flow_reply, is_anonymous, delivery_on, link_transfer_reply, is_unattached, session_transfer_reply}
+use Rattle.router_reply.specs.LinkRows.{flow_on as link_flow_on}
+use Rattle.amqp_link.specs.Receiving.{delivery_count, unused}
+use Rattle.router_trace.specs.Links.{LinkPlace, nowhere as no_link, detaching, on as on_link, Happened, sends, receives}
 
 -- a live phase
 abbrev pub open_phase : Bool → Bool → Conn
@@ -64,6 +71,10 @@ AnswerFits p b asked (CloseWith x) = Unit {0}
 AnswerFits p b asked (Begin own theirs) = (p.opened ≡ true) × (b own ≡ false) × (is_some asked ≡ true)
 AnswerFits p b asked (End own x) = (p.opened ≡ true) × (b own ≡ true)
 AnswerFits p b asked (Flow own told) = (p.opened ≡ true) × (b own ≡ true)
+AnswerFits p b asked (Attach own) = (p.opened ≡ true) × (b own ≡ true)
+AnswerFits p b asked (Refuse own handle x) = (p.opened ≡ true) × (b own ≡ true)
+AnswerFits p b asked (Detach own handle closed x) = (p.opened ≡ true) × (b own ≡ true)
+AnswerFits p b asked (LinkFlow own told at) = (p.opened ≡ true) × (b own ≡ true)
 
 -- the items of an answer that fits have their turns
 pub closing_turns : (id : List ℕ) (h o : Bool) (b : ℕ → Bool) (x : Condition) → have_turns (written_of (open_phase h o) b) (closing id (open_phase h o) x) ≡ true
@@ -80,6 +91,10 @@ said_turns_at id h o b asked (CloseWith x) fits = closing_turns id h o b x
 said_turns_at id h o b asked (Begin own theirs) fits = rw (fits.0, fits.1) refl
 said_turns_at id h o b asked (End own x) fits = rw (fits.0, fits.1) refl
 said_turns_at id h o b asked (Flow own told) fits = rw (fits.0, fits.1) refl
+said_turns_at id h o b asked (Attach own) fits = refl
+said_turns_at id h o b asked (Refuse own handle x) fits = refl
+said_turns_at id h o b asked (Detach own handle closed x) fits = rw (fits.0, fits.1) refl
+said_turns_at id h o b asked (LinkFlow own told at) fits = rw (fits.0, fits.1) refl
 
 pub said_turns : (id : List ℕ) (p : Conn) (b : ℕ → Bool) (asked : Option BeginState) (a : Answer) → p.closed ≡ false → AnswerFits p b asked a
     → have_turns (written_of p b) (said id p a) ≡ true
@@ -100,6 +115,10 @@ said_offered id p b asked (CloseWith x) fits = closing_offered id p x asked
 said_offered id p b asked (Begin own theirs) fits = (fits.2, tt)
 said_offered id p b asked (End own x) fits = (tt, tt)
 said_offered id p b asked (Flow own told) fits = (tt, tt)
+said_offered id p b asked (Attach own) fits = tt
+said_offered id p b asked (Refuse own handle x) fits = tt
+said_offered id p b asked (Detach own handle closed x) fits = (tt, tt)
+said_offered id p b asked (LinkFlow own told at) fits = (tt, tt)
 
 -- what stands on a channel of the peer, and the free channel, fit what was written
 abbrev pub PlaceFits : Place → (ℕ → Bool) → Type 0
@@ -164,85 +183,153 @@ end_fits h b asked nowhere place = tt
 end_fits h b asked ending place = tt
 end_fits h b asked (on own s) place = (refl, place)
 
-unattached_fits : (h : Bool) (b : ℕ → Bool) (asked : Option BeginState) (at : Place) → PlaceFits at b → AnswerFits (open_phase h true) b asked (unattached_handle_reply at)
-unattached_fits h b asked nowhere place = tt
-unattached_fits h b asked ending place = tt
-unattached_fits h b asked (on own s) place = (refl, place)
-
-attach_fits : (h : Bool) (b : ℕ → Bool) (asked : Option BeginState) (at : Place) → PlaceFits at b → AnswerFits (open_phase h true) b asked (attach_reply at)
-attach_fits h b asked nowhere place = tt
-attach_fits h b asked ending place = tt
-attach_fits h b asked (on own s) place = (refl, place)
-
 disposition_fits : (h : Bool) (b : ℕ → Bool) (asked : Option BeginState) (at : Place) → AnswerFits (open_phase h true) b asked (disposition_reply at)
 disposition_fits h b asked nowhere = tt
 disposition_fits h b asked ending = tt
 disposition_fits h b asked (on own s) = tt
 
-flow_fits : (h : Bool) (b : ℕ → Bool) (asked : Option BeginState) (at : Place) (f : AFlow) → PlaceFits at b → AnswerFits (open_phase h true) b asked (flow_reply at f)
-flow_fits h b asked at f place = by at f.handle place
-  where
-    wanted : (q : Bool) (own : ℕ) (s : Session) → b own ≡ true → AnswerFits (open_phase h true) b asked (echo q own s)
-    wanted true own s place = (refl, place)
-    wanted false own s place = tt
+-- the rows of links, on a session
+abbrev SessionFits : Bool → (ℕ → Bool) → Option BeginState → Answer → Type 0
+SessionFits h b asked a = AnswerFits (open_phase h true) b asked a
 
-    by : (at : Place) (handle : Option ℕ) → PlaceFits at b → AnswerFits (open_phase h true) b asked (flow_by at f handle)
-    by nowhere None place = tt
-    by ending None place = tt
-    by (on own s) None place = wanted f.echo own (TheirFlow (flow_state f) ∷ s) place
-    by at (Some handle) place = unattached_fits h b asked at place
+attach_or_fits : (h : Bool) (b : ℕ → Bool) (asked : Option BeginState) (own handle : ℕ) (x : Option Condition) → b own ≡ true → SessionFits h b asked (attach_or x own handle)
+attach_or_fits h b asked own handle (Some x) begun = (refl, begun)
+attach_or_fits h b asked own handle None begun = (refl, begun)
+
+session_attach_fits : (h : Bool) (b : ℕ → Bool) (asked : Option BeginState) (own : ℕ) (at : LinkPlace) (free : Option ℕ) (a : AnAttach) → b own ≡ true
+    → SessionFits h b asked (session_attach_reply own at free a)
+session_attach_fits h b asked own at free a begun = by_test (nat_lt 63 a.handle) (λ e. rw e tt) (λ e. rw e (by at free))
+  where
+    by : (at : LinkPlace) (free : Option ℕ) → SessionFits h b asked (attach_at own at free a)
+    by no_link None = (refl, begun)
+    by no_link (Some handle) = attach_or_fits h b asked own handle (refusal a.role a) begun
+    by detaching free = tt
+    by (on_link k l) free = (refl, begun)
+
+session_detach_fits : (h : Bool) (b : ℕ → Bool) (asked : Option BeginState) (own : ℕ) (at : LinkPlace) (x : ADetach) → b own ≡ true
+    → SessionFits h b asked (session_detach_reply own at x)
+session_detach_fits h b asked own no_link x begun = (refl, begun)
+session_detach_fits h b asked own detaching x begun = tt
+session_detach_fits h b asked own (on_link k l) x begun = (refl, begun)
+
+link_echo_fits : (h : Bool) (b : ℕ → Bool) (asked : Option BeginState) (q : Bool) (own : ℕ) (s : Session) (handle count left : ℕ) → b own ≡ true
+    → SessionFits h b asked (link_echo q own s handle count left)
+link_echo_fits h b asked true own s handle count left begun = (refl, begun)
+link_echo_fits h b asked false own s handle count left begun = tt
+
+link_flow_fits : (h : Bool) (b : ℕ → Bool) (asked : Option BeginState) (own : ℕ) (s : Session) (at : LinkPlace) (f : AFlow) → b own ≡ true
+    → SessionFits h b asked (link_flow_reply own s at f)
+link_flow_fits h b asked own s no_link f begun = (refl, begun)
+link_flow_fits h b asked own s detaching f begun = tt
+link_flow_fits h b asked own s (on_link k l) f begun = by l.happened
+  where
+    by : (w : Happened) → SessionFits h b asked (link_flow_on own (TheirFlow (flow_state f) ∷ s) k w f)
+    by (sends list) = link_echo_fits h b asked f.echo own (TheirFlow (flow_state f) ∷ s) k _ _ begun
+    by (receives list) = by_test (is_reached f.delivery_count (delivery_count list) (unused list))
+        (λ e. rw e (link_echo_fits h b asked f.echo own (TheirFlow (flow_state f) ∷ s) k _ _ begun))
+        (λ e. rw e (refl, begun))
+
+session_transfer_fits : (h : Bool) (b : ℕ → Bool) (asked : Option BeginState) (own : ℕ) (s : Session) (at : LinkPlace) (x : ATransfer) → b own ≡ true
+    → SessionFits h b asked (session_transfer_reply own s at x)
+session_transfer_fits h b asked own s at x begun =
+    by_test (is_unattached at) (λ e. rw e (refl, begun))
+    (λ e. rw e (by_test (nat_eq (allowance s) 0) (λ f. rw f (refl, begun)) (λ f. rw f (by at))))
+  where
+    carried : (k : ℕ) (w : Happened) → SessionFits h b asked (delivery_on own k w x)
+    carried k (sends list) = (refl, begun)
+    carried k (receives list) =
+        by_test (is_anonymous x) (λ e. rw e (refl, begun))
+        (λ e. rw e (by_test (nat_eq (unused list) 0) (λ f. rw f (refl, begun)) (λ f. rw f tt)))
+
+    by : (at : LinkPlace) → SessionFits h b asked (link_transfer_reply own at x)
+    by no_link = (refl, begun)
+    by detaching = tt
+    by (on_link k l) = carried k l.happened
+
+-- the same on what stands on the frame's channel
+attach_fits : (h : Bool) (b : ℕ → Bool) (asked : Option BeginState) (at : Place) (links : Links) (free : ℕ → Option ℕ) (a : AnAttach) → PlaceFits at b
+    → SessionFits h b asked (attach_reply at links free a)
+attach_fits h b asked nowhere links free a place = tt
+attach_fits h b asked ending links free a place = tt
+attach_fits h b asked (on own s) links free a place = session_attach_fits h b asked own (links own a.handle) (free own) a place
+
+detach_fits : (h : Bool) (b : ℕ → Bool) (asked : Option BeginState) (at : Place) (links : Links) (x : ADetach) → PlaceFits at b → SessionFits h b asked (detach_reply at links x)
+detach_fits h b asked nowhere links x place = tt
+detach_fits h b asked ending links x place = tt
+detach_fits h b asked (on own s) links x place = session_detach_fits h b asked own (links own x.handle) x place
+
+transfer_fits : (h : Bool) (b : ℕ → Bool) (asked : Option BeginState) (at : Place) (links : Links) (x : ATransfer) → PlaceFits at b → SessionFits h b asked (transfer_reply at links x)
+transfer_fits h b asked nowhere links x place = tt
+transfer_fits h b asked ending links x place = tt
+transfer_fits h b asked (on own s) links x place = session_transfer_fits h b asked own s (links own x.handle) x place
+
+flow_fits : (h : Bool) (b : ℕ → Bool) (asked : Option BeginState) (at : Place) (links : Links) (f : AFlow) → PlaceFits at b → SessionFits h b asked (flow_reply at links f)
+flow_fits h b asked nowhere links f place = tt
+flow_fits h b asked ending links f place = tt
+flow_fits h b asked (on own s) links f place = by f.handle
+  where
+    wanted : (q : Bool) → SessionFits h b asked (echo q own (TheirFlow (flow_state f) ∷ s))
+    wanted true = (refl, place)
+    wanted false = tt
+
+    by : (handle : Option ℕ) → SessionFits h b asked (flow_on own s (links own) f handle)
+    by None = wanted f.echo
+    by (Some handle) = link_flow_fits h b asked own s (links own handle) f place
 
 -- in its turn or not
-turn_fits : (h o : Bool) (b : ℕ → Bool) (asked : Option BeginState) (at : Place) (free : Option ℕ) (channel : ℕ) (body : Perf)
-    → AnswerFits (open_phase h true) b asked (in_turn at free channel body)
-    → AnswerFits (open_phase h o) b asked (turn_by at free channel body (after_frame channel (open_phase h o)))
-turn_fits h false b asked at free channel body here = tt
-turn_fits h true b asked at free channel body here = by_channel (nat_lt 14 channel)
+turn_fits : (h o : Bool) (b : ℕ → Bool) (asked : Option BeginState) (k : Finds) (channel : ℕ) (body : Perf)
+    → AnswerFits (open_phase h true) b asked (in_turn k channel body)
+    → AnswerFits (open_phase h o) b asked (turn_by k channel body (after_frame channel (open_phase h o)))
+turn_fits h false b asked k channel body here = tt
+turn_fits h true b asked k channel body here = by_channel (nat_lt 14 channel)
   where
-    by_channel : (q : Bool) → AnswerFits (open_phase h true) b asked (turn_by at free channel body (if q then Err ChannelTooHigh else Ok (open_phase h true)))
+    by_channel : (q : Bool) → AnswerFits (open_phase h true) b asked (turn_by k channel body (if q then Err ChannelTooHigh else Ok (open_phase h true)))
     by_channel true = tt
     by_channel false = here
 
-perf_fits : (h o : Bool) (b : ℕ → Bool) (asked : Option BeginState) (known : ℕ → Place) (free : Option ℕ) (payload : List ℕ) (channel : ℕ) (body : Perf)
-    → ((k : ℕ) → PlaceFits (known k) b) → FreeFits free b
-    → AnswerFits (open_phase h o) b (offered_by (item.Frame false channel body payload) asked) (perf_reply (open_phase h o) known free channel body)
-perf_fits h o b asked known free payload channel (perf.Open x) places room = open_fits h o b asked x
-perf_fits h o b asked known free payload channel (perf.Begin x) places room =
-    turn_fits h o b (Some (begin_state x)) (known channel) free channel (perf.Begin x) (begin_fits h b (Some (begin_state x)) (known channel) free channel x (places channel) room refl)
-perf_fits h o b asked known free payload channel (perf.Attach x) places room =
-    turn_fits h o b asked (known channel) free channel (perf.Attach x) (attach_fits h b asked (known channel) (places channel))
-perf_fits h o b asked known free payload channel (perf.Flow x) places room =
-    turn_fits h o b asked (known channel) free channel (perf.Flow x) (flow_fits h b asked (known channel) x (places channel))
-perf_fits h o b asked known free payload channel (perf.Transfer x) places room =
-    turn_fits h o b asked (known channel) free channel (perf.Transfer x) (unattached_fits h b asked (known channel) (places channel))
-perf_fits h o b asked known free payload channel (perf.Disposition x) places room =
-    turn_fits h o b asked (known channel) free channel (perf.Disposition x) (disposition_fits h b asked (known channel))
-perf_fits h o b asked known free payload channel (perf.Detach x) places room =
-    turn_fits h o b asked (known channel) free channel (perf.Detach x) (unattached_fits h b asked (known channel) (places channel))
-perf_fits h o b asked known free payload channel (perf.End x) places room =
-    turn_fits h o b asked (known channel) free channel (perf.End x) (end_fits h b asked (known channel) (places channel))
-perf_fits h o b asked known free payload channel (perf.Close x) places room = turn_fits h o b asked (known channel) free channel (perf.Close x) refl
-perf_fits h o b asked known free payload channel (perf.SaslMechanisms x) places room = turn_fits h o b asked (known channel) free channel (perf.SaslMechanisms x) tt
-perf_fits h o b asked known free payload channel (perf.SaslInit x) places room = turn_fits h o b asked (known channel) free channel (perf.SaslInit x) tt
-perf_fits h o b asked known free payload channel (perf.SaslChallenge x) places room = turn_fits h o b asked (known channel) free channel (perf.SaslChallenge x) tt
-perf_fits h o b asked known free payload channel (perf.SaslResponse x) places room = turn_fits h o b asked (known channel) free channel (perf.SaslResponse x) tt
-perf_fits h o b asked known free payload channel (perf.SaslOutcome x) places room = turn_fits h o b asked (known channel) free channel (perf.SaslOutcome x) tt
+-- what an item finds fits what was written
+pub record FindsFit (k : Finds) (b : ℕ → Bool) : Type 0 where
+  pub places : (n : ℕ) → PlaceFits (k.places n) b
+  pub room : FreeFits k.free_channel b
 
-item_fits : (h o : Bool) (b : ℕ → Bool) (asked : Option BeginState) (known : ℕ → Place) (free : Option ℕ) (i : Item)
-    → ((k : ℕ) → PlaceFits (known k) b) → FreeFits free b
-    → AnswerFits (open_phase h o) b (offered_by i asked) (item_reply (open_phase h o) known free i)
-item_fits h o b asked known free (item.Header x y z w) places room = header_fits h o b asked
-item_fits h o b asked known free (item.Frame true channel body payload) places room = tt
-item_fits h o b asked known free (item.Frame false channel body payload) places room = perf_fits h o b asked known free payload channel body places room
-item_fits h o b asked known free (item.Beat channel) places room = by_test (nat_lt 14 channel) (λ e. rw e tt) (λ e. rw e tt)
-item_fits h o b asked known free (item.Bad f) places room = tt
+perf_fits : (h o : Bool) (b : ℕ → Bool) (asked : Option BeginState) (k : Finds) (payload : List ℕ) (channel : ℕ) (body : Perf) → FindsFit k b
+    → AnswerFits (open_phase h o) b (offered_by (item.Frame false channel body payload) asked) (perf_reply (open_phase h o) k channel body)
+perf_fits h o b asked k payload channel (perf.Open x) found = open_fits h o b asked x
+perf_fits h o b asked k payload channel (perf.Begin x) found =
+    turn_fits h o b (Some (begin_state x)) k channel (perf.Begin x)
+    (begin_fits h b (Some (begin_state x)) (k.places channel) k.free_channel channel x (found.places channel) found.room refl)
+perf_fits h o b asked k payload channel (perf.Attach x) found =
+    turn_fits h o b asked k channel (perf.Attach x) (attach_fits h b asked (k.places channel) k.links k.free_handle x (found.places channel))
+perf_fits h o b asked k payload channel (perf.Flow x) found =
+    turn_fits h o b asked k channel (perf.Flow x) (flow_fits h b asked (k.places channel) k.links x (found.places channel))
+perf_fits h o b asked k payload channel (perf.Transfer x) found =
+    turn_fits h o b asked k channel (perf.Transfer x) (transfer_fits h b asked (k.places channel) k.links x (found.places channel))
+perf_fits h o b asked k payload channel (perf.Disposition x) found =
+    turn_fits h o b asked k channel (perf.Disposition x) (disposition_fits h b asked (k.places channel))
+perf_fits h o b asked k payload channel (perf.Detach x) found =
+    turn_fits h o b asked k channel (perf.Detach x) (detach_fits h b asked (k.places channel) k.links x (found.places channel))
+perf_fits h o b asked k payload channel (perf.End x) found =
+    turn_fits h o b asked k channel (perf.End x) (end_fits h b asked (k.places channel) (found.places channel))
+perf_fits h o b asked k payload channel (perf.Close x) found = turn_fits h o b asked k channel (perf.Close x) refl
+perf_fits h o b asked k payload channel (perf.SaslMechanisms x) found = turn_fits h o b asked k channel (perf.SaslMechanisms x) tt
+perf_fits h o b asked k payload channel (perf.SaslInit x) found = turn_fits h o b asked k channel (perf.SaslInit x) tt
+perf_fits h o b asked k payload channel (perf.SaslChallenge x) found = turn_fits h o b asked k channel (perf.SaslChallenge x) tt
+perf_fits h o b asked k payload channel (perf.SaslResponse x) found = turn_fits h o b asked k channel (perf.SaslResponse x) tt
+perf_fits h o b asked k payload channel (perf.SaslOutcome x) found = turn_fits h o b asked k channel (perf.SaslOutcome x) tt
 
-pub reply_fits : (p : Conn) (b : ℕ → Bool) (asked : Option BeginState) (known : ℕ → Place) (free : Option ℕ) (i : Item) → p.closed ≡ false
-    → ((k : ℕ) → PlaceFits (known k) b) → FreeFits free b
-    → AnswerFits p b (offered_by i asked) (item_reply p known free i)
-reply_fits p b asked known free i live places room =
-    subst (λ (q : Conn). AnswerFits q b (offered_by i asked) (item_reply q known free i)) (sym (phase_is p live))
-    (item_fits p.header p.opened b asked known free i places room)
+item_fits : (h o : Bool) (b : ℕ → Bool) (asked : Option BeginState) (k : Finds) (i : Item) → FindsFit k b
+    → AnswerFits (open_phase h o) b (offered_by i asked) (item_reply (open_phase h o) k i)
+item_fits h o b asked k (item.Header x y z w) found = header_fits h o b asked
+item_fits h o b asked k (item.Frame true channel body payload) found = tt
+item_fits h o b asked k (item.Frame false channel body payload) found = perf_fits h o b asked k payload channel body found
+item_fits h o b asked k (item.Beat channel) found = by_test (nat_lt 14 channel) (λ e. rw e tt) (λ e. rw e tt)
+item_fits h o b asked k (item.Bad f) found = tt
+
+pub reply_fits : (p : Conn) (b : ℕ → Bool) (asked : Option BeginState) (k : Finds) (i : Item) → p.closed ≡ false → FindsFit k b
+    → AnswerFits p b (offered_by i asked) (item_reply p k i)
+reply_fits p b asked k i live found =
+    subst (λ (q : Conn). AnswerFits q b (offered_by i asked) (item_reply q k i)) (sym (phase_is p live))
+    (item_fits p.header p.opened b asked k i found)
 
 -- the peer's open is answered by the router's, or by a close
 abbrev pub Opens : Answer → Type 0
