@@ -8,3 +8,4 @@ pub mod SomeBytes
 pub mod Steps
 pub mod Streams
 pub mod Written
+pub mod Rooms

@@ -1,5 +1,5 @@
 -- What is written of a performative has a byte at least.
-use Rattle.std.proofs.Common.{ℕ, ◌<◌, List, length, arith}
+use Rattle.std.proofs.Common.{◌<◌, List, length, arith}
 use Rattle.std.proofs.lemmas.Grind.{common_steps}
 use Rattle.amqp_perf.specs.declared.descriptor.Descriptor.{Descriptor}
 use Rattle.amqp_perf.specs.declared.descriptor.Descriptor.TheVariants as is

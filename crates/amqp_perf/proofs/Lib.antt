@@ -9,3 +9,4 @@ pub mod WrittenPerformatives
 pub mod WrittenTermini
 pub mod WrittenValues
 pub mod WrittenUnsettled
+pub mod FieldLengths

@@ -6,6 +6,7 @@ pub mod fault;
 mod fields;
 mod laws;
 pub mod leaf;
+mod lengths;
 mod opening;
 pub mod perf;
 mod read;
@@ -24,6 +25,7 @@ pub use descriptor::Descriptor;
 pub use fault::PerfFault;
 pub use laws::written_is_read_again;
 pub use leaf::{AnyValue, Binary, Map, Symbol, Symbols, Text};
+pub use lengths::transfer_len;
 pub use opening::Opening;
 pub use perf::{
     Attach, Begin, Close, Detach, Disposition, End, Flow, Open, Perf, Role, SaslChallenge,

@@ -224,7 +224,7 @@ impl<'a> Field<'a> {
 
 /// The fields without the nulls at their end.
 #[tactic(auto, using(crate::proofs::FieldTexts::given_without_null, crate::proofs::FieldTexts::given_with_value))]
-fn given_of<'a, 'b>(fields: &'b [Field<'a>]) -> &'b [Field<'a>]
+pub(crate) fn given_of<'a, 'b>(fields: &'b [Field<'a>]) -> &'b [Field<'a>]
     ensures { fields_view result.now ≡ texts.given (fields_view fields.now) }
 {
     match fields.split_last() {

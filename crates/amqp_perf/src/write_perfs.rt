@@ -4,6 +4,7 @@ ghost use Rattle.amqp_perf.specs.declared.descriptor.Descriptor.TheVariants as i
 ghost use Rattle.amqp_perf.specs.Texts as texts;
 ghost use Rattle.amqp_perf.specs.Spelling as spellings;
 ghost use Rattle.amqp_perf.specs.NestedViews.{nested_view};
+ghost use Rattle.amqp_perf.specs.TextViews.{fields_view};
 
 use crate::descriptor::Descriptor;
 use crate::perf::{
@@ -208,7 +209,18 @@ fn put_transfer_with<'a>(
     requires { option_map nested_view state.now ≡ spellings.state_text transfer.now.state }
     ensures { OnOk result (out.new.items ≡ out.old.items ++ texts.described_text is.Transfer (spellings.transfer_texts transfer.now)) }
 {
-    let fields = [
+    put_described(out, Descriptor::Transfer, &transfer_fields(transfer, state))
+}
+
+/// The fields of a transfer whose state is spelt.
+pub(crate) fn transfer_fields<'a>(
+    transfer: &'a Transfer,
+    state: &'a Option<Nested>,
+) -> [Field<'a>; 11]
+    requires { option_map nested_view state.now ≡ spellings.state_text transfer.now.state }
+    ensures { fields_view result ≡ spellings.transfer_texts transfer.now }
+{
+    [
         Field::Plain(Plain::Uint(transfer.handle)),
         Field::uint(transfer.delivery_id),
         Field::tag(&transfer.delivery_tag),
@@ -220,8 +232,7 @@ fn put_transfer_with<'a>(
         Field::flag(transfer.resume),
         Field::flag(transfer.aborted),
         Field::flag(transfer.batchable),
-    ];
-    put_described(out, Descriptor::Transfer, &fields)
+    ]
 }
 
 pub(crate) fn put_disposition(

@@ -1,5 +1,5 @@
 //! Writing errors, delivery states and unsettled maps.
-ghost use Rattle.std.specs.Prelude.{◌≡◌, ◌++◌, option_map, IfOk, OnOk, OnErr};
+ghost use Rattle.std.specs.Prelude.{◌≡◌, ◌++◌, option_map, is_none, true, IfOk, IsOk, OnOk, OnErr};
 ghost use Rattle.amqp_perf.specs.declared.descriptor.Descriptor.TheVariants as is;
 ghost use Rattle.amqp_perf.specs.Texts as texts;
 ghost use Rattle.amqp_perf.specs.Spelling as spellings;
@@ -105,7 +105,8 @@ pub(crate) fn state_text(
     alloc: Global,
     state: &Option<DeliveryState>,
 ) -> Result<Option<Nested>, AllocError>
-    ensures { IfOk result (λ text. option_map nested_view text ≡ spellings.state_text state.now) }
+    ensures text { IfOk result (λ text. option_map nested_view text ≡ spellings.state_text state.now) }
+    ensures none { is_none state.now ≡ true → IsOk result }
 {
     match state {
         None => Ok(None),

@@ -1,3 +1,5 @@
 pub mod Serials
+pub mod Ranges
 pub mod Session
 pub mod Figures
+pub mod Lending

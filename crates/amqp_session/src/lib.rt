@@ -2,12 +2,14 @@
 //! numbers that they are told by (RFC 1982).
 #![tactic(auto)]
 
+pub mod delivery_ids;
 pub mod fault;
 pub mod laws;
 pub mod serial;
 pub mod states;
 pub mod window;
 
+pub use delivery_ids::DeliveryIds;
 pub use fault::SessionFault;
 pub use serial::Serial;
 pub use states::{BeginState, FlowState};
