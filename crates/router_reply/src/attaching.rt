@@ -4,7 +4,7 @@ ghost use Rattle.router_trace.specs.Trace.{Entry, goes, puts};
 ghost use Rattle.router_trace.specs.Links.{holder};
 ghost use Rattle.router_trace.specs.LinkFrames.{fits};
 ghost use Rattle.router_state.specs.Tables.{TablesFit};
-ghost use Rattle.router_reply.specs.Replies.{stolen_by, unless_too_large, attach_answer, taken, refused, put_for_attach, links_put};
+ghost use Rattle.router_reply.specs.Replies.{stolen_by, unless_too_large, attach_answer, taken, refused, put_for_attach, put_for, links_put};
 ghost use Rattle.router_trace.specs.Peers.{largest_frame};
 
 use crate::answer::Answer;
@@ -107,16 +107,33 @@ fn answer_attach(
     id: &RouterId,
     conn: u64,
     attach: Attach,
-    answer: Answer,
+    answer: &Answer,
 ) -> Result<(), AllocError>
-    ensures { OnOk result ((t : List Entry) → TablesFit state.old t → TablesFit state.new (goes (put_for_attach t conn attach answer) t)) }
+    ensures { OnOk result ((t : List Entry) → TablesFit state.old t → TablesFit state.new (goes (put_for_attach t conn attach answer.now) t)) }
 {
     match answer {
-        Answer::Attach { own } => take_link(state, id, conn, own, attach)?,
+        Answer::Attach { own } => take_link(state, id, conn, *own, attach)?,
         Answer::Refuse { own, handle, error } => {
-            refuse_link(state, id, conn, own, handle, error, attach)?
+            refuse_link(state, id, conn, *own, *handle, *error, attach)?
         }
         _ => {}
+    }
+    Ok(())
+}
+
+/// Puts what an answer to a performative has put in outboxes beyond its own items.
+fn answer_perf(
+    state: &mut State,
+    id: &RouterId,
+    conn: u64,
+    perf: Perf,
+    answer: &Answer,
+) -> Result<(), AllocError>
+    ensures { OnOk result ((t : List Entry) → TablesFit state.old t → TablesFit state.new (goes (put_for t conn perf answer.now) t)) }
+{
+    match perf {
+        Perf::Attach(attach) => answer_attach(state, id, conn, attach, answer)?,
+        _other => {}
     }
     Ok(())
 }
@@ -127,16 +144,18 @@ pub fn put_links(
     id: &RouterId,
     conn: u64,
     item: Item,
-    answer: Answer,
+    answer: &Answer,
 ) -> Result<(), AllocError>
-    ensures { OnOk result ((t : List Entry) → TablesFit state.old t → TablesFit state.new (goes (links_put t conn item answer) t)) }
+    ensures { OnOk result ((t : List Entry) → TablesFit state.old t → TablesFit state.new (goes (links_put t conn item answer.now) t)) }
 {
     match item {
         Item::Frame {
-            perf: Perf::Attach(attach),
-            ..
-        } => answer_attach(state, id, conn, attach, answer)?,
-        _ => {}
+            sasl: _sasl,
+            channel: _channel,
+            perf,
+            payload: _payload,
+        } => answer_perf(state, id, conn, perf, answer)?,
+        _other => {}
     }
     Ok(())
 }

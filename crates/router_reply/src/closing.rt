@@ -74,32 +74,32 @@ pub fn say(
     id: &RouterId,
     conn: u64,
     phase: Conn,
-    answer: Answer,
+    answer: &Answer,
 ) -> Result<(), AllocError>
-    ensures { OnOk result ((t : List Entry) → TablesFit state.old t → TablesFit state.new (puts conn (said id.now phase answer) t)) }
+    ensures { OnOk result ((t : List Entry) → TablesFit state.old t → TablesFit state.new (puts conn (said id.now phase answer.now) t)) }
 {
     match answer {
         Answer::Nothing => {}
         Answer::Header => state.put(conn, header_item())?,
         Answer::Open => write_open(state, id, conn)?,
         Answer::Close => write_close(state, id, conn, None)?,
-        Answer::CloseWith(condition) => close_with(state, id, conn, phase, condition)?,
-        Answer::Begin { own, theirs } => state.put(conn, id.begin_item(own, theirs))?,
+        Answer::CloseWith(condition) => close_with(state, id, conn, phase, *condition)?,
+        Answer::Begin { own, theirs } => state.put(conn, id.begin_item(*own, *theirs))?,
         Answer::End { own, error } => {
-            let item = id.end_item(own, error)?;
+            let item = id.end_item(*own, *error)?;
             state.put(conn, item)?;
         }
-        Answer::Flow { own, told } => state.put(conn, flow_item(own, told))?,
+        Answer::Flow { own, told } => state.put(conn, flow_item(*own, *told))?,
         Answer::Detach {
             own,
             handle,
             closed,
             error,
         } => {
-            let item = id.detach_item(own, handle, closed, error)?;
+            let item = id.detach_item(*own, *handle, *closed, *error)?;
             state.put(conn, item)?;
         }
-        Answer::LinkFlow { own, told, at } => state.put(conn, link_flow_item(own, told, at))?,
+        Answer::LinkFlow { own, told, at } => state.put(conn, link_flow_item(*own, *told, *at))?,
         Answer::Attach { .. } | Answer::Refuse { .. } => {}
     }
     Ok(())

@@ -45,8 +45,8 @@ fn on_item(
     };
     let answer = item_reply(state, conn.0, phase, &item);
     hear_item(state, id, ends, conn, &item)?;
-    say(state, id, conn.0, phase, answer)?;
-    put_links(state, id, conn.0, item, answer)?;
+    say(state, id, conn.0, phase, &answer)?;
+    put_links(state, id, conn.0, item, &answer)?;
     Ok(())
 }
 
@@ -112,12 +112,7 @@ fn on_start(state: &mut State, id: &RouterId, ends: &[u64]) -> Result<(), AllocE
 /// # Errors
 ///
 /// `AllocError` where memory was refused; nothing can be said of the tables then.
-pub fn reply(
-    state: &mut State,
-    id: &RouterId,
-    ends: &[u64],
-    event: Event,
-) -> Result<(), AllocError>
+pub fn reply(state: &mut State, id: &RouterId, ends: &[u64], event: Event) -> Result<(), AllocError>
     ensures { OnOk result ((t : List Entry) → TablesAt state.old t event ends.now → refuses t event ≡ false → TablesFit state.new (replied id.now t (step_of event))) }
 {
     match event {

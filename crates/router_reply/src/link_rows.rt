@@ -14,7 +14,9 @@ ghost use Rattle.router_reply.specs.declared.answer.Answer.TheVariants.{End};
 
 use crate::answer::Answer;
 use amqp_link::SendEnd;
-use amqp_perf::{Address, Attach, Detach, Flow, Role, SourceTerminus, TargetTerminus, Text, Transfer};
+use amqp_perf::{
+    Address, Attach, Detach, Flow, Role, SourceTerminus, TargetTerminus, Text, Transfer,
+};
 use amqp_session::{Serial, Window};
 use router_sessions::flow_state;
 use router_trace::{Condition, HANDLE_MAX, LinkAt, LinkState, SESSION_WINDOW};
@@ -161,7 +163,14 @@ fn end_unattached(own: u16) -> Answer
 }
 
 /// The flow of a link, where one is wanted, with the figures behind the peer's.
-fn link_echo(own: u16, window: Window, flow: &Flow, handle: u32, count: Serial, credit: u32) -> Answer
+fn link_echo(
+    own: u16,
+    window: Window,
+    flow: &Flow,
+    handle: u32,
+    count: Serial,
+    credit: u32,
+) -> Answer
     ensures { (h : Session) → window ≡ window_of h → result ≡ link_echo flow.now.echo own (TheirFlow (flow_state flow.now) ∷ h) handle count credit }
 {
     if !flow.echo {

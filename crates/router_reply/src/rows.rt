@@ -13,8 +13,8 @@ use amqp_conn::Conn;
 use amqp_conn::conn::CHANNEL_MAX;
 use amqp_frames::FrameFault;
 use amqp_perf::{Begin, Flow, Open};
-use router_sessions::{Place, flow_state};
 use amqp_session::Window;
+use router_sessions::{Place, flow_state};
 use router_trace::{Condition, SESSION_WINDOW};
 
 /// The longest container-id that the router takes, in bytes.
