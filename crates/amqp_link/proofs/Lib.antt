@@ -3,3 +3,4 @@ pub mod Uses
 pub mod Within
 pub mod Sends
 pub mod Receives
+pub mod Settled

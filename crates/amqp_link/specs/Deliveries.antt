@@ -1,5 +1,5 @@
 -- Deliveries, of the transfer frames that carry them (AMQP 1.0 part 2, sections 2.6.14 and 2.7.5).
-use Rattle.std.specs.Prelude.{ℕ, Bool, ◌&&◌, ◌||◌, not, nat_lt, if◌then◌else◌, List, [], ◌∷◌, ◌++◌, length}
+use Rattle.std.specs.Prelude.{ℕ, Bool, true, ◌&&◌, ◌||◌, not, nat_lt, if◌then◌else◌, List, [], ◌∷◌, ◌++◌, length}
 use Rattle.amqp_perf.specs.declared.perf.Transfer.{Transfer}
 use Rattle.amqp_link.specs.declared.part.Delivery.{Delivery}
 use Rattle.amqp_link.specs.declared.part.Part.{Part}
@@ -33,6 +33,11 @@ is_too_large fs = nat_lt 65536 (length (bytes fs))
 abbrev pub is_settled : Frame → List Frame → Bool
 is_settled f [] = f.transfer.settled
 is_settled f (g ∷ fs) = f.transfer.settled || is_settled g fs
+
+-- The frames of a delivery that its sender settled without a frame: the newest of them says so then (section 2.7.6).
+abbrev pub settled : List Frame → List Frame
+settled [] = []
+settled (f ∷ fs) = record f { transfer = record f.transfer { settled = true } } ∷ fs
 
 -- all else that is told of it, its first frame tells
 abbrev pub first : Frame → List Frame → Frame

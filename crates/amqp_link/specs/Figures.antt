@@ -1,14 +1,13 @@
 -- The figures of a link's end are those of what happened on its link.
-use Rattle.std.specs.Prelude.{◌≡◌, ◌<◌, ℕ, ◌+◌, ◌%◌, ◌^◌, Bool, ◌&&◌, nat_eq, if◌then◌else◌, Option, Some, is_none, unwrap_or}
+use Rattle.std.specs.Prelude.{◌≡◌, ◌<◌, ℕ, ◌+◌, ◌%◌, ◌^◌, Bool, ◌&&◌, nat_eq, if◌then◌else◌, Option, Some, None, is_none, option_map, unwrap_or}
 use Rattle.amqp_link.specs.declared.grant.Grant.{Grant}
 use Rattle.amqp_link.specs.declared.part.Part.{Part}
 use Rattle.amqp_link.specs.declared.part.Part.TheVariants as part
 use Rattle.amqp_link.specs.declared.send_end.SendEnd.{SendEnd}
-use Rattle.amqp_link.specs.declared.recv_end.RecvEnd.{RecvEnd}
 use Rattle.amqp_link.specs.Credit as link
 use Rattle.amqp_link.specs.Credit.{Link, left_of}
 use Rattle.amqp_link.specs.Deliveries.{Frame}
-use Rattle.amqp_link.specs.Gathering.{gathered, next}
+use Rattle.amqp_link.specs.Gathering.{RecvFigures, gathered, settled_now, next}
 use Rattle.amqp_link.specs.Receiving.{Received, middle, seen}
 
 -- of an end that sends
@@ -25,7 +24,15 @@ left_at e = left_of e.granted e.count
 abbrev pub CanStart : SendEnd → Type 0
 CanStart e = 0 < left_at e
 
--- What becomes of its figures, for a table of ends: behind a flow of the receiver, ...
+-- the end that has the figures of this list; each list has one alone
+abbrev pub send_end_of : Link → SendEnd
+send_end_of t = record { initial = link.initial t; count = link.count t; granted = link.granted t }
+
+-- What becomes of its figures, for a table of ends: those of a link that was just attached, ...
+abbrev pub begun_at : ℕ → SendEnd
+begun_at n = record { initial = n; count = n % 2 ^ 32; granted = None }
+
+-- ... behind a flow of the receiver, ...
 abbrev pub behind_grant : Option ℕ → ℕ → SendEnd → SendEnd
 behind_grant count credit e = record e { granted = Some (record { count = unwrap_or count e.initial; credit = credit }) }
 
@@ -41,32 +48,44 @@ abbrev pub behind_drain : SendEnd → SendEnd
 behind_drain e = record e { count = drained_count e }
 
 -- of an end that receives
-pub record Receives (e : RecvEnd) (t : Received) : Type 0 where
+pub record Receives (e : RecvFigures) (t : Received) : Type 0 where
   pub count : e.count ≡ link.count (seen t)
   pub granted : e.granted ≡ link.granted (seen t)
   pub middle : e.middle ≡ gathered (middle t)
 
-abbrev pub unused_at : RecvEnd → ℕ
+abbrev pub unused_at : RecvFigures → ℕ
 unused_at e = left_of e.granted e.count
 
--- What becomes of it behind a grant of this end, ...
-abbrev pub behind_our_grant : Grant → RecvEnd → RecvEnd
+-- the end that has the figures of this list; each list has one alone
+abbrev pub recv_end_of : Received → RecvFigures
+recv_end_of t = record { count = link.count (seen t); granted = link.granted (seen t); middle = gathered (middle t) }
+
+-- What becomes of it: that of a link that was just attached, ...
+abbrev pub awaiting_at : ℕ → RecvFigures
+awaiting_at n = record { count = n % 2 ^ 32; granted = None; middle = None }
+
+-- ... behind a grant of this end, ...
+abbrev pub behind_our_grant : Grant → RecvFigures → RecvFigures
 behind_our_grant g e = record e { granted = Some g }
 
 -- ... a count that the peer told, ...
-abbrev pub behind_count : ℕ → RecvEnd → RecvEnd
-behind_count n e = record e { count = n }
+abbrev pub behind_count : ℕ → RecvFigures → RecvFigures
+behind_count n e = record e { count = n % 2 ^ 32 }
+
+-- ... a settlement of the delivery in the middle, ...
+abbrev pub behind_settlement : RecvFigures → RecvFigures
+behind_settlement e = record e { middle = option_map settled_now e.middle }
 
 -- ... and a transfer of the peer, beside what that gives
-abbrev pub starts_beyond : RecvEnd → Bool
+abbrev pub starts_beyond : RecvFigures → Bool
 starts_beyond e = is_none e.middle && nat_eq (unused_at e) 0
 
-abbrev pub count_behind_transfer : RecvEnd → ℕ
+abbrev pub count_behind_transfer : RecvFigures → ℕ
 count_behind_transfer e = if is_none e.middle then (e.count + 1) % 2 ^ 32 else e.count
 
-abbrev pub given_by : Frame → RecvEnd → Part
+abbrev pub given_by : Frame → RecvFigures → Part
 given_by f e = if starts_beyond e then part.BeyondCredit else (next f e.middle).0
 
-abbrev pub behind_transfer : Frame → RecvEnd → RecvEnd
+abbrev pub behind_transfer : Frame → RecvFigures → RecvFigures
 behind_transfer f e =
     if starts_beyond e then e else record e { count = count_behind_transfer e; middle = (next f e.middle).1 }

@@ -1,5 +1,6 @@
--- What an end keeps of the frames of the delivery in the middle.
-use Rattle.std.specs.Prelude.{ℕ, ◌||◌, if◌then◌else◌, nat_lt, List, [], ◌∷◌, ◌++◌, length, Option, Some, None}
+-- What an end that receives keeps, and what it keeps of the frames of the delivery in the middle.
+use Rattle.std.specs.Prelude.{ℕ, true, ◌||◌, if◌then◌else◌, nat_lt, List, [], ◌∷◌, ◌++◌, length, Option, Some, None}
+use Rattle.amqp_link.specs.declared.grant.Grant.{Grant}
 use Rattle.amqp_link.specs.declared.part.Delivery.{Delivery}
 use Rattle.amqp_link.specs.declared.part.Part.{Part}
 use Rattle.amqp_link.specs.declared.part.Part.TheVariants as part
@@ -9,6 +10,12 @@ use Rattle.amqp_link.specs.Deliveries.{Frame, bytes, told, delivery}
 pub record Gathered : Type 0 where
   pub delivery : Delivery
   pub kept : Option (List ℕ)
+
+-- an end: the sender's delivery-count, what was granted to it last, and the delivery in the middle
+pub record RecvFigures : Type 0 where
+  pub count : ℕ
+  pub granted : Option Grant
+  pub middle : Option Gathered
 
 abbrev pub fitting : List ℕ → Option (List ℕ)
 fitting b = if nat_lt 65536 (length b) then None else Some b
@@ -31,6 +38,10 @@ with_frame f g = record {
   delivery = record g.delivery { settled = f.transfer.settled || g.delivery.settled };
   kept = joined g.kept f.payload;
 }
+
+-- ... its settlement without a frame, ...
+abbrev pub settled_now : Gathered → Gathered
+settled_now g = record g { delivery = record g.delivery { settled = true } }
 
 -- ... and what becomes of it with a frame that was joined to it, beside what stays in the middle
 abbrev pub whole : Delivery → Option (List ℕ) → Part

@@ -4,7 +4,7 @@ use Rattle.amqp_link.specs.declared.grant.Grant.{Grant}
 use Rattle.amqp_link.specs.declared.part.Part.{Part}
 use Rattle.amqp_link.specs.declared.part.Part.TheVariants as part
 use Rattle.amqp_link.specs.Credit.{Link, Attached, Granted, Started, Counted, count, credit}
-use Rattle.amqp_link.specs.Deliveries.{Frame, still, part_of}
+use Rattle.amqp_link.specs.Deliveries.{Frame, still, settled, part_of}
 
 pub data Event : Type 0 where
   -- the peer's attach, with its initial-delivery-count
@@ -15,6 +15,8 @@ pub data Event : Type 0 where
   TheirCount : ℕ → Event
   -- a transfer of the peer
   TheirTransfer : Frame → Event
+  -- the peer settled the delivery in the middle, by a disposition whose range has it (AMQP 1.0 part 2, section 2.7.6)
+  TheirSettlement : Event
 
 abbrev pub Received : Type 0
 Received = List Event
@@ -24,6 +26,7 @@ abbrev pub middle : Received → List Frame
 middle [] = []
 middle (TheirAttach n ∷ t) = []
 middle (TheirTransfer f ∷ t) = still f (middle t)
+middle (TheirSettlement ∷ t) = settled (middle t)
 middle (_ ∷ t) = middle t
 
 abbrev pub is_empty : List Frame → Bool
@@ -37,6 +40,7 @@ seen (TheirAttach n ∷ t) = Attached n ∷ seen t
 seen (OurGrant g ∷ t) = Granted (Some g.count) g.credit ∷ seen t
 seen (TheirCount n ∷ t) = Counted n ∷ seen t
 seen (TheirTransfer f ∷ t) = if is_empty (middle t) then Started ∷ seen t else seen t
+seen (TheirSettlement ∷ t) = seen t
 
 -- the peer's delivery-count
 abbrev pub delivery_count : Received → ℕ

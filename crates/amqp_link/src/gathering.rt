@@ -1,7 +1,7 @@
 //! Gathers what the frames of a delivery carry.
 ghost use Rattle.std.specs.Prelude.{◌≡◌, ℕ, [], ◌++◌, List, Some, None, if◌then◌else◌, IfOk, IfErr, OnErr, OnOk, IsOk, true, false, not, nat_lt, length};
 ghost use Rattle.amqp_link.specs.Deliveries.{frame};
-ghost use Rattle.amqp_link.specs.Gathering.{begun, with_frame, fitting, more, whole, next};
+ghost use Rattle.amqp_link.specs.Gathering.{begun, with_frame, settled_now, fitting, more, whole, next};
 
 use crate::part::{Delivery, Part};
 use amqp_perf::Transfer;
@@ -68,6 +68,13 @@ impl Gathering {
             self.bytes = None;
         }
         Ok(())
+    }
+
+    /// Notes that the sender settled the delivery.
+    pub(crate) fn settle(&mut self)
+        ensures { self.new ≡ settled_now self.old }
+    {
+        self.delivery.settled = true;
     }
 
     /// What its last frame made of the delivery, of which more frames are to come.

@@ -1,9 +1,9 @@
 //! What holds of the credit of every link. These functions do nothing: their contracts are the laws.
-ghost use Rattle.std.specs.Prelude.{◌≡◌, ◌≤◌, ◌<◌, ◌^◌, ◌+◌, ◌-◌, [], ◌∷◌, ℕ, true, false, Some, count_by};
+ghost use Rattle.std.specs.Prelude.{◌≡◌, ◌≤◌, ◌<◌, ◌^◌, ◌+◌, ◌-◌, [], ◌∷◌, ℕ, List, true, false, Some, count_by};
 ghost use Rattle.amqp_session.specs.Serials.{distance};
 ghost use Rattle.amqp_link.specs.Credit.{Link, Attached, Granted, Started, Counted, is_start, is_grant, since, from, count, credit, WithinCredit};
-ghost use Rattle.amqp_link.specs.Deliveries.{Frame};
-ghost use Rattle.amqp_link.specs.Receiving.{Received, middle, is_empty, seen, unused, behind};
+ghost use Rattle.amqp_link.specs.Deliveries.{Frame, delivery};
+ghost use Rattle.amqp_link.specs.Receiving.{Received, TheirSettlement, middle, is_empty, seen, unused, behind};
 
 /// A sender that stays within its credit never starts more deliveries than the receiver granted: what a grant leaves it is the
 /// link-credit less the deliveries that were on the way to the receiver (those from its delivery-count on), and it starts no
@@ -38,4 +38,13 @@ pub fn only_what_was_granted_is_taken()
     ensures within { (t : Received) (f : Frame) → WithinCredit (seen t) → WithinCredit (seen (behind f t)) }
     ensures start { (t : Received) (f : Frame) → is_empty (middle t) ≡ true → 1 ≤ unused t → unused (behind f t) + 1 ≡ unused t }
     ensures later { (t : Received) (f : Frame) → is_empty (middle t) ≡ false → unused (behind f t) ≡ unused t }
+{}
+
+/// A delivery that its sender settled in the middle is told as settled, whatever frames of it come behind. A settlement uses no
+/// credit.
+#[tactic(auto, using(crate::proofs::Settled::told_settled, crate::proofs::Settled::lasts))]
+pub fn a_settlement_lasts()
+    ensures told { (t : Received) (f : Frame) → is_empty (middle t) ≡ false → (delivery f (middle (TheirSettlement ∷ t))).settled ≡ true }
+    ensures lasts { (f g : Frame) (before : List Frame) → (delivery g before).settled ≡ true → (delivery f (g ∷ before)).settled ≡ true }
+    ensures credit { (t : Received) → unused (TheirSettlement ∷ t) ≡ unused t }
 {}

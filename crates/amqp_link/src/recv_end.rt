@@ -1,11 +1,11 @@
 //! The end of a link that receives.
-ghost use Rattle.std.specs.Prelude.{◌≡◌, ◌≤◌, ◌+◌, ◌-◌, ◌^◌, ◌↔◌, [], ◌∷◌, true, false, min, None, IsOk, IfOk, OnOk, OnErr};
+ghost use Rattle.std.specs.Prelude.{◌≡◌, ◌≤◌, ◌+◌, ◌-◌, ◌^◌, ◌↔◌, [], ◌∷◌, true, false, min, IsOk, IfOk, OnOk, OnErr};
 ghost use Rattle.std.specs.Option.{option_map};
 ghost use Rattle.amqp_session.specs.Serials.{distance};
 ghost use Rattle.amqp_link.specs.Deliveries.{frame};
-ghost use Rattle.amqp_link.specs.Receiving.{Received, TheirAttach, OurGrant, TheirCount, TheirTransfer, middle, is_beyond, delivery_count, unused, given, behind};
+ghost use Rattle.amqp_link.specs.Receiving.{Received, TheirAttach, OurGrant, TheirCount, TheirTransfer, TheirSettlement, middle, is_beyond, delivery_count, unused, given, behind};
 ghost use Rattle.amqp_link.specs.Gathering.{gathered, next};
-ghost use Rattle.amqp_link.specs.Figures.{Receives, unused_at, behind_our_grant, behind_count, given_by, behind_transfer};
+ghost use Rattle.amqp_link.specs.Figures.{Receives, unused_at, awaiting_at, behind_our_grant, behind_count, behind_settlement, given_by, behind_transfer};
 
 use crate::fault::LinkFault;
 use crate::gathering::{Gathering, first, later};
@@ -15,6 +15,7 @@ use amqp_perf::Transfer;
 use amqp_session::Serial;
 use bytes::Bytes;
 use std::alloc::{AllocError, Global};
+use std::marker::Model;
 
 /// The most credit that a link may have: a grant that reaches further would be behind the sender's count (RFC 1982, section 3.2).
 pub const MAX_CREDIT: u32 = 0x7fff_ffff;
@@ -29,11 +30,19 @@ pub struct RecvEnd {
     middle: Option<Gathering>,
 }
 
+impl Model for RecvEnd {
+    ghost use Rattle.amqp_link.specs.Gathering.{RecvFigures};
+
+    ghost Value = { RecvFigures };
+
+    ghost view = { λ e. record { count = e.count; granted = e.granted; middle = e.middle } };
+}
+
 impl RecvEnd {
     /// The end of a link that was just attached with this initial-delivery-count. Its sender has no credit.
     pub fn new(alloc: Global, initial: Serial) -> RecvEnd
         ensures fits { (t : Received) → Receives result (TheirAttach initial ∷ t) }
-        ensures figures { result ≡ record { alloc = alloc; count = initial; granted = None; middle = None } }
+        ensures figures { result ≡ awaiting_at initial }
     {
         RecvEnd {
             alloc,
@@ -104,6 +113,17 @@ impl RecvEnd {
                 self.middle = middle;
                 Ok(part)
             }
+        }
+    }
+
+    /// Notes that the sender settled the delivery in the middle, by a disposition whose range has it (AMQP 1.0 part 2,
+    /// section 2.7.6): it is told as settled once it is whole. Where none is in the middle nothing changes.
+    pub fn settle(&mut self)
+        ensures fits { (t : Received) → Receives self.old t → Receives self.new (TheirSettlement ∷ t) }
+        ensures figures { self.new ≡ behind_settlement self.old }
+    {
+        if let Some(gathering) = &mut self.middle {
+            gathering.settle();
         }
     }
 

@@ -1,7 +1,7 @@
 //! The end of a link that sends.
-ghost use Rattle.std.specs.Prelude.{◌≡◌, ◌≤◌, ◌+◌, ◌%◌, ◌^◌, ◌↔◌, ◌∷◌, None, IsTrue};
+ghost use Rattle.std.specs.Prelude.{◌≡◌, ◌≤◌, ◌+◌, ◌%◌, ◌^◌, ◌↔◌, ◌∷◌, IsTrue};
 ghost use Rattle.amqp_link.specs.Credit.{Link, Attached, Granted, Started, Counted, initial, count, credit, WithinCredit};
-ghost use Rattle.amqp_link.specs.Figures.{Sends, CanStart, left_at, behind_grant, behind_start, behind_drain, drained_count};
+ghost use Rattle.amqp_link.specs.Figures.{Sends, CanStart, left_at, begun_at, behind_grant, behind_start, behind_drain, drained_count};
 
 use crate::grant::Grant;
 use amqp_session::Serial;
@@ -18,7 +18,7 @@ impl SendEnd {
     /// The end of a link that was just attached with this initial-delivery-count. It has no credit.
     pub fn new(initial: Serial) -> SendEnd
         ensures fits { (t : Link) → Sends result (Attached initial ∷ t) }
-        ensures figures { result ≡ record { initial = initial; count = initial; granted = None } }
+        ensures figures { result ≡ begun_at initial }
     {
         SendEnd {
             initial,
