@@ -79,6 +79,7 @@ impl RecvEnd {
     pub fn count_forward(&mut self, count: Serial) -> Result<(), LinkFault>
         ensures fits { (t : Received) → Receives self.old t → OnOk result (Receives self.new (TheirCount count ∷ t)) }
         ensures within { (t : Received) → Receives self.old t → (IsOk result ↔ (distance (delivery_count t) count ≤ unused t)) }
+        ensures reaches { IsOk result ↔ (distance self.old.count count ≤ unused_at self.old) }
         ensures figures { OnOk result (self.new ≡ behind_count count self.old) }
         ensures err { OnErr result (self.new ≡ self.old) }
     {
