@@ -1,0 +1,6 @@
+pub mod Places
+pub mod Ends
+pub use Rattle.router_trace.specs.Trace
+pub use Rattle.router_trace.specs.Sessions
+pub use Rattle.router_trace.specs.Links
+pub use Rattle.amqp_link.specs.Figures

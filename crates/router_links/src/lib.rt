@@ -1,0 +1,7 @@
+//! The table of links: by connection, session and handle, by key, and by number.
+#![tactic(auto)]
+
+mod by_handle;
+mod link;
+
+pub use link::{Link, LinkEnd, Side};
