@@ -1,5 +1,6 @@
 pub mod Places
 pub mod Ends
+pub mod Handled
 pub use Rattle.router_trace.specs.Trace
 pub use Rattle.router_trace.specs.Sessions
 pub use Rattle.router_trace.specs.Links

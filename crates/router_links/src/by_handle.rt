@@ -9,16 +9,16 @@ use std::alloc::{AllocError, Global};
 use std::collections::BTreeMap;
 
 /// Values by handle.
-pub(crate) type Handles<V> = BTreeMap<u32, V>;
+pub(crate) type InSession<V> = BTreeMap<u32, V>;
 
 /// Values by session and handle.
-pub(crate) type Sessions<V> = BTreeMap<u16, Handles<V>>;
+pub(crate) type InConnection<V> = BTreeMap<u16, InSession<V>>;
 
 /// Values by connection, the router's channel of a session, and a handle.
 #[derive(Debug, Drop)]
 pub(crate) struct ByHandle<V> {
     alloc: Global,
-    pub(crate) rows: BTreeMap<u64, Sessions<V>>,
+    pub(crate) rows: BTreeMap<u64, InConnection<V>>,
 }
 
 impl<V: Drop> ByHandle<V> {
@@ -81,7 +81,7 @@ impl<V: Drop> ByHandle<V> {
     }
 
     /// Takes all values of a session away.
-    pub(crate) fn end(&mut self, conn: u64, own: u16) -> Option<Handles<V>>
+    pub(crate) fn end(&mut self, conn: u64, own: u16) -> Option<InSession<V>>
         ensures { (c o h : ℕ) → at self.new c o h ≡ (if conn == c then (if own == o then None else at self.old c o h) else at self.old c o h) }
     {
         match self.rows.get_mut(&conn) {
@@ -91,7 +91,7 @@ impl<V: Drop> ByHandle<V> {
     }
 
     /// Takes all values of a connection away.
-    pub(crate) fn forget(&mut self, conn: u64) -> Option<Sessions<V>>
+    pub(crate) fn forget(&mut self, conn: u64) -> Option<InConnection<V>>
         ensures { (c o h : ℕ) → at self.new c o h ≡ (if conn == c then None else at self.old c o h) }
     {
         self.rows.remove(&conn)
@@ -101,7 +101,7 @@ impl<V: Drop> ByHandle<V> {
 /// Puts a value at a handle of a session.
 fn insert_in<V: Drop>(
     alloc: Global,
-    sessions: &mut Sessions<V>,
+    sessions: &mut InConnection<V>,
     own: u16,
     handle: u32,
     value: V,
@@ -121,7 +121,7 @@ fn insert_in<V: Drop>(
 }
 
 /// Puts a value at a handle.
-fn put<V: Drop>(handles: &mut Handles<V>, handle: u32, value: V) -> Result<(), AllocError>
+fn put<V: Drop>(handles: &mut InSession<V>, handle: u32, value: V) -> Result<(), AllocError>
     ensures { OnOk result ((h : ℕ) → get nat_cmp handles.new h ≡ (if handle == h then Some value else get nat_cmp handles.old h)) }
 {
     match handles.insert(handle, value) {
@@ -131,7 +131,7 @@ fn put<V: Drop>(handles: &mut Handles<V>, handle: u32, value: V) -> Result<(), A
 }
 
 /// Takes the value at a handle of a session away.
-fn remove_in<V: Drop>(sessions: &mut Sessions<V>, own: u16, handle: u32) -> Option<V>
+fn remove_in<V: Drop>(sessions: &mut InConnection<V>, own: u16, handle: u32) -> Option<V>
     ensures gives { result ≡ in_map (get nat_cmp sessions.old own) handle }
     ensures gone { (o h : ℕ) → in_map (get nat_cmp sessions.new o) h
         ≡ (if own == o then (if handle == h then None else in_map (get nat_cmp sessions.old o) h) else in_map (get nat_cmp sessions.old o) h) }

@@ -2,6 +2,7 @@
 #![tactic(auto)]
 
 mod by_handle;
+mod handles;
 mod link;
 
 pub use link::{Link, LinkEnd, Side};
