@@ -4,7 +4,11 @@ ghost use Rattle.std.specs.Option.{option_map};
 ghost use Rattle.std.specs.Ordering.{nat_cmp};
 ghost use Rattle.std.specs.BTreeMap.{get};
 ghost use Rattle.router_links.specs.Places.{in_map, at};
+ghost use Rattle.router_links.specs.Ends.{noted};
 
+use crate::link::{Link, Side};
+use amqp_perf::Perf;
+use bytes::Bytes;
 use std::alloc::{AllocError, Global};
 use std::collections::BTreeMap;
 
@@ -96,6 +100,63 @@ impl<V: Drop> ByHandle<V> {
     {
         self.rows.remove(&conn)
     }
+}
+
+impl ByHandle<Link> {
+    /// Notes a performative of one side on a link, where one stands at the place. Where memory is refused nothing can be said
+    /// of the link.
+    pub(crate) fn note(
+        &mut self,
+        conn: u64,
+        own: u16,
+        handle: u32,
+        side: Side,
+        perf: &Perf,
+        payload: &Bytes,
+    ) -> Result<(), AllocError>
+        ensures { OnOk result ((c o h : ℕ) → at self.new c o h
+            ≡ (if conn == c then (if own == o then (if handle == h then option_map (noted side perf.now payload.now) (at self.old c o h) else at self.old c o h) else at self.old c o h) else at self.old c o h)) }
+    {
+        if let Some(sessions) = self.rows.get_mut(&conn) {
+            note_in(sessions, own, handle, side, perf, payload)?;
+        }
+        Ok(())
+    }
+}
+
+/// Notes a performative on the link at a handle of a session.
+fn note_in(
+    sessions: &mut InConnection<Link>,
+    own: u16,
+    handle: u32,
+    side: Side,
+    perf: &Perf,
+    payload: &Bytes,
+) -> Result<(), AllocError>
+    ensures { OnOk result ((o h : ℕ) → in_map (get nat_cmp sessions.new o) h
+        ≡ (if own == o then (if handle == h then option_map (noted side perf.now payload.now) (in_map (get nat_cmp sessions.old o) h) else in_map (get nat_cmp sessions.old o) h) else in_map (get nat_cmp sessions.old o) h)) }
+{
+    if let Some(handles) = sessions.get_mut(&own) {
+        note_at(handles, handle, side, perf, payload)?;
+    }
+    Ok(())
+}
+
+/// Notes a performative on the link at a handle.
+fn note_at(
+    handles: &mut InSession<Link>,
+    handle: u32,
+    side: Side,
+    perf: &Perf,
+    payload: &Bytes,
+) -> Result<(), AllocError>
+    ensures { OnOk result ((h : ℕ) → get nat_cmp handles.new h
+        ≡ (if handle == h then option_map (noted side perf.now payload.now) (get nat_cmp handles.old h) else get nat_cmp handles.old h)) }
+{
+    if let Some(link) = handles.get_mut(&handle) {
+        link.note(side, perf, payload)?;
+    }
+    Ok(())
 }
 
 /// Puts a value at a handle of a session.
