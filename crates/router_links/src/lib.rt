@@ -4,5 +4,6 @@
 mod by_handle;
 mod handles;
 mod link;
+mod names;
 
 pub use link::{Link, LinkEnd, Side};
