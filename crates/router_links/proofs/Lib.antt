@@ -1,2 +1,4 @@
 pub mod Follows
 pub mod Thinning
+pub mod Numbered
+pub mod Attached
