@@ -12,10 +12,10 @@ use Rattle.book_core.specs.Keys.{key_cmp}
 use Rattle.router_trace.specs.declared.event.Event.{Event}
 use Rattle.router_trace.specs.declared.handle.Attachment.{Attachment}
 use Rattle.router_trace.specs.Trace.{Trace, Out, Took, did}
-use Rattle.router_trace.specs.Links.{address_by, is_taken, attachments, key_at, is_attached, if_attached, last_of_key, numbered, same_key}
+use Rattle.router_trace.specs.Links.{Link, has_number, link, attached, asked, address_by, is_taken, attachments, key_at, is_attached, if_attached, last_of_key, numbered, same_key}
 use Rattle.router_links.specs.declared.names.Names.{Names}
-use Rattle.router_links.specs.Naming.{IsThinned, Thinned, Remembers, NamesFit}
-use Rattle.router_links.proofs.Numbered.{old_key, old_number, newest_same, did_stays, out_stays}
+use Rattle.router_links.specs.Naming.{on_handle, IsThinned, Thinned, Remembers, NamesFit}
+use Rattle.router_links.proofs.Numbered.{old_key, old_number, newest_same, did_stays, out_stays, attached_other, not_next}
 
 -- From a trace to another, of the attachments of the first: who isn't attached stays so, and those that pass a test go.
 pub record Going (t u : Trace) (gone : Attachment → Bool) : Type 0 where
@@ -113,3 +113,18 @@ names_taken d own sasl x payload t gone old middle new a is addressed goes thin 
 
     at_number : (n : ℕ) → get nat_cmp new.numbers.entries n ≡ (if attachments t + 1 == n then Some a else get nat_cmp middle.numbers.entries n)
     at_number n = number_of n (ap number is)
+
+-- whoever stood where an attach stands now has gone
+place_gone : (here own handle : Bool) (n : ℕ) (m v : Option Link) → (here && (own && handle)) ≡ true → has_number n m ≡ false
+    → has_number n (if here then (if own && handle then m else v) else v) ≡ false
+place_gone true own handle n m v e new = rw e new
+place_gone false own handle n m v e new = absurd (wrong e)
+  where
+    wrong : false ≡ true → ⊥
+    wrong e = cc
+
+pub attach_goes : (d own : ℕ) (sasl : Bool) (x : Attach) (payload : List ℕ) (t : Trace) (b : Attachment) → b.number ≤ attachments t → on_handle d own x.handle b ≡ true
+    → is_attached (Out d (item.Frame sasl own (perf.Attach x) payload) ∷ t) b ≡ false
+attach_goes d own sasl x payload t b below e =
+    place_gone (d == b.conn.0) (own == b.channel) (x.handle == b.handle) b.number _ (link t b.conn.0 b.channel b.handle) e
+    (attached_other b.number (attachments t + 1) (key_at t b.conn.0 x) x (asked t b.conn.0) (address_by x.role x) (not_next (attachments t) b.number below))

@@ -2,3 +2,4 @@ pub mod Follows
 pub mod Thinning
 pub mod Numbered
 pub mod Attached
+pub mod Rows

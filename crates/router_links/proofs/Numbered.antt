@@ -94,7 +94,7 @@ event_stays n _ c o h channels handles v e = e
 pub did_stays : (x : Event) (t : Trace) (a : Attachment) → is_attached t a ≡ false → is_attached (did x ∷ t) a ≡ false
 did_stays x t a e = event_stays a.number x a.conn.0 a.channel a.handle (theirs t a.conn.0) (their_handle t a.conn.0 a.channel) (link t a.conn.0 a.channel a.handle) e
 
-attached_other : (n number : ℕ) (key : LinkKey) (a : Attach) (last : Option Asked) (address : Option (List ℕ))
+pub attached_other : (n number : ℕ) (key : LinkKey) (a : Attach) (last : Option Asked) (address : Option (List ℕ))
     → (number == n) ≡ false → has_number n (attached number key a last address) ≡ false
 attached_other n number key a last None e = refl
 attached_other n number key a last (Some address) e = e

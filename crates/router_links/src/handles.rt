@@ -1,11 +1,12 @@
 //! What attaches asked, and what handles stand for.
-ghost use Rattle.std.specs.Prelude.{◌≡◌, ◌==◌, ◌∷◌, [], List, ℕ, Bool, None, false, if◌then◌else◌, OnOk};
+ghost use Rattle.std.specs.Prelude.{◌≡◌, ◌==◌, ◌∷◌, [], List, ℕ, Bool, None, true, false, if◌then◌else◌, OnOk};
 ghost use Rattle.std.specs.Option.{option_map};
 ghost use Rattle.std.specs.Ordering.{nat_cmp};
 ghost use Rattle.std.specs.BTreeMap.{get};
 ghost use Rattle.router_trace.specs.Trace.{Entry, Out, did};
 ghost use Rattle.router_trace.specs.Sessions.{is_channel, maps, theirs};
-ghost use Rattle.router_trace.specs.Links.{is_handle, handle_asked, detached};
+ghost use Rattle.router_trace.specs.Links.{is_handle, names, handle_asked, detached};
+ghost use Rattle.router_links.specs.Fits.{names_in};
 ghost use Rattle.router_links.specs.Places.{in_map, at};
 ghost use Rattle.router_links.specs.Handled.{HandlesFit};
 ghost use Rattle.router_trace.specs.declared.event.Event.TheVariants as event;
@@ -65,11 +66,27 @@ impl HandleTable {
         self.theirs.get(conn, own, handle).copied()
     }
 
-    /// Whether a link, or one that was refused, is attached on a handle of the router.
-    pub fn is_answered(&self, conn: u64, own: u16, handle: u32) -> Option<u32>
-        ensures { result ≡ at self.now.answered conn own handle }
+    /// The router's handle of the link that a flow or a transfer of the peer names, on the session on this channel of the
+    /// router, where there is one.
+    pub fn named(&self, conn: u64, own: Option<u16>, perf: &Perf) -> Option<u32>
+        ensures { (o h : ℕ) → is_channel own o ≡ true → is_handle result h ≡ names_in perf.now (at self.now.theirs conn o) h }
     {
-        self.answered.get(conn, own, handle).copied()
+        let own = own?;
+        match perf {
+            Perf::Flow(flow) => self.mapped(conn, own, flow.handle?),
+            Perf::Transfer(transfer) => self.mapped(conn, own, transfer.handle),
+            _ => None,
+        }
+    }
+
+    /// The router's handle that a handle of the peer stands for.
+    fn mapped(&self, conn: u64, own: u16, handle: u32) -> Option<u32>
+        ensures { (h : ℕ) → is_handle result h ≡ names (at self.now.theirs conn own handle) h }
+    {
+        match self.theirs(conn, own, handle) {
+            Some(PeerHandle::Mapped(handle)) => Some(handle),
+            _ => None,
+        }
     }
 
     /// A connection is lost.

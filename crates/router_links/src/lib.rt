@@ -2,8 +2,13 @@
 #![tactic(auto)]
 
 mod by_handle;
+mod found;
 mod handles;
 mod link;
+mod links;
 mod names;
+mod table;
 
+pub use found::At;
 pub use link::{Link, LinkEnd, Side};
+pub use links::Links;
