@@ -3,3 +3,4 @@ pub mod Thinning
 pub mod Numbered
 pub mod Attached
 pub mod Rows
+pub mod Free

@@ -12,7 +12,7 @@ use Rattle.book_core.specs.declared.terminus.LinkKey.{LinkKey}
 use Rattle.router_trace.specs.Trace.{Trace}
 use Rattle.router_trace.specs.declared.handle.Attachment.{Attachment}
 use Rattle.router_trace.specs.declared.handle.PeerHandle.{PeerHandle}
-use Rattle.router_trace.specs.Links.{Happened, sends, receives, LinkPlace, nowhere, detaching, on, attachments, key_at, link, names, names_by}
+use Rattle.router_trace.specs.Links.{Link as View, Happened, sends, receives, LinkPlace, nowhere, detaching, on, attachments, key_at, link, names, names_by}
 use Rattle.router_links.specs.declared.found.At.{At}
 use Rattle.router_links.specs.declared.found.At.TheVariants as found
 use Rattle.router_links.specs.declared.link.Link.{Link}
@@ -29,6 +29,11 @@ use Rattle.router_links.specs.Places.{at}
 abbrev pub owes : Option Link → Bool
 owes None = false
 owes (Some l) = l.owes_drain
+
+-- the same of a view
+abbrev pub owes_drain : Option View → Bool
+owes_drain None = false
+owes_drain (Some l) = l.owes_drain
 
 -- a connection that isn't marked has no link that owes a drain
 abbrev pub Owing : (ℕ → ℕ → ℕ → Option Link) → (ℕ → Bool) → Type 0

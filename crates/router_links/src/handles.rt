@@ -5,7 +5,7 @@ ghost use Rattle.std.specs.Ordering.{nat_cmp};
 ghost use Rattle.std.specs.BTreeMap.{get};
 ghost use Rattle.router_trace.specs.Trace.{Entry, Out, did};
 ghost use Rattle.router_trace.specs.Sessions.{is_channel, maps, theirs};
-ghost use Rattle.router_trace.specs.Links.{is_handle, names, handle_asked, detached};
+ghost use Rattle.router_trace.specs.Links.{is_handle, names, handle_asked, detached, first_free_below, is_free_handle, free_handle};
 ghost use Rattle.router_links.specs.Fits.{names_in};
 ghost use Rattle.router_links.specs.Places.{in_map, at};
 ghost use Rattle.router_links.specs.Handled.{HandlesFit};
@@ -20,6 +20,9 @@ use amqp_perf::{Attach, Begin, Detach, Perf};
 use router_trace::{Asked, ConnectionId, PeerHandle};
 use std::alloc::{AllocError, Global};
 use std::collections::BTreeMap;
+
+/// So many handles the router has on a session.
+const HANDLES: u32 = 64;
 
 /// What attaches asked, and what handles stand for. Behind a refused growth nothing can be said of the table.
 #[derive(Debug, Drop)]
@@ -86,6 +89,43 @@ impl HandleTable {
         match self.theirs(conn, own, handle) {
             Some(PeerHandle::Mapped(handle)) => Some(handle),
             _ => None,
+        }
+    }
+
+    /// The lowest handle of the router, of 64, that the peer takes too and on which nothing is attached.
+    #[tactic(auto, unfolding(router_trace::specs::Links::free_handle))]
+    pub fn free_handle(&self, conn: u64, own: u16) -> Option<u32>
+        ensures { (t : List Entry) → HandlesFit self.now t → result ≡ free_handle t conn own }
+    {
+        self.first_free(conn, own, self.highest(conn, own).unwrap_or(HANDLES - 1))
+    }
+
+    /// The lowest handle of the router, of 64 and at most this one, on which nothing is attached.
+    fn first_free(&self, conn: u64, own: u16, most: u32) -> Option<u32>
+        ensures { result ≡ first_free_below 64 (is_free_handle most (at self.now.answered conn own)) 0 }
+    {
+        for handle in 0..HANDLES {
+            if self.is_free(conn, own, handle, most) {
+                return Some(handle);
+            }
+        }
+        None
+    }
+
+    /// Whether nothing is attached on a handle of the router, which is at most this one.
+    fn is_free(&self, conn: u64, own: u16, handle: u32, most: u32) -> bool
+        ensures { result ≡ is_free_handle most (at self.now.answered conn own) handle }
+    {
+        handle <= most && self.answered.get(conn, own, handle).is_none()
+    }
+
+    /// The highest handle that the peer takes.
+    fn highest(&self, conn: u64, own: u16) -> Option<u32>
+        ensures { result ≡ in_map (get nat_cmp self.now.highest conn) own }
+    {
+        match self.highest.get(&conn) {
+            None => None,
+            Some(sessions) => sessions.get(&own).copied(),
         }
     }
 

@@ -3,9 +3,9 @@ ghost use Rattle.std.specs.Prelude.{◌≡◌, ◌∷◌, [], List, ℕ, Bool, f
 ghost use Rattle.amqp_frames.specs.declared.item.Item.TheVariants as item;
 ghost use Rattle.router_trace.specs.Trace.{Entry, Out, did};
 ghost use Rattle.router_trace.specs.Sessions.{is_channel, maps, theirs};
-ghost use Rattle.router_trace.specs.Links.{link_place, holder, place_of};
+ghost use Rattle.router_trace.specs.Links.{link, link_place, free_handle, holder, place_of};
 ghost use Rattle.router_trace.specs.declared.event.Event.TheVariants as event;
-ghost use Rattle.router_links.specs.Fits.{LinksFit, found_of, key_in, key_by, channel_of};
+ghost use Rattle.router_links.specs.Fits.{LinksFit, owes_drain, found_of, key_in, key_by, channel_of};
 
 use crate::found::At;
 use crate::handles::HandleTable;
@@ -44,6 +44,27 @@ impl Links {
             Some(PeerHandle::Detaching) => At::Detaching,
             Some(PeerHandle::Mapped(handle)) => self.table.found(conn, own, handle),
         }
+    }
+
+    /// The lowest handle of the router, of 64, that the peer of a session takes too and on which nothing is attached.
+    pub fn free_handle(&self, conn: u64, own: u16) -> Option<u32>
+        ensures { (t : List Entry) → LinksFit self.now t → result ≡ free_handle t conn own }
+    {
+        self.handles.free_handle(conn, own)
+    }
+
+    /// Whether some link may owe a drain; where none is known to, none does.
+    pub fn may_owe(&self) -> bool
+        ensures { result ≡ false → (t : List Entry) → LinksFit self.now t → (c o h : ℕ) → owes_drain (link t c o h) ≡ false }
+    {
+        !self.table.is_calm()
+    }
+
+    /// Whether a link of a connection may owe a drain; where none is known to, none does.
+    pub fn may_owe_on(&self, conn: u64) -> bool
+        ensures { result ≡ false → (t : List Entry) → LinksFit self.now t → (o h : ℕ) → owes_drain (link t conn o h) ≡ false }
+    {
+        self.table.is_marked(conn)
     }
 
     /// The attachment that has a key.

@@ -118,7 +118,14 @@ impl LinkTable {
         }
     }
 
-    /// Whether no link of a connection owes a drain, as far as marks tell.
+    /// Whether no connection is marked, so that no link owes a drain.
+    pub fn is_calm(&self) -> bool
+        ensures { result ≡ true → (c : ℕ) → contains nat_cmp self.now.owing c ≡ false }
+    {
+        self.owing.is_empty()
+    }
+
+    /// Whether a connection is marked; on another no link owes a drain.
     pub fn is_marked(&self, conn: u64) -> bool
         ensures { result ≡ contains nat_cmp self.now.owing conn }
     {
