@@ -4,7 +4,7 @@ use Rattle.std.specs.Prelude.{unwrap_or}
 use Rattle.amqp_link.specs.declared.grant.Grant.{Grant}
 use Rattle.amqp_link.specs.declared.send_end.SendEnd.{SendEnd}
 use Rattle.amqp_link.specs.Credit.{Link, Attached, Granted, Started, Counted, tells_count, since, count_told}
-use Rattle.amqp_link.specs.Figures.{Sends, send_end_of, left_at, begun_at, behind_grant, behind_start, behind_drain, drained_count}
+use Rattle.amqp_link.specs.Figures.{Sends, send_end_of, left_at, begun_at, behind_grant, behind_start, behind_drain, behind_told_count, drained_count}
 use Rattle.amqp_link.proofs.Uses.{skipped, count_started}
 
 none_more : (n : ℕ) → n % 2 ^ 32 ≡ (n + 0) % 2 ^ 32
@@ -33,6 +33,9 @@ twice a = omega arith
 pub drain_noted : (e : SendEnd) (t : Link) → Sends e t → Sends (behind_drain e) (Counted (drained_count e) ∷ t)
 drain_noted e t s = record { initial = s.initial; count = twice (e.count + left_at e); granted = s.granted }
 
+pub count_noted : (n : ℕ) (e : SendEnd) (t : Link) → Sends e t → Sends (behind_told_count n e) (Counted n ∷ t)
+count_noted n e t s = record { initial = s.initial; count = none_more n; granted = s.granted }
+
 -- An end fits a list exactly where it is the list's end, ...
 pub is_send_end_of : (e : SendEnd) (t : Link) → Sends e t → e ≡ send_end_of t
 is_send_end_of e t s = rw (sym s.initial, sym s.count, sym s.granted) refl
@@ -55,3 +58,6 @@ at_start t = is_send_end_of _ _ (start_noted _ t (send_end_of_fits t))
 
 pub at_drain : (t : Link) → behind_drain (send_end_of t) ≡ send_end_of (Counted (drained_count (send_end_of t)) ∷ t)
 at_drain t = is_send_end_of _ _ (drain_noted _ t (send_end_of_fits t))
+
+pub at_told_count : (n : ℕ) (t : Link) → behind_told_count n (send_end_of t) ≡ send_end_of (Counted n ∷ t)
+at_told_count n t = is_send_end_of _ _ (count_noted n _ t (send_end_of_fits t))

@@ -47,6 +47,10 @@ drained_count e = (e.count + left_at e) % 2 ^ 32
 abbrev pub behind_drain : SendEnd → SendEnd
 behind_drain e = record e { count = drained_count e }
 
+-- ... or a flow of the sender that told this count
+abbrev pub behind_told_count : ℕ → SendEnd → SendEnd
+behind_told_count n e = record e { count = n % 2 ^ 32 }
+
 -- of an end that receives
 pub record Receives (e : RecvFigures) (t : Received) : Type 0 where
   pub count : e.count ≡ link.count (seen t)

@@ -67,11 +67,19 @@ impl RecvEnd {
         Grant { count, credit }
     }
 
+    /// Notes that a flow of this end granted this: for a table that follows what was put out.
+    pub fn note_grant(&mut self, grant: Grant)
+        ensures figures { self.new ≡ behind_our_grant grant self.old }
+    {
+        self.granted = Some(grant);
+    }
+
     /// Takes the delivery-count of a flow of the sender: its own changes nothing, and one ahead of that uses up as much credit.
     /// Fails, and changes nothing, exactly where it is behind, or ahead by more than the credit that is unused.
     pub fn count_forward(&mut self, count: Serial) -> Result<(), LinkFault>
         ensures fits { (t : Received) → Receives self.old t → OnOk result (Receives self.new (TheirCount count ∷ t)) }
         ensures within { (t : Received) → Receives self.old t → (IsOk result ↔ (distance (delivery_count t) count ≤ unused t)) }
+        ensures reaches { IsOk result ↔ (distance self.old.count count ≤ unused_at self.old) }
         ensures figures { OnOk result (self.new ≡ behind_count count self.old) }
         ensures err { OnErr result (self.new ≡ self.old) }
     {

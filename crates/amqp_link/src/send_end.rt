@@ -1,7 +1,7 @@
 //! The end of a link that sends.
 ghost use Rattle.std.specs.Prelude.{◌≡◌, ◌≤◌, ◌+◌, ◌%◌, ◌^◌, ◌↔◌, ◌∷◌, IsTrue};
 ghost use Rattle.amqp_link.specs.Credit.{Link, Attached, Granted, Started, Counted, initial, count, credit, WithinCredit};
-ghost use Rattle.amqp_link.specs.Figures.{Sends, CanStart, left_at, begun_at, behind_grant, behind_start, behind_drain, drained_count};
+ghost use Rattle.amqp_link.specs.Figures.{Sends, CanStart, left_at, begun_at, behind_grant, behind_start, behind_drain, behind_told_count, drained_count};
 
 use crate::grant::Grant;
 use amqp_session::Serial;
@@ -54,6 +54,20 @@ impl SendEnd {
         ensures figures { self.new ≡ behind_start self.old }
     {
         self.count = self.count.plus(1);
+    }
+
+    /// Notes that a delivery was started, whatever credit is left: for a table that follows what was put out.
+    pub fn note_started(&mut self)
+        ensures figures { self.new ≡ behind_start self.old }
+    {
+        self.count = self.count.plus(1);
+    }
+
+    /// Notes that a flow of this end told this delivery-count: for a table that follows what was put out.
+    pub fn note_count(&mut self, count: Serial)
+        ensures figures { self.new ≡ behind_told_count count self.old }
+    {
+        self.count = count;
     }
 
     /// Uses up the credit that is left, for a receiver that drains the link, and gives the delivery-count to tell it in a flow

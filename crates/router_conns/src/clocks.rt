@@ -145,7 +145,7 @@ impl Clocks {
 }
 
 /// Whether an item is a close.
-fn is_close(item: &Item) -> bool
+pub(crate) fn is_close(item: &Item) -> bool
     ensures { result ≡ is_close item.now }
 {
     match item {

@@ -3,10 +3,12 @@
 
 mod clocks;
 mod connections;
+mod peers;
 mod ready;
 mod row;
 
 pub use clocks::Clocks;
 pub use connections::Connections;
+pub use peers::Peers;
 pub use ready::Ready;
 pub use row::{CONNECTIONS, OUTBOX, Taken};

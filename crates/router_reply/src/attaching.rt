@@ -71,7 +71,7 @@ fn take_link(
     let mut answer = id.answer_to(attach, 0);
     let key = state.key_of(conn, &answer)?;
     steal(state, id, &key)?;
-    if let Some(handle) = state.free_handle_now(conn, own) {
+    if let Some(handle) = state.free_handle(conn, own) {
         answer.handle = handle;
         put_answer(state, id, conn, largest, own, answer)?;
     }

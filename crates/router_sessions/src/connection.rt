@@ -123,6 +123,13 @@ impl ConnectionSessions {
         }
     }
 
+    /// The router's channel that a channel of the peer stands for.
+    pub fn own_channel(&self, channel: u16) -> Option<u16>
+        ensures { (o : ℕ) → is_channel result o ≡ maps (get nat_cmp self.now.theirs channel) o }
+    {
+        mapped(&self.theirs, channel)
+    }
+
     /// The windows of the session on a channel of the router.
     pub fn window(&self, own: u16) -> Option<Window>
         ensures { result ≡ get nat_cmp self.now.windows own }

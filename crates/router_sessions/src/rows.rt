@@ -103,7 +103,11 @@ pub fn forget(rows: &mut BTreeMap<u64, ConnectionSessions>, conn: u64)
 }
 
 /// Gives a connection a row, where it has none.
-pub fn know(alloc: Global, rows: &mut BTreeMap<u64, ConnectionSessions>, conn: u64) -> Result<(), AllocError>
+pub fn know(
+    alloc: Global,
+    rows: &mut BTreeMap<u64, ConnectionSessions>,
+    conn: u64,
+) -> Result<(), AllocError>
     ensures same { OnOk result (SameRows (get nat_cmp rows.old) (get nat_cmp rows.new)) }
     ensures there { OnOk result (is_some (get nat_cmp rows.new conn) ≡ true) }
 {

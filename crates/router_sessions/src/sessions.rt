@@ -5,7 +5,7 @@ ghost use Rattle.std.specs.BTreeMap.{get};
 ghost use Rattle.std.specs.BTreeSet.{contains};
 ghost use Rattle.router_trace.specs.Trace.{Entry, Out, did, puts_of};
 ghost use Rattle.std.specs.List.{find};
-ghost use Rattle.router_trace.specs.Sessions.{place, session, is_free, free_channel};
+ghost use Rattle.router_trace.specs.Sessions.{place, session, is_free, free_channel, is_channel, maps, theirs};
 ghost use Rattle.router_sessions.specs.Windows.{flow_due, flows_below, is_narrow_window};
 ghost use Rattle.router_sessions.specs.Fits.{SessionsFit, with_mark, window_in, found_of, listed};
 ghost use Rattle.router_trace.specs.declared.event.Event.TheVariants as event;
@@ -14,9 +14,9 @@ ghost use Rattle.amqp_perf.specs.declared.perf.Perf.TheVariants as perf;
 ghost use Rattle.amqp_perf.specs.declared.perf.Transfer.{Transfer};
 ghost use Rattle.amqp_perf.specs.declared.perf.End.{End};
 
+use crate::connection::ConnectionSessions;
 use crate::place::Place;
 use crate::rows;
-use crate::connection::ConnectionSessions;
 use amqp_frames::Item;
 use amqp_perf::{Begin, Flow, Perf};
 use amqp_session::Window;
@@ -58,6 +58,16 @@ impl Sessions {
         match self.rows.get(&conn) {
             None => Place::Nowhere,
             Some(row) => row.place(channel),
+        }
+    }
+
+    /// The router's channel that a channel of the peer stands for; none where no session stands on it.
+    pub fn own_channel(&self, conn: u64, channel: u16) -> Option<u16>
+        ensures { (t : List Entry) → SessionsFit self.now t → (o : ℕ) → is_channel result o ≡ maps (theirs t conn channel) o }
+    {
+        match self.rows.get(&conn) {
+            None => None,
+            Some(row) => row.own_channel(channel),
         }
     }
 

@@ -9,3 +9,6 @@ pub use Rattle.router_trace.specs.Sessions
 pub use Rattle.router_trace.specs.Clocks
 pub use Rattle.router_conns.specs.Timing
 pub use Rattle.router_sessions.specs.Windows
+pub use Rattle.router_trace.specs.Peers
+pub use Rattle.router_trace.specs.Links
+pub use Rattle.router_conns.specs.Peering

@@ -9,7 +9,9 @@ use Rattle.router_trace.specs.Frames.{beat_item}
 use Rattle.router_trace.specs.Clocks.{terms, written, needs_beat}
 use Rattle.router_trace.specs.Connection.{conn, due, found, live_of, is_ready}
 use Rattle.router_conns.specs.Fits.{ConnectionsFit, ConnectionsAt}
+use Rattle.router_conns.specs.Peering.{PeersFit}
 use Rattle.router_conns.specs.Timing.{ClocksFit}
+use Rattle.router_links.specs.Fits.{LinksFit}
 use Rattle.router_sessions.specs.Fits.{SessionsFit}
 
 -- all tables are those of the trace
@@ -17,14 +19,18 @@ pub record TablesFit (s : State) (t : Trace) : Type 0 where
   pub connections : ConnectionsFit s.connections t
   pub ready : (c : ℕ) → contains nat_cmp s.ready.set c ≡ is_ready (conn t c)
   pub clocks : ClocksFit s.clocks t
+  pub peers : PeersFit s.peers t
   pub sessions : SessionsFit s.sessions t
+  pub links : LinksFit s.links t
 
 -- all tables are what an event finds behind the trace, which ends these connections first
 pub record TablesAt (s : State) (t : Trace) (e : Event) (ends : List ℕ) : Type 0 where
   pub connections : ConnectionsAt s.connections t e
   pub ready : (c : ℕ) → contains nat_cmp s.ready.set c ≡ is_ready (found t e c)
   pub clocks : ClocksFit s.clocks t
+  pub peers : PeersFit s.peers t
   pub sessions : SessionsFit s.sessions t
+  pub links : LinksFit s.links t
   pub are_due : ends ≡ due t e
 
 -- the heartbeats that are due at a moment on these connections, by number

@@ -6,6 +6,10 @@ ghost use Rattle.std.specs.BTreeSet.{contains};
 ghost use Rattle.router_trace.specs.Trace.{Entry, Out, Took, did, newest, goes, puts_of};
 ghost use Rattle.router_trace.specs.Sessions.{place, free_channel};
 ghost use Rattle.router_trace.specs.Clocks.{terms, channel_max_of};
+ghost use Rattle.router_trace.specs.Peers.{user, container, largest_frame};
+ghost use Rattle.router_trace.specs.Links.{link_place, found_link, free_handle, holder, key_of};
+ghost use Rattle.router_conns.specs.Peering.{PeersFit};
+ghost use Rattle.router_links.specs.Fits.{key_in, key_by, channel_of};
 ghost use Rattle.router_conns.specs.Timing.{ClocksFit};
 ghost use Rattle.router_sessions.specs.Fits.{SessionsFit, found_of};
 ghost use Rattle.router_sessions.specs.Windows.{windows};
@@ -18,9 +22,12 @@ ghost use Rattle.router_trace.specs.declared.event.Event.TheVariants as event;
 
 use amqp_conn::Conn;
 use amqp_frames::Item;
-use router_conns::{Clocks, Connections, Ready, Taken};
-use router_sessions::{Sessions, Place};
-use router_trace::{ConnectionId, Event, Outgoing, Peer, beat_item};
+use amqp_perf::{Attach, Perf};
+use book_core::LinkKey;
+use router_conns::{Clocks, Connections, Peers, Ready, Taken};
+use router_links::Links;
+use router_sessions::{Place, Sessions};
+use router_trace::{Attachment, ConnectionId, Event, LinkAt, Outgoing, Peer, beat_item};
 use std::alloc::{AllocError, Global};
 
 /// The router's tables. Behind a refused growth nothing can be said of them.
@@ -30,7 +37,9 @@ pub struct State {
     connections: Connections,
     ready: Ready,
     clocks: Clocks,
+    peers: Peers,
     sessions: Sessions,
+    links: Links,
 }
 
 impl State {
@@ -43,7 +52,9 @@ impl State {
             connections: Connections::new(alloc),
             ready: Ready::new(alloc),
             clocks: Clocks::new(alloc),
+            peers: Peers::new(alloc),
             sessions: Sessions::new(alloc),
+            links: Links::new(alloc),
         }
     }
 
@@ -80,7 +91,47 @@ impl State {
     pub fn free_channel(&self, conn: u64) -> Option<u16>
         ensures { (t : List Entry) (e : E) (ends : List ℕ) → TablesAt self.now t e ends → result ≡ free_channel t conn (channel_max_of (terms t conn)) }
     {
-        self.sessions.free_channel(conn, self.clocks.channel_max(conn))
+        self.sessions
+            .free_channel(conn, self.clocks.channel_max(conn))
+    }
+
+    /// What stands on a handle of the peer, as an event finds it, on the session on a channel of the router.
+    pub fn link_place(&self, conn: u64, own: u16, handle: u32) -> LinkAt
+        ensures { (t : List Entry) (e : E) (ends : List ℕ) → TablesAt self.now t e ends → result ≡ found_link (link_place t conn own handle) }
+    {
+        self.links.place(conn, own, handle)
+    }
+
+    /// The lowest handle of the router, of 64, that the peer of a session takes too and on which nothing is attached.
+    pub fn free_handle(&self, conn: u64, own: u16) -> Option<u32>
+        ensures now { (t : List Entry) → TablesFit self.now t → result ≡ free_handle t conn own }
+        ensures at { (t : List Entry) (e : E) (ends : List ℕ) → TablesAt self.now t e ends → result ≡ free_handle t conn own }
+    {
+        self.links.free_handle(conn, own)
+    }
+
+    /// The attachment that has a key.
+    pub fn holder(&self, key: &LinkKey) -> Option<Attachment>
+        ensures now { (t : List Entry) → TablesFit self.now t → result ≡ holder t key.now }
+        ensures at { (t : List Entry) (e : E) (ends : List ℕ) → TablesAt self.now t e ends → result ≡ holder t key.now }
+    {
+        self.links.holder(key)
+    }
+
+    /// The key of the link that an attach names on a connection. Fails where memory is refused.
+    pub fn key_of(&self, conn: u64, attach: &Attach) -> Result<LinkKey, AllocError>
+        ensures now { IfOk result (λ key. (t : List Entry) → TablesFit self.now t → key ≡ key_of (user t conn) (container t conn) attach.now) }
+        ensures at { IfOk result (λ key. (t : List Entry) (e : E) (ends : List ℕ) → TablesAt self.now t e ends → key ≡ key_of (user t conn) (container t conn) attach.now) }
+    {
+        self.peers.key_of(conn, attach)
+    }
+
+    /// The largest frame that a peer takes, in bytes; 4,294,967,295 where it tells nothing.
+    pub fn largest_frame(&self, conn: u64) -> u32
+        ensures now { (t : List Entry) → TablesFit self.now t → result ≡ largest_frame t conn }
+        ensures at { (t : List Entry) (e : E) (ends : List ℕ) → TablesAt self.now t e ends → result ≡ largest_frame t conn }
+    {
+        self.peers.largest_frame(conn)
     }
 
     /// The heartbeats that are due at a moment on the connections that are live as an event finds them, by number.
@@ -130,6 +181,7 @@ impl State {
         ensures { OnOk result ((t : List Entry) (ends : List ℕ) → TablesAt self.old t (event.Up conn peer.now) ends → rises conn.0 (newest t) ≡ true → TablesFit self.new (did (event.Up conn peer.now) ∷ t)) }
     {
         self.connections.up(conn, peer)?;
+        self.peers.up(conn, peer)?;
         note(&mut self.ready, &self.connections, conn.0)
     }
 
@@ -137,7 +189,10 @@ impl State {
     pub fn hear(&mut self, conn: ConnectionId, item: &Item) -> Result<(), AllocError>
         ensures { OnOk result ((t : List Entry) (ends : List ℕ) → TablesAt self.old t (event.Item conn item.now) ends → TablesFit self.new (did (event.Item conn item.now) ∷ t)) }
     {
+        let own = self.sessions.own_channel(conn.0, channel_of(item));
         self.clocks.hear(conn, item)?;
+        self.peers.hear(conn, item)?;
+        self.links.hear(conn, own, item)?;
         self.sessions.hear(conn, item)?;
         Ok(())
     }
@@ -155,7 +210,9 @@ impl State {
     {
         self.connections.down(conn);
         self.clocks.down(conn);
+        self.peers.down(conn);
         self.sessions.down(conn);
+        self.links.down(conn);
         note(&mut self.ready, &self.connections, conn.0)
     }
 
@@ -163,7 +220,10 @@ impl State {
     pub fn put(&mut self, conn: u64, item: Item) -> Result<(), AllocError>
         ensures { OnOk result ((t : List Entry) → TablesFit self.old t → TablesFit self.new (Out conn item ∷ t)) }
     {
+        let key = key_by(&self.peers, conn, &item)?;
         self.clocks.put(conn, &item)?;
+        self.peers.put(conn, &item);
+        self.links.put(conn, &item, key)?;
         self.sessions.put(conn, &item)?;
         self.connections.put(conn, item)?;
         note(&mut self.ready, &self.connections, conn)?;
@@ -210,6 +270,36 @@ impl State {
         ensures { (t : List Entry) → TablesFit self.now t → IsLeast (λ c. is_ready (known t c)) result }
     {
         self.ready.first()
+    }
+}
+
+/// The channel of an item; 0 where it has none.
+fn channel_of(item: &Item) -> u16
+    ensures { result ≡ channel_of item.now }
+{
+    match item {
+        Item::Frame { channel, .. } => *channel,
+        _ => 0,
+    }
+}
+
+/// The key that the table of links asks for an item that is put out: that of an attach.
+fn key_by(peers: &Peers, conn: u64, item: &Item) -> Result<Option<LinkKey>, AllocError>
+    ensures { IfOk result (λ key. (t : List Entry) → PeersFit peers.now t → key ≡ key_by t conn item.now) }
+{
+    match item {
+        Item::Frame { perf, .. } => key_in(peers, conn, perf),
+        _ => Ok(None),
+    }
+}
+
+/// The key that the table of links asks for a performative.
+fn key_in(peers: &Peers, conn: u64, perf: &Perf) -> Result<Option<LinkKey>, AllocError>
+    ensures { IfOk result (λ key. (t : List Entry) → PeersFit peers.now t → key ≡ key_in t conn perf.now) }
+{
+    match perf {
+        Perf::Attach(attach) => Ok(Some(peers.key_of(conn, attach)?)),
+        _ => Ok(None),
     }
 }
 

@@ -1,0 +1,11 @@
+-- When the table of peers is that which a trace gives.
+use Rattle.std.specs.Prelude.{◌≡◌, ℕ}
+use Rattle.std.specs.Ordering.{nat_cmp}
+use Rattle.std.specs.BTreeMap.{get}
+use Rattle.router_conns.specs.declared.peers.Peers.{Peers}
+use Rattle.router_trace.specs.Trace.{Trace}
+use Rattle.router_trace.specs.Peers.{user, container}
+
+pub record PeersFit (s : Peers) (t : Trace) : Type 0 where
+  pub users : (c : ℕ) → get nat_cmp s.users c ≡ user t c
+  pub containers : (c : ℕ) → get nat_cmp s.containers c ≡ container t c

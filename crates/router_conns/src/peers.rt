@@ -1,0 +1,198 @@
+//! Who is at the other side of connections, and what their opens tell of links.
+ghost use Rattle.std.specs.Prelude.{◌≡◌, ◌==◌, ◌∷◌, [], List, ℕ, Option, None, false, if◌then◌else◌, unwrap_or, OnOk, IfOk};
+ghost use Rattle.std.specs.Ordering.{nat_cmp};
+ghost use Rattle.std.specs.BTreeMap.{get};
+ghost use Rattle.router_trace.specs.Trace.{Entry, Out, did};
+ghost use Rattle.router_trace.specs.Links.{key_of, way_of};
+ghost use Rattle.router_trace.specs.Peers.{user, container, container_of, container_id, largest_frame};
+ghost use Rattle.router_conns.specs.Peering.{PeersFit};
+ghost use Rattle.router_trace.specs.declared.event.Event.TheVariants as event;
+ghost use Rattle.amqp_perf.specs.declared.perf.Perf.TheVariants as perf;
+ghost use Rattle.amqp_frames.specs.declared.item.Item.TheVariants as item;
+
+use crate::clocks::is_close;
+use amqp_frames::Item;
+use amqp_perf::{Attach, Open, Perf, Role, Text};
+use book_core::{LinkKey, LinkRole};
+use router_trace::{ConnectionId, Peer};
+use std::alloc::{AllocError, Global};
+use std::collections::BTreeMap;
+use std::marker::Model;
+
+/// What a peer's first open tells that a link needs (AMQP 1.0 part 2, section 2.7.1).
+#[derive(Debug, Drop)]
+pub struct Container {
+    id: Text,
+    // the largest frame that the peer takes, in bytes
+    largest: u32,
+}
+
+impl Model for Container {
+    ghost use Rattle.router_trace.specs.Peers.{Container};
+
+    ghost Value = { Container };
+
+    ghost view = { λ c. record { id = c.id; largest = c.largest } };
+}
+
+impl Container {
+    /// What an open tells.
+    fn of(open: &Open) -> Result<Container, AllocError>
+        ensures { IfOk result (λ c. c ≡ container_of «open».now) }
+    {
+        Ok(Container {
+            id: open.container_id.clone()?,
+            largest: open.max_frame_size,
+        })
+    }
+}
+
+/// The users of connections, and what their first opens tell; none of a connection that is closed or lost. Behind a refused
+/// growth nothing can be said of the table.
+#[derive(Debug, Drop)]
+pub struct Peers {
+    alloc: Global,
+    users: BTreeMap<u64, Text>,
+    containers: BTreeMap<u64, Container>,
+}
+
+impl Peers {
+    /// Nobody is there yet.
+    pub fn new(alloc: Global) -> Peers
+        ensures { PeersFit result [] }
+    {
+        Peers {
+            alloc,
+            users: BTreeMap::new(alloc),
+            containers: BTreeMap::new(alloc),
+        }
+    }
+
+    /// The largest frame that a peer takes, in bytes; 4,294,967,295 where it tells nothing.
+    pub fn largest_frame(&self, conn: u64) -> u32
+        ensures { (t : List Entry) → PeersFit self.now t → result ≡ largest_frame t conn }
+    {
+        match self.containers.get(&conn) {
+            None => u32::MAX,
+            Some(container) => container.largest,
+        }
+    }
+
+    /// The key of the link that an attach of the router names on a connection. Fails where memory is refused.
+    pub fn key_of(&self, conn: u64, attach: &Attach) -> Result<LinkKey, AllocError>
+        ensures { IfOk result (λ key. (t : List Entry) → PeersFit self.now t → key ≡ key_of (user t conn) (container t conn) attach.now) }
+    {
+        Ok(LinkKey {
+            role: way_of(attach.role),
+            user: self.user(conn)?,
+            container: self.container_id(conn)?,
+            name: attach.name.clone()?,
+        })
+    }
+
+    /// The user of a connection; the empty text where nobody is there.
+    fn user(&self, conn: u64) -> Result<Text, AllocError>
+        ensures { IfOk result (λ text. text ≡ unwrap_or (get nat_cmp self.now.users conn) []) }
+    {
+        match self.users.get(&conn) {
+            None => Ok(Text::new(String::new(self.alloc))),
+            Some(user) => user.clone(),
+        }
+    }
+
+    /// The container of a connection's peer; the empty text where it told none.
+    fn container_id(&self, conn: u64) -> Result<Text, AllocError>
+        ensures { IfOk result (λ text. text ≡ container_id (get nat_cmp self.now.containers conn)) }
+    {
+        match self.containers.get(&conn) {
+            None => Ok(Text::new(String::new(self.alloc))),
+            Some(container) => container.id.clone(),
+        }
+    }
+
+    /// A connection comes up.
+    pub fn up(&mut self, conn: ConnectionId, peer: &Peer) -> Result<(), AllocError>
+        ensures { OnOk result ((t : List Entry) → PeersFit self.old t → PeersFit self.new (did (event.Up conn peer.now) ∷ t)) }
+    {
+        match self.users.insert(conn.0, peer.user.clone()?) {
+            Ok(_) => Ok(()),
+            Err(_) => Err(AllocError),
+        }
+    }
+
+    /// A connection is lost.
+    pub fn down(&mut self, conn: ConnectionId)
+        ensures { (t : List Entry) → PeersFit self.old t → PeersFit self.new (did (event.Down conn) ∷ t) }
+    {
+        self.forget(conn.0);
+    }
+
+    /// An item came on a connection.
+    pub fn hear(&mut self, conn: ConnectionId, item: &Item) -> Result<(), AllocError>
+        ensures { OnOk result ((t : List Entry) → PeersFit self.old t → PeersFit self.new (did (event.Item conn item.now) ∷ t)) }
+    {
+        match item {
+            Item::Frame { sasl, perf, .. } => {
+                if !*sasl {
+                    self.hear_perf(conn, perf)?;
+                }
+            }
+            _ => {}
+        }
+        Ok(())
+    }
+
+    /// A performative came on a connection.
+    fn hear_perf(&mut self, conn: ConnectionId, perf: &Perf) -> Result<(), AllocError>
+        ensures { OnOk result ((t : List Entry) (channel : ℕ) (payload : List ℕ) → PeersFit self.old t
+            → PeersFit self.new (did (event.Item conn (item.Frame false channel perf.now payload)) ∷ t)) }
+    {
+        match perf {
+            Perf::Open(open) => self.hear_open(conn, open)?,
+            _ => {}
+        }
+        Ok(())
+    }
+
+    /// An open came on a connection: the first one counts.
+    fn hear_open(&mut self, conn: ConnectionId, open: &Open) -> Result<(), AllocError>
+        ensures { OnOk result ((t : List Entry) (channel : ℕ) (payload : List ℕ) → PeersFit self.old t
+            → PeersFit self.new (did (event.Item conn (item.Frame false channel (perf.Open «open».now) payload)) ∷ t)) }
+    {
+        if self.containers.contains_key(&conn.0) {
+            return Ok(());
+        }
+        match self.containers.insert(conn.0, Container::of(open)?) {
+            Ok(_) => Ok(()),
+            Err(_) => Err(AllocError),
+        }
+    }
+
+    /// An item is put in the outbox of a connection: a close is the end of what is known.
+    pub fn put(&mut self, conn: u64, item: &Item)
+        ensures { (t : List Entry) → PeersFit self.old t → PeersFit self.new (Out conn item.now ∷ t) }
+    {
+        if is_close(item) {
+            self.forget(conn);
+        }
+    }
+
+    /// Nothing is known of a connection any more.
+    fn forget(&mut self, conn: u64)
+        ensures users { (c : ℕ) → get nat_cmp self.new.users c ≡ (if conn == c then None else get nat_cmp self.old.users c) }
+        ensures containers { (c : ℕ) → get nat_cmp self.new.containers c ≡ (if conn == c then None else get nat_cmp self.old.containers c) }
+    {
+        let _ = self.users.remove(&conn);
+        let _ = self.containers.remove(&conn);
+    }
+}
+
+/// The way in which deliveries go on a link, at whose end the router does this.
+fn way_of(role: Role) -> LinkRole
+    ensures { result ≡ way_of role }
+{
+    match role {
+        Role::Sender => LinkRole::Consumer,
+        Role::Receiver => LinkRole::Producer,
+    }
+}

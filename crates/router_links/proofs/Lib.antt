@@ -1,0 +1,6 @@
+pub mod Follows
+pub mod Thinning
+pub mod Numbered
+pub mod Attached
+pub mod Rows
+pub mod Free

@@ -1,0 +1,99 @@
+-- When the table of links is that which a trace gives.
+use Rattle.std.specs.Prelude.{◌≡◌, ℕ, Bool, true, false, ◌==◌, if◌then◌else◌, Option, Some, None, option_map}
+use Rattle.std.specs.Ordering.{nat_cmp}
+use Rattle.std.specs.BTreeSet.{contains}
+use Rattle.amqp_perf.specs.declared.perf.Perf.{Perf}
+use Rattle.amqp_perf.specs.declared.perf.Perf.TheVariants as perf
+use Rattle.amqp_frames.specs.declared.item.Item.{Item}
+use Rattle.amqp_frames.specs.declared.item.Item.TheVariants as item
+use Rattle.amqp_link.specs.Figures.{send_end_of, unused_at}
+use Rattle.amqp_link.specs.Receiving.{delivery_count, unused}
+use Rattle.book_core.specs.declared.terminus.LinkKey.{LinkKey}
+use Rattle.router_trace.specs.Trace.{Trace}
+use Rattle.router_trace.specs.declared.handle.Attachment.{Attachment}
+use Rattle.router_trace.specs.declared.handle.PeerHandle.{PeerHandle}
+use Rattle.router_trace.specs.Links.{Link as View, Happened, sends, receives, LinkPlace, nowhere, detaching, on, attachments, key_at, link, names, names_by}
+use Rattle.router_trace.specs.declared.handle.LinkAt.{LinkAt}
+use Rattle.router_trace.specs.declared.handle.LinkAt.TheVariants as found
+use Rattle.router_links.specs.declared.link.Link.{Link}
+use Rattle.router_links.specs.declared.link.LinkEnd.{LinkEnd}
+use Rattle.router_links.specs.declared.link.LinkEnd.TheVariants as ends
+use Rattle.router_links.specs.declared.links.Links.{Links}
+use Rattle.router_links.specs.declared.table.LinkTable.{LinkTable}
+use Rattle.router_links.specs.Ends.{link_of}
+use Rattle.router_links.specs.Handled.{HandlesFit}
+use Rattle.router_links.specs.Naming.{NamesFit}
+use Rattle.router_links.specs.Places.{at}
+
+-- a link owes a drain
+abbrev pub owes : Option Link → Bool
+owes None = false
+owes (Some l) = l.owes_drain
+
+-- the same of a view
+abbrev pub owes_drain : Option View → Bool
+owes_drain None = false
+owes_drain (Some l) = l.owes_drain
+
+-- a connection that isn't marked has no link that owes a drain
+abbrev pub Owing : (ℕ → ℕ → ℕ → Option Link) → (ℕ → Bool) → Type 0
+Owing known marked = (c o h : ℕ) → marked c ≡ false → owes (known c o h) ≡ false
+
+-- the marks behind a flow that asks for a drain
+abbrev pub with_mark : ℕ → Bool → (ℕ → Bool) → ℕ → Bool
+with_mark conn drains marked c = if conn == c then (if drains then true else marked c) else marked c
+
+-- a performative asks for a drain
+abbrev pub asks_drain : Perf → Bool
+asks_drain (perf.Flow f) = f.drain
+asks_drain _ = false
+
+pub record TableFit (s : LinkTable) (t : Trace) : Type 0 where
+  pub links : (c o h : ℕ) → at s.links c o h ≡ option_map link_of (link t c o h)
+  pub count : s.count ≡ attachments t
+  pub names : NamesFit s.names t
+  pub owing : Owing (at s.links) (contains nat_cmp s.owing)
+
+-- the table of links is that of the trace
+pub record LinksFit (s : Links) (t : Trace) : Type 0 where
+  pub handles : HandlesFit s.handles t
+  pub table : TableFit s.table t
+
+-- a flow or a transfer of the peer names this handle of the router
+abbrev pub names_in : Perf → (ℕ → Option PeerHandle) → ℕ → Bool
+names_in (perf.Flow f) known h = names_by f.handle known h
+names_in (perf.Transfer x) known h = names (known x.handle) h
+names_in _ known h = false
+
+-- the handle that a flow or a transfer of the router names
+abbrev pub IsNoted : Perf → Option ℕ → Type 0
+IsNoted (perf.Flow f) handle = f.handle ≡ handle
+IsNoted (perf.Transfer x) handle = Some x.handle ≡ handle
+IsNoted _ handle = ⊥
+
+-- the attachment of a link that the router takes
+abbrev pub attachment : ℕ → ℕ → ℕ → ℕ → Attachment
+attachment number c o h = record { number = number; conn = record { 0 = c }; channel = o; handle = h }
+
+-- the key that a table of links asks for an item that is put out: that of an attach
+abbrev pub key_in : Trace → ℕ → Perf → Option LinkKey
+key_in t c (perf.Attach a) = Some (key_at t c a)
+key_in t c _ = None
+
+abbrev pub key_by : Trace → ℕ → Item → Option LinkKey
+key_by t c (item.Frame sasl own body payload) = key_in t c body
+key_by t c _ = None
+
+-- the channel of an item; 0 where it has none
+abbrev pub channel_of : Item → ℕ
+channel_of (item.Frame sasl channel body payload) = channel
+channel_of _ = 0
+
+-- what was found on a handle of the router
+abbrev pub found_end : ℕ → LinkEnd → LinkAt
+found_end h (ends.Sends e) = found.Sends h e
+found_end h (ends.Receives e) = found.Receives h e.count (unused_at e)
+
+abbrev pub found_at : ℕ → Option Link → LinkAt
+found_at h None = found.Nowhere
+found_at h (Some l) = found_end h l.end

@@ -1,0 +1,12 @@
+//! The table of links: by connection, session and handle, by key, and by number.
+#![tactic(auto)]
+
+mod by_handle;
+mod handles;
+mod link;
+mod links;
+mod names;
+mod table;
+
+pub use link::{Link, LinkEnd, Side};
+pub use links::Links;

@@ -1,0 +1,269 @@
+//! Links, as a table has them.
+ghost use Rattle.std.specs.Prelude.{◌≡◌, List, ℕ, if◌then◌else◌, OnOk};
+ghost use Rattle.std.specs.Option.{option_map};
+ghost use Rattle.router_trace.specs.Links.{address_by, source_address, target_address, text_of};
+ghost use Rattle.amqp_link.specs.Figures.{behind_start};
+ghost use Rattle.router_links.specs.declared.link.Side.TheVariants.{Peer, Router};
+ghost use Rattle.router_links.specs.Ends.{begun, begun_end, behind_their_flow, behind_their_transfer, behind_our_flow, behind_our_transfer, noted, with_grant, with_count, with_our_count, with_our_grant};
+
+use amqp_link::{Grant, RecvEnd, SendEnd};
+use amqp_perf::{
+    Address, Attach, Flow, Perf, Role, SourceTerminus, TargetTerminus, Text, Transfer,
+};
+use amqp_session::Serial;
+use book_core::LinkKey;
+use bytes::Bytes;
+use std::alloc::{AllocError, Global};
+
+/// The router's end of a link.
+#[derive(Debug, Drop)]
+pub enum LinkEnd {
+    /// The router sends.
+    Sends(SendEnd),
+    /// The peer sends.
+    Receives(RecvEnd),
+}
+
+/// Who sends a frame.
+#[derive(Clone, Copy, Debug, PartialEq, Eq)]
+pub enum Side {
+    /// The peer.
+    Peer,
+    /// The router.
+    Router,
+}
+
+/// A link that the router took (AMQP 1.0 part 2, section 2.6).
+#[derive(Debug, Drop)]
+pub struct Link {
+    /// The number of its attachment, which never comes again.
+    pub number: u64,
+    /// What names it, whichever connection it is attached on.
+    pub key: LinkKey,
+    /// The address at the router's own terminus.
+    pub address: Text,
+    /// The router's end.
+    pub end: LinkEnd,
+    /// Whether the router has begun a delivery of which more frames are to go.
+    pub going_on: bool,
+    /// Whether the peer's last flow asks for a drain.
+    pub drains: bool,
+    /// Whether a drain was asked for and is not told yet.
+    pub owes_drain: bool,
+}
+
+/// The address at the router's own terminus of its attach; none where the attach refuses the link.
+pub(crate) fn address_of(attach: &Attach) -> Option<&Text>
+    ensures { option_map (λ a. a.now) result ≡ address_by attach.now.role attach.now }
+{
+    match attach.role {
+        Role::Sender => source_address(&attach.source),
+        Role::Receiver => target_address(&attach.target),
+    }
+}
+
+fn source_address(source: &Option<SourceTerminus>) -> Option<&Text>
+    ensures { option_map (λ a. a.now) result ≡ source_address source.now }
+{
+    match source {
+        Some(SourceTerminus::Source(source)) => text_of(&source.address),
+        _ => None,
+    }
+}
+
+fn target_address(target: &Option<TargetTerminus>) -> Option<&Text>
+    ensures { option_map (λ a. a.now) result ≡ target_address target.now }
+{
+    match target {
+        Some(TargetTerminus::Target(target)) => text_of(&target.address),
+        _ => None,
+    }
+}
+
+fn text_of(address: &Option<Address>) -> Option<&Text>
+    ensures { option_map (λ a. a.now) result ≡ text_of address.now }
+{
+    match address {
+        Some(Address::Text(text)) => Some(text),
+        _ => None,
+    }
+}
+
+impl LinkEnd {
+    /// The router's end of a link that was just attached, whose peer told this delivery-count if it sends.
+    fn begun(alloc: Global, attach: &Attach, theirs: u32) -> LinkEnd
+        ensures { result ≡ begun_end attach.now.role attach.now.initial_delivery_count theirs }
+    {
+        match attach.role {
+            Role::Sender => {
+                let initial = attach.initial_delivery_count.unwrap_or(0);
+                LinkEnd::Sends(SendEnd::new(Serial::new(initial)))
+            }
+            Role::Receiver => LinkEnd::Receives(RecvEnd::new(alloc, Serial::new(theirs))),
+        }
+    }
+}
+
+impl Link {
+    /// A link that the router's attach begins.
+    pub(crate) fn begun(
+        alloc: Global,
+        number: u64,
+        key: LinkKey,
+        attach: &Attach,
+        theirs: u32,
+        address: Text,
+    ) -> Link
+        ensures { result ≡ begun number key attach.now theirs address }
+    {
+        Link {
+            number,
+            key,
+            address,
+            end: LinkEnd::begun(alloc, attach, theirs),
+            going_on: false,
+            drains: false,
+            owes_drain: false,
+        }
+    }
+
+    /// Notes a flow or a transfer of one side; other performatives change nothing. Where memory is refused nothing can be said
+    /// of the link.
+    pub(crate) fn note(
+        &mut self,
+        side: Side,
+        perf: &Perf,
+        payload: &Bytes,
+    ) -> Result<(), AllocError>
+        ensures { OnOk result (self.new ≡ noted side perf.now payload.now self.old) }
+    {
+        match side {
+            Side::Peer => self.note_theirs(perf, payload),
+            Side::Router => {
+                self.note_ours(perf);
+                Ok(())
+            }
+        }
+    }
+
+    /// Notes a performative of the peer.
+    fn note_theirs(&mut self, perf: &Perf, payload: &Bytes) -> Result<(), AllocError>
+        ensures { OnOk result (self.new ≡ noted Peer perf.now payload.now self.old) }
+    {
+        match perf {
+            Perf::Flow(flow) => self.on_their_flow(flow),
+            Perf::Transfer(transfer) => self.on_their_transfer(transfer, payload)?,
+            _ => {}
+        }
+        Ok(())
+    }
+
+    /// Notes a performative of the router.
+    fn note_ours(&mut self, perf: &Perf)
+        ensures { (payload : List ℕ) → self.new ≡ noted Router perf.now payload self.old }
+    {
+        match perf {
+            Perf::Flow(flow) => self.on_our_flow(flow),
+            Perf::Transfer(transfer) => self.on_our_transfer(transfer),
+            _ => {}
+        }
+    }
+
+    /// Takes a flow of the peer: what it grants, or the count that it tells; and whether it drains.
+    pub fn on_their_flow(&mut self, flow: &Flow)
+        ensures { self.new ≡ behind_their_flow flow.now self.old }
+    {
+        match &mut self.end {
+            LinkEnd::Sends(end) => take_grant(end, flow.delivery_count, flow.link_credit),
+            LinkEnd::Receives(end) => take_count(end, flow.delivery_count),
+        }
+        self.drains = flow.drain;
+        self.owes_drain = flow.drain;
+    }
+
+    /// Takes a transfer of the peer and what it carries. Where memory is refused nothing can be said of the link.
+    pub fn on_their_transfer(
+        &mut self,
+        transfer: &Transfer,
+        payload: &Bytes,
+    ) -> Result<(), AllocError>
+        ensures { OnOk result (self.new ≡ behind_their_transfer transfer.now payload.now self.old) }
+    {
+        match &mut self.end {
+            LinkEnd::Sends(_) => {}
+            LinkEnd::Receives(end) => {
+                let _ = end.on_transfer(transfer, payload.clone()?)?;
+            }
+        }
+        Ok(())
+    }
+
+    /// Notes a flow of the router: the count that it tells, or what it grants; and a drain that it tells.
+    pub fn on_our_flow(&mut self, flow: &Flow)
+        ensures { self.new ≡ behind_our_flow flow.now self.old }
+    {
+        match &mut self.end {
+            LinkEnd::Sends(end) => note_count(end, flow.delivery_count),
+            LinkEnd::Receives(end) => note_grant(end, flow.delivery_count, flow.link_credit),
+        }
+        self.owes_drain = self.owes_drain && !flow.drain;
+    }
+
+    /// Notes a transfer of the router: it starts a delivery where none goes on.
+    pub fn on_our_transfer(&mut self, transfer: &Transfer)
+        ensures { self.new ≡ behind_our_transfer transfer.now self.old }
+    {
+        if let LinkEnd::Sends(end) = &mut self.end {
+            note_start(end, self.going_on);
+        }
+        self.going_on = transfer.more && !transfer.aborted;
+    }
+}
+
+/// Takes what a flow of the peer grants, where it grants.
+fn take_grant(end: &mut SendEnd, count: Option<u32>, credit: Option<u32>)
+    ensures { end.new ≡ with_grant count credit end.old }
+{
+    if let Some(credit) = credit {
+        end.on_flow(count.map(Serial::new), credit);
+    }
+}
+
+/// Takes the count that a flow of the peer tells, unless it is out of reach.
+fn take_count(end: &mut RecvEnd, count: Option<u32>)
+    ensures { end.new ≡ with_count count end.old }
+{
+    if let Some(count) = count {
+        let _ = end.count_forward(Serial::new(count));
+    }
+}
+
+/// Notes the count that a flow of the router tells, where it tells one.
+fn note_count(end: &mut SendEnd, count: Option<u32>)
+    ensures { end.new ≡ with_our_count count end.old }
+{
+    if let Some(count) = count {
+        end.note_count(Serial::new(count));
+    }
+}
+
+/// Notes what a flow of the router grants, where it grants.
+fn note_grant(end: &mut RecvEnd, count: Option<u32>, credit: Option<u32>)
+    ensures { end.new ≡ with_our_grant count credit end.old }
+{
+    if let (Some(count), Some(credit)) = (count, credit) {
+        end.note_grant(Grant {
+            count: Serial::new(count),
+            credit,
+        });
+    }
+}
+
+/// Notes the start of a delivery, where none goes on.
+fn note_start(end: &mut SendEnd, going_on: bool)
+    ensures { end.new ≡ (if going_on then end.old else behind_start end.old) }
+{
+    if !going_on {
+        end.note_started();
+    }
+}

@@ -1,0 +1,168 @@
+//! The table of links.
+ghost use Rattle.std.specs.Prelude.{◌≡◌, ◌∷◌, [], List, ℕ, Bool, false, OnOk};
+ghost use Rattle.amqp_frames.specs.declared.item.Item.TheVariants as item;
+ghost use Rattle.router_trace.specs.Trace.{Entry, Out, did};
+ghost use Rattle.router_trace.specs.Sessions.{is_channel, maps, theirs};
+ghost use Rattle.router_trace.specs.Links.{link, link_place, found_link, free_handle, holder, place_of};
+ghost use Rattle.router_trace.specs.declared.event.Event.TheVariants as event;
+ghost use Rattle.router_links.specs.Fits.{LinksFit, owes_drain, key_in, key_by, channel_of};
+
+use crate::handles::HandleTable;
+use crate::table::LinkTable;
+use amqp_frames::Item;
+use amqp_perf::Perf;
+use book_core::LinkKey;
+use bytes::Bytes;
+use router_trace::{Attachment, ConnectionId, LinkAt, PeerHandle};
+use std::alloc::{AllocError, Global};
+
+/// The links of all connections. Behind a refused growth nothing can be said of the table.
+#[derive(Debug, Drop)]
+pub struct Links {
+    handles: HandleTable,
+    table: LinkTable,
+}
+
+impl Links {
+    /// No links.
+    pub fn new(alloc: Global) -> Links
+        ensures { LinksFit result [] }
+    {
+        Links {
+            handles: HandleTable::new(alloc),
+            table: LinkTable::new(alloc),
+        }
+    }
+
+    /// What stands on a handle of the peer, on the session on a channel of the router.
+    pub fn place(&self, conn: u64, own: u16, handle: u32) -> LinkAt
+        ensures { (t : List Entry) → LinksFit self.now t → result ≡ found_link (link_place t conn own handle) }
+    {
+        match self.handles.theirs(conn, own, handle) {
+            None => LinkAt::Nowhere,
+            Some(PeerHandle::Detaching) => LinkAt::Detaching,
+            Some(PeerHandle::Mapped(handle)) => self.table.found(conn, own, handle),
+        }
+    }
+
+    /// The lowest handle of the router, of 64, that the peer of a session takes too and on which nothing is attached.
+    pub fn free_handle(&self, conn: u64, own: u16) -> Option<u32>
+        ensures { (t : List Entry) → LinksFit self.now t → result ≡ free_handle t conn own }
+    {
+        self.handles.free_handle(conn, own)
+    }
+
+    /// Whether some link may owe a drain; where none is known to, none does.
+    pub fn may_owe(&self) -> bool
+        ensures { result ≡ false → (t : List Entry) → LinksFit self.now t → (c o h : ℕ) → owes_drain (link t c o h) ≡ false }
+    {
+        !self.table.is_calm()
+    }
+
+    /// Whether a link of a connection may owe a drain; where none is known to, none does.
+    pub fn may_owe_on(&self, conn: u64) -> bool
+        ensures { result ≡ false → (t : List Entry) → LinksFit self.now t → (o h : ℕ) → owes_drain (link t conn o h) ≡ false }
+    {
+        self.table.is_marked(conn)
+    }
+
+    /// The attachment that has a key.
+    pub fn holder(&self, key: &LinkKey) -> Option<Attachment>
+        ensures { (t : List Entry) → LinksFit self.now t → result ≡ holder t key.now }
+    {
+        self.table.holder(key)
+    }
+
+    /// The attachment of a number, where it still has its link.
+    pub fn place_of(&self, number: u64) -> Option<Attachment>
+        ensures { (t : List Entry) → LinksFit self.now t → result ≡ place_of t number }
+    {
+        self.table.place_of(number)
+    }
+
+    /// A connection is lost.
+    pub fn down(&mut self, conn: ConnectionId)
+        ensures { (t : List Entry) → LinksFit self.old t → LinksFit self.new (did (event.Down conn) ∷ t) }
+    {
+        self.handles.down(conn);
+        self.table.down(conn);
+    }
+
+    /// An item came on a connection, on the session on this channel of the router, where its channel has one.
+    pub fn hear(
+        &mut self,
+        conn: ConnectionId,
+        own: Option<u16>,
+        item: &Item,
+    ) -> Result<(), AllocError>
+        ensures { OnOk result ((t : List Entry) → ((o : ℕ) → is_channel own o ≡ maps (theirs t conn.0 (channel_of item.now)) o)
+            → LinksFit self.old t → LinksFit self.new (did (event.Item conn item.now) ∷ t)) }
+    {
+        match item {
+            Item::Frame {
+                sasl,
+                perf,
+                payload,
+                ..
+            } => {
+                if !*sasl {
+                    self.hear_perf(conn, own, perf, payload)?;
+                }
+            }
+            _ => {}
+        }
+        Ok(())
+    }
+
+    /// A performative came on a connection.
+    fn hear_perf(
+        &mut self,
+        conn: ConnectionId,
+        own: Option<u16>,
+        perf: &Perf,
+        payload: &Bytes,
+    ) -> Result<(), AllocError>
+        ensures { OnOk result ((t : List Entry) (channel : ℕ) → ((o : ℕ) → is_channel own o ≡ maps (theirs t conn.0 channel) o)
+            → LinksFit self.old t → LinksFit self.new (did (event.Item conn (item.Frame false channel perf.now payload.now)) ∷ t)) }
+    {
+        let handle = self.handles.named(conn.0, own, perf);
+        self.table.hear(conn, own, handle, perf, payload)?;
+        self.handles.hear(conn, own, perf)?;
+        Ok(())
+    }
+
+    /// An item is put in the outbox of a connection; an attach comes with its key. Fails where memory is refused, where
+    /// attachments can't be numbered any more, and for an attach without its key.
+    pub fn put(&mut self, conn: u64, item: &Item, key: Option<LinkKey>) -> Result<(), AllocError>
+        ensures { OnOk result ((t : List Entry) → key ≡ key_by t conn item.now → LinksFit self.old t → LinksFit self.new (Out conn item.now ∷ t)) }
+    {
+        match item {
+            Item::Frame {
+                channel,
+                perf,
+                payload,
+                ..
+            } => self.put_perf(conn, *channel, perf, payload, key)?,
+            _ => {}
+        }
+        Ok(())
+    }
+
+    /// A performative is put in the outbox of a connection.
+    fn put_perf(
+        &mut self,
+        conn: u64,
+        own: u16,
+        perf: &Perf,
+        payload: &Bytes,
+        key: Option<LinkKey>,
+    ) -> Result<(), AllocError>
+        ensures { OnOk result ((t : List Entry) (sasl : Bool) → key ≡ key_in t conn perf.now → LinksFit self.old t
+            → LinksFit self.new (Out conn (item.Frame sasl own perf.now payload.now) ∷ t)) }
+    {
+        let last = self.handles.asked(conn);
+        self.table.put(conn, own, perf, payload, key, last)?;
+        self.handles.put(conn, own, perf)?;
+        Ok(())
+    }
+}

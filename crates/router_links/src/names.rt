@@ -1,0 +1,137 @@
+//! The attachments of keys and of numbers.
+ghost use Rattle.std.specs.Prelude.{◌≡◌, ◌==◌, ℕ, Some, None, if◌then◌else◌, OnOk};
+ghost use Rattle.std.specs.Ordering.{nat_cmp, is_eq};
+ghost use Rattle.std.specs.BTreeMap.{get};
+ghost use Rattle.book_core.specs.Keys.{key_cmp};
+ghost use Rattle.book_core.specs.declared.terminus.LinkKey.{LinkKey as AKey};
+ghost use Rattle.router_links.specs.Naming.{on_conn, on_session, on_handle, unless, Thinned};
+
+use crate::by_handle::{InConnection, InSession};
+use crate::link::Link;
+use book_core::LinkKey;
+use router_trace::Attachment;
+use std::alloc::{AllocError, Global};
+use std::collections::BTreeMap;
+
+/// Attachments by what names them.
+#[derive(Debug, Drop)]
+pub(crate) struct Attachments<K: Ord> {
+    pub(crate) entries: BTreeMap<K, Attachment>,
+}
+
+impl<K: Ord + Drop> Attachments<K> {
+    /// No attachments.
+    fn new(alloc: Global) -> Attachments<K>
+        ensures { (q : K) → get K.cmp result.entries q ≡ None }
+    {
+        Attachments {
+            entries: BTreeMap::new(alloc),
+        }
+    }
+
+    /// The attachment of a name.
+    fn get(&self, key: &K) -> Option<Attachment>
+        ensures { result ≡ get K.cmp self.now.entries key.now }
+    {
+        self.entries.get(key).copied()
+    }
+
+    /// Gives a name to an attachment.
+    fn insert(&mut self, key: K, attachment: Attachment) -> Result<(), AllocError>
+        ensures { OnOk result ((q : K) → get K.cmp self.new.entries q ≡ (if is_eq (K.cmp key q) then Some attachment else get K.cmp self.old.entries q)) }
+    {
+        match self.entries.insert(key, attachment) {
+            Ok(_) => Ok(()),
+            Err(_) => Err(AllocError),
+        }
+    }
+
+    /// Takes a name from the attachment at a place.
+    fn forget(&mut self, key: &K, conn: u64, own: u16, handle: u32)
+        ensures { (q : K) → get K.cmp self.new.entries q
+            ≡ (if is_eq (K.cmp key.now q) then unless (on_handle conn own handle) (get K.cmp self.old.entries q) else get K.cmp self.old.entries q) }
+    {
+        let Some(attachment) = self.get(key) else {
+            return;
+        };
+        if is_on(attachment, conn, own, handle) {
+            let _ = self.entries.remove(key);
+        }
+    }
+}
+
+/// Whether an attachment stands at this place.
+fn is_on(attachment: Attachment, conn: u64, own: u16, handle: u32) -> bool
+    ensures { result ≡ on_handle conn own handle attachment }
+{
+    conn == attachment.conn.0 && own == attachment.channel && handle == attachment.handle
+}
+
+/// The attachments of keys and of numbers. Of those that aren't attached any more there may be some or none.
+#[derive(Debug, Drop)]
+pub(crate) struct Names {
+    pub(crate) keys: Attachments<LinkKey>,
+    pub(crate) numbers: Attachments<u64>,
+}
+
+impl Names {
+    /// No attachments.
+    pub(crate) fn new(alloc: Global) -> Names
+        ensures keys { (k : AKey) → get key_cmp result.keys.entries k ≡ None }
+        ensures numbers { (n : ℕ) → get nat_cmp result.numbers.entries n ≡ None }
+    {
+        Names {
+            keys: Attachments::new(alloc),
+            numbers: Attachments::new(alloc),
+        }
+    }
+
+    /// The attachment of a key.
+    pub(crate) fn of_key(&self, key: &LinkKey) -> Option<Attachment>
+        ensures { result ≡ get key_cmp self.now.keys.entries key.now }
+    {
+        self.keys.get(key)
+    }
+
+    /// The attachment of a number.
+    pub(crate) fn of_number(&self, number: u64) -> Option<Attachment>
+        ensures { result ≡ get nat_cmp self.now.numbers.entries number }
+    {
+        self.numbers.get(&number)
+    }
+
+    /// Gives a key and its number to an attachment.
+    pub(crate) fn take(&mut self, key: LinkKey, attachment: Attachment) -> Result<(), AllocError>
+        ensures keys { OnOk result ((k : AKey) → get key_cmp self.new.keys.entries k ≡ (if is_eq (key_cmp key k) then Some attachment else get key_cmp self.old.keys.entries k)) }
+        ensures numbers { OnOk result ((n : ℕ) → get nat_cmp self.new.numbers.entries n ≡ (if attachment.number == n then Some attachment else get nat_cmp self.old.numbers.entries n)) }
+    {
+        self.keys.insert(key, attachment)?;
+        self.numbers.insert(attachment.number, attachment)
+    }
+
+    /// Takes its names from a link that goes.
+    pub(crate) fn forget(&mut self, conn: u64, own: u16, handle: u32, link: &Link)
+        ensures { Thinned (on_handle conn own handle) self.old self.new }
+    {
+        self.keys.forget(&link.key, conn, own, handle);
+        self.numbers.forget(&link.number, conn, own, handle);
+    }
+
+    /// Takes their names from the links of a session that goes.
+    pub(crate) fn forget_session(&mut self, conn: u64, own: u16, handles: &InSession<Link>)
+        ensures { Thinned (on_session conn own) self.old self.new }
+    {
+        for (handle, link) in handles {
+            self.forget(conn, own, *handle, link);
+        }
+    }
+
+    /// Takes their names from the links of a connection that goes.
+    pub(crate) fn forget_connection(&mut self, conn: u64, sessions: &InConnection<Link>)
+        ensures { Thinned (on_conn conn) self.old self.new }
+    {
+        for (own, handles) in sessions {
+            self.forget_session(conn, *own, handles);
+        }
+    }
+}

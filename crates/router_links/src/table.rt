@@ -1,0 +1,386 @@
+//! The links that the router took, with their keys and numbers.
+ghost use Rattle.std.specs.Prelude.{◌≡◌, ◌==◌, ◌+◌, ◌∷◌, [], List, ℕ, Bool, Some, None, true, false, if◌then◌else◌, IfOk, OnOk};
+ghost use Rattle.std.specs.Option.{option_map};
+ghost use Rattle.std.specs.Ordering.{nat_cmp, is_eq};
+ghost use Rattle.std.specs.BTreeMap.{get};
+ghost use Rattle.std.specs.BTreeSet.{contains};
+ghost use Rattle.amqp_perf.specs.declared.perf.Perf.TheVariants as perf;
+ghost use Rattle.amqp_perf.specs.declared.perf.End.{End};
+ghost use Rattle.amqp_perf.specs.declared.perf.Close.{Close};
+ghost use Rattle.amqp_frames.specs.declared.item.Item.TheVariants as item;
+ghost use Rattle.book_core.specs.Keys.{key_cmp};
+ghost use Rattle.book_core.specs.declared.terminus.LinkKey.{LinkKey as AKey};
+ghost use Rattle.router_trace.specs.Trace.{Entry, Out, did};
+ghost use Rattle.router_trace.specs.Sessions.{is_channel, maps, theirs};
+ghost use Rattle.router_trace.specs.Links.{is_handle, their_handle, asked, initial_of, key_at, is_attached, if_attached, holder, place_of};
+ghost use Rattle.router_trace.specs.declared.event.Event.TheVariants as event;
+ghost use Rattle.router_links.specs.declared.link.Side.TheVariants.{Peer};
+ghost use Rattle.router_links.specs.Ends.{begun, noted};
+ghost use Rattle.router_links.specs.Fits.{TableFit, with_mark, asks_drain, names_in, key_in, found_at, attachment, IsNoted};
+ghost use Rattle.router_links.specs.Naming.{on_conn, on_session, on_handle, Thinned};
+ghost use Rattle.router_links.specs.Places.{at};
+
+use crate::by_handle::ByHandle;
+use crate::link::{Link, LinkEnd, Side, address_of};
+use crate::names::Names;
+use amqp_perf::{Attach, Detach, Perf, Text};
+use book_core::LinkKey;
+use bytes::Bytes;
+use router_trace::{Asked, Attachment, ConnectionId, LinkAt};
+use std::alloc::{AllocError, Global};
+use std::collections::BTreeSet;
+
+/// The links that the router took, with their keys and numbers. Behind a refused growth nothing can be said of the table.
+#[derive(Debug, Drop)]
+pub struct LinkTable {
+    alloc: Global,
+    // by the router's handle
+    links: ByHandle<Link>,
+    names: Names,
+    // so many attachments there were
+    count: u64,
+    // the connections that may have a link that owes a drain
+    owing: BTreeSet<u64>,
+}
+
+impl LinkTable {
+    /// No links.
+    pub fn new(alloc: Global) -> LinkTable
+        ensures { TableFit result [] }
+    {
+        LinkTable {
+            alloc,
+            links: ByHandle::new(alloc),
+            names: Names::new(alloc),
+            count: 0,
+            owing: BTreeSet::new(alloc),
+        }
+    }
+
+    /// What stands on a handle of the router.
+    pub fn found(&self, conn: u64, own: u16, handle: u32) -> LinkAt
+        ensures { result ≡ found_at handle (at self.now.links conn own handle) }
+    {
+        match self.links.get(conn, own, handle) {
+            None => LinkAt::Nowhere,
+            Some(link) => match &link.end {
+                LinkEnd::Sends(end) => LinkAt::Sends { handle, end: *end },
+                LinkEnd::Receives(end) => LinkAt::Receives {
+                    handle,
+                    count: end.count(),
+                    unused: end.unused(),
+                },
+            },
+        }
+    }
+
+    /// The attachment that has a key.
+    pub fn holder(&self, key: &LinkKey) -> Option<Attachment>
+        ensures { (t : List Entry) → TableFit self.now t → result ≡ holder t key.now }
+    {
+        self.if_attached(self.names.of_key(key))
+    }
+
+    /// The attachment of a number.
+    pub fn place_of(&self, number: u64) -> Option<Attachment>
+        ensures { (t : List Entry) → TableFit self.now t → result ≡ place_of t number }
+    {
+        self.if_attached(self.names.of_number(number))
+    }
+
+    /// An attachment, where it still has its link.
+    fn if_attached(&self, attachment: Option<Attachment>) -> Option<Attachment>
+        ensures { (t : List Entry) → TableFit self.now t → result ≡ if_attached t attachment }
+    {
+        let attachment = attachment?;
+        if self.is_attached(attachment) {
+            Some(attachment)
+        } else {
+            None
+        }
+    }
+
+    /// Whether an attachment still has its link.
+    fn is_attached(&self, attachment: Attachment) -> bool
+        ensures { (t : List Entry) → TableFit self.now t → result ≡ is_attached t attachment }
+    {
+        match self
+            .links
+            .get(attachment.conn.0, attachment.channel, attachment.handle)
+        {
+            None => false,
+            Some(link) => link.number == attachment.number,
+        }
+    }
+
+    /// Whether no connection is marked, so that no link owes a drain.
+    pub fn is_calm(&self) -> bool
+        ensures { result ≡ true → (c : ℕ) → contains nat_cmp self.now.owing c ≡ false }
+    {
+        self.owing.is_empty()
+    }
+
+    /// Whether a connection is marked; on another no link owes a drain.
+    pub fn is_marked(&self, conn: u64) -> bool
+        ensures { result ≡ contains nat_cmp self.now.owing conn }
+    {
+        self.owing.contains(&conn)
+    }
+
+    /// A connection is lost.
+    pub fn down(&mut self, conn: ConnectionId)
+        ensures { (t : List Entry) → TableFit self.old t → TableFit self.new (did (event.Down conn) ∷ t) }
+    {
+        self.forget(conn.0);
+    }
+
+    /// A performative of the peer came on the session on this channel of the router, for the link on this handle of the
+    /// router, where there are such.
+    pub fn hear(
+        &mut self,
+        conn: ConnectionId,
+        own: Option<u16>,
+        handle: Option<u32>,
+        perf: &Perf,
+        payload: &Bytes,
+    ) -> Result<(), AllocError>
+        ensures { OnOk result ((t : List Entry) (channel : ℕ) → ((o : ℕ) → is_channel own o ≡ maps (theirs t conn.0 channel) o)
+            → ((o h : ℕ) → is_channel own o ≡ true → is_handle handle h ≡ names_in perf.now (their_handle t conn.0 o) h)
+            → TableFit self.old t → TableFit self.new (did (event.Item conn (item.Frame false channel perf.now payload.now)) ∷ t)) }
+    {
+        mark(&mut self.owing, conn.0, asks_drain(perf))?;
+        note(
+            &mut self.links,
+            conn.0,
+            own,
+            handle,
+            Side::Peer,
+            perf,
+            payload,
+        )?;
+        Ok(())
+    }
+
+    /// A performative is put in the outbox of a connection, on a channel of the router. An attach comes with its key, and with
+    /// what the peer's last attach asked.
+    pub fn put(
+        &mut self,
+        conn: u64,
+        own: u16,
+        perf: &Perf,
+        payload: &Bytes,
+        key: Option<LinkKey>,
+        last: Option<Asked>,
+    ) -> Result<(), AllocError>
+        ensures { OnOk result ((t : List Entry) (sasl : Bool) → key ≡ key_in t conn perf.now → last ≡ asked t conn
+            → TableFit self.old t → TableFit self.new (Out conn (item.Frame sasl own perf.now payload.now) ∷ t)) }
+    {
+        match perf {
+            Perf::Attach(attach) => self.put_attach(conn, own, attach, key, last)?,
+            Perf::Flow(flow) => self.put_note(conn, own, flow.handle, perf, payload)?,
+            Perf::Transfer(transfer) => self.put_note(
+                conn,
+                own,
+                Some(transfer.handle),
+                perf,
+                payload,
+            )?,
+            Perf::Detach(detach) => self.put_detach(conn, own, detach),
+            Perf::End(_) => self.put_end(conn, own),
+            Perf::Close(_) => self.forget(conn),
+            _ => {}
+        }
+        Ok(())
+    }
+
+    /// The router's attach, which may take a link.
+    fn put_attach(
+        &mut self,
+        conn: u64,
+        own: u16,
+        attach: &Attach,
+        key: Option<LinkKey>,
+        last: Option<Asked>,
+    ) -> Result<(), AllocError>
+        ensures { OnOk result ((t : List Entry) (sasl : Bool) (payload : List ℕ) → key ≡ Some (key_at t conn attach.now) → last ≡ asked t conn
+            → TableFit self.old t → TableFit self.new (Out conn (item.Frame sasl own (perf.Attach attach.now) payload) ∷ t)) }
+    {
+        leave(&mut self.links, &mut self.names, conn, own, attach.handle);
+        let Some(address) = address_of(attach) else {
+            return Ok(());
+        };
+        let Some(key) = key else {
+            return Err(AllocError);
+        };
+        self.join(conn, own, attach, key, address, last)?;
+        Ok(())
+    }
+
+    /// Takes a link.
+    fn join(
+        &mut self,
+        conn: u64,
+        own: u16,
+        attach: &Attach,
+        key: LinkKey,
+        address: &Text,
+        last: Option<Asked>,
+    ) -> Result<(), AllocError>
+        ensures links { OnOk result ((c o h : ℕ) → at self.new.links c o h
+            ≡ (if conn == c then (if own == o then (if attach.now.handle == h then Some (begun (self.old.count + 1) key attach.now (initial_of last) address.now) else at self.old.links c o h) else at self.old.links c o h) else at self.old.links c o h)) }
+        ensures count { OnOk result (self.new.count ≡ self.old.count + 1) }
+        ensures keys { OnOk result ((k : AKey) → get key_cmp self.new.names.keys.entries k
+            ≡ (if is_eq (key_cmp key k) then Some (attachment (self.old.count + 1) conn own attach.now.handle) else get key_cmp self.old.names.keys.entries k)) }
+        ensures numbers { OnOk result ((n : ℕ) → get nat_cmp self.new.names.numbers.entries n
+            ≡ (if self.old.count + 1 == n then Some (attachment (self.old.count + 1) conn own attach.now.handle) else get nat_cmp self.old.names.numbers.entries n)) }
+        ensures owing { self.new.owing ≡ self.old.owing }
+    {
+        let Some(number) = self.count.checked_add(1) else {
+            return Err(AllocError);
+        };
+        let theirs = initial_of(last);
+        let address = address.clone()?;
+        let kept = copy(&key)?;
+        let link = Link::begun(self.alloc, number, kept, attach, theirs, address);
+        self.links.insert(conn, own, attach.handle, link)?;
+        self.names.take(
+            key,
+            Attachment {
+                number,
+                conn: ConnectionId(conn),
+                channel: own,
+                handle: attach.handle,
+            },
+        )?;
+        self.count = number;
+        Ok(())
+    }
+
+    /// The router's flow or transfer on a link.
+    fn put_note(
+        &mut self,
+        conn: u64,
+        own: u16,
+        handle: Option<u32>,
+        perf: &Perf,
+        payload: &Bytes,
+    ) -> Result<(), AllocError>
+        ensures { OnOk result ((t : List Entry) (sasl : Bool) → IsNoted perf.now handle
+            → TableFit self.old t → TableFit self.new (Out conn (item.Frame sasl own perf.now payload.now) ∷ t)) }
+    {
+        note(
+            &mut self.links,
+            conn,
+            Some(own),
+            handle,
+            Side::Router,
+            perf,
+            payload,
+        )
+    }
+
+    /// The router's detach.
+    fn put_detach(&mut self, conn: u64, own: u16, detach: &Detach)
+        ensures { (t : List Entry) (sasl : Bool) (payload : List ℕ) → TableFit self.old t
+            → TableFit self.new (Out conn (item.Frame sasl own (perf.Detach detach.now) payload) ∷ t) }
+    {
+        leave(&mut self.links, &mut self.names, conn, own, detach.handle);
+    }
+
+    /// The router's end.
+    fn put_end(&mut self, conn: u64, own: u16)
+        ensures { (t : List Entry) (sasl : Bool) (payload : List ℕ) (x : End) → TableFit self.old t
+            → TableFit self.new (Out conn (item.Frame sasl own (perf.End x) payload) ∷ t) }
+    {
+        if let Some(handles) = self.links.end(conn, own) {
+            self.names.forget_session(conn, own, &handles);
+        }
+    }
+
+    /// Nothing is known of the links of a connection any more.
+    fn forget(&mut self, conn: u64)
+        ensures down { (t : List Entry) → TableFit self.old t → TableFit self.new (did (event.Down (record { 0 = conn })) ∷ t) }
+        ensures closed { (t : List Entry) (sasl : Bool) (own : ℕ) (payload : List ℕ) (x : Close) → TableFit self.old t
+            → TableFit self.new (Out conn (item.Frame sasl own (perf.Close x) payload) ∷ t) }
+    {
+        if let Some(sessions) = self.links.forget(conn) {
+            self.names.forget_connection(conn, &sessions);
+        }
+        let _ = self.owing.remove(&conn);
+    }
+}
+
+/// Takes a link away, where one stands at the place, and its names.
+fn leave(links: &mut ByHandle<Link>, names: &mut Names, conn: u64, own: u16, handle: u32)
+    ensures links { (c o h : ℕ) → at links.new c o h
+        ≡ (if conn == c then (if own == o then (if handle == h then None else at links.old c o h) else at links.old c o h) else at links.old c o h) }
+    ensures names { Thinned (on_handle conn own handle) names.old names.new }
+{
+    if let Some(link) = links.remove(conn, own, handle) {
+        names.forget(conn, own, handle, &link);
+    }
+}
+
+/// Notes a performative of one side on a link, where there is one.
+fn note(
+    links: &mut ByHandle<Link>,
+    conn: u64,
+    own: Option<u16>,
+    handle: Option<u32>,
+    side: Side,
+    perf: &Perf,
+    payload: &Bytes,
+) -> Result<(), AllocError>
+    ensures { OnOk result ((c o h : ℕ) → at links.new c o h
+        ≡ (if conn == c then (if is_channel own o then (if is_handle handle h then option_map (noted side perf.now payload.now) (at links.old c o h) else at links.old c o h) else at links.old c o h) else at links.old c o h)) }
+{
+    let (Some(own), Some(handle)) = (own, handle) else {
+        return Ok(());
+    };
+    links.note(conn, own, handle, side, perf, payload)
+}
+
+/// Whether a performative asks for a drain.
+fn asks_drain(perf: &Perf) -> bool
+    ensures { result ≡ asks_drain perf.now }
+{
+    match perf {
+        Perf::Flow(flow) => flow.drain,
+        _ => false,
+    }
+}
+
+/// Marks a connection on which a drain is asked for.
+fn mark(marks: &mut BTreeSet<u64>, conn: u64, drains: bool) -> Result<(), AllocError>
+    ensures { OnOk result ((c : ℕ) → contains nat_cmp marks.new c ≡ with_mark conn drains (contains nat_cmp marks.old) c) }
+{
+    if !drains {
+        return Ok(());
+    }
+    match marks.insert(conn) {
+        Ok(_) => Ok(()),
+        Err(_) => Err(AllocError),
+    }
+}
+
+/// The delivery-count at which the peer begins to send.
+fn initial_of(last: Option<Asked>) -> u32
+    ensures { result ≡ initial_of last }
+{
+    match last {
+        None => 0,
+        Some(asked) => asked.initial,
+    }
+}
+
+/// A copy of a key.
+fn copy(key: &LinkKey) -> Result<LinkKey, AllocError>
+    ensures { IfOk result (λ k. k ≡ key.now) }
+{
+    Ok(LinkKey {
+        role: key.role,
+        user: key.user.clone()?,
+        container: key.container.clone()?,
+        name: key.name.clone()?,
+    })
+}
