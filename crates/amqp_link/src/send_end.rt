@@ -53,7 +53,7 @@ impl SendEnd {
         ensures within { (t : Link) → Sends self.old t → WithinCredit t → WithinCredit (Started ∷ t) }
         ensures figures { self.new ≡ behind_start self.old }
     {
-        self.count = self.count.plus(1);
+        self.note_started();
     }
 
     /// Notes that a delivery was started, whatever credit is left: for a table that follows what was put out.

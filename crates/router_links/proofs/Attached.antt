@@ -1,5 +1,5 @@
 -- What a table knows of keys and numbers it knows behind an entry too.
-use Rattle.std.proofs.Common.{◌≡◌, ◌∙◌, ◌+◌, ◌≤◌, ℕ, Bool, true, false, refl, sym, ap, List, [], ◌∷◌, Option, Some, None}
+use Rattle.std.proofs.Common.{◌≡◌, ◌∙◌, ◌+◌, ◌≤◌, ℕ, Bool, true, false, refl, sym, ap, List, ◌∷◌, Option, Some, None}
 use Rattle.std.specs.Prelude.{◌&&◌, ◌==◌, if◌then◌else◌, is_some}
 use Rattle.std.specs.Ordering.{nat_cmp, is_eq}
 use Rattle.std.specs.BTreeMap.{get}
@@ -11,8 +11,8 @@ use Rattle.book_core.specs.declared.terminus.LinkKey.{LinkKey}
 use Rattle.book_core.specs.Keys.{key_cmp}
 use Rattle.router_trace.specs.declared.event.Event.{Event}
 use Rattle.router_trace.specs.declared.handle.Attachment.{Attachment}
-use Rattle.router_trace.specs.Trace.{Trace, Out, Took, did}
-use Rattle.router_trace.specs.Links.{Link, has_number, link, attached, asked, address_by, is_taken, attachments, key_at, is_attached, if_attached, last_of_key, numbered, same_key}
+use Rattle.router_trace.specs.Trace.{Trace, Out, did}
+use Rattle.router_trace.specs.Links.{Link, has_number, link, attached, asked, address_by, is_taken, attachments, key_at, is_attached, if_attached, last_of_key, numbered}
 use Rattle.router_links.specs.declared.names.Names.{Names}
 use Rattle.router_links.specs.Naming.{on_handle, IsThinned, Thinned, Remembers, NamesFit}
 use Rattle.router_links.proofs.Numbered.{old_key, old_number, newest_same, did_stays, out_stays, attached_other, not_next}

@@ -1,18 +1,14 @@
 -- A table's link follows what happens on the view's.
-use Rattle.std.proofs.Common.{◌≡◌, ◌∙◌, ℕ, Bool, true, false, not, ◌&&◌, refl, sym, ap, ◌%◌, ◌^◌, List, [], ◌∷◌, Option, Some, None}
-use Rattle.std.specs.Prelude.{nat_le, if◌then◌else◌, option_map, unwrap_or}
+use Rattle.std.proofs.Common.{◌≡◌, ℕ, Bool, true, false, not, ◌&&◌, refl, ap, ◌%◌, ◌^◌, List, [], ◌∷◌, Option, Some, None}
+use Rattle.std.specs.Prelude.{nat_le, if◌then◌else◌, unwrap_or}
 use Rattle.amqp_perf.specs.declared.perf.Attach.{Attach}
 use Rattle.amqp_perf.specs.declared.perf.Flow.{Flow}
-use Rattle.amqp_perf.specs.declared.perf.Perf.{Perf}
-use Rattle.amqp_perf.specs.declared.perf.Perf.TheVariants as perf
 use Rattle.amqp_perf.specs.declared.perf.Role.{Role}
 use Rattle.amqp_perf.specs.declared.perf.Role.TheVariants.{Sender, Receiver}
 use Rattle.amqp_perf.specs.declared.perf.Transfer.{Transfer}
 use Rattle.amqp_session.specs.Serials.{distance}
-use Rattle.amqp_link.specs.declared.send_end.SendEnd.{SendEnd}
 use Rattle.amqp_link.specs.Credit as credit
 use Rattle.amqp_link.specs.Deliveries.{frame}
-use Rattle.amqp_link.specs.Gathering.{RecvFigures}
 use Rattle.amqp_link.specs.Receiving as receiving
 use Rattle.amqp_link.specs.Figures.{send_end_of, recv_end_of}
 use Rattle.amqp_link.proofs.Sends as sent

@@ -1,7 +1,7 @@
 -- The first handle that is free.
-use Rattle.std.proofs.Common.{◌≡◌, ◌∙◌, ◌+◌, ◌-◌, ◌<◌, ◌≤◌, ℕ, zero, suc, Bool, true, false, refl, sym, ap, subst, Option, Some, None, arith}
-use Rattle.std.specs.Prelude.{if◌then◌else◌, nat_le, is_none}
-use Rattle.router_trace.specs.Links.{first_free_below, is_free_handle}
+use Rattle.std.proofs.Common.{◌≡◌, ◌∙◌, ◌+◌, ◌-◌, ◌<◌, ℕ, zero, suc, Bool, true, false, refl, sym, ap, Some, None, arith}
+use Rattle.std.specs.Prelude.{if◌then◌else◌}
+use Rattle.router_trace.specs.Links.{first_free_below}
 
 pub none_below : (free : ℕ → Bool) (h : ℕ) → first_free_below zero free h ≡ None
 unfolding first_free_below

@@ -15,7 +15,7 @@ use Rattle.router_trace.specs.declared.event.Event.TheVariants as event
 use Rattle.router_trace.specs.declared.handle.Asked.{Asked}
 use Rattle.router_trace.specs.declared.handle.Attachment.{Attachment}
 use Rattle.router_trace.specs.declared.handle.PeerHandle.{PeerHandle}
-use Rattle.router_trace.specs.Trace.{Trace, Entry, Did, Out, Took, did}
+use Rattle.router_trace.specs.Trace.{Trace, Did, Out, Took, did}
 use Rattle.router_trace.specs.Sessions.{theirs, maps}
 use Rattle.router_trace.specs.Links.{Link, address_by, is_taken, is_taken_in, attachments, attached, asked, key_at, link, link_in, link_behind, link_at, link_by, heard_link, names, names_by, their_handle, is_handle, ends_handle_in, has_number, is_attached, newest_in, newest_by, last_of_key, numbered, same_key, behind_their_flow, behind_their_transfer, behind_our_flow, behind_our_transfer}
 

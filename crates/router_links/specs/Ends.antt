@@ -1,5 +1,5 @@
 -- The links of a table: what a view's list of what happened comes to.
-use Rattle.std.specs.Prelude.{◌≡◌, ℕ, Bool, false, not, ◌&&◌, nat_le, if◌then◌else◌, List, Option, Some, None, unwrap_or}
+use Rattle.std.specs.Prelude.{ℕ, Bool, false, not, ◌&&◌, nat_le, if◌then◌else◌, List, Option, Some, None, unwrap_or}
 use Rattle.amqp_perf.specs.declared.perf.Attach.{Attach}
 use Rattle.amqp_perf.specs.declared.perf.Flow.{Flow}
 use Rattle.amqp_perf.specs.declared.perf.Perf.{Perf}

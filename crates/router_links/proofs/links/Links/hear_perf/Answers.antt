@@ -1,4 +1,4 @@
-use Rattle.std.proofs.Common.{◌≡◌, ◌∙◌}
+use Rattle.std.proofs.Common.{◌∙◌}
 use Rattle.router_trace.specs.Links.{their_handle}
 use Rattle.router_links.specs.Places.{at}
 use Rattle.router_links.proofs.Rows.{named_same}

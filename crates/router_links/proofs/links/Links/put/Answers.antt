@@ -1,4 +1,4 @@
-use Rattle.std.proofs.Common.{◌≡◌, ◌∙◌, ◌∷◌, subst, sym, ap}
+use Rattle.std.proofs.Common.{◌∙◌, ◌∷◌, subst, sym, ap}
 use Rattle.amqp_frames.specs.declared.item.Item.{Item}
 use Rattle.router_trace.specs.Trace.{Out}
 use Rattle.router_links.specs.Fits.{LinksFit, key_by}

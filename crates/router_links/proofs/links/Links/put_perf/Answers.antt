@@ -1,4 +1,4 @@
-use Rattle.std.proofs.Common.{◌≡◌, ◌∙◌}
+use Rattle.std.proofs.Common.{◌∙◌}
 use Rattle.router_links.proofs.links.Links.put_perf.Goals as goal
 
 pub returns : goal.returns

@@ -1,10 +1,10 @@
-use Rattle.std.proofs.Common.{◌≡◌, ◌∙◌, ℕ, Bool, true, false, sym, ap, subst, Option}
+use Rattle.std.proofs.Common.{◌∙◌, false, ap}
 use Rattle.std.specs.Prelude.{◌==◌}
 use Rattle.std.specs.Ordering.{nat_cmp}
 use Rattle.std.specs.BTreeSet.{contains}
 use Rattle.std.proofs.lemmas.Bool.{eqb-true}
 use Rattle.amqp_frames.specs.declared.item.Item.TheVariants as item
-use Rattle.router_trace.specs.Links.{link, their_handle, heard_link, is_handle}
+use Rattle.router_trace.specs.Links.{link, their_handle, is_handle}
 use Rattle.router_trace.specs.Sessions.{theirs, maps, is_channel}
 use Rattle.router_trace.specs.declared.event.Event.TheVariants as event
 use Rattle.router_links.specs.declared.link.Side.TheVariants.{Peer}

@@ -1,4 +1,4 @@
-use Rattle.std.proofs.Common.{◌≡◌, ◌∙◌, ◌∷◌, ap, subst, sym, refl}
+use Rattle.std.proofs.Common.{◌∙◌, ◌∷◌, ap, subst, sym, refl}
 use Rattle.std.specs.Prelude.{Some}
 use Rattle.amqp_perf.specs.declared.perf.Perf.{Perf}
 use Rattle.amqp_frames.specs.declared.item.Item.TheVariants as item

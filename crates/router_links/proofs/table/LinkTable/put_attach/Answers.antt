@@ -1,4 +1,4 @@
-use Rattle.std.proofs.Common.{◌≡◌, ◌∙◌, ◌+◌, ℕ, Bool, true, false, refl, sym, ap, List, Option, Some, None}
+use Rattle.std.proofs.Common.{◌≡◌, ◌∙◌, ◌+◌, refl, sym, ap, Some, None}
 use Rattle.std.specs.Prelude.{◌==◌, if◌then◌else◌, option_map, is_some}
 use Rattle.std.specs.Ordering.{nat_cmp, is_eq}
 use Rattle.std.specs.BTreeMap.{get}
@@ -6,7 +6,6 @@ use Rattle.std.specs.BTreeSet.{contains}
 use Rattle.std.proofs.lemmas.Bool.{eqb-true}
 use Rattle.amqp_frames.specs.declared.item.Item.TheVariants as item
 use Rattle.amqp_perf.specs.declared.perf.Perf.TheVariants as perf
-use Rattle.book_core.specs.declared.terminus.LinkKey.{LinkKey}
 use Rattle.book_core.specs.Keys.{key_cmp}
 use Rattle.router_trace.specs.Links.{link, attachments, asked, initial_of, key_at, address_by, attached}
 use Rattle.router_links.specs.Ends.{begun}
