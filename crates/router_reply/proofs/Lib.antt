@@ -1,2 +1,4 @@
 pub mod RowOrder
 pub mod Puts
+pub mod Placed
+pub mod Unlinked

@@ -94,10 +94,19 @@ fn refuse_link(
     let largest = state.largest_frame(conn);
     let item = attach_item(own, id.refusal_of(attach, handle));
     let detach = id.detach_item(own, handle, true, Some(error))?;
-    if fits(id, largest, &item)? {
-        state.put(conn, item)?;
+    if !fits(id, largest, &item)? {
+        state.put(conn, detach)?;
+        return Ok(());
     }
-    state.put(conn, detach)?;
+    put_both(state, conn, item, detach)
+}
+
+/// Puts two items in the outbox of a connection, one behind the other.
+fn put_both(state: &mut State, conn: u64, first: Item, second: Item) -> Result<(), AllocError>
+    ensures { OnOk result ((t : List Entry) → TablesFit state.old t → TablesFit state.new (puts conn (first ∷ second ∷ []) t)) }
+{
+    state.put(conn, first)?;
+    state.put(conn, second)?;
     Ok(())
 }
 

@@ -102,6 +102,7 @@ fn on_tick(state: &mut State, id: &RouterId, ends: &[u64], moment: u64) -> Resul
 fn on_start(state: &mut State, id: &RouterId, ends: &[u64]) -> Result<(), AllocError>
     ensures { OnOk result ((t : List Entry) → TablesAt state.old t event.Start ends.now → TablesFit state.new (replied id.now t (step_of event.Start))) }
 {
+    state.start();
     close_all(state, id, ends)?;
     Ok(())
 }

@@ -204,6 +204,12 @@ impl State {
         self.clocks.tick(moment);
     }
 
+    /// The router starts on its journal, which changes no table.
+    pub fn start(&mut self)
+        ensures { (t : List Entry) (ends : List ℕ) → TablesAt self.old t event.Start ends → TablesFit self.new (did event.Start ∷ t) }
+    {
+    }
+
     /// A connection is lost.
     pub fn down(&mut self, conn: ConnectionId) -> Result<(), AllocError>
         ensures { OnOk result ((t : List Entry) (ends : List ℕ) → TablesAt self.old t (event.Down conn) ends → TablesFit self.new (did (event.Down conn) ∷ t)) }
