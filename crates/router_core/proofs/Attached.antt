@@ -1,6 +1,6 @@
 -- The frames of an attach that is taken or refused have their turns.
 use Rattle.std.proofs.Common.{◌≡◌, ◌∙◌, sym, ap, refl, true≢false, ℕ, Bool, true, false, List, [], ◌∷◌}
-use Rattle.std.specs.Prelude.{Option, Some, None, is_some, if◌then◌else◌}
+use Rattle.std.specs.Prelude.{Option, Some, None, if◌then◌else◌}
 use Rattle.amqp_perf.specs.declared.perf.Attach.{Attach as AnAttach}
 use Rattle.amqp_frames.specs.declared.item.Item.{Item}
 use Rattle.router_trace.specs.declared.condition.Condition.{Condition}
@@ -14,7 +14,7 @@ use Rattle.router_trace.specs.Order.{unwritten, of_session, has_turn}
 use Rattle.router_trace.specs.Peers.{largest_frame}
 use Rattle.router_reply.specs.Replies.{stolen_by, attach_answer, taken, refused}
 use Rattle.router_conns.proofs.Lists.{by_test}
-use Rattle.router_core.proofs.Flowing.{Fits, AllFit, IsQuiet, fit_both}
+use Rattle.router_core.proofs.Flowing.{AllFit, IsQuiet, fit_both}
 use Rattle.router_core.proofs.Linked.{holder_linked}
 use Rattle.router_core.proofs.Ordered.{Ordered, wrote, written_all}
 

@@ -35,7 +35,7 @@ use Rattle.router_conns.proofs.Lists.{by_test}
 use Rattle.router_conns.proofs.Turns.{due_none}
 use Rattle.router_core.proofs.Coming.{ins_answered}
 use Rattle.router_core.proofs.ItemRows.{item_cases}
-use Rattle.router_core.proofs.Linked.{holder_linked}
+use Rattle.router_core.proofs.Linked.{none_if, holder_linked}
 use Rattle.router_core.proofs.Once.{filter_has}
 use Rattle.router_core.proofs.Ordered.{Ordered, Without, written_all, goes_spares, each_without, ends_spares}
 use Rattle.router_core.proofs.Told.{Told, goes_strange}
@@ -87,7 +87,7 @@ not_due t e c h =
 
 -- items put out for other connections alone
 
-without_both : (k : ℕ) (ps qs : List Put) → Without k ps → Without k qs → Without k (ps ++ qs)
+pub without_both : (k : ℕ) (ps qs : List Put) → Without k ps → Without k qs → Without k (ps ++ qs)
 without_both k [] qs f g = g
 without_both k (p ∷ ps) qs f g = (f.0, without_both k ps qs f.1 g)
 
@@ -177,11 +177,8 @@ item_without id t u d k i (Some p) none apart =
 
 -- no link stands where nothing was put out
 unlinked : (t : List Entry) (k : ℕ) → Ordered t → outs t k ≡ [] → (o h : ℕ) → link t k o h ≡ None
-unlinked t k ord none o h = none_if (link t k o h) (λ some. true≢false (sym (ord.linked k o h some) ∙ ap (λ js. of_session (written_all js unwritten) o) none))
-  where
-    none_if : (v : Option Link) → (is_some v ≡ true → ⊥) → v ≡ None
-    none_if None never = refl
-    none_if (Some l) never = absurd (never refl)
+unlinked t k ord none o h =
+    none_if (link t k o h) (λ some. true≢false (sym (ord.linked k o h some) ∙ ap (λ js. of_session (written_all js unwritten) o) none))
 
 own_without : (id : List ℕ) (t u : List Entry) (e : Event) (k : ℕ) → Ordered u → outs u k ≡ [] → with_came e k (ins t k) ≡ [] → Without k (own_row id t u e)
 own_without id t u (event.Item d i) k ord none h =

@@ -1,5 +1,5 @@
 -- What an answer to an item puts: what it says, or the frames of an attach that is taken or refused.
-use Rattle.std.proofs.Common.{◌≡◌, sym, refl, subst, ℕ, Bool, List, [], ◌∷◌, ◌++◌, append-nil}
+use Rattle.std.proofs.Common.{sym, subst, ℕ, Bool, List, [], ◌++◌, append-nil}
 use Rattle.amqp_perf.specs.declared.perf.Attach.{Attach as AnAttach}
 use Rattle.amqp_perf.specs.declared.perf.Perf.{Perf}
 use Rattle.amqp_perf.specs.declared.perf.Perf.TheVariants as perf

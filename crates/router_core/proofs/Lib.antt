@@ -19,6 +19,8 @@ pub mod UntakenLinks
 pub mod Plain
 pub mod Takes
 pub mod Mine
+pub mod Attachless
+pub mod MineLinks
 pub mod Only
 pub mod Settling
 pub mod Apart

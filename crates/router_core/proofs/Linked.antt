@@ -1,12 +1,11 @@
 -- What items and events make of links: only an attach of the router begins one, on a session, and only on a connection that it is put out for.
-use Rattle.std.proofs.Common.{◌≡◌, ◌∙◌, sym, ap, refl, subst, true≢false, ℕ, Bool, true, false, not, List, ◌∷◌}
-use Rattle.std.specs.Prelude.{◌==◌, ◌&&◌, Option, Some, None, is_some, option_map, if◌then◌else◌}
+use Rattle.std.proofs.Common.{◌≡◌, sym, refl, subst, true≢false, ℕ, Bool, true, false, not, List}
+use Rattle.std.specs.Prelude.{◌==◌, Option, Some, None, is_some, option_map, if◌then◌else◌}
 use Rattle.std.proofs.lemmas.Bool.{eqb-true}
 use Rattle.amqp_perf.specs.declared.perf.Perf.{Perf}
 use Rattle.amqp_perf.specs.declared.perf.Perf.TheVariants as perf
 use Rattle.amqp_frames.specs.declared.item.Item.{Item}
 use Rattle.amqp_frames.specs.declared.item.Item.TheVariants as item
-use Rattle.amqp_conn.specs.declared.conn.Conn.{Conn}
 use Rattle.router_trace.specs.declared.channel.PeerChannel.{PeerChannel}
 use Rattle.router_trace.specs.declared.event.Event.{Event}
 use Rattle.router_trace.specs.declared.event.Event.TheVariants as event
@@ -30,6 +29,10 @@ mapped_was false f v some = some
 kept_was : (q : Bool) (v : Option Link) → is_some (if q then None else v) ≡ true → is_some v ≡ true
 kept_was true v some = absurd cc
 kept_was false v some = some
+
+pub none_if : (v : Option Link) → (is_some v ≡ true → ⊥) → v ≡ None
+none_if None never = refl
+none_if (Some l) never = absurd (never refl)
 
 -- a link that is there behind an item that is no attach was there before
 was_perf : (body : Perf) (own o h n : ℕ) (t : List Entry) (c : ℕ) (last : Option Asked) (v : Option Link)

@@ -12,7 +12,7 @@ use Rattle.router_trace.specs.declared.terms.Terms.{Terms}
 use Rattle.router_trace.specs.declared.event.ConnectionId.{ConnectionId}
 use Rattle.router_trace.specs.declared.event.Event.{Event}
 use Rattle.router_trace.specs.declared.event.Event.TheVariants as event
-use Rattle.router_trace.specs.Trace.{Entry, Put, did, goes, each_to, ups, with_up, step_of}
+use Rattle.router_trace.specs.Trace.{Entry, did, goes, each_to, ups, with_up, step_of}
 use Rattle.router_trace.specs.Connection.{Connection, conn, ended, standing, is_live, has, due, found, live_of}
 use Rattle.router_trace.specs.Refusing.{refuses}
 use Rattle.router_trace.specs.Frames.{beat_item}
@@ -52,7 +52,7 @@ pub record FoundLive (t : List Entry) (e : Event) (c : ℕ) : Type 0 where
   pub spared : has c (due t e) ≡ false
   pub phase : standing (found t e c) ≡ Some view.phase
 
-found_live : (t : List Entry) (e : Event) (c : ℕ) → is_live (found t e c) ≡ true → FoundLive t e c
+pub found_live : (t : List Entry) (e : Event) (c : ℕ) → is_live (found t e c) ≡ true → FoundLive t e c
 found_live t e c h =
     let v = open_found (has c (due t e)) (conn t c) h
     in record {
@@ -66,12 +66,12 @@ found_live t e c h =
     stood : (b : Bool) (o : Option Connection) (v : Connection) → b ≡ false → o ≡ Some v → v.phase.closed ≡ false → standing (if b then option_map ended o else o) ≡ Some v.phase
     stood b o v e f g = rw (e, f, g) refl
 
-nothing_stands : (p : Option Conn) → is_some p ≡ false → p ≡ None
+pub nothing_stands : (p : Option Conn) → is_some p ≡ false → p ≡ None
 nothing_stands None h = refl
 nothing_stands (Some p) h = absurd cc
 
 -- what an event ends stays as the event finds it, for other connections
-heard_spares : (id : List ℕ) (t : List Entry) (e : Event) (c : ℕ) → has c (due t e) ≡ false → Spares (did e ∷ t) (heard id t (step_of e)) c
+pub heard_spares : (id : List ℕ) (t : List Entry) (e : Event) (c : ℕ) → has c (due t e) ≡ false → Spares (did e ∷ t) (heard id t (step_of e)) c
 heard_spares id t e c spared = ends_spares id (due t e) (did e ∷ t) c spared
 
 -- the row of an item
