@@ -36,6 +36,7 @@ use Rattle.router_conns.proofs.Turns.{due_none}
 use Rattle.router_core.proofs.Coming.{ins_answered}
 use Rattle.router_core.proofs.ItemRows.{item_cases}
 use Rattle.router_core.proofs.Linked.{none_if, holder_linked}
+use Rattle.router_core.proofs.Lively.{Lively, answered_lively, took_lively}
 use Rattle.router_core.proofs.Once.{filter_has}
 use Rattle.router_core.proofs.Ordered.{Ordered, Without, written_all, goes_spares, each_without, ends_spares}
 use Rattle.router_core.proofs.Told.{Told, goes_strange}
@@ -305,6 +306,7 @@ took_told t d n told = record {
 -- the invariants along moves
 pub record Kept (t : List Entry) : Type 0 where
   pub ordered : Ordered t
+  pub lively : Lively t
   pub told : Told t
   pub headed : Headed t
 
@@ -313,6 +315,7 @@ goes_kept id [] t u was goes = subst (λ (w : List Entry). Kept w) (sym goes) wa
 goes_kept id (handles s ∷ ms) t u was goes =
     goes_kept id ms (answered id t s) u (record {
       ordered = answered_turns id t s.event was.ordered was.told goes.0;
+      lively = answered_lively id t s.event was.ordered was.lively goes.0;
       told = answered_told id t s.event was.ordered was.told goes.0;
       headed = answered_headed id t s.event was.ordered goes.0 was.headed;
     })
@@ -320,6 +323,7 @@ goes_kept id (handles s ∷ ms) t u was goes =
 goes_kept id (takes x ∷ ms) t u was goes =
     goes_kept id ms (took_one x t) u (record {
       ordered = took_turns t x.conn.0 _ was.ordered;
+      lively = took_lively t x.conn.0 _ was.lively;
       told = took_told t x.conn.0 _ was.told;
       headed = record { header = was.headed.header; silent = was.headed.silent };
     })
@@ -328,13 +332,17 @@ goes_kept id (takes x ∷ ms) t u was goes =
 kept_empty : Kept []
 kept_empty = record {
   ordered = ordered_empty;
+  lively = λ c o h some. absurd cc;
   told = record { told = λ c v is live some. absurd cc; strange = λ c absent. refl };
   headed = record { header = λ c h. absurd cc; silent = λ c h. refl };
 }
 
+pub trace_kept : (id : List ℕ) (u : List Entry) → IsTrace id u → Kept u
+trace_kept id u trace = goes_kept id trace.0 [] u kept_empty trace.1
+
 pub trace_keeps_order : (id : List ℕ) (u : List Entry) → IsTrace id u → KeepsOrder u
 trace_keeps_order id u trace =
-    let kept = goes_kept id trace.0 [] u kept_empty trace.1
+    let kept : Kept u = trace_kept id u trace
     in record {
       turns = kept.ordered.turns;
       header = kept.headed.header;

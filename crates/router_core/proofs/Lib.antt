@@ -12,6 +12,8 @@ pub mod Flowing
 pub mod Attached
 pub mod Order
 pub mod Replied
+pub mod Attachless
+pub mod Lively
 pub mod Headed
 pub mod Kept
 pub mod Untaken
@@ -19,7 +21,6 @@ pub mod UntakenLinks
 pub mod Plain
 pub mod Takes
 pub mod Mine
-pub mod Attachless
 pub mod MineLinks
 pub mod Only
 pub mod Settling
