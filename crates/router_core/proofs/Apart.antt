@@ -1,37 +1,40 @@
 -- Each connection is answered alone: what a trace has of it is what the events about it alone make.
 use Rattle.std.proofs.Common.{◌≡◌, ◌∙◌, sym, ap, refl, true≢false, ℕ, Bool, true, false, List, [], ◌∷◌}
 use Rattle.std.specs.Prelude.{is_some, if◌then◌else◌}
+use Rattle.std.specs.List.{list_any}
 use Rattle.std.proofs.lemmas.Bool.{eqb-true}
 use Rattle.router_trace.specs.declared.event.Event.{Event}
 use Rattle.router_trace.specs.declared.event.Event.TheVariants as event
 use Rattle.router_trace.specs.Trace.{Entry, Did, Put, Step, goes, each_to, ups}
 use Rattle.router_trace.specs.Connection.{conn, due, found, has, is_due, is_full, is_live, standing}
 use Rattle.router_trace.specs.Clocks.{terms, written, needs_beat}
-use Rattle.router_trace.specs.Sessions.{place, session}
+use Rattle.router_trace.specs.Sessions.{session}
 use Rattle.router_trace.specs.Refusing.{refuses}
 use Rattle.router_sessions.specs.Windows.{flows_below, windows}
 use Rattle.router_state.specs.Tables.{beat_if}
-use Rattle.router_reply.specs.Replies.{answer, free_for, heard, own_row, replied}
+use Rattle.router_reply.specs.Replies.{finds, heard, own_row, replied}
 use Rattle.router_after.specs.After.{followed}
 use Rattle.router_core.specs.Replies.{answered}
 use Rattle.router_core.specs.Runs.{Taking, took_one}
 use Rattle.router_core.specs.Moves.{Move, handles, takes, Goes, outs}
-use Rattle.router_core.specs.Laws.{events_of, is_about, own_events, own_part, comes_up, Undisturbed}
+use Rattle.router_core.specs.Laws.{events_of, is_about, own_events, own_part, comes_up, brings_attach, NeverAttaches, Undisturbed}
 use Rattle.router_conns.proofs.Lists.{by_test}
 use Rattle.router_conns.proofs.Turns.{due_none}
-use Rattle.router_core.proofs.Once.{NoTwice, filter_has}
-use Rattle.router_core.proofs.Ordered.{Ordered}
+use Rattle.router_core.proofs.Once.{NoTwice, neither, filter_has}
+use Rattle.router_core.proofs.Attachless.{said_to, row_said, less_row, less_windows, Unlinked, unlinked_did, unlinked_goes}
+use Rattle.router_core.proofs.MineLinks.{linkless, own_finds}
+use Rattle.router_core.proofs.Ordered.{Ordered, Spares, Without, goes_spares}
 use Rattle.router_core.proofs.Order.{took_turns, ordered_empty}
 use Rattle.router_core.proofs.Told.{Told}
-use Rattle.router_core.proofs.Replied.{replied_turns, answered_turns, answered_told}
-use Rattle.router_core.proofs.Headed.{took_told}
-use Rattle.router_core.proofs.Mine.{apart, own_terms, own_written, own_session, own_outs, own_place, own_free, Eased, eased_goes, found_same, own_phase}
-use Rattle.router_core.proofs.Only.{only, own_goes, each_all, each_none, lives_known, only_windows, only_beats, own_ends, eased_ends}
+use Rattle.router_core.proofs.Replied.{heard_spares, replied_turns, answered_turns, answered_told}
+use Rattle.router_core.proofs.Headed.{item_without, took_told}
+use Rattle.router_core.proofs.Mine.{apart, own_terms, own_written, own_session, own_outs, Eased, eased_goes, found_same, own_phase}
+use Rattle.router_core.proofs.Only.{only, only_none, own_goes, each_all, lives_known, only_windows, only_beats, own_ends, eased_ends}
 use Rattle.router_core.proofs.Settling.{settled}
 
 -- what is put out for a connection by its own part of a trace: an event's row, the flows that follow, and all of it
 abbrev own_answer : List ℕ → ℕ → List Entry → Event → List Put
-own_answer id c x (event.Item d i) = each_to c (answer id (apart x c) (place x c) (free_for x c) i)
+own_answer id c x (event.Item d i) = each_to c (said_to id (apart x c) (linkless x c) i)
 own_answer id c x (event.Tick ms) = if is_some (apart x c) then beat_if (needs_beat (terms x c) (written x c) ms) c else []
 own_answer id c x _ = []
 
@@ -72,37 +75,39 @@ same_followed t c eased once = own_goes c (windows t) t ∙ ap (λ (ps : List Pu
 
 -- an event's row
 
-row_about : (id : List ℕ) (t : List Entry) (e : Event) (c : ℕ) → has c (due t e) ≡ false → Eased c t → NoTwice (ups t) → is_about c e ≡ true
-    → only c (own_row id t e) ≡ own_answer id c (own_part c t) e
-row_about id t (event.Item d i) c spared eased once about =
+row_about : (id : List ℕ) (t u : List Entry) (e : Event) (c : ℕ) → has c (due t e) ≡ false → Eased c t → NoTwice (ups t) → Unlinked c t → brings_attach e ≡ false
+    → is_about c e ≡ true → only c (own_row id t u e) ≡ own_answer id c (own_part c t) e
+row_about id t u (event.Item d i) c spared eased once unlinked none about =
     let e : Event = event.Item d i
     in let same : d.0 ≡ c = eqb-true d.0 c about
     in let phase : standing (found t e c) ≡ apart (own_part c t) c = ap standing (found_same t e c spared) ∙ own_phase t c eased
-    in each_all (answer id (standing (found t e d.0)) (place t d.0) (free_for t d.0) i) d.0 c about
-    ∙ (λ j. each_to (same j) (answer id (standing (found t e (same j))) (place t (same j)) (free_for t (same j)) i))
-    ∙ (λ j. each_to c (answer id (phase j) (λ p. own_place t c p j) (own_free t c j) i))
-row_about id t (event.Tick ms) c spared eased once about =
+    in ap (only c) (row_said id t u d.0 i (standing (found t e d.0)) none)
+    ∙ each_all (said_to id (standing (found t e d.0)) (finds t d.0) i) d.0 c about
+    ∙ (λ j. each_to (same j) (said_to id (standing (found t e (same j))) (finds t (same j)) i))
+    ∙ (λ j. each_to c (said_to id (phase j) (own_finds t c unlinked j) i))
+row_about id t u (event.Tick ms) c spared eased once unlinked none about =
     let e : Event = event.Tick ms
     in let same = found_same t e c spared
     in let phase : standing (found t e c) ≡ apart (own_part c t) c = ap standing same ∙ own_phase t c eased
     in only_beats t (found t e) ms c once (λ h. lives_known t c (sym (ap is_live same) ∙ h))
     ∙ (λ j. if is_some (phase j) then beat_if (needs_beat (own_terms t c j) (own_written t c j) ms) c else [])
-row_about id t (event.Down d) c spared eased once about = refl
-row_about id t (event.Up d p) c spared eased once about = refl
-row_about id t event.Start c spared eased once about = refl
+row_about id t u (event.Down d) c spared eased once unlinked none about = refl
+row_about id t u (event.Up d p) c spared eased once unlinked none about = refl
+row_about id t u event.Start c spared eased once unlinked none about = refl
 
-row_else : (id : List ℕ) (t : List Entry) (e : Event) (c : ℕ) → is_about c e ≡ false → only c (own_row id t e) ≡ []
-row_else id t (event.Item d i) c other = each_none (answer id (standing (found t (event.Item d i) d.0)) (place t d.0) (free_for t d.0) i) d.0 c other
-row_else id t (event.Tick ms) c other = absurd cc
-row_else id t (event.Down d) c other = refl
-row_else id t (event.Up d p) c other = refl
-row_else id t event.Start c other = refl
+row_else : (id : List ℕ) (t u : List Entry) (e : Event) (c : ℕ) → Unlinked c u → is_about c e ≡ false → Without c (own_row id t u e)
+row_else id t u (event.Item d i) c unlinked other = item_without id t u d.0 c i (standing (found t (event.Item d i) d.0)) unlinked other
+row_else id t u (event.Tick ms) c unlinked other = absurd cc
+row_else id t u (event.Down d) c unlinked other = tt
+row_else id t u (event.Up d p) c unlinked other = tt
+row_else id t u event.Start c unlinked other = tt
 
 -- the state of a trace along moves
 record Fine (c : ℕ) (t : List Entry) : Type 0 where
   ordered : Ordered t
   told : Told t
   eased : Eased c t
+  unlinked : Unlinked c t
   settled : own_flows c (own_part c t) ≡ []
 
 not_due : (t : List Entry) (e : Event) (c : ℕ) → is_full (conn t c) ≡ false → has c (due t e) ≡ false
@@ -117,30 +122,42 @@ record Stepped (id : List ℕ) (c : ℕ) (t : List Entry) (s : Step) : Type 0 wh
   about : is_about c s.event ≡ true → own_part c (answered id t s) ≡ own_answered id c (own_part c t) s
   other : is_about c s.event ≡ false → own_part c (answered id t s) ≡ own_part c t
 
+-- no link is attached on it behind an event's row
+row_unlinked : (id : List ℕ) (t u : List Entry) (e : Event) (c : ℕ) → (is_about c e ≡ true → brings_attach e ≡ false) → Unlinked c u → Unlinked c (goes (own_row id t u e) u)
+row_unlinked id t u e c bare unlinked =
+    by_test (is_about c e)
+    (λ own. unlinked_goes c (own_row id t u e) u (less_row id t u e (bare own)) unlinked)
+    (λ other o h. (goes_spares (own_row id t u e) u c (row_else id t u e c unlinked other)).link o h ∙ unlinked o h)
+
 stepped : (id : List ℕ) (c : ℕ) (t : List Entry) (s : Step) → Fine c t → refuses t s.event ≡ false → is_full (conn t c) ≡ false
-    → (comes_up c s.event ≡ true → is_live (conn (Did s ∷ t) c) ≡ true) → Stepped id c t s
-stepped id c t s fine taken roomy lives =
+    → (comes_up c s.event ≡ true → is_live (conn (Did s ∷ t) c) ≡ true) → (is_about c s.event ≡ true → brings_attach s.event ≡ false) → Stepped id c t s
+stepped id c t s fine taken roomy lives bare =
     let spared : has c (due t s.event) ≡ false = not_due t s.event c roomy
-    in let row : List Put = own_row id t s.event
+    in let u : List Entry = heard id t s
+    in let row : List Put = own_row id t u s.event
     in let behind : List Entry = replied id t s
-    in let eased : Eased c behind = eased_goes c row (heard id t s) (eased_ends id (due t s.event) (Did s ∷ t) c ((spared, lives), fine.eased))
+    in let spare : Spares (Did s ∷ t) u c = heard_spares id t s.event c spared
+    in let unlinked : Unlinked c u = λ o h. spare.link o h ∙ unlinked_did c t s fine.unlinked o h
+    in let eased : Eased c behind = eased_goes c row u (eased_ends id (due t s.event) (Did s ∷ t) c ((spared, lives), fine.eased))
     in let once : NoTwice (ups behind) = (replied_turns id t s.event fine.ordered fine.told taken).once
     in let part : own_part c behind ≡ goes (only c row) (own_part c (Did s ∷ t))
-    = own_goes c row (heard id t s) ∙ ap (goes (only c row)) (own_ends id (due t s.event) (Did s ∷ t) c spared)
+    = own_goes c row u ∙ ap (goes (only c row)) (own_ends id (due t s.event) (Did s ∷ t) c spared)
     in let all : own_part c (answered id t s) ≡ own_followed c (own_part c behind) = same_followed behind c eased once
     in record {
       fine = record {
         ordered = answered_turns id t s.event fine.ordered fine.told taken;
         told = answered_told id t s.event fine.ordered fine.told taken;
         eased = eased_goes c (windows behind) behind eased;
+        unlinked = unlinked_goes c (windows behind) behind (less_windows behind) (row_unlinked id t u s.event c bare unlinked);
         settled = ap (own_flows c) all ∙ settled_followed c (own_part c behind);
       };
       about = λ e.
           let did : own_part c (Did s ∷ t) ≡ Did s ∷ own_part c t = rw e refl
-          in all ∙ ap (own_followed c) (part ∙ (λ j. goes (row_about id t s.event c spared fine.eased fine.ordered.once e j) (did j)));
+          in all ∙ ap (own_followed c) (part ∙ (λ j. goes (row_about id t u s.event c spared fine.eased fine.ordered.once fine.unlinked (bare e) e j) (did j)));
       other = λ e.
           let did : own_part c (Did s ∷ t) ≡ own_part c t = rw e refl
-          in all ∙ ap (own_followed c) (part ∙ (λ j. goes (row_else id t s.event c e j) (did j))) ∙ ap (λ (ps : List Put). goes ps (own_part c t)) fine.settled;
+          in all ∙ ap (own_followed c) (part ∙ (λ j. goes (only_none c row (row_else id t u s.event c unlinked e) j) (did j)))
+          ∙ ap (λ (ps : List Put). goes ps (own_part c t)) fine.settled;
     }
 
 -- moves
@@ -150,33 +167,43 @@ fine_took c t x fine = record {
   ordered = took_turns t x.conn.0 _ fine.ordered;
   told = took_told t x.conn.0 _ fine.told;
   eased = fine.eased;
+  unlinked = fine.unlinked;
   settled = fine.settled;
 }
 
-own_moves : (id : List ℕ) (c : ℕ) (ms : List Move) (t u : List Entry) → Fine c t → Undisturbed id c ms t → Goes id ms t u
+-- an event about a connection on which no attach comes brings none
+never_first : (c : ℕ) (s : Step) (ss : List Step) → NeverAttaches c (s ∷ ss) → is_about c s.event ≡ true → brings_attach s.event ≡ false
+never_first c s ss never own = (neither (brings_attach s.event) _ (rw own at never)).0
+
+never_rest : (c : ℕ) (s : Step) (ss : List Step) → NeverAttaches c (s ∷ ss) → NeverAttaches c ss
+never_rest c s ss never = by_test (is_about c s.event) (λ e. (neither (brings_attach s.event) _ (rw e at never)).1) (λ e. rw e at never)
+
+own_moves : (id : List ℕ) (c : ℕ) (ms : List Move) (t u : List Entry) → Fine c t → Undisturbed id c ms t → NeverAttaches c (events_of ms) → Goes id ms t u
     → own_part c u ≡ own_all id c (own_events c (events_of ms)) (own_part c t)
-own_moves id c [] t u fine alone went = ap (own_part c) went
-own_moves id c (handles s ∷ ms) t u fine alone went =
-    let next : Stepped id c t s = stepped id c t s fine went.0 alone.0 alone.1
+own_moves id c [] t u fine alone never went = ap (own_part c) went
+own_moves id c (handles s ∷ ms) t u fine alone never went =
+    let next : Stepped id c t s = stepped id c t s fine went.0 alone.0 alone.1 (never_first c s (events_of ms) never)
     in let rest : own_part c u ≡ own_all id c (own_events c (events_of ms)) (own_part c (answered id t s))
-    = own_moves id c ms (answered id t s) u next.fine alone.2 went.1
+    = own_moves id c ms (answered id t s) u next.fine alone.2 (never_rest c s (events_of ms) never) went.1
     in by_test (is_about c s.event)
     (λ e. rw e (rest ∙ ap (own_all id c (own_events c (events_of ms))) (next.about e)))
     (λ e. rw e (rest ∙ ap (own_all id c (own_events c (events_of ms))) (next.other e)))
-own_moves id c (takes x ∷ ms) t u fine alone went = own_moves id c ms (took_one x t) u (fine_took c t x fine) alone went
+own_moves id c (takes x ∷ ms) t u fine alone never went = own_moves id c ms (took_one x t) u (fine_took c t x fine) alone never went
 
 fine_empty : (c : ℕ) → Fine c []
 fine_empty c = record {
   ordered = ordered_empty;
   told = record { told = λ k v is live some. absurd cc; strange = λ k absent. refl };
   eased = tt;
+  unlinked = λ o h. refl;
   settled = refl;
 }
 
 pub answered_alone : (id : List ℕ) (c : ℕ) (ms ns : List Move) (t u : List Entry) → Goes id ms [] t → Goes id ns [] u → Undisturbed id c ms [] → Undisturbed id c ns []
-    → own_events c (events_of ms) ≡ own_events c (events_of ns) → (own_part c t ≡ own_part c u) × (outs t c ≡ outs u c)
-answered_alone id c ms ns t u went too alone alone_too same =
-    let alike : own_part c t ≡ own_part c u
-    = own_moves id c ms [] t (fine_empty c) alone went ∙ ap (λ (ss : List Step). own_all id c ss []) same
-    ∙ sym (own_moves id c ns [] u (fine_empty c) alone_too too)
+    → own_events c (events_of ms) ≡ own_events c (events_of ns) → NeverAttaches c (events_of ms) → (own_part c t ≡ own_part c u) × (outs t c ≡ outs u c)
+answered_alone id c ms ns t u went too alone alone_too same never =
+    let never_too : NeverAttaches c (events_of ns) = ap (λ (ss : List Step). list_any (λ s. brings_attach s.event) ss) (sym same) ∙ never
+    in let alike : own_part c t ≡ own_part c u
+    = own_moves id c ms [] t (fine_empty c) alone never went ∙ ap (λ (ss : List Step). own_all id c ss []) same
+    ∙ sym (own_moves id c ns [] u (fine_empty c) alone_too never_too too)
     in (alike, own_outs t c ∙ ap (λ (x : List Entry). outs x c) alike ∙ sym (own_outs u c))

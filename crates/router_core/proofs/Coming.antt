@@ -21,4 +21,4 @@ ins_ends id (d ∷ ds) t c =
 pub ins_answered : (id : List ℕ) (t : List Entry) (e : Event) (c : ℕ) → ins (answered id t (step_of e)) c ≡ with_came e c (ins t c)
 ins_answered id t e c =
     ins_goes (windows (replied id t (step_of e))) (replied id t (step_of e)) c
-    ∙ ins_goes (own_row id t e) (heard id t (step_of e)) c ∙ ins_ends id (due t e) (did e ∷ t) c
+    ∙ ins_goes (own_row id t (heard id t (step_of e)) e) (heard id t (step_of e)) c ∙ ins_ends id (due t e) (did e ∷ t) c

@@ -24,9 +24,11 @@ use Rattle.router_reply.proofs.RowOrder.{written_of, perf_is_offered, IsOffered}
 use Rattle.router_core.proofs.Once.{filter_has, has_first, has_rest}
 use Rattle.router_core.proofs.Ordered.{Ordered, wrote, wrote_push, out_turns}
 
--- an item that leaves all that was written as it was: a flow or a heartbeat
+-- an item that leaves all that was written as it was: a flow, an attach, a detach or a heartbeat
 abbrev pub perf_is_quiet : Perf → Type 0
 perf_is_quiet (perf.Flow f) = Unit {0}
+perf_is_quiet (perf.Attach a) = Unit {0}
+perf_is_quiet (perf.Detach x) = Unit {0}
 perf_is_quiet _ = ⊥
 
 abbrev pub IsQuiet : Item → Type 0
@@ -37,6 +39,8 @@ IsQuiet _ = ⊥
 quiet_perf : (body : Perf) (own : ℕ) (w : Written) → perf_is_quiet body
     → written_of (behind_perf body w.phase) (begun_behind_perf body own w.begun) ≡ w
 quiet_perf (perf.Flow f) own w q = refl
+quiet_perf (perf.Attach a) own w q = refl
+quiet_perf (perf.Detach x) own w q = refl
 quiet_perf _ own w q = absurd q
 
 quiet_same : (i : Item) (w : Written) → IsQuiet i → written_behind i w ≡ w
@@ -46,6 +50,8 @@ quiet_same _ w q = absurd q
 
 quiet_perf_offered : (body : Perf) (asked : Option BeginState) → perf_is_quiet body → perf_is_offered body asked
 quiet_perf_offered (perf.Flow f) asked q = tt
+quiet_perf_offered (perf.Attach a) asked q = tt
+quiet_perf_offered (perf.Detach x) asked q = tt
 quiet_perf_offered _ asked q = absurd q
 
 quiet_offered : (i : Item) (asked : Option BeginState) → IsQuiet i → IsOffered i asked
@@ -84,7 +90,7 @@ goes_turns (p ∷ ps) t ord fits =
     goes_turns ps (Out p.conn p.item ∷ t) (out_turns t p.conn p.item ord fits.0.turn (quiet_offered p.item _ fits.0.quiet) fits.0.known)
     (fit_on ps t p.conn p.item fits.0.quiet fits.1)
 
-fit_both : (t : List Entry) (ps qs : List Put) → AllFit t ps → AllFit t qs → AllFit t (ps ++ qs)
+pub fit_both : (t : List Entry) (ps qs : List Put) → AllFit t ps → AllFit t qs → AllFit t (ps ++ qs)
 fit_both t [] qs f g = g
 fit_both t (p ∷ ps) qs f g = (f.0, fit_both t ps qs f.1 g)
 

@@ -1,6 +1,6 @@
 -- In every trace of the router a header that came first is answered by the header, first, and where nothing came nothing is put out.
 use Rattle.std.proofs.Common.{◌≡◌, ◌∙◌, sym, ap, refl, subst, true≢false, ℕ, zero, suc, Bool, true, false, not, List, [], ◌∷◌, ◌++◌, drop}
-use Rattle.std.specs.Prelude.{◌==◌, Option, Some, None, option_map, option_and_then, if◌then◌else◌, length}
+use Rattle.std.specs.Prelude.{◌==◌, Option, Some, None, is_some, option_map, option_and_then, if◌then◌else◌, length}
 use Rattle.std.proofs.Math.Seq.{drop-nil}
 use Rattle.std.proofs.lemmas.Bool.{eqb-true, eq-eqb}
 use Rattle.amqp_frames.specs.declared.item.Item.{Item}
@@ -11,28 +11,36 @@ use Rattle.router_trace.specs.declared.terms.Terms.{Terms}
 use Rattle.router_trace.specs.declared.condition.Condition.TheVariants.{ResourceLimitExceeded}
 use Rattle.router_trace.specs.declared.event.ConnectionId.{ConnectionId}
 use Rattle.router_trace.specs.declared.event.Event.{Event}
+use Rattle.router_trace.specs.declared.handle.Attachment.{Attachment}
 use Rattle.router_trace.specs.declared.event.Event.TheVariants as event
 use Rattle.router_trace.specs.Trace.{Entry, Put, Did, Out, Took, did, goes, puts, each_to, ups, step_of}
 use Rattle.router_trace.specs.Connection.{Connection, conn, ended, took, unless_empty, drained, standing, is_live, is_full, is_due, has, due, found, live, live_of, at_event}
 use Rattle.router_trace.specs.Refusing.{refuses}
 use Rattle.router_trace.specs.Frames.{header_item}
-use Rattle.router_trace.specs.Sessions.{Place, place, session}
+use Rattle.router_trace.specs.LinkFrames.{answer_to}
+use Rattle.router_trace.specs.Links.{Link, link, if_attached, last_of_key, holder, key_at}
+use Rattle.router_trace.specs.Peers.{largest_frame}
+use Rattle.router_trace.specs.Sessions.{session}
 use Rattle.router_trace.specs.Clocks.{terms, terms_at, written, needs_beat}
 use Rattle.router_sessions.specs.Windows.{is_narrow, flow_due, flows_below, windows_over, windows}
 use Rattle.router_state.specs.Tables.{beat_if, beats_over}
-use Rattle.router_reply.specs.Replies.{closing_of, ends, heard, answer, free_for, own_row, replied}
+use Rattle.router_reply.specs.Rows.{said, item_reply}
+use Rattle.router_reply.specs.Replies.{closing_of, ends, heard, finds, stolen_by, refused, item_row, own_row, replied}
 use Rattle.router_core.specs.Replies.{answered}
 use Rattle.router_core.specs.Runs.{waiting_of, took_one}
 use Rattle.router_core.specs.Moves.{Move, handles, takes, Goes, IsTrace, with_came, ins, outs}
-use Rattle.router_trace.specs.Order.{unwritten}
+use Rattle.router_trace.specs.Order.{unwritten, of_session}
 use Rattle.router_core.specs.Laws.{is_header, begins_with_header, HeaderFirst, KeepsOrder}
 use Rattle.router_conns.proofs.Lists.{by_test}
 use Rattle.router_conns.proofs.Turns.{due_none}
 use Rattle.router_core.proofs.Coming.{ins_answered}
+use Rattle.router_core.proofs.ItemRows.{item_cases}
+use Rattle.router_core.proofs.Linked.{none_if, holder_linked}
+use Rattle.router_core.proofs.Lively.{Lively, answered_lively, took_lively}
 use Rattle.router_core.proofs.Once.{filter_has}
 use Rattle.router_core.proofs.Ordered.{Ordered, Without, written_all, goes_spares, each_without, ends_spares}
 use Rattle.router_core.proofs.Told.{Told, goes_strange}
-use Rattle.router_core.proofs.Order.{push_some, no_session, took_inv, took_turns, ordered_empty}
+use Rattle.router_core.proofs.Order.{push_some, heard_turns, no_session, took_inv, took_turns, ordered_empty}
 use Rattle.router_core.proofs.Replied.{answered_turns, answered_told}
 
 -- where nothing was put out nothing waits, and the outbox isn't full
@@ -80,7 +88,7 @@ not_due t e c h =
 
 -- items put out for other connections alone
 
-without_both : (k : ℕ) (ps qs : List Put) → Without k ps → Without k qs → Without k (ps ++ qs)
+pub without_both : (k : ℕ) (ps qs : List Put) → Without k ps → Without k qs → Without k (ps ++ qs)
 without_both k [] qs f g = g
 without_both k (p ∷ ps) qs f g = (f.0, without_both k ps qs f.1 g)
 
@@ -142,14 +150,45 @@ untold (Did s ∷ t) c h = untold_at s.event c (ins t c) (terms t c) h (untold t
 untold (Out d i ∷ t) c h = goes_strange (record { conn = d; item = i } ∷ []) t c (untold t c h)
 untold (Took d n ∷ t) c h = untold t c h
 
-own_without : (id : List ℕ) (t : List Entry) (e : Event) (k : ℕ) → with_came e k (ins t k) ≡ [] → Without k (own_row id t e)
-own_without id t (event.Item d i) k h =
+-- an item of another connection puts nothing where no link is attached
+
+stolen_without : (t : List Entry) (k : ℕ) → ((o h : ℕ) → link t k o h ≡ None) → (last x : Option Attachment) → if_attached t last ≡ x → Without k (stolen_by x)
+stolen_without t k none last None is = tt
+stolen_without t k none last (Some x) is = (
+  by_test (x.conn.0 == k)
+      (λ e. absurd (true≢false (sym (holder_linked t last x is) ∙ gone (eqb-true x.conn.0 k e))))
+      (λ e. e),
+  tt,
+)
+  where
+    gone : x.conn.0 ≡ k → is_some (link t x.conn.0 x.channel x.handle) ≡ false
+    gone e = subst (λ (n : ℕ). is_some (link t n x.channel x.handle) ≡ false) (sym e) (ap (λ (v : Option Link). is_some v) (none x.channel x.handle))
+
+pub item_without : (id : List ℕ) (t u : List Entry) (d k : ℕ) (i : Item) (p : Option Conn) → ((o h : ℕ) → link u k o h ≡ None) → (d == k) ≡ false
+    → Without k (item_row id t u d i p)
+item_without id t u d k i None none apart = tt
+item_without id t u d k i (Some p) none apart =
+    item_cases id u d p (λ a ps. Without k ps)
+    (λ a. each_without (said id p a) d k apart)
+    (λ own x. without_both k (stolen_by (holder u (key_at u d (answer_to x 0)))) _
+    (stolen_without u k none (last_of_key u (key_at u d (answer_to x 0))) (holder u (key_at u d (answer_to x 0))) refl)
+    (each_without _ d k apart))
+    (λ own handle e x. each_without (refused (largest_frame u d) own handle e x) d k apart)
+    i (item_reply p (finds t d) i)
+
+-- no link stands where nothing was put out
+unlinked : (t : List Entry) (k : ℕ) → Ordered t → outs t k ≡ [] → (o h : ℕ) → link t k o h ≡ None
+unlinked t k ord none o h =
+    none_if (link t k o h) (λ some. true≢false (sym (ord.linked k o h some) ∙ ap (λ js. of_session (written_all js unwritten) o) none))
+
+own_without : (id : List ℕ) (t u : List Entry) (e : Event) (k : ℕ) → Ordered u → outs u k ≡ [] → with_came e k (ins t k) ≡ [] → Without k (own_row id t u e)
+own_without id t u (event.Item d i) k ord none h =
     by_test (d.0 == k) (λ e. absurd (push_some (ins t k) i (rw e at h)))
-    (λ e. each_without (answer id (standing (found t (event.Item d i) d.0)) (place t d.0) (free_for t d.0) i) d.0 k e)
-own_without id t (event.Tick ms) k h = beats_without t k ms (untold t k h) (live_of (ups t) (found t (event.Tick ms)))
-own_without id t (event.Down d) k h = tt
-own_without id t (event.Up d p) k h = tt
-own_without id t event.Start k h = tt
+    (λ e. item_without id t u d.0 k i (standing (found t (event.Item d i) d.0)) (unlinked u k ord none) e)
+own_without id t u (event.Tick ms) k ord none h = beats_without t k ms (untold t k h) (live_of (ups t) (found t (event.Tick ms)))
+own_without id t u (event.Down d) k ord none h = tt
+own_without id t u (event.Up d p) k ord none h = tt
+own_without id t u event.Start k ord none h = tt
 
 -- a header that stands first stays first
 
@@ -171,15 +210,18 @@ first_ends id (d ∷ ds) t c h =
 first_answered : (id : List ℕ) (t : List Entry) (e : Event) (c : ℕ) → HeaderFirst (outs t c) → HeaderFirst (outs (answered id t (step_of e)) c)
 first_answered id t e c h =
     first_goes (windows (replied id t (step_of e))) (replied id t (step_of e)) c
-    (first_goes (own_row id t e) (heard id t (step_of e)) c (first_ends id (due t e) (did e ∷ t) c h))
+    (first_goes (own_row id t (heard id t (step_of e)) e) (heard id t (step_of e)) c (first_ends id (due t e) (did e ∷ t) c h))
 
 silent_heard : (id : List ℕ) (t : List Entry) (e : Event) (c : ℕ) → outs t c ≡ [] → outs (heard id t (step_of e)) c ≡ []
 silent_heard id t e c h = (ends_spares id (due t e) (did e ∷ t) c (not_due t e c h)).outs ∙ h
 
-silent_answered : (id : List ℕ) (t : List Entry) (e : Event) (c : ℕ) → with_came e c (ins t c) ≡ [] → outs t c ≡ [] → outs (answered id t (step_of e)) c ≡ []
-silent_answered id t e c came h =
-    let behind : List Entry = replied id t (step_of e)
-    in let rows : outs behind c ≡ [] = (goes_spares (own_row id t e) (heard id t (step_of e)) c (own_without id t e c came)).outs ∙ silent_heard id t e c h
+silent_answered : (id : List ℕ) (t : List Entry) (e : Event) (c : ℕ) → Ordered (heard id t (step_of e)) → with_came e c (ins t c) ≡ [] → outs t c ≡ []
+    → outs (answered id t (step_of e)) c ≡ []
+silent_answered id t e c ord came h =
+    let u : List Entry = heard id t (step_of e)
+    in let behind : List Entry = replied id t (step_of e)
+    in let none : outs u c ≡ [] = silent_heard id t e c h
+    in let rows : outs behind c ≡ [] = (goes_spares (own_row id t u e) u c (own_without id t u e c ord none came)).outs ∙ none
     in (goes_spares (windows behind) behind c (windows_without behind c rows (live behind))).outs ∙ rows
 
 -- headers are answered first
@@ -204,22 +246,23 @@ first_phase t e c ord live none =
     stood : (v : Connection) → v.phase.closed ≡ false → standing (Some v) ≡ Some v.phase
     stood v e = rw e refl
 
-header_answer : (id : List ℕ) (known : ℕ → Place) (free : Option ℕ) (i : Item) → is_header i ≡ true → answer id (Some unwritten.phase) known free i ≡ header_item ∷ []
-header_answer id known free (item.Header a b c d) h = refl
-header_answer id known free (item.Frame a b c d) h = absurd cc
-header_answer id known free (item.Beat a) h = absurd cc
-header_answer id known free (item.Bad f) h = absurd cc
+header_answer : (id : List ℕ) (t u : List Entry) (c : ℕ) (i : Item) → is_header i ≡ true → item_row id t u c i (Some unwritten.phase) ≡ each_to c (header_item ∷ [])
+header_answer id t u c (item.Header x y z w) h = refl
+header_answer id t u c (item.Frame x y z w) h = absurd cc
+header_answer id t u c (item.Beat x) h = absurd cc
+header_answer id t u c (item.Bad f) h = absurd cc
 
 -- the first item of a connection
 first_item : (id : List ℕ) (t : List Entry) (d : ConnectionId) (i : Item) → Ordered t → refuses t (event.Item d i) ≡ false
     → outs t d.0 ≡ [] → is_header i ≡ true → HeaderFirst (outs (answered id t (step_of (event.Item d i))) d.0)
 first_item id t d i ord taken none is =
     let e : Event = event.Item d i
-    in let row : answer id (standing (found t e d.0)) (place t d.0) (free_for t d.0) i ≡ header_item ∷ []
-    = ap (λ (p : Option Conn). answer id p (place t d.0) (free_for t d.0) i) (first_phase t e d.0 ord taken none) ∙ header_answer id (place t d.0) (free_for t d.0) i is
+    in let u : List Entry = heard id t (step_of e)
+    in let row : own_row id t u e ≡ each_to d.0 (header_item ∷ [])
+    = ap (λ (p : Option Conn). item_row id t u d.0 i p) (first_phase t e d.0 ord taken none) ∙ header_answer id t u d.0 i is
     in first_goes (windows (replied id t (step_of e))) (replied id t (step_of e)) d.0
-    (subst (λ (is : List Item). HeaderFirst (outs (puts d.0 is (heard id t (step_of e))) d.0)) (sym row)
-    (put_first (outs (heard id t (step_of e)) d.0) (d.0 == d.0) (eq-eqb d.0 d.0 refl) (silent_heard id t e d.0 none)))
+    (subst (λ (ps : List Put). HeaderFirst (outs (goes ps u) d.0)) (sym row)
+    (put_first (outs u d.0) (d.0 == d.0) (eq-eqb d.0 d.0 refl) (silent_heard id t e d.0 none)))
   where
     put_first : (is : List Item) (b : Bool) → b ≡ true → is ≡ [] → HeaderFirst (if b then is ++ header_item ∷ [] else is)
     put_first is b e h = rw (e, h) refl
@@ -247,7 +290,7 @@ answered_headed id t e ord taken was = record {
   header = λ c h. event_header id t e ord taken was c (sym (ap begins_with_header (ins_answered id t e c)) ∙ h);
   silent = λ c h.
       let came : with_came e c (ins t c) ≡ [] = sym (ins_answered id t e c) ∙ h
-      in silent_answered id t e c came (was.silent c (came_none e c (ins t c) came));
+      in silent_answered id t e c (heard_turns id t e ord taken) came (was.silent c (came_none e c (ins t c) came));
 }
 
 -- takes
@@ -263,6 +306,7 @@ took_told t d n told = record {
 -- the invariants along moves
 pub record Kept (t : List Entry) : Type 0 where
   pub ordered : Ordered t
+  pub lively : Lively t
   pub told : Told t
   pub headed : Headed t
 
@@ -271,6 +315,7 @@ goes_kept id [] t u was goes = subst (λ (w : List Entry). Kept w) (sym goes) wa
 goes_kept id (handles s ∷ ms) t u was goes =
     goes_kept id ms (answered id t s) u (record {
       ordered = answered_turns id t s.event was.ordered was.told goes.0;
+      lively = answered_lively id t s.event was.ordered was.lively goes.0;
       told = answered_told id t s.event was.ordered was.told goes.0;
       headed = answered_headed id t s.event was.ordered goes.0 was.headed;
     })
@@ -278,6 +323,7 @@ goes_kept id (handles s ∷ ms) t u was goes =
 goes_kept id (takes x ∷ ms) t u was goes =
     goes_kept id ms (took_one x t) u (record {
       ordered = took_turns t x.conn.0 _ was.ordered;
+      lively = took_lively t x.conn.0 _ was.lively;
       told = took_told t x.conn.0 _ was.told;
       headed = record { header = was.headed.header; silent = was.headed.silent };
     })
@@ -286,13 +332,17 @@ goes_kept id (takes x ∷ ms) t u was goes =
 kept_empty : Kept []
 kept_empty = record {
   ordered = ordered_empty;
+  lively = λ c o h some. absurd cc;
   told = record { told = λ c v is live some. absurd cc; strange = λ c absent. refl };
   headed = record { header = λ c h. absurd cc; silent = λ c h. refl };
 }
 
+pub trace_kept : (id : List ℕ) (u : List Entry) → IsTrace id u → Kept u
+trace_kept id u trace = goes_kept id trace.0 [] u kept_empty trace.1
+
 pub trace_keeps_order : (id : List ℕ) (u : List Entry) → IsTrace id u → KeepsOrder u
 trace_keeps_order id u trace =
-    let kept = goes_kept id trace.0 [] u kept_empty trace.1
+    let kept : Kept u = trace_kept id u trace
     in record {
       turns = kept.ordered.turns;
       header = kept.headed.header;

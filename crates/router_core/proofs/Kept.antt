@@ -1,6 +1,7 @@
 -- In every trace of the router the session's window has room before each transfer: so far none is put out.
 use Rattle.std.proofs.Common.{◌≡◌, sym, refl, subst, ℕ, zero, suc, Bool, true, false, List, [], ◌∷◌, ◌++◌}
-use Rattle.std.specs.Prelude.{Option, Some, None}
+use Rattle.std.specs.Prelude.{Option, Some, None, if◌then◌else◌}
+use Rattle.amqp_perf.specs.declared.perf.Attach.{Attach as AnAttach}
 use Rattle.amqp_perf.specs.declared.perf.Perf.{Perf}
 use Rattle.amqp_perf.specs.declared.perf.Perf.TheVariants as perf
 use Rattle.amqp_frames.specs.declared.item.Item.{Item}
@@ -8,25 +9,30 @@ use Rattle.amqp_frames.specs.declared.item.Item.TheVariants as item
 use Rattle.amqp_conn.specs.declared.conn.Conn.{Conn}
 use Rattle.amqp_session.specs.Session.{Session}
 use Rattle.router_trace.specs.declared.condition.Condition.{Condition}
-use Rattle.router_trace.specs.declared.condition.Condition.TheVariants.{ResourceLimitExceeded}
+use Rattle.router_trace.specs.declared.condition.Condition.TheVariants.{ResourceLimitExceeded, FrameSizeTooSmall}
 use Rattle.router_trace.specs.declared.event.Event.{Event}
+use Rattle.router_trace.specs.declared.handle.Attachment.{Attachment}
 use Rattle.router_trace.specs.declared.event.Event.TheVariants as event
 use Rattle.router_trace.specs.Trace.{Entry, Did, Out, Put, Step, goes, puts, each_to, ups}
 use Rattle.router_trace.specs.Connection.{Connection, conn, standing, found, live, due, live_of}
 use Rattle.router_trace.specs.Frames.{closing}
-use Rattle.router_trace.specs.Sessions.{Place, place, session}
+use Rattle.router_trace.specs.LinkFrames.{attach_item, detach_item, answer_to, refusal_of, fits}
+use Rattle.router_trace.specs.Links.{holder, key_at}
+use Rattle.router_trace.specs.Peers.{largest_frame}
+use Rattle.router_trace.specs.Sessions.{session}
 use Rattle.router_trace.specs.Clocks.{terms, written, needs_beat}
 use Rattle.router_sessions.specs.Windows.{is_narrow, flow_due, flows_below, windows_over, windows}
 use Rattle.router_state.specs.Tables.{beat_if, beats_over}
 use Rattle.router_reply.specs.declared.answer.Answer.{Answer}
-use Rattle.router_reply.specs.declared.answer.Answer.TheVariants.{Nothing, Header, Open, Close, CloseWith, Begin, End, Flow}
+use Rattle.router_reply.specs.declared.answer.Answer.TheVariants.{Nothing, Header, Open, Close, CloseWith, Begin, End, Flow, Attach, Refuse, Detach, LinkFlow}
 use Rattle.router_reply.specs.Rows.{said, item_reply}
-use Rattle.router_reply.specs.Replies.{closing_of, ends, heard, free_for, answer, own_row, replied}
+use Rattle.router_reply.specs.Replies.{closing_of, ends, heard, finds, stolen_by, attach_answer, refused, item_row, own_row, replied}
 use Rattle.router_core.specs.Replies.{answered}
 use Rattle.router_core.specs.Runs.{took_one}
 use Rattle.router_core.specs.Moves.{Move, handles, takes, Goes, IsTrace}
 use Rattle.router_core.specs.Laws.{keeps_window, WindowKept}
 use Rattle.router_conns.proofs.Lists.{by_test}
+use Rattle.router_core.proofs.ItemRows.{item_cases}
 
 -- a transfer
 
@@ -87,10 +93,41 @@ none_said id p (CloseWith x) = none_closing id p x
 none_said id p (Begin own theirs) = (refl, tt)
 none_said id p (End own x) = (refl, tt)
 none_said id p (Flow own told) = (refl, tt)
+none_said id p (Attach own) = tt
+none_said id p (Refuse own handle x) = tt
+none_said id p (Detach own handle closed x) = (refl, tt)
+none_said id p (LinkFlow own told at) = (refl, tt)
 
-none_answer : (id : List ℕ) (p : Option Conn) (known : ℕ → Place) (free : Option ℕ) (i : Item) → NoTransfer (answer id p known free i)
-none_answer id None known free i = tt
-none_answer id (Some p) known free i = none_said id p (item_reply p known free i)
+-- an attach that is taken, or refused
+
+none_stolen : (x : Option Attachment) → NonePut (stolen_by x)
+none_stolen None = tt
+none_stolen (Some x) = (refl, tt)
+
+none_sized : (b : Bool) (own handle : ℕ) (e : Condition) (a : AnAttach) → NoTransfer (if b then attach_item own a ∷ [] else detach_item own handle true (Some e) ∷ [])
+none_sized true own handle e a = (refl, tt)
+none_sized false own handle e a = (refl, tt)
+
+none_attach : (largest own : ℕ) (handle : Option ℕ) (a : AnAttach) → NoTransfer (attach_answer largest own handle a)
+none_attach largest own None a = tt
+none_attach largest own (Some handle) a = none_sized _ own handle FrameSizeTooSmall (answer_to a handle)
+
+none_refused : (largest own handle : ℕ) (e : Condition) (a : AnAttach) → NoTransfer (refused largest own handle e a)
+none_refused largest own handle e a = by (fits largest (attach_item own (refusal_of a handle)))
+  where
+    by : (b : Bool) → NoTransfer (if b then attach_item own (refusal_of a handle) ∷ detach_item own handle true (Some e) ∷ [] else detach_item own handle true (Some e) ∷ [])
+    by true = (refl, (refl, tt))
+    by false = (refl, tt)
+
+none_item : (id : List ℕ) (t after : List Entry) (c : ℕ) (i : Item) (p : Option Conn) → NonePut (item_row id t after c i p)
+none_item id t after c i None = tt
+none_item id t after c i (Some p) =
+    item_cases id after c p (λ a ps. NonePut ps)
+    (λ a. none_to c (said id p a) (none_said id p a))
+    (λ own x. none_both (stolen_by (holder after (key_at after c (answer_to x 0)))) _ (none_stolen (holder after (key_at after c (answer_to x 0))))
+    (none_to c _ (none_attach (largest_frame after c) own _ x)))
+    (λ own handle e x. none_to c _ (none_refused (largest_frame after c) own handle e x))
+    i (item_reply p (finds t c) i)
 
 none_beat : (b : Bool) (c : ℕ) → NonePut (beat_if b c)
 none_beat true c = (refl, tt)
@@ -100,12 +137,12 @@ none_beats : (t : List Entry) (now : ℕ) (cs : List ℕ) → NonePut (beats_ove
 none_beats t now [] = tt
 none_beats t now (c ∷ cs) = none_both (beat_if (needs_beat (terms t c) (written t c) now) c) (beats_over t now cs) (none_beat _ c) (none_beats t now cs)
 
-pub none_row : (id : List ℕ) (t : List Entry) (e : Event) → NonePut (own_row id t e)
-none_row id t (event.Item c i) = none_to c.0 _ (none_answer id (standing (found t (event.Item c i) c.0)) (place t c.0) (free_for t c.0) i)
-none_row id t (event.Down c) = tt
-none_row id t (event.Tick ms) = none_beats t ms (live_of (ups t) (found t (event.Tick ms)))
-none_row id t (event.Up c p) = tt
-none_row id t event.Start = tt
+pub none_row : (id : List ℕ) (t after : List Entry) (e : Event) → NonePut (own_row id t after e)
+none_row id t after (event.Item c i) = none_item id t after c.0 i (standing (found t (event.Item c i) c.0))
+none_row id t after (event.Down c) = tt
+none_row id t after (event.Tick ms) = none_beats t ms (live_of (ups t) (found t (event.Tick ms)))
+none_row id t after (event.Up c p) = tt
+none_row id t after event.Start = tt
 
 none_flow : (c o : ℕ) (v : Option Session) → NonePut (flow_due c o v)
 none_flow c o None = tt
@@ -135,7 +172,7 @@ ends_keep id (c ∷ cs) t kept =
 pub answered_keeps : (id : List ℕ) (t : List Entry) (s : Step) → WindowKept t → WindowKept (answered id t s)
 answered_keeps id t s kept =
     let behind : WindowKept (heard id t s) = ends_keep id (due t s.event) (Did s ∷ t) kept
-    in let rows : WindowKept (replied id t s) = goes_keeps (own_row id t s.event) (heard id t s) (none_row id t s.event) behind
+    in let rows : WindowKept (replied id t s) = goes_keeps (own_row id t (heard id t s) s.event) (heard id t s) (none_row id t (heard id t s) s.event) behind
     in goes_keeps (windows (replied id t s)) (replied id t s) (none_window (replied id t s)) rows
 
 -- moves

@@ -120,7 +120,7 @@ own_answered (Did s ∷ t) c o =
 own_answered (Out d i ∷ t) c o = by_test (d == c) (λ e. rw e (rw e (ap (answered_by i o) (own_answered t c o)))) (λ e. rw e (own_answered t c o))
 own_answered (Took d n ∷ t) c o = own_answered t c o
 
-own_theirs : (t : List Entry) (c p : ℕ) → theirs t c p ≡ theirs (own_part c t) c p
+pub own_theirs : (t : List Entry) (c p : ℕ) → theirs t c p ≡ theirs (own_part c t) c p
 own_theirs [] c p = refl
 own_theirs (Did s ∷ t) c p =
     by_test (is_about c s.event) (λ e. rw e (ap (theirs_at s.event c p) (own_theirs t c p)))

@@ -16,13 +16,18 @@ use Rattle.router_core.specs.Laws.{own_part}
 use Rattle.router_conns.proofs.Lists.{by_test, has_filter}
 use Rattle.router_conns.proofs.Turns.{known}
 use Rattle.router_core.proofs.Once.{NoTwice, neither, filter_has, no_twice_filter}
-use Rattle.router_core.proofs.Ordered.{some_is}
+use Rattle.router_core.proofs.Ordered.{Without, some_is}
 use Rattle.router_core.proofs.Flowing.{live_some}
 use Rattle.router_core.proofs.Mine.{Eased, eased_goes}
 
 abbrev pub only : ℕ → List Put → List Put
 only c [] = []
 only c (p ∷ ps) = if p.conn == c then p ∷ only c ps else only c ps
+
+-- none are for a connection that they leave alone
+pub only_none : (c : ℕ) (ps : List Put) → Without c ps → only c ps ≡ []
+only_none c [] none = refl
+only_none c (p ∷ ps) none = rw none.0 (only_none c ps none.1)
 
 own_out : (c d : ℕ) (i : Item) (t : List Entry) → (d == c) ≡ true → own_part c (Out d i ∷ t) ≡ Out d i ∷ own_part c t
 own_out c d i t e = rw e refl

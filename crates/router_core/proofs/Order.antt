@@ -14,6 +14,7 @@ use Rattle.router_trace.specs.Trace.{Entry, Did, Out, Took, did, ups, with_up, n
 use Rattle.router_trace.specs.Connection.{Connection, conn, ended, took, unless_empty, drained, is_full, is_due, has, due, found, live_of, at_event, fresh}
 use Rattle.router_trace.specs.Refusing.{reaches, rises, refuses}
 use Rattle.router_trace.specs.Sessions.{session, session_at, heard_by, heard_in, maps, theirs}
+use Rattle.router_trace.specs.Links.{link, their_handle}
 use Rattle.router_reply.specs.Replies.{heard}
 use Rattle.router_core.specs.Moves.{outs}
 use Rattle.router_trace.specs.Order.{unwritten}
@@ -21,6 +22,7 @@ use Rattle.router_conns.proofs.Lists.{by_test, has_push, from_push}
 use Rattle.router_conns.proofs.Turns.{reach_up}
 use Rattle.router_reply.proofs.RowOrder.{phase_is}
 use Rattle.router_core.proofs.Once.{NoTwice, filter_has, no_twice_filter, no_twice_push, rises_apart, taken_up}
+use Rattle.router_core.proofs.Linked.{linked_before}
 use Rattle.router_core.proofs.Ordered.{Ordered, Pending, wrote, written_all, ends_turns}
 
 pub not_before : (t : List Entry) (d : ConnectionId) → Ordered t → not (rises d.0 (newest t)) ≡ false → has d.0 (ups t) ≡ false
@@ -140,6 +142,7 @@ event_turns t e ord taken = record {
   phases = λ c v is live. event_phases t e ord taken c (length (live_of (ups t) (found t e))) v is live;
   begun = λ c v is live. event_begun t e ord taken c (length (live_of (ups t) (found t e))) v is live;
   opened = ord.opened;
+  linked = λ c o h some. ord.linked c o h (linked_before e c o h (theirs t c) (their_handle t c o) (link t c o h) some);
   unknown = unknown_at t e ord;
   rise = rise_at t e ord taken;
   once = once_at t e ord taken;
@@ -160,7 +163,7 @@ due_full t (event.Item d i) ord taken c due there = (due, λ n o. refl)
 due_full t (event.Tick ms) ord taken c due there = (due, λ n o. refl)
 due_full t event.Start ord taken c due there = (due, λ n o. refl)
 
-event_pending : (t : List Entry) (e : Event) → Ordered t → refuses t e ≡ false → (c : ℕ) → has c (due t e) ≡ true → Pending (did e ∷ t) c
+pub event_pending : (t : List Entry) (e : Event) → Ordered t → refuses t e ≡ false → (c : ℕ) → has c (due t e) ≡ true → Pending (did e ∷ t) c
 event_pending t e ord taken c h =
     let is = filter_has (λ k. is_due e k (conn t k)) c (ups t) h
     in let full = due_full t e ord taken c is.0 is.1
@@ -204,6 +207,7 @@ took_turns t d n ord = record {
       (λ e. let v = took_inv n (conn t c) w (rw e at is) live in ord.begun c v.0 v.1 (ap (λ (p : Conn). p.closed) v.2 ∙ live))
       (λ e. ord.begun c w (rw e at is) live);
   opened = ord.opened;
+  linked = ord.linked;
   unknown = ord.unknown;
   rise = ord.rise;
   once = ord.once;
@@ -215,6 +219,7 @@ ordered_empty = record {
   phases = λ c v is live. absurd cc;
   begun = λ c v is live. absurd cc;
   opened = λ c o h. absurd cc;
+  linked = λ c o h some. absurd cc;
   unknown = λ c absent. refl;
   rise = λ c h. absurd cc;
   once = tt;

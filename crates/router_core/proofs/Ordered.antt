@@ -19,12 +19,14 @@ use Rattle.router_trace.specs.Frames.{closing}
 use Rattle.router_trace.specs.Sessions.{session, offered, begun, behind_item, unless_close}
 use Rattle.router_trace.specs.Sessions.{behind_perf as session_behind_perf}
 use Rattle.router_trace.specs.Clocks.{terms}
-use Rattle.router_trace.specs.Order.{Written, unwritten, begun_behind_perf, begun_behind, written_behind, is_open, perf_has_turn, has_turn, have_turns}
+use Rattle.router_trace.specs.Links.{link}
+use Rattle.router_trace.specs.Order.{Written, unwritten, begun_behind_perf, begun_behind, written_behind, is_open, of_session, perf_has_turn, has_turn, have_turns}
 use Rattle.router_reply.specs.Replies.{closing_of, ends}
 use Rattle.router_core.specs.Moves.{outs}
 use Rattle.router_conns.proofs.Lists.{by_test}
 use Rattle.router_conns.proofs.Turns.{stays, known}
 use Rattle.router_reply.proofs.RowOrder.{open_phase, written_of, closing_turns, closing_offered, perf_is_offered, IsOffered, AreOffered}
+use Rattle.router_core.proofs.Linked.{linked_more}
 use Rattle.router_core.proofs.Once.{NoTwice, neither, has_first, has_rest}
 
 -- what was written, and items behind it
@@ -37,13 +39,14 @@ abbrev pub wrote : List Entry → ℕ → Written
 wrote t c = written_all (outs t c) unwritten
 
 -- The state of a trace: each connection is written its items in their turns. What was written on a live one is the phase that the
--- trace gives, with sessions on the channels on which the trace has them. A session is begun behind an open alone. Nothing was
--- written on a connection that never came up, and the numbers of those that came up rise.
+-- trace gives, with sessions on the channels on which the trace has them. A session is begun behind an open alone, and a link
+-- stands on a session. Nothing was written on a connection that never came up, and the numbers of those that came up rise.
 pub record Ordered (t : List Entry) : Type 0 where
   pub turns : (c : ℕ) → have_turns unwritten (outs t c) ≡ true
   pub phases : (c : ℕ) (v : Connection) → conn t c ≡ Some v → v.phase.closed ≡ false → (wrote t c).phase ≡ v.phase
   pub begun : (c : ℕ) (v : Connection) → conn t c ≡ Some v → v.phase.closed ≡ false → (o : ℕ) → (wrote t c).begun o ≡ is_some (session t c o)
   pub opened : (c o : ℕ) → (wrote t c).begun o ≡ true → (wrote t c).phase.opened ≡ true
+  pub linked : (c o h : ℕ) → is_some (link t c o h) ≡ true → of_session (wrote t c) o ≡ true
   pub unknown : (c : ℕ) → has c (ups t) ≡ false → outs t c ≡ []
   pub rise : (c : ℕ) → has c (ups t) ≡ true → reaches c (newest t) ≡ true
   pub once : NoTwice (ups t)
@@ -126,6 +129,10 @@ out_turns t c i ord turn offer there = record {
       (λ e. rw e (subst (λ (x : Written). x.begun o ≡ true → x.phase.opened ≡ true) (sym (wrote_push (outs t k) unwritten i))
       (opened_more i (wrote t k) o (turn_at k e) (ord.opened k o))))
       (λ e. rw e (ord.opened k o));
+  linked = λ k o h. by_test (c == k)
+      (λ e. rw e (λ some. subst (λ (x : Written). of_session x o ≡ true) (sym (wrote_push (outs t k) unwritten i))
+      (linked_more i (wrote t k) o h _ t k _ (link t k o h) (turn_at k e) (ord.linked k o h) some)))
+      (λ e. rw e (ord.linked k o h));
   unknown = λ k absent. by_test (c == k)
       (λ e. absurd (true≢false (sym (subst (λ (n : ℕ). has n (ups t) ≡ true) (eqb-true c k e) there) ∙ absent)))
       (λ e. rw e (ord.unknown k absent));
@@ -162,9 +169,10 @@ pub record Spares (t u : List Entry) (k : ℕ) : Type 0 where
   pub session : (o : ℕ) → session u k o ≡ session t k o
   pub offered : offered u k ≡ offered t k
   pub terms : terms u k ≡ terms t k
+  pub link : (o h : ℕ) → link u k o h ≡ link t k o h
 
 pub spares_self : (t : List Entry) (k : ℕ) → Spares t t k
-spares_self t k = record { conn = refl; outs = refl; session = λ o. refl; offered = refl; terms = refl }
+spares_self t k = record { conn = refl; outs = refl; session = λ o. refl; offered = refl; terms = refl; link = λ o h. refl }
 
 spares_on : (t u v : List Entry) (k : ℕ) → Spares t u k → Spares u v k → Spares t v k
 spares_on t u v k f g = record {
@@ -173,6 +181,7 @@ spares_on t u v k f g = record {
   session = λ o. g.session o ∙ f.session o;
   offered = g.offered ∙ f.offered;
   terms = g.terms ∙ f.terms;
+  link = λ o h. g.link o h ∙ f.link o h;
 }
 
 spares_one : (t : List Entry) (c k : ℕ) (i : Item) → (c == k) ≡ false → Spares t (Out c i ∷ t) k
@@ -182,6 +191,7 @@ spares_one t c k i apart = record {
   session = λ o. rw apart refl;
   offered = rw apart refl;
   terms = rw apart refl;
+  link = λ o h. rw apart refl;
 }
 
 -- items for other connections

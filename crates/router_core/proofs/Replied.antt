@@ -12,17 +12,18 @@ use Rattle.router_trace.specs.declared.terms.Terms.{Terms}
 use Rattle.router_trace.specs.declared.event.ConnectionId.{ConnectionId}
 use Rattle.router_trace.specs.declared.event.Event.{Event}
 use Rattle.router_trace.specs.declared.event.Event.TheVariants as event
-use Rattle.router_trace.specs.Trace.{Entry, did, puts, ups, with_up, step_of}
+use Rattle.router_trace.specs.Trace.{Entry, did, goes, each_to, ups, with_up, step_of}
 use Rattle.router_trace.specs.Connection.{Connection, conn, ended, standing, is_live, has, due, found, live_of}
 use Rattle.router_trace.specs.Refusing.{refuses}
 use Rattle.router_trace.specs.Frames.{beat_item}
-use Rattle.router_trace.specs.Sessions.{Place, session, offered, offered_by, theirs, place}
+use Rattle.router_trace.specs.Peers.{largest_frame}
+use Rattle.router_trace.specs.Sessions.{session, offered, offered_by, theirs}
 use Rattle.router_trace.specs.Clocks.{terms, terms_in, terms_by, channel_max_of}
-use Rattle.router_trace.specs.Order.{Written, unwritten, is_open, have_turns}
+use Rattle.router_trace.specs.Order.{Written, unwritten, is_open, of_session, have_turns}
 use Rattle.router_state.specs.Tables.{beats}
 use Rattle.router_reply.specs.declared.answer.Answer.{Answer}
-use Rattle.router_reply.specs.Rows.{said, perf_reply, item_reply}
-use Rattle.router_reply.specs.Replies.{heard, answer, free_for, own_row, replied}
+use Rattle.router_reply.specs.Rows.{Finds, said, perf_reply, item_reply}
+use Rattle.router_reply.specs.Replies.{heard, finds, taken, refused, item_row, own_row, replied}
 use Rattle.router_sessions.specs.Windows.{windows}
 use Rattle.router_core.specs.Replies.{answered}
 use Rattle.router_conns.proofs.Lists.{by_test, has_push}
@@ -32,6 +33,8 @@ use Rattle.router_core.proofs.Once.{filter_has, taken_up}
 use Rattle.router_core.proofs.Ordered.{Ordered, Spares, wrote, written_all, puts_turns, ends_spares, ends_ups, goes_ups, some_is}
 use Rattle.router_core.proofs.Told.{ToldAt, Told, goes_told_at, ends_told_at, goes_strange, ends_strange, said_told}
 use Rattle.router_core.proofs.Flowing.{Fits, goes_turns, beats_fit, followed_turns, live_some}
+use Rattle.router_core.proofs.Attached.{taken_fit, refused_fit}
+use Rattle.router_core.proofs.ItemRows.{item_cases}
 use Rattle.router_core.proofs.Order.{not_before, found_open, heard_turns}
 
 -- a connection that an event finds live was live, and the event doesn't end it
@@ -49,7 +52,7 @@ pub record FoundLive (t : List Entry) (e : Event) (c : ℕ) : Type 0 where
   pub spared : has c (due t e) ≡ false
   pub phase : standing (found t e c) ≡ Some view.phase
 
-found_live : (t : List Entry) (e : Event) (c : ℕ) → is_live (found t e c) ≡ true → FoundLive t e c
+pub found_live : (t : List Entry) (e : Event) (c : ℕ) → is_live (found t e c) ≡ true → FoundLive t e c
 found_live t e c h =
     let v = open_found (has c (due t e)) (conn t c) h
     in record {
@@ -63,22 +66,22 @@ found_live t e c h =
     stood : (b : Bool) (o : Option Connection) (v : Connection) → b ≡ false → o ≡ Some v → v.phase.closed ≡ false → standing (if b then option_map ended o else o) ≡ Some v.phase
     stood b o v e f g = rw (e, f, g) refl
 
-nothing_stands : (p : Option Conn) → is_some p ≡ false → p ≡ None
+pub nothing_stands : (p : Option Conn) → is_some p ≡ false → p ≡ None
 nothing_stands None h = refl
 nothing_stands (Some p) h = absurd cc
 
 -- what an event ends stays as the event finds it, for other connections
-heard_spares : (id : List ℕ) (t : List Entry) (e : Event) (c : ℕ) → has c (due t e) ≡ false → Spares (did e ∷ t) (heard id t (step_of e)) c
+pub heard_spares : (id : List ℕ) (t : List Entry) (e : Event) (c : ℕ) → has c (due t e) ≡ false → Spares (did e ∷ t) (heard id t (step_of e)) c
 heard_spares id t e c spared = ends_spares id (due t e) (did e ∷ t) c spared
 
 -- the row of an item
 
-abbrev item_row : List ℕ → List Entry → ConnectionId → Item → List Item
-item_row id t d i = answer id (standing (found t (event.Item d i) d.0)) (place t d.0) (free_for t d.0) i
+begun_at : (p : Conn) (b : ℕ → Bool) (own : ℕ) → p.opened ≡ true → p.closed ≡ false → b own ≡ true → of_session (written_of p b) own ≡ true
+begun_at p b own opened live begun = rw (opened, live, begun) refl
 
 row_turns : (id : List ℕ) (t : List Entry) (d : ConnectionId) (i : Item) → Ordered t → FoundLive t (event.Item d i) d.0
     → Ordered (heard id t (step_of (event.Item d i))) → has d.0 (ups (heard id t (step_of (event.Item d i)))) ≡ true
-    → Ordered (puts d.0 (item_row id t d i) (heard id t (step_of (event.Item d i))))
+    → Ordered (replied id t (step_of (event.Item d i)))
 row_turns id t d i ord here heard_ord there =
     let c : ℕ = d.0
     in let e : Event = event.Item d i
@@ -87,30 +90,40 @@ row_turns id t d i ord here heard_ord there =
     in let b : ℕ → Bool = (wrote t c).begun
     in let asked : Option BeginState = offered_by i (offered t c)
     in let begun : (o : ℕ) → b o ≡ is_some (session t c o) = ord.begun c here.view here.known_as here.live
-    in let a : Answer = item_reply p (place t c) (free_for t c) i
-    in let fits : AnswerFits p b asked a = reply_fits p b (offered t c) (place t c) (free_for t c) i here.live
-    (λ k. place_fits (theirs t c k) (session t c) b begun) (free_fits t c (channel_max_of (terms t c)) b begun)
+    in let a : Answer = item_reply p (finds t c) i
+    in let all : AnswerFits p b asked a = reply_fits p b (offered t c) (finds t c) i here.live (record {
+      places = λ k. place_fits (theirs t c k) (session t c) b begun;
+      room = free_fits t c (channel_max_of (terms t c)) b begun;
+    })
     in let spare : Spares (did e ∷ t) u c = heard_spares id t e c here.spared
     in let same : wrote u c ≡ written_of p b =
     ap (λ js. written_all js unwritten) spare.outs ∙ ap (λ (q : Conn). written_of q b) (ord.phases c here.view here.known_as here.live)
     in let came : offered (did e ∷ t) c ≡ asked = offered_here
-    in subst (λ (s : Option Conn). Ordered (puts c (answer id s (place t c) (free_for t c) i) u)) (sym here.phase)
-    (puts_turns (said id p a) u c heard_ord
-    (subst (λ (w : Written). have_turns w (said id p a) ≡ true) (sym same) (said_turns id p b asked a here.live fits))
-    (subst (λ (x : Option BeginState). AreOffered (said id p a) x) (sym (spare.offered ∙ came)) (said_offered id p b asked a fits))
+    in let on : (own : ℕ) → (p.opened ≡ true) × (b own ≡ true) → of_session (wrote u c) own ≡ true
+    = λ own stands. subst (λ (w : Written). of_session w own ≡ true) (sym same) (begun_at p b own stands.0 here.live stands.1)
+    in subst (λ (s : Option Conn). Ordered (goes (item_row id t u c i s) u)) (sym here.phase)
+    (item_cases id u c p (λ x ps. AnswerFits p b asked x → Ordered (goes ps u))
+    (λ x fits. puts_turns (said id p x) u c heard_ord
+    (subst (λ (w : Written). have_turns w (said id p x) ≡ true) (sym same) (said_turns id p b asked x here.live fits))
+    (subst (λ (y : Option BeginState). AreOffered (said id p x) y) (sym (spare.offered ∙ came)) (said_offered id p b asked x fits))
     there)
+    (λ own x fits. goes_turns (taken u c own x) u heard_ord (taken_fit u c own x heard_ord (on own fits)))
+    (λ own handle f x fits. goes_turns (each_to c (refused (largest_frame u c) own handle f x)) u heard_ord (refused_fit u c own handle f x heard_ord (on own fits)))
+    i a all)
   where
     offered_here : offered (did (event.Item d i) ∷ t) d.0 ≡ offered_by i (offered t d.0)
     offered_here = let same : (d.0 == d.0) ≡ true = eq-eqb d.0 d.0 refl in rw same refl
 
 item_turns : (id : List ℕ) (t : List Entry) (d : ConnectionId) (i : Item) → Ordered t
     → Ordered (heard id t (step_of (event.Item d i))) → has d.0 (ups (heard id t (step_of (event.Item d i)))) ≡ true
-    → Ordered (puts d.0 (item_row id t d i) (heard id t (step_of (event.Item d i))))
+    → Ordered (replied id t (step_of (event.Item d i)))
 item_turns id t d i ord heard_ord there =
     by_test (is_live (found t (event.Item d i) d.0))
     (λ h. row_turns id t d i ord (found_live t (event.Item d i) d.0 h) heard_ord there)
-    (λ h. subst (λ (s : Option Conn). Ordered (puts d.0 (answer id s (place t d.0) (free_for t d.0) i) (heard id t (step_of (event.Item d i)))))
-    (sym (nothing_stands (standing (found t (event.Item d i) d.0)) h)) heard_ord)
+    (λ h. subst (λ (s : Option Conn). Ordered (goes (item_row id t u d.0 i s) u)) (sym (nothing_stands (standing (found t (event.Item d i) d.0)) h)) heard_ord)
+  where
+    u : List Entry
+    u = heard id t (step_of (event.Item d i))
 
 -- heartbeats
 
@@ -159,11 +172,11 @@ answered_turns id t e ord told taken = followed_turns (replied id t (step_of e))
 -- an open is answered by an open or a close; nothing else tells terms
 
 perf_opens : (body : Perf) (channel : ℕ) (v : Option Terms)
-    → ((p : Conn) (known : ℕ → Place) (free : Option ℕ) → Opens (perf_reply p known free channel body)) ⊎ (terms_in body v ≡ v)
-perf_opens (perf.Open x) channel v = inl (λ p known free. open_opens p x)
+    → ((p : Conn) (k : Finds) → Opens (perf_reply p k channel body)) ⊎ (terms_in body v ≡ v)
+perf_opens (perf.Open x) channel v = inl (λ p k. open_opens p x)
 perf_opens _ channel v = inr refl
 
-item_opens : (i : Item) (v : Option Terms) → ((p : Conn) (known : ℕ → Place) (free : Option ℕ) → Opens (item_reply p known free i)) ⊎ (terms_by i v ≡ v)
+item_opens : (i : Item) (v : Option Terms) → ((p : Conn) (k : Finds) → Opens (item_reply p k i)) ⊎ (terms_by i v ≡ v)
 item_opens (item.Frame true channel body payload) v = inr refl
 item_opens (item.Frame false channel body payload) v = perf_opens body channel v
 item_opens _ v = inr refl
@@ -183,18 +196,24 @@ event_told t event.Start ord told taken k same v is live some = told.told k v (f
 
 -- behind an event's rows, but for the item's own connection
 row_told : (id : List ℕ) (t : List Entry) (e : Event) (k : ℕ) → ToldAt (did e ∷ t) k → ToldAt (replied id t (step_of e)) k
-row_told id t e k was = goes_told_at (own_row id t e) (heard id t (step_of e)) k (ends_told_at id (due t e) (did e ∷ t) k was)
+row_told id t e k was = goes_told_at (own_row id t (heard id t (step_of e)) e) (heard id t (step_of e)) k (ends_told_at id (due t e) (did e ∷ t) k was)
 
-opened_told : (id : List ℕ) (t : List Entry) (d : ConnectionId) (i : Item) → ((p : Conn) (known : ℕ → Place) (free : Option ℕ) → Opens (item_reply p known free i))
+opened_told : (id : List ℕ) (t : List Entry) (d : ConnectionId) (i : Item) → ((p : Conn) (k : Finds) → Opens (item_reply p k i))
     → ToldAt (replied id t (step_of (event.Item d i))) d.0
 opened_told id t d i opens =
     by_test (is_live (found t (event.Item d i) d.0))
     (λ h. let here : FoundLive t (event.Item d i) d.0 = found_live t (event.Item d i) d.0 h
-    in subst (λ (s : Option Conn). ToldAt (puts d.0 (answer id s (place t d.0) (free_for t d.0) i) (heard id t (step_of (event.Item d i)))) d.0) (sym here.phase)
-    (said_told id here.view.phase (heard id t (step_of (event.Item d i))) d.0 (item_reply here.view.phase (place t d.0) (free_for t d.0) i)
-    (opens here.view.phase (place t d.0) (free_for t d.0))))
+    in subst (λ (s : Option Conn). ToldAt (goes (item_row id t u d.0 i s) u) d.0) (sym here.phase)
+    (item_cases id u d.0 here.view.phase (λ a ps. Opens a → ToldAt (goes ps u) d.0)
+    (λ a says. said_told id here.view.phase u d.0 a says)
+    (λ own x says. absurd says)
+    (λ own handle f x says. absurd says)
+    i (item_reply here.view.phase (finds t d.0) i) (opens here.view.phase (finds t d.0))))
     (λ h. row_told id t (event.Item d i) d.0 (λ v is live some. absurd (true≢false (sym (lives v live) ∙ sym (ap is_live is) ∙ h))))
   where
+    u : List Entry
+    u = heard id t (step_of (event.Item d i))
+
     lives : (v : Connection) → v.phase.closed ≡ false → is_live (Some v) ≡ true
     lives v e = rw e refl
 
@@ -205,7 +224,7 @@ item_told id t d i ord told taken = by (item_opens i (terms t d.0))
     here : terms (did (event.Item d i) ∷ t) d.0 ≡ terms_by i (terms t d.0)
     here = let same : (d.0 == d.0) ≡ true = eq-eqb d.0 d.0 refl in rw same refl
 
-    by : ((p : Conn) (known : ℕ → Place) (free : Option ℕ) → Opens (item_reply p known free i)) ⊎ (terms_by i (terms t d.0) ≡ terms t d.0)
+    by : ((p : Conn) (k : Finds) → Opens (item_reply p k i)) ⊎ (terms_by i (terms t d.0) ≡ terms t d.0)
         → ToldAt (replied id t (step_of (event.Item d i))) d.0
     by (inl opens) = opened_told id t d i opens
     by (inr same) =
@@ -237,7 +256,7 @@ pub answered_told : (id : List ℕ) (t : List Entry) (e : Event) → Ordered t �
 answered_told id t e ord told taken = record {
   told = λ k. goes_told_at (windows behind) behind k (replied_told id t e ord told taken k);
   strange = λ k absent. goes_strange (windows behind) behind k
-      (goes_strange (own_row id t e) (heard id t (step_of e)) k (ends_strange id (due t e) (did e ∷ t) k
+      (goes_strange (own_row id t (heard id t (step_of e)) e) (heard id t (step_of e)) k (ends_strange id (due t e) (did e ∷ t) k
       (strange_at t e told taken k (sym (ap (λ ks. has k ks) all_ups) ∙ absent))));
 }
   where
@@ -246,5 +265,5 @@ answered_told id t e ord told taken = record {
 
     all_ups : ups (answered id t (step_of e)) ≡ with_up e (ups t)
     all_ups =
-        goes_ups (windows (replied id t (step_of e))) (replied id t (step_of e)) ∙ goes_ups (own_row id t e) (heard id t (step_of e))
+        goes_ups (windows (replied id t (step_of e))) (replied id t (step_of e)) ∙ goes_ups (own_row id t (heard id t (step_of e)) e) (heard id t (step_of e))
         ∙ ends_ups id (due t e) (did e ∷ t)

@@ -63,7 +63,7 @@ same_answered (Did s ∷ t) c o = ap (answered_at s.event c) (same_answered t c 
 same_answered (Out d i ∷ t) c o = ap (λ (v : Option ℕ). if d == c then answered_by i o v else v) (same_answered t c o)
 same_answered (Took d n ∷ t) c o = same_answered t c o
 
-same_theirs : (t : List Entry) (c p : ℕ) → theirs t c p ≡ theirs (untaken t) c p
+pub same_theirs : (t : List Entry) (c p : ℕ) → theirs t c p ≡ theirs (untaken t) c p
 same_theirs [] c p = refl
 same_theirs (Did s ∷ t) c p = ap (theirs_at s.event c p) (same_theirs t c p)
 same_theirs (Out d i ∷ t) c p = λ j. if d == c then theirs_behind i p (λ o. same_answered t c o j) (same_theirs t c p j) else same_theirs t c p j

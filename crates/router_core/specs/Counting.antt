@@ -1,5 +1,5 @@
 -- How many events were handled, by their kind, and how many batches were given.
-use Rattle.std.specs.Prelude.{ℕ, ◌+◌}
+use Rattle.std.specs.Prelude.{◌+◌}
 use Rattle.router_trace.specs.declared.event.Event.{Event}
 use Rattle.router_trace.specs.declared.event.Event.TheVariants as event
 use Rattle.router_core.specs.declared.counts.Counts.{Counts}

@@ -1,5 +1,6 @@
 -- What holds of every trace of the router.
 use Rattle.std.specs.Prelude.{◌≡◌, ◌≤◌, ℕ, Bool, true, false, ◌==◌, if◌then◌else◌, List, [], ◌∷◌, filter, Option, Some, None}
+use Rattle.std.specs.List.{list_any}
 use Rattle.amqp_perf.specs.declared.perf.Perf.{Perf}
 use Rattle.amqp_perf.specs.declared.perf.Perf.TheVariants as perf
 use Rattle.amqp_session.specs.Session.{Session, remote_window}
@@ -133,8 +134,25 @@ Undisturbed id c (handles s ∷ ms) t =
     (is_full (conn t c) ≡ false) × (comes_up c s.event ≡ true → is_live (conn (Did s ∷ t) c) ≡ true) × Undisturbed id c ms (answered id t s)
 Undisturbed id c (takes x ∷ ms) t = Undisturbed id c ms (took_one x t)
 
--- Each connection is answered alone: where the same events are about it, in the same order, the same is put out for it, and behind
--- the same of these events, whatever comes on other connections, and whatever becomes of them
+-- no attach comes on the connection
+abbrev pub is_attach_in : Perf → Bool
+is_attach_in (perf.Attach a) = true
+is_attach_in _ = false
+
+abbrev pub is_attach : Item → Bool
+is_attach (item.Frame sasl channel body payload) = is_attach_in body
+is_attach _ = false
+
+abbrev pub brings_attach : Event → Bool
+brings_attach (event.Item d i) = is_attach i
+brings_attach _ = false
+
+abbrev pub NeverAttaches : ℕ → List Step → Type 0
+NeverAttaches c ss = list_any (λ s. brings_attach s.event) (own_events c ss) ≡ false
+
+-- Each connection is answered alone: where the same events are about it, in the same order, and no attach comes on it, the same is
+-- put out for it, and behind the same of these events, whatever comes on other connections, and whatever becomes of them. (A link
+-- can be stolen by another connection.)
 abbrev pub AnsweredAlone : Type 0
 AnsweredAlone = (id : List ℕ) (c : ℕ) (ms ns : List Move) (t u : Trace) → Goes id ms [] t → Goes id ns [] u → Undisturbed id c ms [] → Undisturbed id c ns []
-    → own_events c (events_of ms) ≡ own_events c (events_of ns) → (own_part c t ≡ own_part c u) × (outs t c ≡ outs u c)
+    → own_events c (events_of ms) ≡ own_events c (events_of ns) → NeverAttaches c (events_of ms) → (own_part c t ≡ own_part c u) × (outs t c ≡ outs u c)

@@ -25,10 +25,10 @@ pub fn takes_make_no_difference()
     ensures { TakesMakeNoDifference }
 {}
 
-/// Each connection is answered alone: where the same events are about it in the same order (it comes up, an item of it comes, it
-/// is lost, a tick), the same items are put out for it in the same order, each behind the same of these events, whatever comes on
-/// other connections and whatever becomes of them. Its own outbox isn't full when an event comes, and it comes up live, with
-/// fewer than 64 others.
+/// Each connection on which no attach comes is answered alone: where the same events are about it in the same order (it comes up, an
+/// item of it comes, it is lost, a tick), the same items are put out for it in the same order, each behind the same of these events,
+/// whatever comes on other connections and whatever becomes of them. Its own outbox isn't full when an event comes, and it comes up
+/// live, with fewer than 64 others. (Where a link was attached, another connection can steal it.)
 pub fn connections_are_answered_alone()
     ensures { AnsweredAlone }
 {}

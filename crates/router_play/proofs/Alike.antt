@@ -82,7 +82,7 @@ over_did t e c other h =
 pub over_answered : (id : List ℕ) (t : List Entry) (e : Event) (c : ℕ) → is_about e c ≡ false → is_live (conn t c) ≡ false → is_live (conn (answered id t (step_of e)) c) ≡ false
 over_answered id t e c other h =
     over_goes (windows (replied id t (step_of e))) (replied id t (step_of e)) c
-    (over_goes (own_row id t e) (heard id t (step_of e)) c (over_ends id (due t e) (did e ∷ t) c (over_did t e c other h)))
+    (over_goes (own_row id t (heard id t (step_of e)) e) (heard id t (step_of e)) c (over_ends id (due t e) (did e ∷ t) c (over_did t e c other h)))
 
 pub came_other : (e : Event) (c : ℕ) (is : List Item) → is_about e c ≡ false → with_came e c is ≡ is
 came_other (event.Item d i) c is other = rw other refl

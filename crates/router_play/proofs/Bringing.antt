@@ -37,6 +37,7 @@ pub closed_entered : (s : Scene) (c : ℕ) (D P E Q : List Item → List Item) (
 closed_entered s c D P E Q more spoken let_in closed h =
     let shut : Stands h.said s.trace c D P None = subst (λ (o : Option Socket). Stands h.said s.trace c D P o) closed h.stands
     in record {
+      real = h.real;
       said = h.said;
       balance = h.balance;
       stands = subst (λ (o : Option Socket). Stands h.said s.trace c E Q o) (sym closed) (
@@ -105,7 +106,7 @@ opened_read start d s stream bytes k e js r h is works cut =
       reader = enter_all_keeps r e d js read (rw here (refl, λ _. refl));
       entered = entered_as (enter_all d js read) d.0 (λ m. D (js ++ m)) (λ m. P (js ++ m)) (λ m. door_says start ((h.items ++ js) ++ m)) (λ m. passed start ((h.items ++ js) ++ m))
           (λ m. ap (λ xs. door_says start xs) (append_assoc h.items js m)) (λ m. ap (λ xs. passed start xs) (append_assoc h.items js m))
-          (enter_all_own d js read D P (record { said = h.entered.said; balance = h.entered.balance; stands = rw here stand }));
+          (enter_all_own d js read D P (record { real = h.entered.real; said = h.entered.said; balance = h.entered.balance; stands = rw here stand }));
       reached = ap (λ (o : Option ℕ). reaches d.0 o) (enter_all_last d js read) ∙ h.reached;
       kept = enter_all_kept d js read d.0 ∙ h.kept;
     }

@@ -41,7 +41,7 @@ ends_before id (c ∷ cs) t calm =
 
 pub answered_before : (id : List ℕ) (t : List Entry) (s : Step) → Calm (answered id t s) → ((c : ℕ) → is_full (conn t c) ≡ false) × Calm t
 answered_before id t s calm =
-    ends_before id (due t s.event) (Did s ∷ t) (goes_before (own_row id t s.event) (heard id t s) (goes_before (windows (replied id t s)) (replied id t s) calm))
+    ends_before id (due t s.event) (Did s ∷ t) (goes_before (own_row id t (heard id t s) s.event) (heard id t s) (goes_before (windows (replied id t s)) (replied id t s) calm))
 
 moves_before : (id : List ℕ) (ms : List Move) (t u : List Entry) → Goes id ms t u → Calm u → Calm t
 moves_before id [] t u went calm = subst (λ (w : List Entry). Calm w) went calm

@@ -23,6 +23,7 @@ use Rattle.router_play.specs.Carrying.{is_loss_of, was_lost, bytes_out, spelled,
 use Rattle.router_conns.proofs.Lists.{by_test}
 use Rattle.router_core.proofs.Coming.{ins_answered as answered_ins}
 use Rattle.router_play.proofs.Scenes.{back}
+use Rattle.router_play.proofs.PlayMoves.{Onward, Real, onward_on, onward_real, stays_put, answered_onward}
 use Rattle.router_play.proofs.Levels.{Level, Even, even_refl, even_trans, moves, answered_even, answered_kept, still_kept, none_of, same}
 
 -- lines and bytes
@@ -71,19 +72,29 @@ hand_kept e s c other = hand_cases (λ u. was_lost u.trace c ≡ was_lost s.trac
 pub record Quiet (s u : Scene) (c : ℕ) : Type 0 where
   pub socket : u.sockets c ≡ s.sockets c
   pub bytes : bytes_out c u.lines ≡ bytes_out c s.lines
-  pub even : Even s.trace u.trace c
+  pub onward : Onward s u
+  pub even : Real s → Even s.trace u.trace c
   pub came : ins u.trace c ≡ ins s.trace c
   pub last : u.last ≡ s.last
   pub kept : was_lost u.trace c ≡ was_lost s.trace c
 
 pub quiet_refl : (s : Scene) (c : ℕ) → Quiet s s c
-quiet_refl s c = record { socket = refl; bytes = refl; even = even_refl s.trace c; came = refl; last = refl; kept = refl }
+quiet_refl s c = record {
+  socket = refl;
+  bytes = refl;
+  onward = stays_put s s refl refl refl;
+  even = λ real. even_refl s.trace c;
+  came = refl;
+  last = refl;
+  kept = refl;
+}
 
 pub quiet_trans : (s u w : Scene) (c : ℕ) → Quiet s u c → Quiet u w c → Quiet s w c
 quiet_trans s u w c h k = record {
   socket = k.socket ∙ h.socket;
   bytes = k.bytes ∙ h.bytes;
-  even = even_trans s.trace u.trace w.trace c h.even k.even;
+  onward = onward_on s u w h.onward k.onward;
+  even = λ real. even_trans s.trace u.trace w.trace c (h.even real) (k.even (onward_real s u h.onward real));
   came = k.came ∙ h.came;
   last = k.last ∙ h.last;
   kept = k.kept ∙ h.kept;
@@ -93,14 +104,23 @@ pub say_quiet : (ls : List Line) (s : Scene) (c : ℕ) → bytes_out c ls ≡ []
 say_quiet ls s c none = record {
   socket = refl;
   bytes = bytes_more c s.lines ls ∙ ap (λ bs. bytes_out c s.lines ++ bs) none ∙ append-nil (bytes_out c s.lines);
-  even = even_refl s.trace c;
+  onward = stays_put s (say_all ls s) refl refl refl;
+  even = λ real. even_refl s.trace c;
   came = refl;
   last = refl;
   kept = refl;
 }
 
 pub socket_quiet : (d : ConnectionId) (k : Option Socket) (s : Scene) (c : ℕ) → (d.0 == c) ≡ false → Quiet s (with_socket d k s) c
-socket_quiet d k s c apart = record { socket = rw apart refl; bytes = refl; even = even_refl s.trace c; came = refl; last = refl; kept = refl }
+socket_quiet d k s c apart = record {
+  socket = rw apart refl;
+  bytes = refl;
+  onward = stays_put s (with_socket d k s) refl refl refl;
+  even = λ real. even_refl s.trace c;
+  came = refl;
+  last = refl;
+  kept = refl;
+}
 
 pub hand_quiet : (e : Event) (s : Scene) (c : ℕ) → moves e c ≡ false → ((is : List Item) → with_came e c is ≡ is) → Quiet s (hand e s) c
 hand_quiet e s c still none =
@@ -109,7 +129,8 @@ hand_quiet e s c still none =
     (λ r. record {
       socket = refl;
       bytes = refl;
-      even = answered_even s.id s.trace e c still;
+      onward = answered_onward e s r;
+      even = λ real. answered_even s.id s.trace e c real r still;
       came = answered_ins s.id s.trace e c ∙ none (ins s.trace c);
       last = refl;
       kept = answered_kept s.id s.trace e c (still_kept e c still);
@@ -177,6 +198,7 @@ abbrev pub Balances : List Item → List Entry → ℕ → List ℕ → Type 0
 Balances said t c bytes = bytes ++ spelled (waiting_of (conn t c)) ≡ spelled said ++ spelled (outs t c)
 
 pub record Entered (s : Scene) (c : ℕ) (D P : List Item → List Item) : Type 0 where
+  pub real : Real s
   pub said : List Item
   pub balance : Balances said s.trace c (bytes_out c s.lines)
   pub stands : Stands said s.trace c D P (s.sockets c)
@@ -234,9 +256,10 @@ stands_goes said t u c D P even came (Some k) h = stands_at_goes said t u c D P 
 
 pub quiet_entered : (s u : Scene) (c : ℕ) (D P : List Item → List Item) → Quiet s u c → Entered s c D P → Entered u c D P
 quiet_entered s u c D P q h = record {
+  real = onward_real s u q.onward h.real;
   said = h.said;
-  balance = subst (λ (bs : List ℕ). Balances h.said u.trace c bs) (sym q.bytes) (level_balance h.said s.trace u.trace c (bytes_out c s.lines) q.even.level h.balance);
-  stands = subst (λ (k : Option Socket). Stands h.said u.trace c D P k) (sym q.socket) (stands_goes h.said s.trace u.trace c D P q.even q.came (s.sockets c) h.stands);
+  balance = subst (λ (bs : List ℕ). Balances h.said u.trace c bs) (sym q.bytes) (level_balance h.said s.trace u.trace c (bytes_out c s.lines) (q.even h.real).level h.balance);
+  stands = subst (λ (k : Option Socket). Stands h.said u.trace c D P k) (sym q.socket) (stands_goes h.said s.trace u.trace c D P (q.even h.real) q.came (s.sockets c) h.stands);
 }
 
 -- the same in other words
@@ -268,6 +291,7 @@ stands_as said t c D P E Q spoken let_in (Some k) h = stands_at_as said t c D P 
 pub entered_as : (s : Scene) (c : ℕ) (D P E Q : List Item → List Item) → ((m : List Item) → E m ≡ D m) → ((m : List Item) → Q m ≡ P m)
     → Entered s c D P → Entered s c E Q
 entered_as s c D P E Q spoken let_in h = record {
+  real = h.real;
   said = h.said;
   balance = h.balance;
   stands = stands_as h.said s.trace c D P E Q spoken let_in (s.sockets c) h.stands;

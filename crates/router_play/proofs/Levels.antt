@@ -3,25 +3,36 @@ use Rattle.std.proofs.Common.{◌≡◌, ◌∙◌, sym, ap, refl, subst, true�
 use Rattle.std.specs.Prelude.{◌==◌, Option, Some, None, is_some, option_map, option_and_then, if◌then◌else◌}
 use Rattle.std.proofs.lemmas.Bool.{eqb-true, eq-eqb}
 use Rattle.amqp_frames.specs.declared.item.Item.{Item}
+use Rattle.amqp_conn.specs.declared.conn.Conn.{Conn}
 use Rattle.router_trace.specs.declared.condition.Condition.{Condition}
 use Rattle.router_trace.specs.declared.condition.Condition.TheVariants.{ResourceLimitExceeded}
 use Rattle.router_trace.specs.declared.event.ConnectionId.{ConnectionId}
 use Rattle.router_trace.specs.declared.event.Peer.{Peer}
 use Rattle.router_trace.specs.declared.event.Event.{Event}
+use Rattle.router_trace.specs.declared.handle.Attachment.{Attachment}
 use Rattle.router_trace.specs.declared.event.Event.TheVariants as event
 use Rattle.router_trace.specs.Trace.{Entry, Out, Put, did, goes, each_to, puts, ups, step_of}
 use Rattle.router_trace.specs.Connection.{Connection, conn, with_item, ended, took, drained, unless_empty, standing, is_live, is_item, is_ready, has, due, found, live_of, at_event}
 use Rattle.amqp_session.specs.Session.{Session}
-use Rattle.router_trace.specs.Sessions.{Place, place, session}
+use Rattle.router_trace.specs.Links.{link, if_attached, last_of_key, holder, key_at}
+use Rattle.router_trace.specs.LinkFrames.{answer_to}
+use Rattle.router_trace.specs.Peers.{largest_frame}
+use Rattle.router_trace.specs.Refusing.{refuses}
+use Rattle.router_trace.specs.Sessions.{session}
 use Rattle.router_trace.specs.Clocks.{terms, written, needs_beat}
 use Rattle.router_trace.specs.Frames.{flow_item, told_of}
 use Rattle.router_sessions.specs.Windows.{is_narrow, flow_due, flows_below, windows_over, windows}
 use Rattle.router_state.specs.Tables.{beat_if, beats_over, beats}
-use Rattle.router_reply.specs.Replies.{closing_of, ends, heard, answer, free_for, own_row, replied}
+use Rattle.router_reply.specs.Rows.{said, item_reply}
+use Rattle.router_reply.specs.Replies.{closing_of, ends, heard, finds, stolen_by, refused, item_row, own_row, replied}
 use Rattle.router_after.specs.After.{followed}
 use Rattle.router_core.specs.Replies.{answered}
 use Rattle.router_core.specs.Runs.{waiting_of}
-use Rattle.router_core.specs.Moves.{outs}
+use Rattle.router_core.specs.Moves.{IsTrace, outs}
+use Rattle.router_core.proofs.Headed.{Kept, trace_kept}
+use Rattle.router_core.proofs.ItemRows.{item_cases}
+use Rattle.router_core.proofs.Linked.{holder_linked}
+use Rattle.router_core.proofs.Lively.{heard_lively}
 use Rattle.router_play.specs.Carrying.{is_loss_of, was_lost}
 use Rattle.router_conns.proofs.Lists.{by_test}
 use Rattle.router_conns.proofs.Turns.{stays}
@@ -224,34 +235,56 @@ followed_even t c = goes_even (windows t) t c (windows_known t (conn t) (λ k l.
 
 -- what an event's own row puts
 
-answer_even : (id : List ℕ) (u : List Entry) (d c : ℕ) (known : ℕ → Place) (free : Option ℕ) (i : Item) (o : Option Connection) → (is_some o ≡ true → is_some (conn u d) ≡ true)
-    → Even u (puts d (answer id (standing o) known free i) u) c
-answer_even id u d c known free i None there = even_refl u c
-answer_even id u d c known free i (Some v) there = puts_even (answer id (standing (Some v)) known free i) u d c (there refl)
+-- links stand on connections that are known
+abbrev LinksKnown : List Entry → Type 0
+LinksKnown u = (c o h : ℕ) → is_some (link u c o h) ≡ true → is_some (conn u c) ≡ true
 
-row_even : (id : List ℕ) (t : List Entry) (e : Event) (c : ℕ) → Even (heard id t (step_of e)) (replied id t (step_of e)) c
-row_even id t (event.Item d i) c =
-    answer_even id (heard id t (step_of (event.Item d i))) d.0 c (place t d.0) (free_for t d.0) i (found t (event.Item d i) d.0)
-    (λ there. (ends_even id (due t (event.Item d i)) (did (event.Item d i) ∷ t) d.0).known ∙ there)
-row_even id t (event.Up d p) c = even_refl (heard id t (step_of (event.Up d p))) c
-row_even id t (event.Down d) c = even_refl (heard id t (step_of (event.Down d))) c
-row_even id t (event.Tick ms) c =
+each_known : (is : List Item) (u : List Entry) (d : ℕ) → is_some (conn u d) ≡ true → AllKnown (each_to d is) u
+each_known [] u d there = tt
+each_known (i ∷ is) u d there = (there, each_known is u d there)
+
+stolen_known : (u : List Entry) → LinksKnown u → (last x : Option Attachment) → if_attached u last ≡ x → AllKnown (stolen_by x) u
+stolen_known u links last None is = tt
+stolen_known u links last (Some x) is = (links x.conn.0 x.channel x.handle (holder_linked u last x is), tt)
+
+item_known : (id : List ℕ) (t u : List Entry) (d : ℕ) (i : Item) → LinksKnown u → (p : Option Conn) → (is_some p ≡ true → is_some (conn u d) ≡ true) → AllKnown (item_row id t u d i p) u
+item_known id t u d i links None there = tt
+item_known id t u d i links (Some p) there =
+    item_cases id u d p (λ a ps. AllKnown ps u)
+    (λ a. each_known (said id p a) u d (there refl))
+    (λ own x. known_join (stolen_by (holder u (key_at u d (answer_to x 0)))) _ u
+    (stolen_known u links (last_of_key u (key_at u d (answer_to x 0))) (holder u (key_at u d (answer_to x 0))) refl)
+    (each_known _ u d (there refl)))
+    (λ own handle e x. each_known (refused (largest_frame u d) own handle e x) u d (there refl))
+    i (item_reply p (finds t d) i)
+
+row_even : (id : List ℕ) (t : List Entry) (e : Event) (c : ℕ) → LinksKnown (heard id t (step_of e)) → Even (heard id t (step_of e)) (replied id t (step_of e)) c
+row_even id t (event.Item d i) c links =
+    let e : Event = event.Item d i
+    in let u : List Entry = heard id t (step_of e)
+    in goes_even (own_row id t u e) u c
+    (item_known id t u d.0 i links (standing (found t e d.0)) (λ l. (ends_even id (due t e) (did e ∷ t) d.0).known ∙ live_known (found t e d.0) l))
+row_even id t (event.Up d p) c links = even_refl (heard id t (step_of (event.Up d p))) c
+row_even id t (event.Down d) c links = even_refl (heard id t (step_of (event.Down d))) c
+row_even id t (event.Tick ms) c links =
     let e : Event = event.Tick ms
     in goes_even (beats t e ms) (heard id t (step_of e)) c
     (beats_known t (heard id t (step_of e)) ms (found t e)
     (λ k l. (ends_even id (due t e) (did e ∷ t) k).known ∙ live_known (found t e k) l) (ups t))
-row_even id t event.Start c = even_refl (heard id t (step_of event.Start)) c
+row_even id t event.Start c links = even_refl (heard id t (step_of event.Start)) c
 
 -- an event with its replies
-behind_even : (id : List ℕ) (t : List Entry) (e : Event) (c : ℕ) → Even (did e ∷ t) (answered id t (step_of e)) c
-behind_even id t e c =
+behind_even : (id : List ℕ) (t : List Entry) (e : Event) (c : ℕ) → IsTrace id t → refuses t e ≡ false → Even (did e ∷ t) (answered id t (step_of e)) c
+behind_even id t e c real taken =
     let u : List Entry = heard id t (step_of e)
     in let v : List Entry = replied id t (step_of e)
+    in let was : Kept t = trace_kept id t real
+    in let links : LinksKnown u = λ k o h some. live_known (conn u k) (heard_lively id t e was.ordered was.lively taken k o h some)
     in even_trans (did e ∷ t) u (answered id t (step_of e)) c (ends_even id (due t e) (did e ∷ t) c)
-    (even_trans u v (answered id t (step_of e)) c (row_even id t e c) (followed_even v c))
+    (even_trans u v (answered id t (step_of e)) c (row_even id t e c links) (followed_even v c))
 
-pub answered_even : (id : List ℕ) (t : List Entry) (e : Event) (c : ℕ) → moves e c ≡ false → Even t (answered id t (step_of e)) c
-answered_even id t e c h = even_trans t (did e ∷ t) (answered id t (step_of e)) c (did_even t e c h) (behind_even id t e c)
+pub answered_even : (id : List ℕ) (t : List Entry) (e : Event) (c : ℕ) → IsTrace id t → refuses t e ≡ false → moves e c ≡ false → Even t (answered id t (step_of e)) c
+answered_even id t e c real taken h = even_trans t (did e ∷ t) (answered id t (step_of e)) c (did_even t e c h) (behind_even id t e c real taken)
 
 pub same : (n : ℕ) → (n == n) ≡ true
 same n = eq-eqb n n refl
@@ -261,28 +294,30 @@ none_of None h = refl
 none_of (Some v) h = absurd (true≢false h)
 
 -- a connection comes up
-pub up_level : (id : List ℕ) (t : List Entry) (d : ConnectionId) (p : Peer) → conn t d.0 ≡ None → Level t (answered id t (step_of (event.Up d p))) d.0
-up_level id t d p none =
+pub up_level : (id : List ℕ) (t : List Entry) (d : ConnectionId) (p : Peer) → IsTrace id t → refuses t (event.Up d p) ≡ false → conn t d.0 ≡ None
+    → Level t (answered id t (step_of (event.Up d p))) d.0
+up_level id t d p real taken none =
     let e : Event = event.Up d p
     in let here : (d.0 == d.0) ≡ true = same d.0
     in level_trans t (did e ∷ t) (answered id t (step_of e)) d.0
     (record { added = []; written = sym (append-nil (outs t d.0)); waits = rw here (sym (ap (λ (o : Option Connection). waiting_of o ++ []) none)) })
-    (behind_even id t e d.0).level
+    (behind_even id t e d.0 real taken).level
 
 -- a connection for which nothing waits is lost
-pub down_level : (id : List ℕ) (t : List Entry) (d : ConnectionId) → waiting_of (conn t d.0) ≡ [] → Level t (answered id t (step_of (event.Down d))) d.0
-down_level id t d none =
+pub down_level : (id : List ℕ) (t : List Entry) (d : ConnectionId) → IsTrace id t → refuses t (event.Down d) ≡ false → waiting_of (conn t d.0) ≡ []
+    → Level t (answered id t (step_of (event.Down d))) d.0
+down_level id t d real taken none =
     let e : Event = event.Down d
     in let here : (d.0 == d.0) ≡ true = same d.0
     in level_trans t (did e ∷ t) (answered id t (step_of e)) d.0
     (record { added = []; written = sym (append-nil (outs t d.0)); waits = rw here (sym (ap (λ (xs : List Item). xs ++ []) none)) })
-    (behind_even id t e d.0).level
+    (behind_even id t e d.0 real taken).level
 
-pub down_dead : (id : List ℕ) (t : List Entry) (d : ConnectionId) → conn (answered id t (step_of (event.Down d))) d.0 ≡ None
-down_dead id t d =
+pub down_dead : (id : List ℕ) (t : List Entry) (d : ConnectionId) → IsTrace id t → refuses t (event.Down d) ≡ false → conn (answered id t (step_of (event.Down d))) d.0 ≡ None
+down_dead id t d real taken =
     let e : Event = event.Down d
     in let here : (d.0 == d.0) ≡ true = same d.0
-    in none_of (conn (answered id t (step_of e)) d.0) ((behind_even id t e d.0).known ∙ (rw here refl))
+    in none_of (conn (answered id t (step_of e)) d.0) ((behind_even id t e d.0 real taken).known ∙ (rw here refl))
 
 -- the losses: those of the events
 
@@ -298,7 +333,7 @@ ends_lost id (d ∷ ds) t c =
 pub answered_lost : (id : List ℕ) (t : List Entry) (e : Event) (c : ℕ) → was_lost (answered id t (step_of e)) c ≡ (is_loss_of e c || was_lost t c)
 answered_lost id t e c =
     goes_lost (windows (replied id t (step_of e))) (replied id t (step_of e)) c
-    ∙ goes_lost (own_row id t e) (heard id t (step_of e)) c ∙ ends_lost id (due t e) (did e ∷ t) c
+    ∙ goes_lost (own_row id t (heard id t (step_of e)) e) (heard id t (step_of e)) c ∙ ends_lost id (due t e) (did e ∷ t) c
 
 pub answered_kept : (id : List ℕ) (t : List Entry) (e : Event) (c : ℕ) → is_loss_of e c ≡ false → was_lost (answered id t (step_of e)) c ≡ was_lost t c
 answered_kept id t e c other = answered_lost id t e c ∙ ap (λ b. b || was_lost t c) other

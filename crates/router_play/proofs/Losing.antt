@@ -11,11 +11,12 @@ use Rattle.router_trace.specs.Connection.{conn, is_live}
 use Rattle.router_trace.specs.Refusing.{reaches}
 use Rattle.router_core.specs.Runs.{waiting_of}
 use Rattle.router_core.specs.Replies.{answered}
-use Rattle.router_play.specs.Script.{Scene, say, refused, with_socket, told, lose_by}
+use Rattle.router_play.specs.Script.{Scene, say, refused, with_socket, with_trace, told, lose_by}
 use Rattle.router_core.specs.Moves.{ins}
 use Rattle.router_play.specs.Carrying.{was_lost, bytes_out, door_says, passed, Begins}
 use Rattle.router_core.proofs.Coming.{ins_answered as answered_ins}
 use Rattle.router_play.proofs.Scenes.{not_true, not_false}
+use Rattle.router_play.proofs.PlayMoves.{Real, onward_real, answered_onward}
 use Rattle.router_play.proofs.Levels.{down_level, down_dead, ready_waits, same}
 use Rattle.router_play.proofs.Entering.{level_balance, hand_cases, hand_sockets, hand_last, Quiet, bytes_more, Through, StandsAt, Stands, Balances, Entered, quiet_entered}
 use Rattle.router_play.proofs.Bringing.{closed_entered}
@@ -35,12 +36,13 @@ through_ends said t u c D P ds ps spoken let_in came dead h = (
   dead,
 )
 
-told_lost : (d : ConnectionId) (s : Scene) (said : List Item) (D P : List Item → List Item) (ds ps : List Item) → ds ≡ D [] → ps ≡ P [] → waiting_of (conn s.trace d.0) ≡ []
+told_lost : (d : ConnectionId) (s : Scene) → Real s → (said : List Item) (D P : List Item → List Item) (ds ps : List Item) → ds ≡ D [] → ps ≡ P [] → waiting_of (conn s.trace d.0) ≡ []
     → s.sockets d.0 ≡ None → Balances said s.trace d.0 (bytes_out d.0 s.lines) → (o : Option DoorState) → StandsAt said s.trace d.0 D P o
     → Entered (told d s o) d.0 (λ m. ds) (λ m. ps)
-told_lost d s said D P ds ps spoken let_in none closed balance None h =
+told_lost d s real said D P ds ps spoken let_in none closed balance None h =
     hand_cases (λ u. Entered u d.0 (λ m. ds) (λ m. ps)) (event.Down d) s
     (λ r. record {
+      real = real;
       said = said;
       balance = subst (λ (bs : List ℕ). Balances said s.trace d.0 bs) (sym (bytes_more d.0 s.lines (refused ∷ []) ∙ append-nil (bytes_out d.0 s.lines))) balance;
       stands = subst (λ (o : Option Socket). Stands said s.trace d.0 (λ m. ds) (λ m. ps) o) (sym closed)
@@ -48,12 +50,14 @@ told_lost d s said D P ds ps spoken let_in none closed balance None h =
     })
     (λ r. let u : List Entry = answered s.id s.trace (step_of (event.Down d))
     in record {
+      real = onward_real s (with_trace u s) (answered_onward (event.Down d) s r) real;
       said = said;
-      balance = level_balance said s.trace u d.0 (bytes_out d.0 s.lines) (down_level s.id s.trace d none) balance;
+      balance = level_balance said s.trace u d.0 (bytes_out d.0 s.lines) (down_level s.id s.trace d real r none) balance;
       stands = subst (λ (o : Option Socket). Stands said u d.0 (λ m. ds) (λ m. ps) o) (sym closed)
-          (through_ends said s.trace u d.0 D P ds ps spoken let_in (answered_ins s.id s.trace (event.Down d) d.0) (ap is_live (down_dead s.id s.trace d)) h);
+          (through_ends said s.trace u d.0 D P ds ps spoken let_in (answered_ins s.id s.trace (event.Down d) d.0) (ap is_live (down_dead s.id s.trace d real r)) h);
     })
-told_lost d s said D P ds ps spoken let_in none closed balance (Some dd) h = record {
+told_lost d s real said D P ds ps spoken let_in none closed balance (Some dd) h = record {
+  real = real;
   said = said;
   balance = balance;
   stands = subst (λ (o : Option Socket). Stands said s.trace d.0 (λ m. ds) (λ m. ps) o) (sym closed) (
@@ -111,7 +115,7 @@ opened_lost start d s stream flushed h (Some k) is =
       items = h.items;
       rest = h.rest;
       cut = h.cut;
-      entered = told_lost d shut h.entered.said D P (door_says start h.items) (passed start h.items)
+      entered = told_lost d shut h.entered.real h.entered.said D P (door_says start h.items) (passed start h.items)
           (ap (λ xs. door_says start xs) (sym (append-nil h.items))) (ap (λ xs. passed start xs) (sym (append-nil h.items)))
           (ready_waits (conn s.trace d.0) (flushed d.0)) closed h.entered.balance k.door stand;
       socket = told_socket d shut k.door ∙ closed;

@@ -23,7 +23,7 @@ use Rattle.router_play.proofs.Stages.{Lost, Opened, Unmade}
 -- Another connection is made.
 
 made_entered : (d : ConnectionId) (role : PeerRole) (s : Scene) (c : ℕ) (D P : List Item → List Item) → (d.0 == c) ≡ false → Entered s c D P → Entered (made d role s) c D P
-made_entered d role s c D P apart h = record { said = h.said; balance = h.balance; stands = rw apart h.stands }
+made_entered d role s c D P apart h = record { real = h.real; said = h.said; balance = h.balance; stands = rw apart h.stands }
 
 made_socket : (G : Option Socket → Type 0) (d : ConnectionId) (role : PeerRole) (s : Scene) (c : ℕ) → (d.0 == c) ≡ false → G (s.sockets c) → G ((made d role s).sockets c)
 made_socket G d role s c apart h = rw apart h
@@ -83,6 +83,7 @@ unmade_made d role s h =
       cut = (refl, front_nothing [] refl);
       reader = rw here (refl, λ _. refl);
       entered = record {
+        real = h.entered.real;
         said = h.entered.said;
         balance = h.entered.balance;
         stands = rw here (record {

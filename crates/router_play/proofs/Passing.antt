@@ -20,11 +20,13 @@ use Rattle.router_play.specs.Carrying.{was_lost, bytes_out, spelled, said_by, do
 use Rattle.router_conns.proofs.Lists.{by_test}
 use Rattle.router_core.proofs.Coming.{ins_answered as answered_ins}
 use Rattle.router_play.proofs.Scenes.{not_true, not_false}
+use Rattle.router_play.proofs.PlayMoves.{Real, onward_real, answered_onward, took_onward}
 use Rattle.router_play.proofs.Levels.{answered_even, up_level, took_waits, took_lives, same}
 use Rattle.router_play.proofs.Entering.{bytes_more, spelled_more, own_lines, other_lines, level_balance, hand_cases, hand_sockets, hand_last, hand_kept, Quiet, quiet_refl, quiet_trans, say_quiet, socket_quiet, Through, AtDoor, StandsAt, Stands, Balances, Entered, entered_as, quiet_entered}
 
 -- a connection past the door, wherever its socket is
 record Past (s : Scene) (c : ℕ) (D P : List Item → List Item) : Type 0 where
+  real : Real s
   said : List Item
   balance : Balances said s.trace c (bytes_out c s.lines)
   through : Through said s.trace c D P
@@ -38,6 +40,7 @@ item_past : (d : ConnectionId) (i : Item) (s : Scene) (D P : List Item → List 
 item_past d i s D P h =
     hand_cases (λ u. Past u d.0 (λ m. D (i ∷ m)) (λ m. P (i ∷ m))) (event.Item d i) s
     (λ r. record {
+      real = h.real;
       said = h.said;
       balance = subst (λ (bs : List ℕ). Balances h.said s.trace d.0 bs) (sym (unsaid d.0 s)) h.balance;
       through = record {
@@ -53,8 +56,9 @@ item_past d i s D P h =
     in let goes : (m : List Item) → ins u d.0 ++ m ≡ P (i ∷ m)
     = λ m. ap (λ xs. xs ++ m) came ∙ append_assoc (ins t d.0) (i ∷ []) m ∙ sym (h.through.whole (not_false (is_live (conn t d.0)) r) (i ∷ m))
     in record {
+      real = onward_real s (with_trace u s) (answered_onward (event.Item d i) s r) h.real;
       said = h.said;
-      balance = level_balance h.said t u d.0 (bytes_out d.0 s.lines) (answered_even s.id t (event.Item d i) d.0 refl).level h.balance;
+      balance = level_balance h.said t u d.0 (bytes_out d.0 s.lines) (answered_even s.id t (event.Item d i) d.0 h.real r refl).level h.balance;
       through = record {
         silent = λ m. h.through.silent (i ∷ m);
         begins = λ m. (m, goes m);
@@ -63,19 +67,21 @@ item_past d i s D P h =
     })
 
 -- a connection of which the router knows nothing comes up
-up_past : (d : ConnectionId) (p : Peer) (s : Scene) (said : List Item) → conn s.trace d.0 ≡ None → ins s.trace d.0 ≡ []
+up_past : (d : ConnectionId) (p : Peer) (s : Scene) (said : List Item) → Real s → conn s.trace d.0 ≡ None → ins s.trace d.0 ≡ []
     → Balances said s.trace d.0 (bytes_out d.0 s.lines) → Past (hand (event.Up d p) s) d.0 (λ m. said) (λ m. m)
-up_past d p s said unknown none balance =
+up_past d p s said real unknown none balance =
     hand_cases (λ u. Past u d.0 (λ m. said) (λ m. m)) (event.Up d p) s
     (λ r. record {
+      real = real;
       said = said;
       balance = subst (λ (bs : List ℕ). Balances said s.trace d.0 bs) (sym (unsaid d.0 s)) balance;
       through = new s.trace none;
     })
     (λ r. let u : List Entry = answered s.id s.trace (step_of (event.Up d p))
     in record {
+      real = onward_real s (with_trace u s) (answered_onward (event.Up d p) s r) real;
       said = said;
-      balance = level_balance said s.trace u d.0 (bytes_out d.0 s.lines) (up_level s.id s.trace d p unknown) balance;
+      balance = level_balance said s.trace u d.0 (bytes_out d.0 s.lines) (up_level s.id s.trace d p real r unknown) balance;
       through = new u (answered_ins s.id s.trace (event.Up d p) d.0 ∙ none);
     })
   where
@@ -100,12 +106,13 @@ told_lines : (d : ConnectionId) (items : List Item) (s : Scene) → bytes_out d.
 told_lines d items s = bytes_more d.0 s.lines (map (out_line d) items) ∙ ap (λ bs. bytes_out d.0 s.lines ++ bs) (own_lines d items)
 
 -- the door's verdict on an item
-judged_own : (d : ConnectionId) (i : Item) (k : Socket) (dd : DoorState) (s : Scene) (said : List Item) (D P : List Item → List Item) → AtDoor said s.trace d.0 D P dd
+judged_own : (d : ConnectionId) (i : Item) (k : Socket) (dd : DoorState) (s : Scene) → Real s → (said : List Item) (D P : List Item → List Item) → AtDoor said s.trace d.0 D P dd
     → Balances said s.trace d.0 (bytes_out d.0 s.lines) → (v : Verdict) → door dd i ≡ v
     → Entered (judged_by d i k dd s v) d.0 (λ m. D (i ∷ m)) (λ m. P (i ∷ m))
-judged_own d i k dd s said D P h balance (says items) is =
+judged_own d i k dd s real said D P h balance (says items) is =
     let here : (d.0 == d.0) ≡ true = same d.0
     in record {
+      real = real;
       said = said ++ items;
       balance = subst (λ (bs : List ℕ). Balances (said ++ items) s.trace d.0 bs) (sym (told_lines d items (with_socket d (Some (record { door = Some (door_behind dd i); reader = k.reader })) s)))
           (door_balance said items s.trace d.0 (bytes_out d.0 s.lines) h.unknown h.silent balance);
@@ -117,11 +124,11 @@ judged_own d i k dd s said D P h balance (says items) is =
         silent = h.silent;
       });
     }
-judged_own d i k dd s said D P h balance (passes user) is =
+judged_own d i k dd s real said D P h balance (passes user) is =
     let p : Peer = record { user = user; role = dd.role }
     in let inside : Scene = with_socket d (Some (record { door = None; reader = k.reader })) s
     in let up : Scene = hand (event.Up d p) inside
-    in let all : Past (hand (event.Item d i) up) d.0 (λ m. said) (λ m. i ∷ m) = item_past d i up (λ m. said) (λ m. m) (up_past d p inside said h.unknown h.none balance)
+    in let all : Past (hand (event.Item d i) up) d.0 (λ m. said) (λ m. i ∷ m) = item_past d i up (λ m. said) (λ m. m) (up_past d p inside said real h.unknown h.none balance)
     in let here : (d.0 == d.0) ≡ true = same d.0
     in let socket : (hand (event.Item d i) up).sockets d.0 ≡ Some (record { door = None; reader = k.reader })
     = hand_sockets (event.Item d i) up d.0 ∙ hand_sockets (event.Up d p) inside d.0 ∙ (rw here refl)
@@ -129,14 +136,16 @@ judged_own d i k dd s said D P h balance (passes user) is =
     (λ m. h.speaks (i ∷ m) ∙ ap (λ (w : Verdict). said ++ said_by w (door_says (door_behind dd i) m)) is ∙ append-nil said)
     (λ m. h.lets (i ∷ m) ∙ ap (λ (w : Verdict). passed_by w (i ∷ m) (passed (door_behind dd i) m)) is)
     (record {
+      real = all.real;
       said = all.said;
       balance = all.balance;
       stands = subst (λ (o : Option Socket). Stands all.said (hand (event.Item d i) up).trace d.0 (λ m. said) (λ m. i ∷ m) o) (sym socket) all.through;
     })
-judged_own d i k dd s said D P h balance (ends items) is =
+judged_own d i k dd s real said D P h balance (ends items) is =
     let here : (d.0 == d.0) ≡ true = same d.0
     in let told : Scene = say_all (map (out_line d) items) (with_socket d None s)
     in record {
+      real = real;
       said = said ++ items;
       balance = subst (λ (bs : List ℕ). Balances (said ++ items) s.trace d.0 bs)
           (sym (bytes_more d.0 told.lines (line.End d ∷ []) ∙ append-nil (bytes_out d.0 told.lines) ∙ told_lines d items (with_socket d None s)))
@@ -152,36 +161,38 @@ judged_own d i k dd s said D P h balance (ends items) is =
     }
 
 -- an item enters
-enter_at_own : (d : ConnectionId) (i : Item) (k : Socket) (s : Scene) (said : List Item) (D P : List Item → List Item) → s.sockets d.0 ≡ Some k
+enter_at_own : (d : ConnectionId) (i : Item) (k : Socket) (s : Scene) → Real s → (said : List Item) (D P : List Item → List Item) → s.sockets d.0 ≡ Some k
     → Balances said s.trace d.0 (bytes_out d.0 s.lines) → (o : Option DoorState) → k.door ≡ o → StandsAt said s.trace d.0 D P o
     → Entered (enter_at d i k s o) d.0 (λ m. D (i ∷ m)) (λ m. P (i ∷ m))
-enter_at_own d i k s said D P is balance None at h =
-    let all : Past (hand (event.Item d i) s) d.0 (λ m. D (i ∷ m)) (λ m. P (i ∷ m)) = item_past d i s D P (record { said = said; balance = balance; through = h })
+enter_at_own d i k s real said D P is balance None at h =
+    let all : Past (hand (event.Item d i) s) d.0 (λ m. D (i ∷ m)) (λ m. P (i ∷ m)) = item_past d i s D P (record { real = real; said = said; balance = balance; through = h })
     in record {
+      real = all.real;
       said = all.said;
       balance = all.balance;
       stands = subst (λ (o : Option Socket). Stands all.said (hand (event.Item d i) s).trace d.0 (λ m. D (i ∷ m)) (λ m. P (i ∷ m)) o)
           (sym (hand_sockets (event.Item d i) s d.0 ∙ is))
           (subst (λ (o : Option DoorState). StandsAt all.said (hand (event.Item d i) s).trace d.0 (λ m. D (i ∷ m)) (λ m. P (i ∷ m)) o) (sym at) all.through);
     }
-enter_at_own d i k s said D P is balance (Some dd) at h = judged_own d i k dd s said D P h balance (door dd i) refl
+enter_at_own d i k s real said D P is balance (Some dd) at h = judged_own d i k dd s real said D P h balance (door dd i) refl
 
-enter_by_own : (d : ConnectionId) (i : Item) (s : Scene) (said : List Item) (D P : List Item → List Item)
+enter_by_own : (d : ConnectionId) (i : Item) (s : Scene) → Real s → (said : List Item) (D P : List Item → List Item)
     → Balances said s.trace d.0 (bytes_out d.0 s.lines) → (o : Option Socket) → s.sockets d.0 ≡ o → Stands said s.trace d.0 D P o
     → Entered (enter_by d i s o) d.0 (λ m. D (i ∷ m)) (λ m. P (i ∷ m))
-enter_by_own d i s said D P balance None is h = record {
+enter_by_own d i s real said D P balance None is h = record {
+  real = real;
   said = said;
   balance = balance;
   stands = subst (λ (o : Option Socket). Stands said s.trace d.0 (λ m. D (i ∷ m)) (λ m. P (i ∷ m)) o) (sym is)
       (record { silent = λ m. h.0.silent (i ∷ m); begins = λ m. h.0.begins (i ∷ m); whole = λ l m. absurd (true≢false (sym l ∙ h.1)) }, h.1);
 }
-enter_by_own d i s said D P balance (Some k) is h = enter_at_own d i k s said D P is balance k.door refl h
+enter_by_own d i s real said D P balance (Some k) is h = enter_at_own d i k s real said D P is balance k.door refl h
 
 pub enter_all_own : (d : ConnectionId) (is : List Item) (s : Scene) (D P : List Item → List Item) → Entered s d.0 D P
     → Entered (enter_all d is s) d.0 (λ m. D (is ++ m)) (λ m. P (is ++ m))
 enter_all_own d [] s D P h = h
 enter_all_own d (i ∷ is) s D P h =
-    enter_all_own d is (enter d i s) (λ m. D (i ∷ m)) (λ m. P (i ∷ m)) (enter_by_own d i s h.said D P h.balance (s.sockets d.0) refl h.stands)
+    enter_all_own d is (enter d i s) (λ m. D (i ∷ m)) (λ m. P (i ∷ m)) (enter_by_own d i s h.real h.said D P h.balance (s.sockets d.0) refl h.stands)
 
 -- what a socket keeps of its stream, until it ended
 
@@ -297,6 +308,7 @@ closes false d m D P h over = h
 closes true d m D P h over =
     let here : (d.0 == d.0) ≡ true = same d.0
     in record {
+      real = h.real;
       said = h.said;
       balance = subst (λ (bs : List ℕ). Balances h.said m.trace d.0 bs) (sym (bytes_more d.0 m.lines (line.End d ∷ []) ∙ append-nil (bytes_out d.0 m.lines))) h.balance;
       stands = rw here (over refl);
@@ -330,6 +342,7 @@ take_own x s D P h =
     ∙ ap (λ (ys : List Item). bytes_out c s.lines ++ spelled ys) waits
     ∙ h.balance
     in let entered : Entered mid c D P = record {
+      real = onward_real s (with_trace (took_one x t) s) (took_onward x s) h.real;
       said = h.said;
       balance = subst (λ (bs : List ℕ). Balances h.said (Took c n ∷ t) c bs) (sym (told_lines x.conn items (with_trace (took_one x t) s))) balance;
       stands = took_stands h.said t c n D P lives unknown (s.sockets c) h.stands;
@@ -348,7 +361,8 @@ took_quiet : (x : Taking) (s : Scene) (c : ℕ) → (x.conn.0 == c) ≡ false �
 took_quiet x s c apart = record {
   socket = refl;
   bytes = refl;
-  even = record {
+  onward = took_onward x s;
+  even = λ real. record {
     level = record { added = []; written = sym (append-nil (outs s.trace c)); waits = rw apart (sym (append-nil (waiting_of (conn s.trace c)))) };
     known = rw apart refl;
     lives = λ l. rw apart at l;

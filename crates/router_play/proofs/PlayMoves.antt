@@ -35,23 +35,33 @@ onward_on s u v first rest = record {
 }
 
 -- the same trace: only lines, connections or the last number differ
-stays_put : (s u : Scene) → u.id ≡ s.id → u.config ≡ s.config → u.trace ≡ s.trace → Onward s u
+pub stays_put : (s u : Scene) → u.id ≡ s.id → u.config ≡ s.config → u.trace ≡ s.trace → Onward s u
 stays_put s u id config trace = record {
   id = id;
   config = config;
   leads = leads_same s.id s.trace u.trace trace;
 }
 
+-- an event that is handled, and a take
+pub answered_onward : (e : Event) (s : Scene) → refuses s.trace e ≡ false → Onward s (with_trace (answered s.id s.trace (step_of e)) s)
+answered_onward e s is = record { id = refl; config = refl; leads = leads_event s.id s.trace e is }
+
+pub took_onward : (x : Taking) (s : Scene) → Onward s (with_trace (took_one x s.trace) s)
+took_onward x s = record { id = refl; config = refl; leads = leads_take s.id s.trace x }
+
+-- its trace is one of the router
+abbrev pub Real : Scene → Type 0
+Real s = IsTrace s.id s.trace
+
+pub onward_real : (s u : Scene) → Onward s u → Real s → Real u
+onward_real s u onward real = subst (λ (id : List ℕ). IsTrace id u.trace) (sym onward.id) (leads_on s.id [] s.trace u.trace real onward.leads)
+
 pub hand_onward : (e : Event) (s : Scene) → Onward s (hand e s)
 hand_onward e s = by_answer (refuses s.trace e) refl
   where
     by_answer : (b : Bool) → refuses s.trace e ≡ b → Onward s (if b then say refused s else with_trace (answered s.id s.trace (step_of e)) s)
     by_answer true is = stays_put s (say refused s) refl refl refl
-    by_answer false is = record {
-      id = refl;
-      config = refl;
-      leads = leads_event s.id s.trace e is;
-    }
+    by_answer false is = answered_onward e s is
 
 pub judged_onward : (c : ConnectionId) (i : Item) (k : Socket) (d : DoorState) (s : Scene) (v : Verdict) → Onward s (judged_by c i k d s v)
 judged_onward c i k d s (says items) = stays_put s (judged_by c i k d s (says items)) refl refl refl

@@ -26,7 +26,7 @@ use Rattle.router_play.proofs.Scenes.{back}
 use Rattle.router_play.proofs.Levels.{even_refl, took_lives, same}
 use Rattle.router_play.proofs.Entering.{hand_sockets, hand_last}
 use Rattle.router_play.proofs.Passing.{last_none, took_unknown}
-use Rattle.router_play.proofs.PlayMoves.{Onward, take_all_onward, plays_onward}
+use Rattle.router_play.proofs.PlayMoves.{Onward, onward_real, took_onward, take_all_onward, plays_onward}
 use Rattle.router_play.proofs.Calming.{calm_before}
 use Rattle.router_play.proofs.Courses.{Spot, Course, with_spot, with_stream, flowing, tell, come_all, come, come_at, come_by, kept, stream_at, bytes_by, bytes_come, made_by, told_at, lost_by, moved_by, course, tell_spots}
 use Rattle.router_play.proofs.Streaming.{read_as}
@@ -34,12 +34,12 @@ use Rattle.router_play.proofs.Shadows.{Unknown, Shades, Kin, Shadows, Moved, mov
 
 -- lines alone
 say_shadows : (s : Scene) (p : Course) → Shadows s p → Shadows (say refused s) p
-say_shadows s p h = record { kin = record { id = h.kin.id; config = h.kin.config; last = h.kin.last; trace = h.kin.trace }; spots = h.spots; unmade = h.unmade }
+say_shadows s p h = record { kin = record { id = h.kin.id; config = h.kin.config; last = h.kin.last; trace = h.kin.trace; real = h.kin.real }; spots = h.spots; unmade = h.unmade }
 
 -- what isn't open in the scene may stand as it likes, or go
 spot_shadows : (c : ℕ) (b : Option Spot) (s : Scene) (p : Course) → Shades s.trace c (s.sockets c) b → Shadows s p → Shadows s (with_spot c b p)
 spot_shadows c b s p at h = record {
-  kin = record { id = h.kin.id; config = h.kin.config; last = h.kin.last; trace = h.kin.trace };
+  kin = record { id = h.kin.id; config = h.kin.config; last = h.kin.last; trace = h.kin.trace; real = h.kin.real };
   spots = λ n. by_test (c == n)
       (λ e. rw e (subst (λ (m : ℕ). Shades s.trace m (s.sockets m) b) (eqb-true c n e) at))
       (λ e. rw e (h.spots n));
@@ -48,7 +48,7 @@ spot_shadows c b s p at h = record {
 
 stream_shadows : (c : ℕ) (st : Option (List ℕ)) (s : Scene) (p : Course) → s.sockets c ≡ None → Shadows s p → Shadows s (with_stream c st p)
 stream_shadows c st s p closed h = record {
-  kin = record { id = h.kin.id; config = h.kin.config; last = h.kin.last; trace = h.kin.trace };
+  kin = record { id = h.kin.id; config = h.kin.config; last = h.kin.last; trace = h.kin.trace; real = h.kin.real };
   spots = λ n. by_test (c == n)
       (λ e. rw e (at n (s.sockets n) (p.spots n) (subst (λ (m : ℕ). s.sockets m ≡ None) (eqb-true c n e) closed) (h.spots n)))
       (λ e. rw e (h.spots n));
@@ -77,7 +77,7 @@ apart c n above = by_test (c == n) (λ e. absurd (less c n (ltb-true c n above) 
 
 made_shadows : (c : ConnectionId) (role : PeerRole) (s : Scene) (p : Course) → rises c.0 s.last ≡ true → Shadows s p → Shadows (made c role s) (made_by c role p)
 made_shadows c role s p up h = record {
-  kin = record { id = h.kin.id; config = h.kin.config; last = refl; trace = h.kin.trace };
+  kin = record { id = h.kin.id; config = h.kin.config; last = refl; trace = h.kin.trace; real = h.kin.real };
   spots = λ n. by_test (c.0 == n)
       (λ e. rw e (ap (λ (w : Settings). Some (door_for w role)) h.kin.config, refl, subst (λ (m : ℕ). conn s.trace m ≡ None) (eqb-true c.0 n e) (h.unmade c.0 up).1))
       (λ e. rw e (h.spots n));
@@ -106,16 +106,16 @@ open_lost c k s p is h d calm = moved_on s (told c (with_socket c None s) d) p (
         in let down : Event = event.Down c
         in let here : (c.0 == c.0) ≡ true = same c.0
         in record {
-          kin = hand_kin down a b calm (record { id = h.kin.id; config = h.kin.config; last = h.kin.last; trace = h.kin.trace });
+          kin = hand_kin down a b calm (record { id = h.kin.id; config = h.kin.config; last = h.kin.last; trace = h.kin.trace; real = h.kin.real });
           last = hand_last down a;
-          others = λ n e. (hand_sockets down a n ∙ (rw e refl), tell_spots down b n ∙ (rw e refl), hand_even down a n e);
+          others = λ n e. (hand_sockets down a n ∙ (rw e refl), tell_spots down b n ∙ (rw e refl), hand_even down a n h.kin.real e);
           here = subst (λ (o : Option Socket). Shades (hand down a).trace c.0 o ((tell down b).spots c.0)) (sym (hand_sockets down a c.0))
               (subst (λ (o : Option Spot). Shades (hand down a).trace c.0 (a.sockets c.0) o) (sym (tell_spots down b c.0)) (rw here tt));
         }
     by_door (Some d) calm =
         let here : (c.0 == c.0) ≡ true = same c.0
         in record {
-          kin = record { id = h.kin.id; config = h.kin.config; last = h.kin.last; trace = h.kin.trace };
+          kin = record { id = h.kin.id; config = h.kin.config; last = h.kin.last; trace = h.kin.trace; real = h.kin.real };
           last = refl;
           others = λ n e. rw e (refl, refl, even_refl s.trace n);
           here = rw here tt;
@@ -159,7 +159,7 @@ read_moved c k ended rest s p None is at kin = absurd at
 read_moved c k ended rest s p (Some q) is at kin =
     let here : (c.0 == c.0) ≡ true = same c.0
     in record {
-      kin = record { id = kin.id; config = kin.config; last = kin.last; trace = kin.trace };
+      kin = record { id = kin.id; config = kin.config; last = kin.last; trace = kin.trace; real = kin.real };
       last = refl;
       others = λ n e. rw e (refl, refl, even_refl s.trace n);
       here = rw (here, is) (at.0, refl, at.2);
@@ -247,12 +247,12 @@ take_shadows x s p h = by_end (is_last (length (items_of x s.trace)) (conn s.tra
     by_end : (b : Bool) → is_last (length (items_of x s.trace)) (conn s.trace x.conn.0) ≡ b
         → Shadows (close_if b x.conn (say_all (map (out_line x.conn) (items_of x s.trace)) (with_trace (took_one x s.trace) s))) p
     by_end false is = record {
-      kin = record { id = h.kin.id; config = h.kin.config; last = h.kin.last; trace = h.kin.trace };
+      kin = record { id = h.kin.id; config = h.kin.config; last = h.kin.last; trace = h.kin.trace; real = onward_real s (with_trace (took_one x s.trace) s) (took_onward x s) h.kin.real };
       spots = λ c. shades_took s.trace x.conn.0 (length (items_of x s.trace)) c (s.sockets c) (p.spots c) (h.spots c);
       unmade = λ c r. ((h.unmade c r).0, took_unknown s.trace x.conn.0 (length (items_of x s.trace)) c (h.unmade c r).1);
     }
     by_end true is = record {
-      kin = record { id = h.kin.id; config = h.kin.config; last = h.kin.last; trace = h.kin.trace };
+      kin = record { id = h.kin.id; config = h.kin.config; last = h.kin.last; trace = h.kin.trace; real = onward_real s (with_trace (took_one x s.trace) s) (took_onward x s) h.kin.real };
       spots = λ c. by_test (x.conn.0 == c)
           (λ e. rw e (subst (λ (m : ℕ). Shades (took_one x s.trace) m None (p.spots m)) (eqb-true x.conn.0 c e)
           (shades_last s.trace x.conn.0 (length (items_of x s.trace)) (s.sockets x.conn.0) (p.spots x.conn.0) is (h.spots x.conn.0))))
@@ -287,7 +287,7 @@ first config = record { id = config.router_id; config = config; trace = []; last
 
 pub play_course : (config : Settings) (xs : List Step) (u : Scene) → Plays xs (opening config) u → Calm u.trace → untaken u.trace ≡ (course xs (first config)).trace
 play_course config xs u plays calm = (plays_shadows xs (opening config) (first config) u plays calm (record {
-  kin = record { id = refl; config = refl; last = refl; trace = refl };
+  kin = record { id = refl; config = refl; last = refl; trace = refl; real = ([], refl) };
   spots = λ c. tt;
   unmade = λ c r. (refl, refl);
 })).kin.trace

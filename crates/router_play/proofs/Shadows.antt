@@ -22,7 +22,7 @@ use Rattle.router_conns.proofs.Lists.{by_test}
 use Rattle.router_play.proofs.Scenes.{back}
 use Rattle.router_play.proofs.Levels.{Even, even_refl, even_trans, moves, answered_even, same}
 use Rattle.router_play.proofs.Entering.{hand_cases, hand_sockets, hand_last, even_unknown}
-use Rattle.router_play.proofs.PlayMoves.{hand_onward, enter_all_onward}
+use Rattle.router_play.proofs.PlayMoves.{Real, onward_real, hand_onward, enter_all_onward}
 use Rattle.router_play.proofs.Calming.{answered_before, calm_before, same_refused}
 use Rattle.router_play.proofs.Courses.{Spot, Course, with_spot, on_trace, tell, judge, come_at, come_by, come, come_all, kept, plain_refuses, tell_spots}
 
@@ -45,6 +45,7 @@ pub record Kin (s : Scene) (p : Course) : Type 0 where
   pub config : p.config ≡ s.config
   pub last : p.last ≡ s.last
   pub trace : untaken s.trace ≡ p.trace
+  pub real : Real s
 
 pub record Shadows (s : Scene) (p : Course) : Type 0 where
   pub kin : Kin s p
@@ -66,22 +67,23 @@ shades_even t u c even (Some k) (Some q) h = (h.0, h.1, unknown_even t u c even 
 
 -- an event
 
-pub hand_even : (e : Event) (s : Scene) (c : ℕ) → moves e c ≡ false → Even s.trace (hand e s).trace c
-hand_even e s c still = hand_cases (λ u. Even s.trace u.trace c) e s (λ r. even_refl s.trace c) (λ r. answered_even s.id s.trace e c still)
+pub hand_even : (e : Event) (s : Scene) (c : ℕ) → Real s → moves e c ≡ false → Even s.trace (hand e s).trace c
+hand_even e s c real still = hand_cases (λ u. Even s.trace u.trace c) e s (λ r. even_refl s.trace c) (λ r. answered_even s.id s.trace e c real r still)
 
 pub hand_kin : (e : Event) (s : Scene) (p : Course) → Calm (hand e s).trace → Kin s p → Kin (hand e s) (tell e p)
 hand_kin e s p calm kin =
     let same_test : refuses s.trace e ≡ plain_refuses p.trace e
     = same_refused s.trace e (calm_before s (hand e s) (hand_onward e s) calm) ∙ ap (λ (x : List Entry). plain_refuses x e) kin.trace
-    in pick (refuses s.trace e) (plain_refuses p.trace e) same_test calm
+    in pick (refuses s.trace e) (plain_refuses p.trace e) same_test calm (onward_real s (hand e s) (hand_onward e s) kin.real)
   where
     pick : (a b : Bool) → a ≡ b
         → Calm (if a then say refused s else with_trace (answered s.id s.trace (step_of e)) s).trace
+        → Real (if a then say refused s else with_trace (answered s.id s.trace (step_of e)) s)
         → Kin (if a then say refused s else with_trace (answered s.id s.trace (step_of e)) s) (if b then p else on_trace (plain_answered p.id p.trace (step_of e)) p)
-    pick true true is calm = record { id = kin.id; config = kin.config; last = kin.last; trace = kin.trace }
-    pick true false is calm = absurd (true≢false is)
-    pick false true is calm = absurd (true≢false (sym is))
-    pick false false is calm =
+    pick true true is calm real = record { id = kin.id; config = kin.config; last = kin.last; trace = kin.trace; real = real }
+    pick true false is calm real = absurd (true≢false is)
+    pick false true is calm real = absurd (true≢false (sym is))
+    pick false false is calm real =
         let was = answered_before s.id s.trace (step_of e) calm
         in record {
           id = kin.id;
@@ -89,6 +91,7 @@ hand_kin e s p calm kin =
           last = kin.last;
           trace = (same_answered s.id s.trace (step_of e) was.1 was.0).1
               ∙ (λ j. plain_answered (sym kin.id j) (kin.trace j) (step_of e));
+          real = real;
         }
 
 -- an event that makes and unmakes no connection
@@ -97,14 +100,14 @@ hand_shadows e s p still calm h = record {
   kin = hand_kin e s p calm h.kin;
   spots = at_each;
   unmade = λ c r. let was = h.unmade c (subst (λ (l : Option ℕ). rises c l ≡ true) (hand_last e s) r)
-      in (hand_sockets e s c ∙ was.0, even_unknown s.trace (hand e s).trace c (hand_even e s c (still c)) was.1);
+      in (hand_sockets e s c ∙ was.0, even_unknown s.trace (hand e s).trace c (hand_even e s c h.kin.real (still c)) was.1);
 }
   where
     at_each : (c : ℕ) → Shades (hand e s).trace c ((hand e s).sockets c) ((tell e p).spots c)
     at_each c =
         subst (λ (a : Option Socket). Shades (hand e s).trace c a ((tell e p).spots c)) (sym (hand_sockets e s c))
         (subst (λ (b : Option Spot). Shades (hand e s).trace c (s.sockets c) b) (sym (tell_spots e p c))
-        (shades_even s.trace (hand e s).trace c (hand_even e s c (still c)) (s.sockets c) (p.spots c) (h.spots c)))
+        (shades_even s.trace (hand e s).trace c (hand_even e s c h.kin.real (still c)) (s.sockets c) (p.spots c) (h.spots c)))
 
 -- what became of one connection that was open, and of no other
 pub record Moved (s u : Scene) (p q : Course) (c : ℕ) : Type 0 where
@@ -136,7 +139,7 @@ judged_moved : (c : ConnectionId) (i : Item) (k : Socket) (l : Spot) (d : DoorSt
 judged_moved c i k l d s p stream unknown kin (says items) calm =
     let here : (c.0 == c.0) ≡ true = same c.0
     in record {
-      kin = record { id = kin.id; config = kin.config; last = kin.last; trace = kin.trace };
+      kin = record { id = kin.id; config = kin.config; last = kin.last; trace = kin.trace; real = kin.real };
       last = refl;
       others = λ n e. rw e (refl, refl, even_refl s.trace n);
       here = rw here (refl, stream, unknown);
@@ -150,14 +153,14 @@ judged_moved c i k l d s p stream unknown kin (passes user) calm =
     in let here : (c.0 == c.0) ≡ true = same c.0
     in let socket : (n : ℕ) → (hand it (hand up a)).sockets n ≡ a.sockets n = λ n. hand_sockets it (hand up a) n ∙ hand_sockets up a n
     in let spot : (n : ℕ) → (tell it (tell up b)).spots n ≡ b.spots n = λ n. tell_spots it (tell up b) n ∙ tell_spots up b n
-    in let inside : Kin a b = record { id = kin.id; config = kin.config; last = kin.last; trace = kin.trace }
+    in let inside : Kin a b = record { id = kin.id; config = kin.config; last = kin.last; trace = kin.trace; real = kin.real }
     in record {
       kin = hand_kin it (hand up a) (tell up b) calm (hand_kin up a b (calm_before (hand up a) (hand it (hand up a)) (hand_onward it (hand up a)) calm) inside);
       last = hand_last it (hand up a) ∙ hand_last up a;
       others = λ n e. (
         socket n ∙ (rw e refl),
         spot n ∙ (rw e refl),
-        even_trans s.trace (hand up a).trace (hand it (hand up a)).trace n (hand_even up a n e) (hand_even it (hand up a) n refl),
+        even_trans s.trace (hand up a).trace (hand it (hand up a)).trace n (hand_even up a n kin.real e) (hand_even it (hand up a) n (onward_real a (hand up a) (hand_onward up a) kin.real) refl),
       );
       here = subst (λ (o : Option Socket). Shades (hand it (hand up a)).trace c.0 o ((tell it (tell up b)).spots c.0)) (sym (socket c.0))
           (subst (λ (o : Option Spot). Shades (hand it (hand up a)).trace c.0 (a.sockets c.0) o) (sym (spot c.0)) (rw here (refl, stream, tt)));
@@ -165,7 +168,7 @@ judged_moved c i k l d s p stream unknown kin (passes user) calm =
 judged_moved c i k l d s p stream unknown kin (ends items) calm =
     let here : (c.0 == c.0) ≡ true = same c.0
     in record {
-      kin = record { id = kin.id; config = kin.config; last = kin.last; trace = kin.trace };
+      kin = record { id = kin.id; config = kin.config; last = kin.last; trace = kin.trace; real = kin.real };
       last = refl;
       others = λ n e. rw e (refl, refl, even_refl s.trace n);
       here = rw here tt;

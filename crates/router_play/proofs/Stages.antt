@@ -87,8 +87,8 @@ pub unmade_quiet : (s u : Scene) (c : ℕ) → Quiet s u c → Unmade s c → Un
 unmade_quiet s u c q h = record {
   entered = quiet_entered s u c (λ m. []) (λ m. []) q h.entered;
   socket = q.socket ∙ h.socket;
-  unknown = even_unknown s.trace u.trace c q.even h.unknown;
-  silent = even_silent s.trace u.trace c q.even h.unknown ∙ h.silent;
+  unknown = even_unknown s.trace u.trace c (q.even h.entered.real) h.unknown;
+  silent = even_silent s.trace u.trace c (q.even h.entered.real) h.unknown ∙ h.silent;
   kept = q.kept ∙ h.kept;
 }
 

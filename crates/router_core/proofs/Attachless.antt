@@ -1,0 +1,140 @@
+-- Of items on their way, those that bring no attach: what rows say, heartbeats and flows. They begin no link.
+use Rattle.std.proofs.Common.{◌≡◌, ◌∙◌, sym, ap, refl, subst, true≢false, ℕ, zero, suc, Bool, true, false, List, [], ◌∷◌, ◌++◌, append-nil}
+use Rattle.std.specs.Prelude.{◌==◌, Option, Some, None, is_some}
+use Rattle.amqp_perf.specs.declared.perf.Perf.{Perf}
+use Rattle.amqp_perf.specs.declared.perf.Perf.TheVariants as perf
+use Rattle.amqp_frames.specs.declared.item.Item.{Item}
+use Rattle.amqp_frames.specs.declared.item.Item.TheVariants as item
+use Rattle.amqp_conn.specs.declared.conn.Conn.{Conn}
+use Rattle.amqp_session.specs.Session.{Session}
+use Rattle.router_trace.specs.declared.condition.Condition.{Condition}
+use Rattle.router_trace.specs.declared.event.Event.{Event}
+use Rattle.router_trace.specs.declared.event.Event.TheVariants as event
+use Rattle.router_trace.specs.Trace.{Entry, Did, Out, Put, Step, goes, puts, each_to, ups}
+use Rattle.router_trace.specs.Connection.{Connection, standing, found, live, live_of}
+use Rattle.router_trace.specs.Clocks.{terms, written, needs_beat}
+use Rattle.router_trace.specs.Frames.{closing}
+use Rattle.router_trace.specs.Links.{Link, link, their_handle}
+use Rattle.router_trace.specs.Sessions.{session, theirs}
+use Rattle.router_sessions.specs.Windows.{is_narrow, flow_due, flows_below, windows_over, windows}
+use Rattle.router_state.specs.Tables.{beat_if, beats_over}
+use Rattle.router_reply.specs.declared.answer.Answer.{Answer}
+use Rattle.router_reply.specs.declared.answer.Answer.TheVariants.{Nothing, Header, Open, Close, CloseWith, Begin, End, Flow, Attach, Refuse, Detach, LinkFlow}
+use Rattle.router_reply.specs.Rows.{Finds, said, item_reply}
+use Rattle.router_reply.specs.Replies.{closing_of, finds, links_put, item_row, own_row}
+use Rattle.router_core.specs.Laws.{is_attach, brings_attach}
+use Rattle.router_conns.proofs.Lists.{by_test}
+use Rattle.router_core.proofs.Linked.{link_was, linked_before, none_if}
+
+abbrev pub Attachless : List Put → Type 0
+Attachless [] = Unit {0}
+Attachless (p ∷ ps) = (is_attach p.item ≡ false) × Attachless ps
+
+less_both : (ps qs : List Put) → Attachless ps → Attachless qs → Attachless (ps ++ qs)
+less_both [] qs first rest = rest
+less_both (p ∷ ps) qs first rest = (first.0, less_both ps qs first.1 rest)
+
+-- what rows say, and closes
+
+less_closing : (id : List ℕ) (c : ℕ) (p : Conn) (x : Condition) → Attachless (each_to c (closing id p x))
+less_closing id c p x = by_test p.opened (λ e. rw e (refl, tt)) (λ e. rw e (refl, (refl, tt)))
+
+pub less_closing_of : (id : List ℕ) (c : ℕ) (v : Option Connection) (x : Condition) → Attachless (each_to c (closing_of id v x))
+less_closing_of id c None x = tt
+less_closing_of id c (Some v) x = less_closing id c v.phase x
+
+pub less_said : (id : List ℕ) (c : ℕ) (p : Conn) (a : Answer) → Attachless (each_to c (said id p a))
+less_said id c p Nothing = tt
+less_said id c p Header = (refl, tt)
+less_said id c p Open = (refl, tt)
+less_said id c p Close = (refl, tt)
+less_said id c p (CloseWith x) = less_closing id c p x
+less_said id c p (Begin own theirs) = (refl, tt)
+less_said id c p (End own x) = (refl, tt)
+less_said id c p (Flow own told) = (refl, tt)
+less_said id c p (Attach own) = tt
+less_said id c p (Refuse own handle x) = tt
+less_said id c p (Detach own handle closed x) = (refl, tt)
+less_said id c p (LinkFlow own told at) = (refl, tt)
+
+-- heartbeats and the flows of windows
+
+less_beat : (b : Bool) (c : ℕ) → Attachless (beat_if b c)
+less_beat true c = (refl, tt)
+less_beat false c = tt
+
+pub less_beats : (t : List Entry) (now : ℕ) (cs : List ℕ) → Attachless (beats_over t now cs)
+less_beats t now [] = tt
+less_beats t now (c ∷ cs) = less_both (beat_if (needs_beat (terms t c) (written t c) now) c) (beats_over t now cs) (less_beat _ c) (less_beats t now cs)
+
+less_flow : (c o : ℕ) (v : Option Session) → Attachless (flow_due c o v)
+less_flow c o None = tt
+less_flow c o (Some h) = by_test (is_narrow h) (λ e. rw e (refl, tt)) (λ e. rw e tt)
+
+less_below : (c : ℕ) (known : ℕ → Option Session) (n : ℕ) → Attachless (flows_below c known n)
+unfolding flows_below
+less_below c known zero = tt
+less_below c known (suc n) = less_both (flows_below c known n) (flow_due c n (known n)) (less_below c known n) (less_flow c n (known n))
+
+less_over : (t : List Entry) (cs : List ℕ) → Attachless (windows_over t cs)
+less_over t [] = tt
+less_over t (c ∷ cs) = less_both (flows_below c (session t c) 15) (windows_over t cs) (less_below c (session t c) 15) (less_over t cs)
+
+pub less_windows : (t : List Entry) → Attachless (windows t)
+less_windows t = less_over t (live t)
+
+-- an item that is no attach has no attach in its row
+
+abbrev pub said_to : List ℕ → Option Conn → Finds → Item → List Item
+said_to id None k i = []
+said_to id (Some p) k i = said id p (item_reply p k i)
+
+no_links : (t : List Entry) (c : ℕ) (i : Item) (a : Answer) → is_attach i ≡ false → links_put t c i a ≡ []
+no_links t c (item.Frame sasl channel body payload) a none = by body none
+  where
+    by : (body : Perf) → is_attach (item.Frame sasl channel body payload) ≡ false → links_put t c (item.Frame sasl channel body payload) a ≡ []
+    by (perf.Attach x) none = absurd cc
+    by _ none = refl
+no_links t c _ a none = refl
+
+pub row_said : (id : List ℕ) (t u : List Entry) (c : ℕ) (i : Item) (p : Option Conn) → is_attach i ≡ false → item_row id t u c i p ≡ each_to c (said_to id p (finds t c) i)
+row_said id t u c i None none = refl
+row_said id t u c i (Some p) none =
+    ap (λ (ps : List Put). each_to c (said id p (item_reply p (finds t c) i)) ++ ps) (no_links (puts c (said id p (item_reply p (finds t c) i)) u) c i (item_reply p (finds t c) i) none)
+    ∙ append-nil (each_to c (said id p (item_reply p (finds t c) i)))
+
+less_said_to : (id : List ℕ) (c : ℕ) (p : Option Conn) (k : Finds) (i : Item) → Attachless (each_to c (said_to id p k i))
+less_said_to id c None k i = tt
+less_said_to id c (Some p) k i = less_said id c p (item_reply p k i)
+
+pub less_row : (id : List ℕ) (t u : List Entry) (e : Event) → brings_attach e ≡ false → Attachless (own_row id t u e)
+less_row id t u (event.Item d i) none =
+    subst (λ (ps : List Put). Attachless ps) (sym (row_said id t u d.0 i (standing (found t (event.Item d i) d.0)) none))
+    (less_said_to id d.0 (standing (found t (event.Item d i) d.0)) (finds t d.0) i)
+less_row id t u (event.Tick ms) none = less_beats t ms (live_of (ups t) (found t (event.Tick ms)))
+less_row id t u (event.Down d) none = tt
+less_row id t u (event.Up d p) none = tt
+less_row id t u event.Start none = tt
+
+-- a connection on which no link is attached
+
+abbrev pub Unlinked : ℕ → List Entry → Type 0
+Unlinked c t = (o h : ℕ) → link t c o h ≡ None
+
+gone_is : (v : Option Link) → v ≡ None → is_some v ≡ false
+gone_is v e = ap (λ (x : Option Link). is_some x) e
+
+pub unlinked_did : (c : ℕ) (t : List Entry) (s : Step) → Unlinked c t → Unlinked c (Did s ∷ t)
+unlinked_did c t s was o h =
+    none_if (link (Did s ∷ t) c o h)
+    (λ some. true≢false (sym (linked_before s.event c o h (theirs t c) (their_handle t c o) (link t c o h) some) ∙ gone_is (link t c o h) (was o h)))
+
+unlinked_out : (c : ℕ) (t : List Entry) (d : ℕ) (i : Item) → is_attach i ≡ false → Unlinked c t → Unlinked c (Out d i ∷ t)
+unlinked_out c t d i none was o h =
+    by_test (d == c)
+    (λ e. rw e (none_if _ (λ some. true≢false (sym (link_was i o h _ t c _ (link t c o h) none some) ∙ gone_is (link t c o h) (was o h)))))
+    (λ e. rw e (was o h))
+
+pub unlinked_goes : (c : ℕ) (ps : List Put) (t : List Entry) → Attachless ps → Unlinked c t → Unlinked c (goes ps t)
+unlinked_goes c [] t less was = was
+unlinked_goes c (p ∷ ps) t less was = unlinked_goes c ps (Out p.conn p.item ∷ t) less.1 (unlinked_out c t p.conn p.item less.0 was)
