@@ -1,7 +1,7 @@
-use Rattle.std.proofs.Common.{◌∙◌, ◌≡◌, refl, ◌⊎◌, List, true, rules}
+use Rattle.std.proofs.Common.{◌∙◌, ◌≡◌, ◌++◌, refl, ◌⊎◌, List, true, rules}
 use Rattle.router_trace.specs.Trace.{Entry}
 use Rattle.router_core.specs.Handling.{Fits, is_failed}
-use Rattle.router_core.specs.Runs.{taking, Waits}
+use Rattle.router_core.specs.Runs.{Taking, InTurn, sent, taking, Waits}
 use Rattle.router_core.specs.declared.fault.CoreFault.TheVariants.{Memory}
 use Rattle.router_core.proofs.RunLemmas.{one_more, still_waits}
 use Rattle.router_core.proofs.driving.empty.Goals as goal
@@ -22,3 +22,9 @@ returns-in_err-take_one-in-Some-clause-memory c =
     let memory : c.in_err-take_one-in-Some.field-0.0 ≡ Memory → ((t : List Entry) → Fits c.take_one.new.core t → Waits t) ⊎ (is_failed c.take_one.new.core ≡ true)
     = λ is. waits (c.in_err-take_one-in-Some.ensures.memory is) in
     search (memory, rules)
+
+pub returns-in_err-take_one-in-Some-clause-broken : goal.returns-in_err-take_one-in-Some-clause-broken
+returns-in_err-take_one-in-Some-clause-broken c =
+    let broken : (t : List Entry) → Fits c.args.core.now t → (takes : List Taking) × InTurn takes t × (c.take_one.new.taken.items ≡ c.args.taken.now.items ++ sent c.args.event takes t)
+    = λ t f. let w = c.loop-turn.invariant.fits t f in (w.0, w.1, c.in_err-take_one-in-Some.ensures.kept ∙ w.3) in
+    search (broken, rules)
