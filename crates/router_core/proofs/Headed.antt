@@ -33,6 +33,7 @@ use Rattle.router_trace.specs.Order.{unwritten, of_session}
 use Rattle.router_core.specs.Laws.{is_header, begins_with_header, HeaderFirst, KeepsOrder}
 use Rattle.router_conns.proofs.Lists.{by_test}
 use Rattle.router_conns.proofs.Turns.{due_none}
+use Rattle.router_core.proofs.Attachless.{Unlinked}
 use Rattle.router_core.proofs.Coming.{ins_answered}
 use Rattle.router_core.proofs.ItemRows.{item_cases}
 use Rattle.router_core.proofs.Linked.{none_if, holder_linked}
@@ -152,7 +153,7 @@ untold (Took d n ∷ t) c h = untold t c h
 
 -- an item of another connection puts nothing where no link is attached
 
-stolen_without : (t : List Entry) (k : ℕ) → ((o h : ℕ) → link t k o h ≡ None) → (last x : Option Attachment) → if_attached t last ≡ x → Without k (stolen_by x)
+stolen_without : (t : List Entry) (k : ℕ) → Unlinked k t → (last x : Option Attachment) → if_attached t last ≡ x → Without k (stolen_by x)
 stolen_without t k none last None is = tt
 stolen_without t k none last (Some x) is = (
   by_test (x.conn.0 == k)
@@ -164,7 +165,7 @@ stolen_without t k none last (Some x) is = (
     gone : x.conn.0 ≡ k → is_some (link t x.conn.0 x.channel x.handle) ≡ false
     gone e = subst (λ (n : ℕ). is_some (link t n x.channel x.handle) ≡ false) (sym e) (ap (λ (v : Option Link). is_some v) (none x.channel x.handle))
 
-pub item_without : (id : List ℕ) (t u : List Entry) (d k : ℕ) (i : Item) (p : Option Conn) → ((o h : ℕ) → link u k o h ≡ None) → (d == k) ≡ false
+pub item_without : (id : List ℕ) (t u : List Entry) (d k : ℕ) (i : Item) (p : Option Conn) → Unlinked k u → (d == k) ≡ false
     → Without k (item_row id t u d i p)
 item_without id t u d k i None none apart = tt
 item_without id t u d k i (Some p) none apart =
@@ -177,7 +178,7 @@ item_without id t u d k i (Some p) none apart =
     i (item_reply p (finds t d) i)
 
 -- no link stands where nothing was put out
-unlinked : (t : List Entry) (k : ℕ) → Ordered t → outs t k ≡ [] → (o h : ℕ) → link t k o h ≡ None
+unlinked : (t : List Entry) (k : ℕ) → Ordered t → outs t k ≡ [] → Unlinked k t
 unlinked t k ord none o h =
     none_if (link t k o h) (λ some. true≢false (sym (ord.linked k o h some) ∙ ap (λ js. of_session (written_all js unwritten) o) none))
 
