@@ -60,8 +60,11 @@ bound b = record {
 }
 
 -- It is over once it is decided, nobody is to be told, and no frame is to go.
+abbrev pub is_over : Delivery → Bool
+is_over d = not d.going_on && (is_some d.outcome && is_none d.origin)
+
 abbrev pub unless_over : Delivery → Option Delivery
-unless_over d = if not d.going_on && is_some d.outcome && is_none d.origin then None else Some d
+unless_over d = if is_over d then None else Some d
 
 -- The tag that the router gives a delivery: 76 and its number in 8 bytes.
 abbrev pub byte_of : ℕ → ℕ → ℕ
@@ -175,7 +178,7 @@ is_named (Some id) names n = is_number (names id) n
 abbrev pub decided : Disposition → (ℕ → Option ℕ) → ℕ → Delivery → Delivery
 decided x names n d = if is_undecided d && is_meant x d.id && is_named d.id names n then record d { outcome = decision x.settled (terminal x.state) } else d
 
--- Nobody is told of it any more: its outcome was told, or its producer settled it or went.
+-- Nobody is told of it any more: its outcome was told by a disposition of the router as a receiver, or its producer settled it or went.
 abbrev pub origin_id : Option Origin → ℕ → ℕ → Option ℕ
 origin_id None c o = None
 origin_id (Some p) c o = if stands_on p.link c o then Some p.id else None
@@ -183,8 +186,9 @@ origin_id (Some p) c o = if stands_on p.link c o then Some p.id else None
 abbrev pub untold : Delivery → Delivery
 untold d = record d { origin = None }
 
-abbrev pub told : Disposition → ℕ → ℕ → Delivery → Delivery
-told x c o d = if x.settled && is_meant x (origin_id d.origin c o) then untold d else d
+abbrev pub told : Role → Disposition → ℕ → ℕ → Delivery → Delivery
+told Receiver x c o d = if x.settled && is_meant x (origin_id d.origin c o) then untold d else d
+told Sender x c o d = d
 
 -- Links that end: the consumer's, and the producer's.
 abbrev pub ended : Delivery → Delivery
@@ -206,7 +210,7 @@ ended_by i c a = (a.conn.0 == c) && ends_handle i a.channel a.handle
 
 abbrev pub put_in : Perf → ℕ → ℕ → ℕ → (ℕ → ℕ → Option ℕ) → ℕ → Delivery → Delivery
 put_in (perf.Transfer x) c own n sent count d = if is_number (carried (tag_in x) (sent own x.handle)) n then behind_frame x count d else d
-put_in (perf.Disposition x) c own n sent count d = told x c own d
+put_in (perf.Disposition x) c own n sent count d = told x.role x c own d
 put_in _ c own n sent count d = d
 
 abbrev pub behind_put : Item → ℕ → ℕ → (ℕ → ℕ → Option ℕ) → Delivery → Delivery
@@ -279,6 +283,8 @@ after_id (Some id) next = (id + 1) % 2 ^ 32
 abbrev pub next_id_in : Perf → ℕ → ℕ → ℕ → ℕ
 next_id_in (perf.Begin x) own o next = if own == o then 0 else next
 next_id_in (perf.Transfer x) own o next = if own == o then after_id x.delivery_id next else next
+next_id_in (perf.End x) own o next = if own == o then 0 else next
+next_id_in (perf.Close x) own o next = 0
 next_id_in _ own o next = next
 
 abbrev pub next_id_by : Item → ℕ → ℕ → ℕ
@@ -287,7 +293,7 @@ next_id_by _ o next = next
 
 abbrev pub next_id : Trace → ℕ → ℕ → ℕ
 next_id [] c o = 0
-next_id (Did s ∷ t) c o = next_id t c o
+next_id (Did s ∷ t) c o = if is_lost s.event c then 0 else next_id t c o
 next_id (Out d i ∷ t) c o = if d == c then next_id_by i o (next_id t c o) else next_id t c o
 next_id (Took d n ∷ t) c o = next_id t c o
 next_id (Bound b ∷ t) c o = next_id t c o

@@ -1,0 +1,4 @@
+pub mod Places
+pub mod Stepping
+pub use Rattle.router_trace.specs.Trace
+pub use Rattle.router_trace.specs.Deliveries

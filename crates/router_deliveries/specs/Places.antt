@@ -1,0 +1,13 @@
+-- What a table by connection, session and handle has at a place.
+use Rattle.std.specs.Prelude.{ℕ, Option, Some, None}
+use Rattle.std.specs.Ordering.{nat_cmp}
+use Rattle.std.specs.BTreeMap.{BTreeMap, get}
+use Rattle.router_deliveries.specs.declared.by_handle.ByHandle.{ByHandle}
+
+abbrev pub in_map : {V : Type 0} → Option (BTreeMap ℕ V) → ℕ → Option V
+in_map None k = None
+in_map (Some m) k = get nat_cmp m k
+
+-- at a handle of the session on a channel of the router, of a connection
+abbrev pub at : {V : Type 0} → ByHandle V → ℕ → ℕ → ℕ → Option V
+at s c o h = in_map (in_map (get nat_cmp s.rows c) o) h
