@@ -1,7 +1,9 @@
 //! Deliveries, as the table has them.
 ghost use Rattle.std.specs.Prelude.{◌≡◌, OnOk};
-ghost use Rattle.router_trace.specs.Deliveries.{bound, is_over, is_undecided, behind_frame, untold, ended};
+ghost use Rattle.router_trace.specs.Deliveries.{bound, is_over, is_undecided, behind_frame, untold, ended, behind_ends};
+ghost use Rattle.router_deliveries.specs.Stepping.{is_gone, changed};
 
+use crate::change::{Change, Gone, comes_with_id};
 use crate::state::failed;
 use amqp_perf::{DeliveryState, Transfer};
 use bytes::Bytes;
@@ -114,6 +116,37 @@ impl Delivery {
         self.going_on = false;
         if self.outcome.is_none() {
             self.outcome = Some(failed());
+        }
+    }
+
+    /// Links end, its own or its producer's.
+    fn leave(&mut self, gone: Gone)
+        ensures { self.new ≡ behind_ends (is_gone gone) self.old }
+    {
+        if gone.has(self.link) {
+            self.end();
+        }
+        if gone.has_origin(self.origin) {
+            self.untell();
+        }
+    }
+
+    /// What a change does to it.
+    pub(crate) fn change(&mut self, change: Change)
+        ensures { self.new ≡ changed change self.old }
+    {
+        match change {
+            Change::Ends(gone) => self.leave(gone),
+            Change::Untold {
+                conn,
+                own,
+                first,
+                last,
+            } => {
+                if comes_with_id(self.origin, conn, own, first, last) {
+                    self.untell();
+                }
+            }
         }
     }
 }

@@ -2,7 +2,9 @@
 #![tactic(auto)]
 
 mod by_handle;
+mod change;
 mod delivery;
 mod state;
+mod store;
 
 pub use delivery::Delivery;

@@ -1,0 +1,94 @@
+//! What ends and dispositions do to deliveries.
+ghost use Rattle.std.specs.Prelude.{◌≡◌};
+ghost use Rattle.amqp_session.specs.Ranges.{in_range};
+ghost use Rattle.router_deliveries.specs.Stepping.{is_gone, is_gone_from, comes_with_id};
+
+use amqp_session::Serial;
+use router_trace::{Attachment, Origin};
+
+/// Links that end, by their place.
+#[derive(Clone, Copy, Debug, PartialEq, Eq)]
+pub enum Gone {
+    /// The link on a handle of the router.
+    Link {
+        /// The connection.
+        conn: u64,
+        /// The router's channel of the session.
+        own: u16,
+        /// The router's handle.
+        handle: u32,
+    },
+    /// All links of a session.
+    Session {
+        /// The connection.
+        conn: u64,
+        /// The router's channel of the session.
+        own: u16,
+    },
+    /// All links of a connection.
+    Connection(u64),
+}
+
+/// What is done to deliveries at once.
+#[derive(Clone, Copy, Debug, PartialEq, Eq)]
+pub enum Change {
+    /// Links end.
+    Ends(Gone),
+    /// Producers need no answer any more, those of a session that gave ids of this range (AMQP 1.0 part 2, section 2.7.6).
+    Untold {
+        /// The connection.
+        conn: u64,
+        /// The router's channel of the session.
+        own: u16,
+        /// The first delivery-id.
+        first: u32,
+        /// The last one.
+        last: u32,
+    },
+}
+
+impl Gone {
+    /// Whether a link ends.
+    pub(crate) fn has(self, link: Attachment) -> bool
+        ensures { result ≡ is_gone self link }
+    {
+        match self {
+            Gone::Link { conn, own, handle } => {
+                link.conn.0 == conn && (own == link.channel && handle == link.handle)
+            }
+            Gone::Session { conn, own } => link.conn.0 == conn && own == link.channel,
+            Gone::Connection(conn) => link.conn.0 == conn,
+        }
+    }
+
+    /// Whether the link of a producer ends.
+    pub(crate) fn has_origin(self, origin: Option<Origin>) -> bool
+        ensures { result ≡ is_gone_from self origin }
+    {
+        match origin {
+            None => false,
+            Some(origin) => self.has(origin.link),
+        }
+    }
+}
+
+/// Whether a producer gave a delivery an id of this range, on a session.
+pub(crate) fn comes_with_id(origin: Option<Origin>, conn: u64, own: u16, first: u32, last: u32) -> bool
+    ensures { result ≡ comes_with_id origin conn own first last }
+{
+    match origin {
+        None => false,
+        Some(origin) => {
+            origin.link.conn.0 == conn && origin.link.channel == own && in_range(first, last, origin.id)
+        }
+    }
+}
+
+/// Whether an id is one of a disposition's range (AMQP 1.0 part 2, section 2.7.6).
+pub(crate) fn in_range(first: u32, last: u32, id: u32) -> bool
+    ensures { result ≡ in_range first last id }
+{
+    let first = Serial::new(first);
+    let reach = first.distance_to(Serial::new(last));
+    reach < 0x8000_0000 && first.distance_to(Serial::new(id)) <= reach
+}
