@@ -1,16 +1,14 @@
 -- What is done to a delivery twice is done once.
-use Rattle.std.proofs.Common.{◌≡◌, ◌∙◌, ℕ, Bool, true, false, refl, ap, arith, List, [], ◌∷◌, Option, Some, None}
+use Rattle.std.proofs.Common.{◌≡◌, ℕ, Bool, true, false, refl, ap, arith, List, ◌∷◌, Option, Some, None}
 use Rattle.std.specs.Prelude.{◌||◌, ◌==◌, if◌then◌else◌}
-use Rattle.std.specs.Option.{option_and_then}
 use Rattle.std.proofs.lemmas.Bool.Decides.{nat_tests}
 use Rattle.amqp_session.specs.Ranges.{has}
-use Rattle.router_trace.specs.declared.binding.Origin.{Origin}
 use Rattle.router_trace.specs.declared.handle.Attachment.{Attachment}
 use Rattle.amqp_perf.specs.declared.state.DeliveryState.{DeliveryState}
 use Rattle.router_trace.specs.Deliveries.{Delivery, unless_over, is_over, behind_ends, behind_origin, is_gone_with, ended, untold}
 use Rattle.router_deliveries.specs.declared.change.Change.{Change}
 use Rattle.router_deliveries.specs.declared.change.Change.TheVariants as change
-use Rattle.router_deliveries.specs.Stepping.{is_gone, comes_with_id, changed, step, behind}
+use Rattle.router_deliveries.specs.Stepping.{is_gone, comes_with_id, changed, behind}
 
 -- a change that a delivery went through changes it no more
 settled_origin : (gone : Attachment → Bool) (d : Delivery) → behind_origin gone (behind_origin gone d) ≡ behind_origin gone d
@@ -33,9 +31,11 @@ ends_twice gone d = by_link (gone d.link) refl
     by_origin : (b : Bool) → is_gone_with gone d.origin ≡ b → gone d.link ≡ true → behind_ends gone (behind_ends gone d) ≡ behind_ends gone d
     by_origin true e l = rw (l, e, l) (ap untold (ended_twice d))
     by_origin false e l = rw (l, e, l, e) (ended_twice d)
+
     other : (b : Bool) → is_gone_with gone d.origin ≡ b → gone d.link ≡ false → behind_ends gone (behind_ends gone d) ≡ behind_ends gone d
     other true e l = rw (l, e, l) refl
     other false e l = rw (l, e, l, e) refl
+
     by_link : (b : Bool) → gone d.link ≡ b → behind_ends gone (behind_ends gone d) ≡ behind_ends gone d
     by_link true l = by_origin (is_gone_with gone d.origin) refl l
     by_link false l = other (is_gone_with gone d.origin) refl l

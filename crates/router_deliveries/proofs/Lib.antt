@@ -1,1 +1,4 @@
 mod Again
+mod Tags
+mod Keys
+mod Puts

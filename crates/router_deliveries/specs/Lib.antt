@@ -1,4 +1,5 @@
 pub mod Places
 pub mod Stepping
+pub mod Fits
 pub use Rattle.router_trace.specs.Trace
 pub use Rattle.router_trace.specs.Deliveries

@@ -1,8 +1,9 @@
 //! What ends and dispositions do to deliveries.
 ghost use Rattle.std.specs.Prelude.{◌≡◌};
 ghost use Rattle.amqp_session.specs.Ranges.{in_range};
-ghost use Rattle.router_deliveries.specs.Stepping.{is_gone, is_gone_from, comes_with_id};
+ghost use Rattle.router_deliveries.specs.Stepping.{is_gone, is_gone_from, comes_with_id, put_change, untold_by};
 
+use amqp_perf::{Disposition, Perf, Role};
 use amqp_session::Serial;
 use router_trace::{Attachment, Origin};
 
@@ -72,14 +73,57 @@ impl Gone {
     }
 }
 
+/// What the router's performative on a channel of its own does to deliveries at once.
+pub(crate) fn behind_put(conn: u64, own: u16, perf: &Perf) -> Option<Change>
+    ensures { result ≡ put_change conn own perf.now }
+{
+    match perf {
+        Perf::Disposition(disposition) => match disposition.role {
+            Role::Sender => None,
+            Role::Receiver => untold_by(conn, own, disposition),
+        },
+        Perf::Detach(detach) => Some(Change::Ends(Gone::Link {
+            conn,
+            own,
+            handle: detach.handle,
+        })),
+        Perf::End(_) => Some(Change::Ends(Gone::Session { conn, own })),
+        Perf::Close(_) => Some(Change::Ends(Gone::Connection(conn))),
+        _ => None,
+    }
+}
+
+/// The producers that need no answer any more behind a disposition on a session, where it settles.
+pub(crate) fn untold_by(conn: u64, own: u16, disposition: &Disposition) -> Option<Change>
+    ensures { result ≡ untold_by conn own disposition.now }
+{
+    if !disposition.settled {
+        return None;
+    }
+    Some(Change::Untold {
+        conn,
+        own,
+        first: disposition.first,
+        last: disposition.last.unwrap_or(disposition.first),
+    })
+}
+
 /// Whether a producer gave a delivery an id of this range, on a session.
-pub(crate) fn comes_with_id(origin: Option<Origin>, conn: u64, own: u16, first: u32, last: u32) -> bool
+pub(crate) fn comes_with_id(
+    origin: Option<Origin>,
+    conn: u64,
+    own: u16,
+    first: u32,
+    last: u32,
+) -> bool
     ensures { result ≡ comes_with_id origin conn own first last }
 {
     match origin {
         None => false,
         Some(origin) => {
-            origin.link.conn.0 == conn && origin.link.channel == own && in_range(first, last, origin.id)
+            origin.link.conn.0 == conn
+                && origin.link.channel == own
+                && in_range(first, last, origin.id)
         }
     }
 }

@@ -40,15 +40,15 @@ impl Model for Delivery {
     ghost Value = { View };
 
     ghost view = { λ d. record {
-        link = d.link;
-        origin = d.origin;
-        presettled = d.presettled;
-        format = d.format;
-        payload = d.payload;
-        id = d.id;
-        sent = d.sent;
-        going_on = d.going_on;
-        outcome = d.outcome;
+      link = d.link;
+      origin = d.origin;
+      presettled = d.presettled;
+      format = d.format;
+      payload = d.payload;
+      id = d.id;
+      sent = d.sent;
+      going_on = d.going_on;
+      outcome = d.outcome;
     } };
 }
 

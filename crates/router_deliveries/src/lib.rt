@@ -3,8 +3,12 @@
 
 mod by_handle;
 mod change;
+mod deliveries;
 mod delivery;
+mod sending;
 mod state;
 mod store;
+mod tag;
 
+pub use deliveries::Deliveries;
 pub use delivery::Delivery;

@@ -1,17 +1,23 @@
 //! Deliveries by their numbers.
-ghost use Rattle.std.specs.Prelude.{◌≡◌, ◌==◌, ◌+◌, ℕ, Some, None, if◌then◌else◌, OnOk, IfOk};
+ghost use Rattle.std.specs.Prelude.{◌≡◌, ◌==◌, ◌+◌, ℕ, Some, None, if◌then◌else◌, OnOk, IfOk, length, ◌∷◌, List, Bool};
 ghost use Rattle.std.specs.Option.{option_map, option_and_then};
 ghost use Rattle.std.specs.Ordering.{nat_cmp};
 ghost use Rattle.std.specs.Map.{keys_of};
 ghost use Rattle.std.specs.BTreeMap.{get};
 ghost use Rattle.amqp_session.specs.Ranges.{has};
-ghost use Rattle.router_trace.specs.Deliveries.{unless_over, bound, behind_frame};
-ghost use Rattle.router_deliveries.specs.Stepping.{behind};
+ghost use Rattle.router_trace.specs.Deliveries.{unless_over, bound, behind_frame, is_number, sending};
+ghost use Rattle.router_trace.specs.Trace.{Entry, Out, did};
+ghost use Rattle.amqp_frames.specs.declared.item.Item.TheVariants as item;
+ghost use Rattle.router_trace.specs.declared.event.Event.TheVariants as event;
+ghost use Rattle.router_deliveries.specs.Fits.{StoreFit, carried_in, carried_by};
+ghost use Rattle.router_deliveries.specs.Stepping.{behind, behind_any, IsKept};
 
-use crate::change::Change;
+use crate::change::{Change, Gone, behind_put};
 use crate::delivery::Delivery;
-use amqp_perf::Transfer;
-use router_trace::Binding;
+use amqp_frames::Item;
+use amqp_perf::{Perf, Transfer};
+use bytes::Bytes;
+use router_trace::{Binding, ConnectionId};
 use std::alloc::{AllocError, Global};
 use std::collections::BTreeMap;
 
@@ -107,6 +113,91 @@ impl Store {
             self.change(*number, change)?;
         }
         Ok(())
+    }
+
+    /// Does this to all deliveries.
+    pub(crate) fn apply(&mut self, change: Change) -> Result<(), AllocError>
+        ensures { OnOk result (((n : ℕ) → IsKept (get nat_cmp self.old.deliveries n))
+            → (n : ℕ) → get nat_cmp self.new.deliveries n ≡ behind change (get nat_cmp self.old.deliveries n)) }
+    {
+        let numbers = self.numbers()?;
+        self.change_all(numbers.as_slice(), change)
+    }
+
+    /// Does this to all deliveries, where anything is to be done.
+    pub(crate) fn apply_any(&mut self, change: Option<Change>) -> Result<(), AllocError>
+        ensures { OnOk result (((n : ℕ) → IsKept (get nat_cmp self.old.deliveries n))
+            → (n : ℕ) → get nat_cmp self.new.deliveries n ≡ behind_any change (get nat_cmp self.old.deliveries n)) }
+    {
+        match change {
+            None => Ok(()),
+            Some(change) => self.apply(change),
+        }
+    }
+
+    /// Notes a transfer that carries this much of the delivery of a number, where there is one.
+    pub(crate) fn note_carried(
+        &mut self,
+        number: Option<u64>,
+        transfer: &Transfer,
+        payload: &Bytes,
+    ) -> Result<(), AllocError>
+        ensures { OnOk result ((n : ℕ) → get nat_cmp self.new.deliveries n
+            ≡ (if is_number number n then option_and_then (λ d. unless_over (behind_frame transfer.now (length payload.now) d)) (get nat_cmp self.old.deliveries n) else get nat_cmp self.old.deliveries n)) }
+    {
+        match number {
+            None => Ok(()),
+            Some(number) => {
+                let count = payload.len() as u64;
+                self.note_frame(number, transfer, count)
+            }
+        }
+    }
+
+    /// A connection is lost.
+    pub(crate) fn down(&mut self, conn: ConnectionId) -> Result<(), AllocError>
+        ensures { OnOk result ((t : List Entry) → StoreFit self.old t → StoreFit self.new (did (event.Down conn) ∷ t)) }
+    {
+        self.apply(Change::Ends(Gone::Connection(conn.0)))
+    }
+
+    /// An item is put in the outbox of a connection; a transfer carries the delivery of this number.
+    pub(crate) fn put(
+        &mut self,
+        conn: u64,
+        item: &Item,
+        number: Option<u64>,
+    ) -> Result<(), AllocError>
+        ensures { OnOk result ((t : List Entry) → number ≡ carried_by item.now (sending t conn) → StoreFit self.old t → StoreFit self.new (Out conn item.now ∷ t)) }
+    {
+        match item {
+            Item::Frame {
+                channel,
+                perf,
+                payload,
+                ..
+            } => self.put_perf(conn, *channel, perf, payload, number)?,
+            _ => {}
+        }
+        Ok(())
+    }
+
+    /// A performative is put in the outbox of a connection, on a channel of the router.
+    fn put_perf(
+        &mut self,
+        conn: u64,
+        own: u16,
+        perf: &Perf,
+        payload: &Bytes,
+        number: Option<u64>,
+    ) -> Result<(), AllocError>
+        ensures { OnOk result ((t : List Entry) (sasl : Bool) → number ≡ carried_in perf.now (sending t conn own) → StoreFit self.old t
+            → StoreFit self.new (Out conn (item.Frame sasl own perf.now payload.now) ∷ t)) }
+    {
+        match perf {
+            Perf::Transfer(transfer) => self.note_carried(number, transfer, payload),
+            _ => self.apply_any(behind_put(conn, own, perf)),
+        }
     }
 
     /// The numbers of all deliveries.

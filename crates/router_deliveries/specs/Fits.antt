@@ -1,0 +1,37 @@
+-- When the table of deliveries is that which a trace gives.
+use Rattle.std.specs.Prelude.{◌≡◌, ℕ, Option, None}
+use Rattle.std.specs.Ordering.{nat_cmp}
+use Rattle.std.specs.BTreeMap.{get}
+use Rattle.amqp_perf.specs.declared.perf.Perf.{Perf}
+use Rattle.amqp_perf.specs.declared.perf.Perf.TheVariants as perf
+use Rattle.amqp_frames.specs.declared.item.Item.{Item}
+use Rattle.amqp_frames.specs.declared.item.Item.TheVariants as item
+use Rattle.router_trace.specs.Trace.{Trace}
+use Rattle.router_trace.specs.Deliveries.{bindings, delivery, sending, carried, tag_in}
+use Rattle.router_deliveries.specs.declared.deliveries.Deliveries.{Deliveries}
+use Rattle.router_deliveries.specs.declared.sending.Sending.{Sending}
+use Rattle.router_deliveries.specs.declared.store.Store.{Store}
+use Rattle.router_deliveries.specs.Places.{at}
+
+-- the deliveries are those of the trace
+pub record StoreFit (s : Store) (t : Trace) : Type 0 where
+  pub deliveries : (n : ℕ) → get nat_cmp s.deliveries n ≡ delivery t n
+
+-- so are those of which more frames are to go
+pub record SendingFit (s : Sending) (t : Trace) : Type 0 where
+  pub numbers : (c o h : ℕ) → at s.numbers c o h ≡ sending t c o h
+
+-- the table is that of the trace
+pub record DeliveriesFit (s : Deliveries) (t : Trace) : Type 0 where
+  pub bindings : s.bindings ≡ bindings t
+  pub store : StoreFit s.store t
+  pub sending : SendingFit s.sending t
+
+-- the delivery that a performative of the router carries
+abbrev pub carried_in : Perf → (ℕ → Option ℕ) → Option ℕ
+carried_in (perf.Transfer x) known = carried (tag_in x) (known x.handle)
+carried_in _ known = None
+
+abbrev pub carried_by : Item → (ℕ → ℕ → Option ℕ) → Option ℕ
+carried_by (item.Frame sasl own body payload) known = carried_in body (known own)
+carried_by _ known = None

@@ -1,0 +1,75 @@
+//! The table of deliveries.
+ghost use Rattle.std.specs.Prelude.{◌≡◌, ◌∷◌, [], List, OnOk};
+ghost use Rattle.std.specs.Option.{option_map};
+ghost use Rattle.router_trace.specs.Trace.{Entry, Out, Bound, did};
+ghost use Rattle.router_trace.specs.declared.event.Event.TheVariants as event;
+ghost use Rattle.router_trace.specs.Deliveries.{delivery};
+ghost use Rattle.router_deliveries.specs.Fits.{DeliveriesFit};
+
+use crate::delivery::Delivery;
+use crate::sending::Sending;
+use crate::store::Store;
+use amqp_frames::Item;
+use router_trace::{Binding, ConnectionId};
+use std::alloc::{AllocError, Global};
+
+/// The deliveries that the router passes on. Behind an error nothing can be said of the table.
+#[derive(Debug, Drop)]
+pub struct Deliveries {
+    // so many messages were bound
+    bindings: u64,
+    store: Store,
+    sending: Sending,
+}
+
+impl Deliveries {
+    /// No deliveries.
+    pub fn new(alloc: Global) -> Deliveries
+        ensures { DeliveriesFit result [] }
+    {
+        Deliveries {
+            bindings: 0,
+            store: Store::new(alloc),
+            sending: Sending::new(alloc),
+        }
+    }
+
+    /// The delivery of a number; none before it is bound, and once it is over.
+    pub fn delivery(&self, number: u64) -> Option<&Delivery>
+        ensures { (t : List Entry) → DeliveriesFit self.now t → option_map (λ d. d.now) result ≡ delivery t number }
+    {
+        self.store.get(number)
+    }
+
+    /// A message is bound to the link of a consumer. Fails where memory is refused, and where bindings can't be numbered any more.
+    pub fn bind(&mut self, binding: Binding) -> Result<(), AllocError>
+        ensures { OnOk result ((t : List Entry) → DeliveriesFit self.old t → DeliveriesFit self.new (Bound binding ∷ t)) }
+    {
+        let Some(number) = self.bindings.checked_add(1) else {
+            return Err(AllocError);
+        };
+        self.store.bind(number, binding)?;
+        self.bindings = number;
+        Ok(())
+    }
+
+    /// A connection is lost.
+    pub fn down(&mut self, conn: ConnectionId) -> Result<(), AllocError>
+        ensures { OnOk result ((t : List Entry) → DeliveriesFit self.old t → DeliveriesFit self.new (did (event.Down conn) ∷ t)) }
+    {
+        self.store.down(conn)?;
+        self.sending.down(conn);
+        Ok(())
+    }
+
+    /// An item is put in the outbox of a connection. Fails where memory is refused, and where the bytes of a delivery can't be
+    /// counted any more.
+    pub fn put(&mut self, conn: u64, item: &Item) -> Result<(), AllocError>
+        ensures { OnOk result ((t : List Entry) → DeliveriesFit self.old t → DeliveriesFit self.new (Out conn item.now ∷ t)) }
+    {
+        let number = self.sending.carried_by(conn, item);
+        self.store.put(conn, item, number)?;
+        self.sending.put(conn, item)?;
+        Ok(())
+    }
+}
