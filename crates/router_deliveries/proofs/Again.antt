@@ -8,7 +8,7 @@ use Rattle.amqp_perf.specs.declared.state.DeliveryState.{DeliveryState}
 use Rattle.router_trace.specs.Deliveries.{Delivery, unless_over, is_over, behind_ends, behind_origin, is_gone_with, ended, untold}
 use Rattle.router_deliveries.specs.declared.change.Change.{Change}
 use Rattle.router_deliveries.specs.declared.change.Change.TheVariants as change
-use Rattle.router_deliveries.specs.Stepping.{is_gone, comes_with_id, changed, behind}
+use Rattle.router_deliveries.specs.Stepping.{is_gone, comes_with_id, is_decided_by, changed, behind}
 
 -- a change that a delivery went through changes it no more
 settled_origin : (gone : Attachment → Bool) (d : Delivery) → behind_origin gone (behind_origin gone d) ≡ behind_origin gone d
@@ -46,6 +46,14 @@ changed_twice (change.Untold c o first last) d = by_test (comes_with_id d.origin
   where
     by_test : (b : Bool) → comes_with_id d.origin c o first last ≡ b → changed (change.Untold c o first last) (changed (change.Untold c o first last) d) ≡ changed (change.Untold c o first last) d
     by_test true e = rw e refl
+    by_test false e = rw (e, e) refl
+changed_twice (change.Decided c o first last made) d = by_test (is_decided_by d c o first last) refl
+  where
+    undecided_no_more : changed (change.Decided c o first last made) (record d { outcome = Some made }) ≡ record d { outcome = Some made }
+    undecided_no_more = refl
+
+    by_test : (b : Bool) → is_decided_by d c o first last ≡ b → changed (change.Decided c o first last made) (changed (change.Decided c o first last made) d) ≡ changed (change.Decided c o first last made) d
+    by_test true e = rw e undecided_no_more
     by_test false e = rw (e, e) refl
 
 kept_again : (x : Change) (d : Delivery) → changed x d ≡ d → behind x (unless_over d) ≡ unless_over d

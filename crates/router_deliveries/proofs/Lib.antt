@@ -2,3 +2,5 @@ mod Again
 mod Tags
 mod Keys
 mod Puts
+mod Closed
+mod Named

@@ -8,7 +8,7 @@ use Rattle.amqp_perf.specs.declared.perf.Role.{Role}
 use Rattle.amqp_perf.specs.declared.perf.Role.TheVariants.{Sender, Receiver}
 use Rattle.router_trace.specs.declared.binding.Origin.{Origin}
 use Rattle.router_trace.specs.declared.handle.Attachment.{Attachment}
-use Rattle.router_trace.specs.Deliveries.{Delivery, unless_over, stands_on, untold, is_gone_with, behind_ends, last_of}
+use Rattle.router_trace.specs.Deliveries.{Delivery, unless_over, stands_on, untold, is_undecided, is_gone_with, behind_ends, last_of}
 use Rattle.router_deliveries.specs.declared.change.Gone.{Gone}
 use Rattle.router_deliveries.specs.declared.change.Gone.TheVariants as gone
 use Rattle.router_deliveries.specs.declared.change.Change.{Change}
@@ -28,9 +28,18 @@ abbrev pub comes_with_id : Option Origin → ℕ → ℕ → ℕ → ℕ → Boo
 comes_with_id None c o first last = false
 comes_with_id (Some p) c o first last = stands_on p.link c o && in_range first last p.id
 
+-- a delivery is undecided, and the router gave it an id of this range, on a session
+abbrev pub is_in : Option ℕ → ℕ → ℕ → Bool
+is_in None first last = false
+is_in (Some id) first last = in_range first last id
+
+abbrev pub is_decided_by : Delivery → ℕ → ℕ → ℕ → ℕ → Bool
+is_decided_by d c o first last = is_undecided d && (stands_on d.link c o && is_in d.id first last)
+
 abbrev pub changed : Change → Delivery → Delivery
 changed (change.Ends g) d = behind_ends (is_gone g) d
 changed (change.Untold c o first last) d = if comes_with_id d.origin c o first last then untold d else d
+changed (change.Decided c o first last made) d = if is_decided_by d c o first last then record d { outcome = Some made } else d
 
 -- what is done to deliveries at once by a disposition that settles, and by what the router puts out
 abbrev pub untold_by : ℕ → ℕ → Disposition → Option Change

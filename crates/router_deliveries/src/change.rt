@@ -1,9 +1,9 @@
 //! What ends and dispositions do to deliveries.
 ghost use Rattle.std.specs.Prelude.{◌≡◌};
 ghost use Rattle.amqp_session.specs.Ranges.{in_range};
-ghost use Rattle.router_deliveries.specs.Stepping.{is_gone, is_gone_from, comes_with_id, put_change, untold_by};
+ghost use Rattle.router_deliveries.specs.Stepping.{is_gone, is_gone_from, comes_with_id, put_change, untold_by, is_in};
 
-use amqp_perf::{Disposition, Perf, Role};
+use amqp_perf::{DeliveryState, Disposition, Perf, Role};
 use amqp_session::Serial;
 use router_trace::{Attachment, Origin};
 
@@ -31,7 +31,7 @@ pub enum Gone {
 }
 
 /// What is done to deliveries at once.
-#[derive(Clone, Copy, Debug, PartialEq, Eq)]
+#[derive(Debug, Drop)]
 pub enum Change {
     /// Links end.
     Ends(Gone),
@@ -45,6 +45,19 @@ pub enum Change {
         first: u32,
         /// The last one.
         last: u32,
+    },
+    /// A consumer decides deliveries, those of a session to which the router gave ids of this range (AMQP 1.0 part 2, section 2.7.6).
+    Decided {
+        /// The connection.
+        conn: u64,
+        /// The router's channel of the session.
+        own: u16,
+        /// The first delivery-id.
+        first: u32,
+        /// The last one.
+        last: u32,
+        /// The outcome.
+        outcome: DeliveryState,
     },
 }
 
@@ -135,4 +148,14 @@ pub(crate) fn in_range(first: u32, last: u32, id: u32) -> bool
     let first = Serial::new(first);
     let reach = first.distance_to(Serial::new(last));
     reach < 0x8000_0000 && first.distance_to(Serial::new(id)) <= reach
+}
+
+/// Whether a delivery has an id of a disposition's range.
+pub(crate) fn is_in(id: Option<u32>, first: u32, last: u32) -> bool
+    ensures { result ≡ is_in id first last }
+{
+    match id {
+        None => false,
+        Some(id) => in_range(first, last, id),
+    }
 }

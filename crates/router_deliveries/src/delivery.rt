@@ -1,10 +1,10 @@
 //! Deliveries, as the table has them.
-ghost use Rattle.std.specs.Prelude.{◌≡◌, OnOk};
+ghost use Rattle.std.specs.Prelude.{◌≡◌, OnOk, if◌then◌else◌};
 ghost use Rattle.router_trace.specs.Deliveries.{bound, is_over, is_undecided, behind_frame, untold, ended, behind_ends};
-ghost use Rattle.router_deliveries.specs.Stepping.{is_gone, changed};
+ghost use Rattle.router_deliveries.specs.Stepping.{is_gone, is_decided_by, comes_with_id, changed};
 
-use crate::change::{Change, Gone, comes_with_id};
-use crate::state::failed;
+use crate::change::{Change, Gone, comes_with_id, is_in};
+use crate::state::{copy, failed};
 use amqp_perf::{DeliveryState, Transfer};
 use bytes::Bytes;
 use router_trace::{Attachment, Binding, Origin};
@@ -132,21 +132,47 @@ impl Delivery {
     }
 
     /// What a change does to it.
-    pub(crate) fn change(&mut self, change: Change)
-        ensures { self.new ≡ changed change self.old }
+    pub(crate) fn change(&mut self, change: &Change) -> Result<(), AllocError>
+        ensures { OnOk result (self.new ≡ changed change.now self.old) }
     {
         match change {
-            Change::Ends(gone) => self.leave(gone),
+            Change::Ends(gone) => self.leave(*gone),
             Change::Untold {
                 conn,
                 own,
                 first,
                 last,
+            } => self.untell_within(*conn, *own, *first, *last),
+            Change::Decided {
+                conn,
+                own,
+                first,
+                last,
+                outcome,
             } => {
-                if comes_with_id(self.origin, conn, own, first, last) {
-                    self.untell();
+                if self.is_decided_by(*conn, *own, *first, *last) {
+                    self.outcome = Some(copy(outcome)?);
                 }
             }
         }
+        Ok(())
+    }
+
+    /// Nobody is to be told of it any more, where its producer gave it an id of this range, on a session.
+    fn untell_within(&mut self, conn: u64, own: u16, first: u32, last: u32)
+        ensures { self.new ≡ (if comes_with_id self.old.origin conn own first last then untold self.old else self.old) }
+    {
+        if comes_with_id(self.origin, conn, own, first, last) {
+            self.untell();
+        }
+    }
+
+    /// Whether it is undecided, and the router gave it an id of this range, on a session.
+    fn is_decided_by(&self, conn: u64, own: u16, first: u32, last: u32) -> bool
+        ensures { result ≡ is_decided_by self.now conn own first last }
+    {
+        self.is_undecided()
+            && ((self.link.conn.0 == conn && self.link.channel == own)
+                && is_in(self.id, first, last))
     }
 }

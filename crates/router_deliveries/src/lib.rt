@@ -2,9 +2,11 @@
 #![tactic(auto)]
 
 mod by_handle;
+mod by_session;
 mod change;
 mod deliveries;
 mod delivery;
+mod names;
 mod sending;
 mod state;
 mod store;

@@ -36,7 +36,7 @@ fn without_state(settled: bool) -> Option<DeliveryState>
 }
 
 /// A copy of a delivery state.
-fn copy(state: &DeliveryState) -> Result<DeliveryState, AllocError>
+pub(crate) fn copy(state: &DeliveryState) -> Result<DeliveryState, AllocError>
     ensures { IfOk result (λ copied. copied ≡ state.now) }
 {
     Ok(match state {

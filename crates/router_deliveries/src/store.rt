@@ -10,6 +10,7 @@ ghost use Rattle.router_trace.specs.Trace.{Entry, Out, did};
 ghost use Rattle.amqp_frames.specs.declared.item.Item.TheVariants as item;
 ghost use Rattle.router_trace.specs.declared.event.Event.TheVariants as event;
 ghost use Rattle.router_deliveries.specs.Fits.{StoreFit, carried_in, carried_by};
+ghost use Rattle.router_deliveries.specs.Naming.{is_open};
 ghost use Rattle.router_deliveries.specs.Stepping.{behind, behind_any, IsKept};
 
 use crate::change::{Change, Gone, behind_put};
@@ -44,6 +45,16 @@ impl Store {
         ensures { option_map (λ d. d.now) result ≡ get nat_cmp self.now.deliveries number }
     {
         self.deliveries.get(&number)
+    }
+
+    /// Whether the delivery of a number is undecided.
+    pub(crate) fn is_open(&self, number: u64) -> bool
+        ensures { result ≡ is_open (get nat_cmp self.now.deliveries number) }
+    {
+        match self.deliveries.get(&number) {
+            None => false,
+            Some(delivery) => delivery.is_undecided(),
+        }
     }
 
     /// Takes the delivery of a number out.
@@ -93,21 +104,21 @@ impl Store {
     }
 
     /// Changes the delivery of a number.
-    fn change(&mut self, number: u64, change: Change) -> Result<(), AllocError>
+    fn change(&mut self, number: u64, change: &Change) -> Result<(), AllocError>
         ensures { OnOk result ((n : ℕ) → get nat_cmp self.new.deliveries n
-            ≡ (if number == n then behind change (get nat_cmp self.old.deliveries n) else get nat_cmp self.old.deliveries n)) }
+            ≡ (if number == n then behind change.now (get nat_cmp self.old.deliveries n) else get nat_cmp self.old.deliveries n)) }
     {
         let Some(mut delivery) = self.take(number) else {
             return Ok(());
         };
-        delivery.change(change);
+        delivery.change(change)?;
         self.keep(number, delivery)
     }
 
     /// Changes the deliveries of these numbers.
-    fn change_all(&mut self, numbers: &[u64], change: Change) -> Result<(), AllocError>
+    pub(crate) fn change_all(&mut self, numbers: &[u64], change: &Change) -> Result<(), AllocError>
         ensures { OnOk result ((n : ℕ) → get nat_cmp self.new.deliveries n
-            ≡ (if has n numbers.now then behind change (get nat_cmp self.old.deliveries n) else get nat_cmp self.old.deliveries n)) }
+            ≡ (if has n numbers.now then behind change.now (get nat_cmp self.old.deliveries n) else get nat_cmp self.old.deliveries n)) }
     {
         for number in numbers {
             self.change(*number, change)?;
@@ -116,9 +127,9 @@ impl Store {
     }
 
     /// Does this to all deliveries.
-    pub(crate) fn apply(&mut self, change: Change) -> Result<(), AllocError>
+    pub(crate) fn apply(&mut self, change: &Change) -> Result<(), AllocError>
         ensures { OnOk result (((n : ℕ) → IsKept (get nat_cmp self.old.deliveries n))
-            → (n : ℕ) → get nat_cmp self.new.deliveries n ≡ behind change (get nat_cmp self.old.deliveries n)) }
+            → (n : ℕ) → get nat_cmp self.new.deliveries n ≡ behind change.now (get nat_cmp self.old.deliveries n)) }
     {
         let numbers = self.numbers()?;
         self.change_all(numbers.as_slice(), change)
@@ -131,7 +142,7 @@ impl Store {
     {
         match change {
             None => Ok(()),
-            Some(change) => self.apply(change),
+            Some(change) => self.apply(&change),
         }
     }
 
@@ -158,7 +169,7 @@ impl Store {
     pub(crate) fn down(&mut self, conn: ConnectionId) -> Result<(), AllocError>
         ensures { OnOk result ((t : List Entry) → StoreFit self.old t → StoreFit self.new (did (event.Down conn) ∷ t)) }
     {
-        self.apply(Change::Ends(Gone::Connection(conn.0)))
+        self.apply(&Change::Ends(Gone::Connection(conn.0)))
     }
 
     /// An item is put in the outbox of a connection; a transfer carries the delivery of this number.

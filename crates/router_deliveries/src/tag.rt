@@ -1,5 +1,6 @@
 //! The tags that the router gives deliveries: 118 and the delivery's number in 8 bytes.
 ghost use Rattle.std.specs.Prelude.{◌≡◌};
+ghost use Rattle.std.specs.Option.{option_and_then};
 ghost use Rattle.router_trace.specs.Deliveries.{tagged, tag_in, carried};
 
 use amqp_perf::Transfer;
@@ -23,6 +24,16 @@ pub(crate) fn carried(transfer: &Transfer, before: Option<u64>) -> Option<u64>
 {
     match &transfer.delivery_tag {
         None => before,
+        Some(tag) => tagged(tag.as_slice()),
+    }
+}
+
+/// The number of the delivery that a transfer of the router begins, by its tag.
+pub(crate) fn number_of(transfer: &Transfer) -> Option<u64>
+    ensures { result ≡ option_and_then tagged (tag_in transfer.now) }
+{
+    match &transfer.delivery_tag {
+        None => None,
         Some(tag) => tagged(tag.as_slice()),
     }
 }

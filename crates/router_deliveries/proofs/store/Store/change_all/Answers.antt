@@ -9,6 +9,6 @@ use Rattle.router_deliveries.proofs.store.Store.change_all.Goals as goal
 pub loop-number-preserved : goal.loop-number-preserved
 loop-number-preserved c = λ n.
     let before = get nat_cmp c.loop-number.self.deliveries n in
-    one_more c.args.change n _ (drop (c.loop-number.number-index + 1) c.args.numbers.now) before _ (c.in_ok-change.ensures n)
-    ∙ sym (ap (λ l. finish c.args.change (has n l) before) (drop_more c.args.numbers.now c.loop-number.number-index 0 c.loop-number-test.true))
+    one_more c.args.change.now n _ (drop (c.loop-number.number-index + 1) c.args.numbers.now) before _ (c.in_ok-change.ensures n)
+    ∙ sym (ap (λ l. finish c.args.change.now (has n l) before) (drop_more c.args.numbers.now c.loop-number.number-index 0 c.loop-number-test.true))
     ∙ c.loop-number.invariant n
