@@ -71,7 +71,7 @@ twice x (Some d) = kept_again x (changed x d) (changed_twice x d)
 abbrev pub finish : Change → Bool → Option Delivery → Option Delivery
 finish x b v = if b then behind x v else v
 
-equal_back : (n m : ℕ) → (m == n) ≡ (n == m)
+pub equal_back : (n m : ℕ) → (m == n) ≡ (n == m)
 equal_back n m = grind (arith, nat_tests)
 
 pub one_more : (x : Change) (n m : ℕ) (more : List ℕ) (before after : Option Delivery) → after ≡ (if m == n then behind x before else before)

@@ -4,3 +4,5 @@ mod Keys
 mod Puts
 mod Closed
 mod Named
+mod Picked
+mod Heard

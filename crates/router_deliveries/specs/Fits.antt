@@ -11,6 +11,7 @@ use Rattle.router_trace.specs.Deliveries.{bindings, delivery, sending, carried, 
 use Rattle.router_deliveries.specs.declared.deliveries.Deliveries.{Deliveries}
 use Rattle.router_deliveries.specs.declared.sending.Sending.{Sending}
 use Rattle.router_deliveries.specs.declared.store.Store.{Store}
+use Rattle.router_deliveries.specs.Naming.{NamesFit}
 use Rattle.router_deliveries.specs.Places.{at}
 
 -- the deliveries are those of the trace
@@ -26,6 +27,7 @@ pub record DeliveriesFit (s : Deliveries) (t : Trace) : Type 0 where
   pub bindings : s.bindings ≡ bindings t
   pub store : StoreFit s.store t
   pub sending : SendingFit s.sending t
+  pub names : NamesFit s.names t
 
 -- the delivery that a performative of the router carries
 abbrev pub carried_in : Perf → (ℕ → Option ℕ) → Option ℕ
@@ -35,3 +37,8 @@ carried_in _ known = None
 abbrev pub carried_by : Item → (ℕ → ℕ → Option ℕ) → Option ℕ
 carried_by (item.Frame sasl own body payload) known = carried_in body (known own)
 carried_by _ known = None
+
+-- the channel of an item; 0 where it has none
+abbrev pub channel_of : Item → ℕ
+channel_of (item.Frame sasl channel body payload) = channel
+channel_of _ = 0

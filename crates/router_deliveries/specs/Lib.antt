@@ -1,5 +1,6 @@
 pub mod Places
 pub mod Stepping
+pub mod Hearing
 pub mod Fits
 pub mod Naming
 pub use Rattle.router_trace.specs.Trace

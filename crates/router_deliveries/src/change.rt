@@ -1,11 +1,15 @@
 //! What ends and dispositions do to deliveries.
-ghost use Rattle.std.specs.Prelude.{◌≡◌};
+ghost use Rattle.std.specs.Prelude.{◌≡◌, IfOk};
 ghost use Rattle.amqp_session.specs.Ranges.{in_range};
+ghost use Rattle.router_deliveries.specs.Hearing.{heard_change, heard_in_change, disposed_change, decided_by};
 ghost use Rattle.router_deliveries.specs.Stepping.{is_gone, is_gone_from, comes_with_id, put_change, untold_by, is_in};
 
+use crate::state::decision;
+use amqp_frames::Item;
 use amqp_perf::{DeliveryState, Disposition, Perf, Role};
 use amqp_session::Serial;
 use router_trace::{Attachment, Origin};
+use std::alloc::AllocError;
 
 /// Links that end, by their place.
 #[derive(Clone, Copy, Debug, PartialEq, Eq)]
@@ -119,6 +123,73 @@ pub(crate) fn untold_by(conn: u64, own: u16, disposition: &Disposition) -> Optio
         first: disposition.first,
         last: disposition.last.unwrap_or(disposition.first),
     })
+}
+
+/// What the peer's item does to deliveries at once, on the session on this channel of the router, where there is one.
+pub(crate) fn behind_heard(
+    conn: u64,
+    own: Option<u16>,
+    item: &Item,
+) -> Result<Option<Change>, AllocError>
+    ensures { IfOk result (λ change. change ≡ heard_change conn own item.now) }
+{
+    match item {
+        Item::Frame { sasl, perf, .. } => {
+            if *sasl {
+                return Ok(None);
+            }
+            behind_perf(conn, own, perf)
+        }
+        _ => Ok(None),
+    }
+}
+
+/// What the peer's performative does to deliveries at once.
+fn behind_perf(conn: u64, own: Option<u16>, perf: &Perf) -> Result<Option<Change>, AllocError>
+    ensures { IfOk result (λ change. change ≡ heard_in_change conn own perf.now) }
+{
+    match perf {
+        Perf::Disposition(disposition) => disposed(conn, own, disposition),
+        _ => Ok(None),
+    }
+}
+
+/// What the peer's disposition does to deliveries.
+fn disposed(
+    conn: u64,
+    own: Option<u16>,
+    disposition: &Disposition,
+) -> Result<Option<Change>, AllocError>
+    ensures { IfOk result (λ change. change ≡ disposed_change disposition.now.role conn own disposition.now) }
+{
+    let Some(own) = own else {
+        return Ok(None);
+    };
+    match disposition.role {
+        Role::Sender => Ok(untold_by(conn, own, disposition)),
+        Role::Receiver => Ok(decided_by(conn, own, disposition, decision(disposition)?)),
+    }
+}
+
+/// The deliveries that a disposition decides, where it tells an outcome.
+fn decided_by(
+    conn: u64,
+    own: u16,
+    disposition: &Disposition,
+    outcome: Option<DeliveryState>,
+) -> Option<Change>
+    ensures { result ≡ decided_by conn own disposition.now outcome }
+{
+    match outcome {
+        None => None,
+        Some(outcome) => Some(Change::Decided {
+            conn,
+            own,
+            first: disposition.first,
+            last: disposition.last.unwrap_or(disposition.first),
+            outcome,
+        }),
+    }
 }
 
 /// Whether a producer gave a delivery an id of this range, on a session.

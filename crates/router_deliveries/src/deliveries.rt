@@ -1,12 +1,16 @@
 //! The table of deliveries.
-ghost use Rattle.std.specs.Prelude.{◌≡◌, ◌∷◌, [], List, OnOk};
+ghost use Rattle.std.specs.Prelude.{◌≡◌, ◌∷◌, [], List, ℕ, OnOk};
 ghost use Rattle.std.specs.Option.{option_map};
 ghost use Rattle.router_trace.specs.Trace.{Entry, Out, Bound, did};
 ghost use Rattle.router_trace.specs.declared.event.Event.TheVariants as event;
 ghost use Rattle.router_trace.specs.Deliveries.{delivery};
-ghost use Rattle.router_deliveries.specs.Fits.{DeliveriesFit};
+ghost use Rattle.router_trace.specs.Sessions.{theirs, maps, is_channel};
+ghost use Rattle.router_deliveries.specs.Fits.{DeliveriesFit, channel_of};
 
+use crate::change::behind_heard;
 use crate::delivery::Delivery;
+use crate::hearing::hear;
+use crate::names::Names;
 use crate::sending::Sending;
 use crate::store::Store;
 use amqp_frames::Item;
@@ -20,6 +24,7 @@ pub struct Deliveries {
     bindings: u64,
     store: Store,
     sending: Sending,
+    names: Names,
 }
 
 impl Deliveries {
@@ -31,6 +36,7 @@ impl Deliveries {
             bindings: 0,
             store: Store::new(alloc),
             sending: Sending::new(alloc),
+            names: Names::new(alloc),
         }
     }
 
@@ -59,6 +65,22 @@ impl Deliveries {
     {
         self.store.down(conn)?;
         self.sending.down(conn);
+        self.names.down(conn);
+        Ok(())
+    }
+
+    /// An item came on a connection, on the session on this channel of the router, where its channel has one.
+    pub fn hear(
+        &mut self,
+        conn: ConnectionId,
+        own: Option<u16>,
+        item: &Item,
+    ) -> Result<(), AllocError>
+        ensures { OnOk result ((t : List Entry) → ((o : ℕ) → is_channel own o ≡ maps (theirs t conn.0 (channel_of item.now)) o)
+            → DeliveriesFit self.old t → DeliveriesFit self.new (did (event.Item conn item.now) ∷ t)) }
+    {
+        let change = behind_heard(conn.0, own, item)?;
+        hear(&mut self.store, &self.names, change)?;
         Ok(())
     }
 
@@ -69,6 +91,7 @@ impl Deliveries {
     {
         let number = self.sending.carried_by(conn, item);
         self.store.put(conn, item, number)?;
+        self.names.put(conn, item, &self.store, self.bindings)?;
         self.sending.put(conn, item)?;
         Ok(())
     }

@@ -6,6 +6,7 @@ mod by_session;
 mod change;
 mod deliveries;
 mod delivery;
+mod hearing;
 mod names;
 mod sending;
 mod state;

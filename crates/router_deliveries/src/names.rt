@@ -1,5 +1,5 @@
 //! The deliveries that delivery-ids of the router name.
-ghost use Rattle.std.specs.Prelude.{◌≡◌, ◌==◌, ◌∷◌, [], List, ℕ, Bool, None, if◌then◌else◌, OnOk};
+ghost use Rattle.std.specs.Prelude.{◌≡◌, ◌==◌, ◌∷◌, [], List, ℕ, Bool, None, if◌then◌else◌, OnOk, IfOk, ◌||◌};
 ghost use Rattle.std.specs.Option.{option_and_then};
 ghost use Rattle.std.specs.Ordering.{nat_cmp};
 ghost use Rattle.std.specs.BTreeMap.{get};
@@ -7,9 +7,11 @@ ghost use Rattle.amqp_perf.specs.declared.perf.Perf.TheVariants as perf;
 ghost use Rattle.amqp_frames.specs.declared.item.Item.TheVariants as item;
 ghost use Rattle.router_trace.specs.Trace.{Entry, Out, did};
 ghost use Rattle.router_trace.specs.declared.event.Event.TheVariants as event;
-ghost use Rattle.router_trace.specs.Deliveries.{bindings, is_id, tagged, tag_in};
+ghost use Rattle.router_trace.specs.Deliveries.{bindings, is_id, tagged, tag_in, is_number};
 ghost use Rattle.router_deliveries.specs.Places.{at_id};
 ghost use Rattle.router_deliveries.specs.Fits.{StoreFit};
+ghost use Rattle.amqp_session.specs.Ranges.{has};
+ghost use Rattle.router_deliveries.specs.Hearing.{id_of, picks, is_named_in};
 ghost use Rattle.router_deliveries.specs.Naming.{NamesFit, AreSmall, kept_name};
 
 use crate::by_session::BySession;
@@ -24,6 +26,7 @@ use std::alloc::{AllocError, Global};
 /// forgotten.
 #[derive(Debug, Drop)]
 pub(crate) struct Names {
+    alloc: Global,
     ids: BySession<u64>,
 }
 
@@ -33,6 +36,7 @@ impl Names {
         ensures { NamesFit result [] }
     {
         Names {
+            alloc,
             ids: BySession::new(alloc),
         }
     }
@@ -42,6 +46,38 @@ impl Names {
         ensures { result ≡ at_id self.now.ids conn own id }
     {
         self.ids.get(conn, own, id).copied()
+    }
+
+    /// The number of the delivery that an id names, where the delivery has this id.
+    fn picked(&self, store: &Store, conn: u64, own: u16, id: u32) -> Option<u64>
+        ensures { (n : ℕ) → is_number result n ≡ picks (at_id self.now.ids conn own) n (id_of (get nat_cmp store.now.deliveries n)) id }
+    {
+        let number = self.get(conn, own, id)?;
+        if store.has_id(number, id) {
+            Some(number)
+        } else {
+            None
+        }
+    }
+
+    /// The numbers of the deliveries that the ids of a disposition's range name, in its order.
+    pub(crate) fn in_range(
+        &self,
+        store: &Store,
+        conn: u64,
+        own: u16,
+        first: u32,
+        last: u32,
+    ) -> Result<Vec<u64>, AllocError>
+        ensures { IfOk result (λ numbers. AreSmall (at_id self.now.ids)
+            → (n : ℕ) → has n numbers.items ≡ is_named_in first last (at_id self.now.ids conn own) n (get nat_cmp store.now.deliveries n)) }
+    {
+        let mut numbers = Vec::new(self.alloc);
+        let ids = self.ids.in_range(conn, own, first, last)?;
+        for id in &ids {
+            add(&mut numbers, self.picked(store, conn, own, id.number()))?;
+        }
+        Ok(numbers)
     }
 
     /// A connection is lost.
@@ -133,4 +169,14 @@ fn kept_name(number: Option<u64>, store: &Store, count: u64) -> Option<u64>
         return None;
     }
     Some(number)
+}
+
+/// Puts a number behind others, where there is one.
+fn add(numbers: &mut Vec<u64>, number: Option<u64>) -> Result<(), AllocError>
+    ensures { OnOk result ((n : ℕ) → has n numbers.new.items ≡ (has n numbers.old.items || is_number number n)) }
+{
+    if let Some(number) = number {
+        numbers.push(number)?;
+    }
+    Ok(())
 }

@@ -5,11 +5,12 @@ ghost use Rattle.std.specs.Ordering.{nat_cmp};
 ghost use Rattle.std.specs.Map.{keys_of};
 ghost use Rattle.std.specs.BTreeMap.{get};
 ghost use Rattle.amqp_session.specs.Ranges.{has};
-ghost use Rattle.router_trace.specs.Deliveries.{unless_over, bound, behind_frame, is_number, sending};
+ghost use Rattle.router_trace.specs.Deliveries.{unless_over, bound, behind_frame, is_number, is_id, sending};
 ghost use Rattle.router_trace.specs.Trace.{Entry, Out, did};
 ghost use Rattle.amqp_frames.specs.declared.item.Item.TheVariants as item;
 ghost use Rattle.router_trace.specs.declared.event.Event.TheVariants as event;
 ghost use Rattle.router_deliveries.specs.Fits.{StoreFit, carried_in, carried_by};
+ghost use Rattle.router_deliveries.specs.Hearing.{id_of};
 ghost use Rattle.router_deliveries.specs.Naming.{is_open};
 ghost use Rattle.router_deliveries.specs.Stepping.{behind, behind_any, IsKept};
 
@@ -54,6 +55,16 @@ impl Store {
         match self.deliveries.get(&number) {
             None => false,
             Some(delivery) => delivery.is_undecided(),
+        }
+    }
+
+    /// Whether the delivery of a number has this id.
+    pub(crate) fn has_id(&self, number: u64, id: u32) -> bool
+        ensures { result ≡ is_id (id_of (get nat_cmp self.now.deliveries number)) id }
+    {
+        match self.deliveries.get(&number) {
+            None => false,
+            Some(delivery) => delivery.id == Some(id),
         }
     }
 

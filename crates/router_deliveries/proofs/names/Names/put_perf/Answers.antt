@@ -36,7 +36,7 @@ returns-in-End c = λ t sasl payload count at fit.
     let conn = c.args.conn in
     let own = c.args.own in
     let ends = Out conn (item.Frame sasl own (perf.End c.in-End.field-0) payload) in
-    subst (λ (p : Perf). NamesFit (record { ids = c.end.new.self }) (Out conn (item.Frame sasl own p payload) ∷ t)) (sym c.in-End.is)
+    subst (λ (p : Perf). NamesFit (record { alloc = c.args.self.now.alloc; ids = c.end.new.self }) (Out conn (item.Frame sasl own p payload) ∷ t)) (sym c.in-End.is)
     (record {
       names = λ d o id. set_row (ends ∷ t) (conn == d) (own == o) true _ None (at_id c.args.self.now.ids d o id) None (named t d o id)
           (c.end.ensures d o id) tt (still ends t (at_id c.args.self.now.ids d o id) (named t d o id) (fit.names d o id));
