@@ -3,7 +3,7 @@ ghost use Rattle.std.specs.Prelude.{◌≡◌, ◌∷◌, [], List, ℕ, OnOk};
 ghost use Rattle.std.specs.Option.{option_map};
 ghost use Rattle.router_trace.specs.Trace.{Entry, Out, Bound, did};
 ghost use Rattle.router_trace.specs.declared.event.Event.TheVariants as event;
-ghost use Rattle.router_trace.specs.Deliveries.{delivery};
+ghost use Rattle.router_trace.specs.Deliveries.{delivery, next_id, sending};
 ghost use Rattle.router_trace.specs.Sessions.{theirs, maps, is_channel};
 ghost use Rattle.router_deliveries.specs.Fits.{DeliveriesFit, channel_of};
 
@@ -11,6 +11,7 @@ use crate::change::behind_heard;
 use crate::delivery::Delivery;
 use crate::hearing::hear;
 use crate::names::Names;
+use crate::next_ids::NextIds;
 use crate::sending::Sending;
 use crate::store::Store;
 use amqp_frames::Item;
@@ -25,6 +26,7 @@ pub struct Deliveries {
     store: Store,
     sending: Sending,
     names: Names,
+    next_ids: NextIds,
 }
 
 impl Deliveries {
@@ -37,6 +39,7 @@ impl Deliveries {
             store: Store::new(alloc),
             sending: Sending::new(alloc),
             names: Names::new(alloc),
+            next_ids: NextIds::new(alloc),
         }
     }
 
@@ -45,6 +48,20 @@ impl Deliveries {
         ensures { (t : List Entry) → DeliveriesFit self.now t → option_map (λ d. d.now) result ≡ delivery t number }
     {
         self.store.get(number)
+    }
+
+    /// The delivery-id that the router gives next on a session of its own: 0 behind its begin, one more behind each that it gave.
+    pub fn next_id(&self, conn: u64, own: u16) -> u32
+        ensures { (t : List Entry) → DeliveriesFit self.now t → result ≡ next_id t conn own }
+    {
+        self.next_ids.get(conn, own)
+    }
+
+    /// The delivery of which more frames are to go on a handle of the router.
+    pub fn sending(&self, conn: u64, own: u16, handle: u32) -> Option<u64>
+        ensures { (t : List Entry) → DeliveriesFit self.now t → result ≡ sending t conn own handle }
+    {
+        self.sending.on(conn, own, handle)
     }
 
     /// A message is bound to the link of a consumer. Fails where memory is refused, and where bindings can't be numbered any more.
@@ -66,6 +83,7 @@ impl Deliveries {
         self.store.down(conn)?;
         self.sending.down(conn);
         self.names.down(conn);
+        self.next_ids.down(conn);
         Ok(())
     }
 
@@ -93,6 +111,7 @@ impl Deliveries {
         self.store.put(conn, item, number)?;
         self.names.put(conn, item, &self.store, self.bindings)?;
         self.sending.put(conn, item)?;
+        self.next_ids.put(conn, item)?;
         Ok(())
     }
 }

@@ -8,6 +8,7 @@ mod deliveries;
 mod delivery;
 mod hearing;
 mod names;
+mod next_ids;
 mod sending;
 mod state;
 mod store;

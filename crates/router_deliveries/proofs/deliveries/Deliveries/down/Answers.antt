@@ -6,4 +6,5 @@ returns c = λ t fit. record {
   store = c.in_ok-down.ensures t fit.store;
   sending = c.down-2.ensures t fit.sending;
   names = c.down-3.ensures t fit.names;
+  next_ids = c.down-4.ensures t fit.next_ids;
 }

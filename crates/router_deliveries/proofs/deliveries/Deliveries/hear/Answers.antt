@@ -24,5 +24,6 @@ returns c = λ t channel fit.
             ∙ heard_follows c.args.conn c.args.item.now t n c.args.own known channel (λ o id. fit.names.names c.args.conn.0 o id);
       };
       sending = record { numbers = λ d o h. fit.sending.numbers d o h };
+      next_ids = record { ids = λ d o. fit.next_ids.ids d o };
       names = record { names = λ d o id. still hears t (known d o id) (named t d o id) (fit.names.names d o id); small = fit.names.small };
     }
