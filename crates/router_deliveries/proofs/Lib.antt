@@ -6,3 +6,4 @@ mod Closed
 mod Named
 mod Picked
 mod Heard
+mod Reindexed

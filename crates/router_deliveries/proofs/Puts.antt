@@ -145,8 +145,12 @@ other_frame c own n sasl body payload known other v keeps = quiet c n (item.Fram
 pub unframed : (s : Store) (c : ℕ) (i : Item) (t : Trace) → ((sasl : Bool) (own : ℕ) (body : Perf) (payload : List ℕ) → i ≡ item.Frame sasl own body payload → ⊥)
     → StoreFit s t → StoreFit s (Out c i ∷ t)
 unframed s c (item.Frame sasl own body payload) t other fit = absurd (other sasl own body payload refl)
-unframed s c i t other fit = record { deliveries = λ n. fit.deliveries n ∙ quiet c n i (sending t c) (λ d. refl) (delivery t n) (kept t n) }
+unframed s c i t other fit = record { deliveries = λ n. fit.deliveries n ∙ quiet c n i (sending t c) (λ d. refl) (delivery t n) (kept t n); indexed = fit.indexed }
 
 pub on_ok : {T E P Q : Type 0} (r : Result T E) → (P → Q) → OnOk r P → OnOk r Q
 on_ok (Ok x) f h = f h
 on_ok (Err e) f h = tt
+
+pub on_ok_both : {T E P Q R : Type 0} (r : Result T E) → (P → Q → R) → OnOk r P → OnOk r Q → OnOk r R
+on_ok_both (Ok x) f p q = f p q
+on_ok_both (Err e) f p q = tt

@@ -12,12 +12,18 @@ use Rattle.router_deliveries.specs.declared.deliveries.Deliveries.{Deliveries}
 use Rattle.router_deliveries.specs.declared.next_ids.NextIds.{NextIds}
 use Rattle.router_deliveries.specs.declared.sending.Sending.{Sending}
 use Rattle.router_deliveries.specs.declared.store.Store.{Store}
+use Rattle.router_deliveries.specs.Indexing.{Indexes, standing}
 use Rattle.router_deliveries.specs.Naming.{NamesFit}
 use Rattle.router_deliveries.specs.Places.{at, in_map}
+
+-- the deliveries stand in the indexes
+abbrev pub Indexed : Store → Type 0
+Indexed s = Indexes s.index (λ n. standing (get nat_cmp s.deliveries n))
 
 -- the deliveries are those of the trace
 pub record StoreFit (s : Store) (t : Trace) : Type 0 where
   pub deliveries : (n : ℕ) → get nat_cmp s.deliveries n ≡ delivery t n
+  pub indexed : Indexed s
 
 -- so are those of which more frames are to go
 pub record SendingFit (s : Sending) (t : Trace) : Type 0 where

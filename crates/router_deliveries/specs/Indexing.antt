@@ -1,5 +1,5 @@
 -- Deliveries found by what is asked of them: the indexes of a table.
-use Rattle.std.specs.Prelude.{◌≡◌, ℕ, Bool, true, false, not, ◌&&◌, if◌then◌else◌, is_none, is_some, Option, Some, None}
+use Rattle.std.specs.Prelude.{◌≡◌, ℕ, Bool, false, not, ◌&&◌, if◌then◌else◌, is_none, is_some, Option, Some, None}
 use Rattle.std.specs.Ordering.{nat_cmp}
 use Rattle.std.specs.BTreeMap.{get}
 use Rattle.std.specs.BTreeSet.{BTreeSet, contains}
@@ -36,9 +36,9 @@ keys d = record {
 abbrev pub nowhere : Keys
 nowhere = record { waiting = None; undecided = None; held = None; to_tell = false }
 
-abbrev pub keys_of : Option Delivery → Keys
-keys_of None = nowhere
-keys_of (Some d) = keys d
+abbrev pub standing : Option Delivery → Keys
+standing None = nowhere
+standing (Some d) = keys d
 
 -- each number stands where it should
 pub record Indexes (s : Index) (known : ℕ → Keys) : Type 0 where

@@ -2,6 +2,7 @@
 ghost use Rattle.std.specs.Prelude.{◌≡◌, ℕ, OnOk};
 ghost use Rattle.std.specs.Ordering.{nat_cmp};
 ghost use Rattle.std.specs.BTreeMap.{get};
+ghost use Rattle.router_deliveries.specs.Fits.{Indexed};
 ghost use Rattle.router_deliveries.specs.Hearing.{heard_by, done_to};
 ghost use Rattle.router_deliveries.specs.Naming.{AreSmall};
 ghost use Rattle.router_deliveries.specs.Places.{at_id};
@@ -18,8 +19,9 @@ pub(crate) fn hear(
     names: &Names,
     change: Option<Change>,
 ) -> Result<(), AllocError>
-    ensures { OnOk result (((n : ℕ) → IsKept (get nat_cmp store.old.deliveries n)) → AreSmall (at_id names.now.ids)
+    ensures deliveries { OnOk result (((n : ℕ) → IsKept (get nat_cmp store.old.deliveries n)) → AreSmall (at_id names.now.ids)
         → (n : ℕ) → get nat_cmp store.new.deliveries n ≡ heard_by change (at_id names.now.ids) n (get nat_cmp store.old.deliveries n)) }
+    ensures indexed { OnOk result (Indexed store.old → Indexed store.new) }
 {
     match change {
         None => Ok(()),
@@ -29,8 +31,9 @@ pub(crate) fn hear(
 
 /// Does this to the deliveries.
 fn hear_one(store: &mut Store, names: &Names, change: &Change) -> Result<(), AllocError>
-    ensures { OnOk result (((n : ℕ) → IsKept (get nat_cmp store.old.deliveries n)) → AreSmall (at_id names.now.ids)
+    ensures deliveries { OnOk result (((n : ℕ) → IsKept (get nat_cmp store.old.deliveries n)) → AreSmall (at_id names.now.ids)
         → (n : ℕ) → get nat_cmp store.new.deliveries n ≡ done_to change.now (at_id names.now.ids) n (get nat_cmp store.old.deliveries n)) }
+    ensures indexed { OnOk result (Indexed store.old → Indexed store.new) }
 {
     match change {
         Change::Decided {

@@ -3,7 +3,7 @@ ghost use Rattle.std.specs.Prelude.{◌≡◌, ◌==◌, ℕ, Bool, None, true, 
 ghost use Rattle.std.specs.Ordering.{nat_cmp};
 ghost use Rattle.std.specs.BTreeSet.{contains};
 ghost use Rattle.router_deliveries.specs.declared.index.Keys.{Keys as TheKeys};
-ghost use Rattle.router_deliveries.specs.Indexing.{Indexes, nowhere, keys, on_link};
+ghost use Rattle.router_deliveries.specs.Indexing.{Indexes, nowhere, keys, standing, on_link};
 
 use crate::delivery::Delivery;
 use crate::groups::{Groups, add};
@@ -49,13 +49,26 @@ impl Keys {
         }
     }
 
+    /// Where a delivery stands that there may be.
+    pub(crate) fn standing(delivery: &Option<Delivery>) -> Keys
+        ensures { result ≡ standing delivery.now }
+    {
+        match delivery {
+            None => Keys::nowhere(),
+            Some(delivery) => Keys::of(delivery),
+        }
+    }
+
     /// Where a delivery stands.
     pub(crate) fn of(delivery: &Delivery) -> Keys
         ensures { result ≡ keys delivery.now }
     {
         let undecided = delivery.outcome.is_none();
         Keys {
-            waiting: on_link(delivery.link.number, delivery.id.is_none() && delivery.going_on),
+            waiting: on_link(
+                delivery.link.number,
+                delivery.id.is_none() && delivery.going_on,
+            ),
             undecided: on_link(delivery.link.number, undecided),
             held: match delivery.origin {
                 None => None,

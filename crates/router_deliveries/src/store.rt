@@ -9,13 +9,16 @@ ghost use Rattle.router_trace.specs.Deliveries.{unless_over, bound, behind_frame
 ghost use Rattle.router_trace.specs.Trace.{Entry, Out, did};
 ghost use Rattle.amqp_frames.specs.declared.item.Item.TheVariants as item;
 ghost use Rattle.router_trace.specs.declared.event.Event.TheVariants as event;
-ghost use Rattle.router_deliveries.specs.Fits.{StoreFit, carried_in, carried_by};
+ghost use Rattle.router_deliveries.specs.Fits.{Indexed, StoreFit, carried_in, carried_by};
+ghost use Rattle.router_deliveries.specs.declared.index.Keys.{Keys as TheKeys};
+ghost use Rattle.router_deliveries.specs.Indexing.{Indexes, standing};
 ghost use Rattle.router_deliveries.specs.Hearing.{id_of};
 ghost use Rattle.router_deliveries.specs.Naming.{is_open};
 ghost use Rattle.router_deliveries.specs.Stepping.{behind, behind_any, IsKept};
 
 use crate::change::{Change, Gone, behind_put};
 use crate::delivery::Delivery;
+use crate::index::{Index, Keys};
 use amqp_frames::Item;
 use amqp_perf::{Perf, Transfer};
 use bytes::Bytes;
@@ -28,16 +31,19 @@ use std::collections::BTreeMap;
 pub(crate) struct Store {
     alloc: Global,
     deliveries: BTreeMap<u64, Delivery>,
+    index: Index,
 }
 
 impl Store {
     /// No deliveries.
     pub(crate) fn new(alloc: Global) -> Store
-        ensures { (n : ℕ) → get nat_cmp result.deliveries n ≡ None }
+        ensures deliveries { (n : ℕ) → get nat_cmp result.deliveries n ≡ None }
+        ensures indexed { Indexed result }
     {
         Store {
             alloc,
             deliveries: BTreeMap::new(alloc),
+            index: Index::new(alloc),
         }
     }
 
@@ -72,18 +78,22 @@ impl Store {
     fn take(&mut self, number: u64) -> Option<Delivery>
         ensures gives { result ≡ get nat_cmp self.old.deliveries number }
         ensures gone { (n : ℕ) → get nat_cmp self.new.deliveries n ≡ (if number == n then None else get nat_cmp self.old.deliveries n) }
+        ensures index { self.new.index ≡ self.old.index }
     {
         self.deliveries.remove(&number)
     }
 
-    /// Gives a number this delivery, unless it is over.
-    fn keep(&mut self, number: u64, delivery: Delivery) -> Result<(), AllocError>
-        ensures { OnOk result ((n : ℕ) → get nat_cmp self.new.deliveries n ≡ (if number == n then unless_over delivery else get nat_cmp self.old.deliveries n)) }
+    /// Gives a number this delivery, unless it is over; what had the number stood here in the indexes.
+    fn keep(&mut self, number: u64, before: Keys, delivery: Delivery) -> Result<(), AllocError>
+        ensures deliveries { OnOk result ((n : ℕ) → get nat_cmp self.new.deliveries n ≡ (if number == n then unless_over delivery else get nat_cmp self.old.deliveries n)) }
+        ensures indexed { OnOk result ((known : ℕ → TheKeys) → known number ≡ before → Indexes self.old.index known
+            → Indexes self.new.index (λ n. if number == n then standing (unless_over delivery) else known n)) }
     {
         if delivery.is_over() {
             let _ = self.deliveries.remove(&number);
-            return Ok(());
+            return self.index.shift(number, before, Keys::nowhere());
         }
+        self.index.shift(number, before, Keys::of(&delivery))?;
         match self.deliveries.insert(number, delivery) {
             Ok(_) => Ok(()),
             Err(_) => Err(AllocError),
@@ -92,9 +102,12 @@ impl Store {
 
     /// Notes a message that was bound, under its number.
     pub(crate) fn bind(&mut self, number: u64, binding: Binding) -> Result<(), AllocError>
-        ensures { OnOk result ((n : ℕ) → get nat_cmp self.new.deliveries n ≡ (if number == n then Some (bound binding) else get nat_cmp self.old.deliveries n)) }
+        ensures deliveries { OnOk result ((n : ℕ) → get nat_cmp self.new.deliveries n ≡ (if number == n then Some (bound binding) else get nat_cmp self.old.deliveries n)) }
+        ensures indexed { OnOk result (Indexed self.old → Indexed self.new) }
     {
-        self.keep(number, Delivery::bound(binding))
+        let taken = self.take(number);
+        let before = Keys::standing(&taken);
+        self.keep(number, before, Delivery::bound(binding))
     }
 
     /// Notes a transfer that carries so many bytes of the delivery of a number.
@@ -104,32 +117,37 @@ impl Store {
         transfer: &Transfer,
         count: u64,
     ) -> Result<(), AllocError>
-        ensures { OnOk result ((n : ℕ) → get nat_cmp self.new.deliveries n
+        ensures deliveries { OnOk result ((n : ℕ) → get nat_cmp self.new.deliveries n
             ≡ (if number == n then option_and_then (λ d. unless_over (behind_frame transfer.now count d)) (get nat_cmp self.old.deliveries n) else get nat_cmp self.old.deliveries n)) }
+        ensures indexed { OnOk result (Indexed self.old → Indexed self.new) }
     {
         let Some(mut delivery) = self.take(number) else {
             return Ok(());
         };
+        let before = Keys::of(&delivery);
         delivery.note_frame(transfer, count)?;
-        self.keep(number, delivery)
+        self.keep(number, before, delivery)
     }
 
     /// Changes the delivery of a number.
     fn change(&mut self, number: u64, change: &Change) -> Result<(), AllocError>
-        ensures { OnOk result ((n : ℕ) → get nat_cmp self.new.deliveries n
+        ensures deliveries { OnOk result ((n : ℕ) → get nat_cmp self.new.deliveries n
             ≡ (if number == n then behind change.now (get nat_cmp self.old.deliveries n) else get nat_cmp self.old.deliveries n)) }
+        ensures indexed { OnOk result (Indexed self.old → Indexed self.new) }
     {
         let Some(mut delivery) = self.take(number) else {
             return Ok(());
         };
+        let before = Keys::of(&delivery);
         delivery.change(change)?;
-        self.keep(number, delivery)
+        self.keep(number, before, delivery)
     }
 
     /// Changes the deliveries of these numbers.
     pub(crate) fn change_all(&mut self, numbers: &[u64], change: &Change) -> Result<(), AllocError>
-        ensures { OnOk result ((n : ℕ) → get nat_cmp self.new.deliveries n
+        ensures deliveries { OnOk result ((n : ℕ) → get nat_cmp self.new.deliveries n
             ≡ (if has n numbers.now then behind change.now (get nat_cmp self.old.deliveries n) else get nat_cmp self.old.deliveries n)) }
+        ensures indexed { OnOk result (Indexed self.old → Indexed self.new) }
     {
         for number in numbers {
             self.change(*number, change)?;
@@ -139,8 +157,9 @@ impl Store {
 
     /// Does this to all deliveries.
     pub(crate) fn apply(&mut self, change: &Change) -> Result<(), AllocError>
-        ensures { OnOk result (((n : ℕ) → IsKept (get nat_cmp self.old.deliveries n))
+        ensures deliveries { OnOk result (((n : ℕ) → IsKept (get nat_cmp self.old.deliveries n))
             → (n : ℕ) → get nat_cmp self.new.deliveries n ≡ behind change.now (get nat_cmp self.old.deliveries n)) }
+        ensures indexed { OnOk result (Indexed self.old → Indexed self.new) }
     {
         let numbers = self.numbers()?;
         self.change_all(numbers.as_slice(), change)
@@ -148,8 +167,9 @@ impl Store {
 
     /// Does this to all deliveries, where anything is to be done.
     pub(crate) fn apply_any(&mut self, change: Option<Change>) -> Result<(), AllocError>
-        ensures { OnOk result (((n : ℕ) → IsKept (get nat_cmp self.old.deliveries n))
+        ensures deliveries { OnOk result (((n : ℕ) → IsKept (get nat_cmp self.old.deliveries n))
             → (n : ℕ) → get nat_cmp self.new.deliveries n ≡ behind_any change (get nat_cmp self.old.deliveries n)) }
+        ensures indexed { OnOk result (Indexed self.old → Indexed self.new) }
     {
         match change {
             None => Ok(()),
@@ -164,8 +184,9 @@ impl Store {
         transfer: &Transfer,
         payload: &Bytes,
     ) -> Result<(), AllocError>
-        ensures { OnOk result ((n : ℕ) → get nat_cmp self.new.deliveries n
+        ensures deliveries { OnOk result ((n : ℕ) → get nat_cmp self.new.deliveries n
             ≡ (if is_number number n then option_and_then (λ d. unless_over (behind_frame transfer.now (length payload.now) d)) (get nat_cmp self.old.deliveries n) else get nat_cmp self.old.deliveries n)) }
+        ensures indexed { OnOk result (Indexed self.old → Indexed self.new) }
     {
         match number {
             None => Ok(()),

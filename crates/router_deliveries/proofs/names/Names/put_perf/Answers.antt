@@ -53,3 +53,15 @@ returns-in_default c = λ t sasl payload count at fit.
           (still puts t (at_id c.args.self.now.ids d o id) (named t d o id) (fit.names d o id));
       small = fit.small;
     }
+
+pub returns-in-Close : goal.returns-in-Close
+returns-in-Close c = λ t sasl payload count at fit.
+    let conn = c.args.conn in
+    let old = at_id c.args.self.now.ids in
+    let closes = Out conn (item.Frame sasl c.args.own (perf.Close c.in-Close.field-0) payload) in
+    subst (λ (p : Perf). NamesFit (record { alloc = c.args.self.now.alloc; ids = c.forget.new.self }) (Out conn (item.Frame sasl c.args.own p payload) ∷ t)) (sym c.in-Close.is)
+    (record {
+      names = λ d o id. set_row (closes ∷ t) (conn == d) true true _ None (old d o id) None (named t d o id)
+          (c.forget.ensures d o id) tt (still closes t (old d o id) (named t d o id) (fit.names d o id));
+      small = λ d o id. small_end (conn == d) true id _ (old d o id) (c.forget.ensures d o id) (fit.small d o id);
+    })
