@@ -13,7 +13,7 @@ use Rattle.router_trace.specs.declared.event.ConnectionId.{ConnectionId}
 use Rattle.router_trace.specs.declared.event.Event.{Event}
 use Rattle.router_trace.specs.declared.handle.Attachment.{Attachment}
 use Rattle.router_trace.specs.declared.event.Event.TheVariants as event
-use Rattle.router_trace.specs.Trace.{Entry, Put, Did, Out, Took, did, goes, puts, each_to, ups, step_of}
+use Rattle.router_trace.specs.Trace.{Entry, Put, Did, Out, Took, Bound, did, goes, puts, each_to, ups, step_of}
 use Rattle.router_trace.specs.Connection.{Connection, conn, ended, took, unless_empty, drained, standing, is_live, is_full, is_due, has, due, found, live, live_of, at_event}
 use Rattle.router_trace.specs.Refusing.{refuses}
 use Rattle.router_trace.specs.Frames.{header_item}
@@ -150,6 +150,7 @@ untold [] c h = refl
 untold (Did s ∷ t) c h = untold_at s.event c (ins t c) (terms t c) h (untold t c (came_none s.event c (ins t c) h))
 untold (Out d i ∷ t) c h = goes_strange (record { conn = d; item = i } ∷ []) t c (untold t c h)
 untold (Took d n ∷ t) c h = untold t c h
+untold (Bound b ∷ t) c h = untold t c h
 
 -- an item of another connection puts nothing where no link is attached
 

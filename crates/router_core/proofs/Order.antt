@@ -10,7 +10,7 @@ use Rattle.router_trace.specs.declared.channel.PeerChannel.{PeerChannel}
 use Rattle.router_trace.specs.declared.event.ConnectionId.{ConnectionId}
 use Rattle.router_trace.specs.declared.event.Event.{Event}
 use Rattle.router_trace.specs.declared.event.Event.TheVariants as event
-use Rattle.router_trace.specs.Trace.{Entry, Did, Out, Took, did, ups, with_up, newer, newest, step_of}
+use Rattle.router_trace.specs.Trace.{Entry, Did, Out, Took, Bound, did, ups, with_up, newer, newest, step_of}
 use Rattle.router_trace.specs.Connection.{Connection, conn, ended, took, unless_empty, drained, is_full, is_due, has, due, found, live_of, at_event, fresh}
 use Rattle.router_trace.specs.Refusing.{reaches, rises, refuses}
 use Rattle.router_trace.specs.Sessions.{session, session_at, heard_by, heard_in, maps, theirs}
@@ -77,6 +77,7 @@ no_session (Did s ∷ t) c none o = still_none s.event c o (theirs t c) (session
 no_session (Out d i ∷ t) c none o =
     by_test (d == c) (λ e. absurd (push_some (outs t c) i (rw e at none))) (λ e. rw e (no_session t c (rw e at none) o))
 no_session (Took d n ∷ t) c none o = no_session t c none o
+no_session (Bound b ∷ t) c none o = no_session t c none o
 
 event_phases : (t : List Entry) (e : Event) → Ordered t → refuses t e ≡ false → (c n : ℕ) (v : Connection)
     → at_event e c n (found t e c) ≡ Some v → v.phase.closed ≡ false → (wrote t c).phase ≡ v.phase

@@ -9,7 +9,7 @@ use Rattle.amqp_frames.specs.declared.item.Item.TheVariants as item
 use Rattle.router_trace.specs.declared.event.Event.{Event}
 use Rattle.router_trace.specs.declared.event.Event.TheVariants as event
 use Rattle.router_core.specs.declared.driving.Sent.{Sent}
-use Rattle.router_trace.specs.Trace.{Trace, Did, Out, Took, Step}
+use Rattle.router_trace.specs.Trace.{Trace, Did, Out, Took, Bound, Step}
 use Rattle.router_trace.specs.Connection.{conn, is_full, is_live}
 use Rattle.router_trace.specs.Sessions.{session}
 use Rattle.router_core.specs.Replies.{answered}
@@ -73,6 +73,7 @@ WindowKept [] = Unit {0}
 WindowKept (Did s ∷ t) = WindowKept t
 WindowKept (Out c i ∷ t) = keeps_window i (session t c) × WindowKept t
 WindowKept (Took c n ∷ t) = WindowKept t
+WindowKept (Bound b ∷ t) = WindowKept t
 
 -- so it is in every trace of the router, and in every list of events
 abbrev pub TracesKeepWindows : Type 0
@@ -87,6 +88,7 @@ untaken [] = []
 untaken (Did s ∷ t) = Did s ∷ untaken t
 untaken (Out c i ∷ t) = Out c i ∷ untaken t
 untaken (Took c n ∷ t) = untaken t
+untaken (Bound b ∷ t) = Bound b ∷ untaken t
 
 abbrev pub events_of : List Move → List Step
 events_of [] = []
@@ -122,6 +124,7 @@ own_part c [] = []
 own_part c (Did s ∷ t) = if is_about c s.event then Did s ∷ own_part c t else own_part c t
 own_part c (Out d i ∷ t) = if d == c then Out d i ∷ own_part c t else own_part c t
 own_part c (Took d n ∷ t) = own_part c t
+own_part c (Bound b ∷ t) = own_part c t
 
 abbrev pub comes_up : ℕ → Event → Bool
 comes_up c (event.Up d p) = d.0 == c

@@ -4,7 +4,7 @@ use Rattle.std.specs.Prelude.{◌≡◌, ◌==◌, ℕ, false, if◌then◌else�
 use Rattle.amqp_frames.specs.declared.item.Item.{Item}
 use Rattle.router_trace.specs.declared.event.Event.{Event}
 use Rattle.router_trace.specs.declared.event.Event.TheVariants as event
-use Rattle.router_trace.specs.Trace.{Trace, Did, Out, Took, Step}
+use Rattle.router_trace.specs.Trace.{Trace, Did, Out, Took, Bound, Step}
 use Rattle.router_trace.specs.Refusing.{refuses}
 use Rattle.router_core.specs.Replies.{answered}
 use Rattle.router_core.specs.Runs.{Taking, took_one}
@@ -34,6 +34,7 @@ ins [] c = []
 ins (Did s ∷ t) c = with_came s.event c (ins t c)
 ins (Out d i ∷ t) c = ins t c
 ins (Took d n ∷ t) c = ins t c
+ins (Bound b ∷ t) c = ins t c
 
 -- the items put out for a connection, the first of them first
 abbrev pub outs : Trace → ℕ → List Item
@@ -41,3 +42,4 @@ outs [] c = []
 outs (Did s ∷ t) c = outs t c
 outs (Out d i ∷ t) c = if d == c then outs t c ++ i ∷ [] else outs t c
 outs (Took d n ∷ t) c = outs t c
+outs (Bound b ∷ t) c = outs t c

@@ -13,7 +13,7 @@ use Rattle.router_play.specs.declared.line.Line.{Line}
 use Rattle.router_play.specs.declared.line.Line.TheVariants as line
 use Rattle.router_play.specs.declared.script.Step.{Step}
 use Rattle.router_play.specs.declared.script.Step.TheVariants as step
-use Rattle.router_trace.specs.Trace.{Trace, Did, Out, Took}
+use Rattle.router_trace.specs.Trace.{Trace, Did, Out, Took, Bound}
 use Rattle.router_trace.specs.Connection.{conn, is_live}
 use Rattle.router_trace.specs.Refusing.{rises}
 use Rattle.router_core.specs.Door.{Verdict, says, passes, ends, door, door_behind}
@@ -30,6 +30,7 @@ was_lost [] c = false
 was_lost (Did s ∷ t) c = is_loss_of s.event c || was_lost t c
 was_lost (Out d i ∷ t) c = was_lost t c
 was_lost (Took d n ∷ t) c = was_lost t c
+was_lost (Bound b ∷ t) c = was_lost t c
 
 -- the steps behind the making of a connection: its number is above that of each connection made before
 abbrev pub behind_up : ℕ → Option ℕ → List Step → List Step

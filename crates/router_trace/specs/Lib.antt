@@ -8,6 +8,8 @@ pub mod Clocks
 pub mod Peers
 pub mod Links
 pub mod LinkFrames
+pub mod Deliveries
+pub mod Claims
 pub use Rattle.amqp_conn.specs.Phase
 pub use Rattle.amqp_conn.specs.Heartbeats
 pub use Rattle.amqp_session.specs.Session

@@ -3,6 +3,7 @@ use Rattle.std.specs.Prelude.{ℕ, List, [], ◌∷◌, ◌++◌, map, Option, S
 use Rattle.amqp_frames.specs.declared.item.Item.{Item}
 use Rattle.router_trace.specs.declared.event.Event.{Event}
 use Rattle.router_trace.specs.declared.outgoing.Outgoing.{Outgoing}
+use Rattle.router_trace.specs.declared.binding.Binding.{Binding}
 use Rattle.router_trace.specs.declared.event.Event.TheVariants as event
 
 -- what an event's entry holds
@@ -25,6 +26,8 @@ pub data Entry : Type 0 where
   Out : (conn : ℕ) (item : Item) → Entry
   -- so many items left the outbox of a connection
   Took : (conn : ℕ) (count : ℕ) → Entry
+  -- a message was bound to the link of a consumer; no item says so
+  Bound : (binding : Binding) → Entry
 
 abbrev pub Trace : Type 0
 Trace = List Entry
@@ -63,6 +66,7 @@ ups [] = []
 ups (Did s ∷ t) = with_up s.event (ups t)
 ups (Out c i ∷ t) = ups t
 ups (Took c n ∷ t) = ups t
+ups (Bound b ∷ t) = ups t
 
 -- the number of the connection that came up last
 abbrev pub newer : Event → Option ℕ → Option ℕ
@@ -74,3 +78,4 @@ newest [] = None
 newest (Did s ∷ t) = newer s.event (newest t)
 newest (Out c i ∷ t) = newest t
 newest (Took c n ∷ t) = newest t
+newest (Bound b ∷ t) = newest t

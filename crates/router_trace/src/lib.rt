@@ -1,6 +1,7 @@
 //! What the router is told and what it writes: events, and the items of its own.
 #![tactic(auto)]
 
+mod binding;
 mod channel;
 mod condition;
 mod event;
@@ -10,6 +11,7 @@ mod outgoing;
 mod router_id;
 mod terms;
 
+pub use binding::{Binding, Origin};
 pub use channel::PeerChannel;
 pub use condition::Condition;
 pub use event::{ConnectionId, Event, Peer, PeerRole};

@@ -1,0 +1,113 @@
+-- A delivery that isn't undecided never is again.
+use Rattle.std.proofs.Common.{◌≡◌, ◌≤◌, ◌+◌, ℕ, Bool, true, false, refl, arith, ◌∷◌, length, Option, Some, None}
+use Rattle.std.specs.Prelude.{◌&&◌, ◌==◌, not, if◌then◌else◌, is_none}
+use Rattle.std.specs.Option.{option_and_then}
+use Rattle.std.proofs.lemmas.Bool.{eqb-true}
+use Rattle.amqp_perf.specs.declared.perf.Disposition.{Disposition}
+use Rattle.amqp_perf.specs.declared.perf.Perf.{Perf}
+use Rattle.amqp_perf.specs.declared.perf.Perf.TheVariants as perf
+use Rattle.amqp_perf.specs.declared.perf.Role.{Role}
+use Rattle.amqp_perf.specs.declared.perf.Role.TheVariants.{Sender, Receiver}
+use Rattle.amqp_perf.specs.declared.perf.Transfer.{Transfer}
+use Rattle.amqp_perf.specs.declared.state.DeliveryState.{DeliveryState}
+use Rattle.amqp_frames.specs.declared.item.Item.{Item}
+use Rattle.amqp_frames.specs.declared.item.Item.TheVariants as item
+use Rattle.router_trace.specs.declared.event.Event.{Event}
+use Rattle.router_trace.specs.declared.event.Event.TheVariants as event
+use Rattle.router_trace.specs.declared.channel.PeerChannel.{PeerChannel}
+use Rattle.router_trace.specs.declared.handle.Attachment.{Attachment}
+use Rattle.router_trace.specs.Trace.{Entry, Trace, Did, Out, Took, Bound}
+use Rattle.router_trace.specs.Deliveries.{Delivery, delivery, bindings, bound, unless_over, is_over, is_undecided, behind_ends, is_gone_with, ended, untold, behind_put, behind_frame, behind_event, put_in, is_number, carried, tag_in, told, is_meant, origin_id, heard, heard_in, disposed, decided, is_settled_at, is_on, ended_by, lost_with, named, sending}
+use Rattle.router_trace.specs.Sessions.{theirs}
+use Rattle.amqp_perf.specs.declared.state.DeliveryState.TheVariants as state
+use Rattle.router_deliveries.specs.Naming.{is_open}
+
+abbrev Closes : (Delivery → Delivery) → Type 0
+Closes f = (d : Delivery) → is_undecided d ≡ false → is_undecided (f d) ≡ false
+
+-- once it is over it isn't undecided
+closed_unless : (d : Delivery) → is_undecided d ≡ false → is_open (unless_over d) ≡ false
+closed_unless d e = by_test (is_over d)
+  where
+    by_test : (b : Bool) → is_open (if b then None else Some d) ≡ false
+    by_test true = refl
+    by_test false = e
+
+closed_behind : (f : Delivery → Delivery) → Closes f → (v : Option Delivery) → is_open v ≡ false → is_open (option_and_then (λ d. unless_over (f d)) v) ≡ false
+closed_behind f closes None e = refl
+closed_behind f closes (Some d) e = closed_unless (f d) (closes d e)
+
+either : (b : Bool) (x y : Delivery) → is_undecided x ≡ false → is_undecided y ≡ false → is_undecided (if b then x else y) ≡ false
+either true x y e f = e
+either false x y e f = f
+
+ended_closed : (d : Delivery) → is_undecided (ended d) ≡ false
+ended_closed d = by_outcome d.outcome refl
+  where
+    by_outcome : (o : Option DeliveryState) → d.outcome ≡ o → is_undecided (ended d) ≡ false
+    by_outcome None e = rw e refl
+    by_outcome (Some s) e = rw e refl
+
+untold_closed : Closes untold
+untold_closed d e = e
+
+ends_closed : (gone : Attachment → Bool) → Closes (behind_ends gone)
+ends_closed gone d e =
+    let on : is_undecided (if gone d.link then ended d else d) ≡ false = either (gone d.link) (ended d) d (ended_closed d) e in
+    either (is_gone_with gone (if gone d.link then ended d else d).origin) (untold (if gone d.link then ended d else d)) (if gone d.link then ended d else d) on on
+
+frame_closed : (x : Transfer) (count : ℕ) → Closes (behind_frame x count)
+frame_closed x count d e = by_test (d.presettled && not x.more)
+  where
+    by_test : (b : Bool) → (is_none (if b then Some state.Accepted else d.outcome) && not d.presettled) ≡ false
+    by_test true = refl
+    by_test false = e
+
+told_closed : (r : Role) (x : Disposition) (c o : ℕ) → Closes (told r x c o)
+told_closed Receiver x c o d e = either (x.settled && is_meant x (origin_id d.origin c o)) (untold d) d e e
+told_closed Sender x c o d e = e
+
+put_in_closed : (body : Perf) (c own n : ℕ) (sent : ℕ → ℕ → Option ℕ) (count : ℕ) → Closes (put_in body c own n sent count)
+put_in_closed (perf.Transfer x) c own n sent count d e = either (is_number (carried (tag_in x) (sent own x.handle)) n) (behind_frame x count d) d (frame_closed x count d e) e
+put_in_closed (perf.Disposition x) c own n sent count d e = told_closed x.role x c own d e
+put_in_closed _ c own n sent count d e = e
+
+put_closed : (i : Item) (c n : ℕ) (sent : ℕ → ℕ → Option ℕ) → Closes (behind_put i c n sent)
+put_closed (item.Frame sasl own body payload) c n sent d e = ends_closed (ended_by (item.Frame sasl own body payload) c) (put_in body c own n sent (length payload) d) (put_in_closed body c own n sent (length payload) d e)
+put_closed _ c n sent d e = e
+
+decided_closed : (x : Disposition) (names : ℕ → Option ℕ) (n : ℕ) → Closes (decided x names n)
+decided_closed x names n d e = rw e e
+
+disposed_closed : (r : Role) (x : Disposition) (c : ℕ) (v : Option PeerChannel) (names : ℕ → Option ℕ) (n : ℕ) → Closes (disposed r x c v names n)
+disposed_closed Receiver x c v names n d e = either (is_on d.link c v) (decided x names n d) d (decided_closed x names n d e) e
+disposed_closed Sender x c v names n d e = either (is_settled_at x c v d.origin) (untold d) d e e
+
+heard_in_closed : (body : Perf) (c : ℕ) (v : Option PeerChannel) (names : ℕ → ℕ → Option ℕ) (n : ℕ) → Closes (heard_in body c v names n)
+heard_in_closed (perf.Disposition x) c v names n d e = disposed_closed x.role x c v (names d.link.channel) n d e
+heard_in_closed _ c v names n d e = e
+
+heard_closed : (i : Item) (c : ℕ) (known : ℕ → Option PeerChannel) (names : ℕ → ℕ → Option ℕ) (n : ℕ) → Closes (heard i c known names n)
+heard_closed (item.Frame sasl channel body payload) c known names n d e = either sasl d (heard_in body c (known channel) names n d) e (heard_in_closed body c (known channel) names n d e)
+heard_closed _ c known names n d e = e
+
+event_closed : (x : Event) (known : ℕ → ℕ → Option PeerChannel) (names : ℕ → ℕ → ℕ → Option ℕ) (n : ℕ) → Closes (behind_event x known names n)
+event_closed (event.Item c i) known names n d e = heard_closed i c.0 (known c.0) (names c.0) n d e
+event_closed (event.Down c) known names n d e = ends_closed (lost_with c.0) d e
+event_closed _ known names n d e = e
+
+pub stays_closed : (e : Entry) (t : Trace) (n : ℕ) → n ≤ bindings t → is_open (delivery t n) ≡ false → is_open (delivery (e ∷ t) n) ≡ false
+stays_closed (Did s) t n there closed = closed_behind (behind_event s.event (theirs t) (named t) n) (event_closed s.event (theirs t) (named t) n) (delivery t n) closed
+stays_closed (Out c i) t n there closed = closed_behind (behind_put i c n (sending t c)) (put_closed i c n (sending t c)) (delivery t n) closed
+stays_closed (Took c k) t n there closed = closed
+stays_closed (Bound b) t n there closed = fresh (bindings t + 1 == n) refl
+  where
+    fresh : (new : Bool) → (bindings t + 1 == n) ≡ new → is_open (if new then Some (bound b) else delivery t n) ≡ false
+    fresh true e = let is : bindings t + 1 ≡ n = eqb-true (bindings t + 1) n e in absurd (omega (arith, is, there))
+    fresh false e = closed
+
+pub more_bindings : (e : Entry) (t : Trace) (n : ℕ) → n ≤ bindings t → n ≤ bindings (e ∷ t)
+more_bindings (Did s) t n there = there
+more_bindings (Out c i) t n there = there
+more_bindings (Took c k) t n there = there
+more_bindings (Bound b) t n there = omega (arith, there)

@@ -1,0 +1,9 @@
+mod Again
+mod Tags
+mod Keys
+mod Puts
+mod Closed
+mod Named
+mod Picked
+mod Heard
+mod Reindexed

@@ -1,0 +1,59 @@
+-- When the table of deliveries is that which a trace gives.
+use Rattle.std.specs.Prelude.{◌≡◌, ℕ, Option, None, unwrap_or}
+use Rattle.std.specs.Ordering.{nat_cmp}
+use Rattle.std.specs.BTreeMap.{get}
+use Rattle.amqp_perf.specs.declared.perf.Perf.{Perf}
+use Rattle.amqp_perf.specs.declared.perf.Perf.TheVariants as perf
+use Rattle.amqp_frames.specs.declared.item.Item.{Item}
+use Rattle.amqp_frames.specs.declared.item.Item.TheVariants as item
+use Rattle.router_trace.specs.Trace.{Trace}
+use Rattle.router_trace.specs.Deliveries.{bindings, delivery, sending, next_id, carried, tag_in}
+use Rattle.router_deliveries.specs.declared.deliveries.Deliveries.{Deliveries}
+use Rattle.router_deliveries.specs.declared.next_ids.NextIds.{NextIds}
+use Rattle.router_deliveries.specs.declared.sending.Sending.{Sending}
+use Rattle.router_deliveries.specs.declared.store.Store.{Store}
+use Rattle.router_deliveries.specs.Indexing.{Indexes, standing}
+use Rattle.router_deliveries.specs.Naming.{NamesFit}
+use Rattle.router_deliveries.specs.Places.{at, in_map}
+
+-- the deliveries stand in the indexes
+abbrev pub Indexed : Store → Type 0
+Indexed s = Indexes s.index (λ n. standing (get nat_cmp s.deliveries n))
+
+-- the deliveries are those of the trace
+pub record StoreFit (s : Store) (t : Trace) : Type 0 where
+  pub deliveries : (n : ℕ) → get nat_cmp s.deliveries n ≡ delivery t n
+  pub indexed : Indexed s
+
+-- so are those of which more frames are to go
+pub record SendingFit (s : Sending) (t : Trace) : Type 0 where
+  pub numbers : (c o h : ℕ) → at s.numbers c o h ≡ sending t c o h
+
+-- and the ids that are given next
+abbrev pub next_in : NextIds → ℕ → ℕ → ℕ
+next_in s c o = unwrap_or (in_map (get nat_cmp s.rows c) o) 0
+
+pub record NextIdsFit (s : NextIds) (t : Trace) : Type 0 where
+  pub ids : (c o : ℕ) → next_in s c o ≡ next_id t c o
+
+-- the table is that of the trace
+pub record DeliveriesFit (s : Deliveries) (t : Trace) : Type 0 where
+  pub bindings : s.bindings ≡ bindings t
+  pub store : StoreFit s.store t
+  pub sending : SendingFit s.sending t
+  pub names : NamesFit s.names t
+  pub next_ids : NextIdsFit s.next_ids t
+
+-- the delivery that a performative of the router carries
+abbrev pub carried_in : Perf → (ℕ → Option ℕ) → Option ℕ
+carried_in (perf.Transfer x) known = carried (tag_in x) (known x.handle)
+carried_in _ known = None
+
+abbrev pub carried_by : Item → (ℕ → ℕ → Option ℕ) → Option ℕ
+carried_by (item.Frame sasl own body payload) known = carried_in body (known own)
+carried_by _ known = None
+
+-- the channel of an item; 0 where it has none
+abbrev pub channel_of : Item → ℕ
+channel_of (item.Frame sasl channel body payload) = channel
+channel_of _ = 0

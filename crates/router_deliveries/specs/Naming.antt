@@ -1,0 +1,37 @@
+-- The deliveries that ids name, as a table has them: it may have forgotten the name of one that isn't undecided.
+use Rattle.std.specs.Prelude.{◌≡◌, ◌<◌, ◌≤◌, ◌^◌, ℕ, Bool, false, not, ◌&&◌, nat_le, if◌then◌else◌, Option, Some, None}
+use Rattle.router_trace.specs.Trace.{Trace}
+use Rattle.router_trace.specs.Deliveries.{Delivery, is_undecided, bindings, delivery, named}
+use Rattle.router_deliveries.specs.declared.names.Names.{Names}
+use Rattle.router_deliveries.specs.Places.{at_id}
+
+abbrev pub is_open : Option Delivery → Bool
+is_open None = false
+is_open (Some d) = is_undecided d
+
+-- the name of a delivery that was bound and isn't undecided
+abbrev pub MayBeForgotten : Trace → Option ℕ → Type 0
+MayBeForgotten t None = Unit {0}
+MayBeForgotten t (Some n) = (n ≤ bindings t) × (is_open (delivery t n) ≡ false)
+
+-- what a table has, and what an id names
+abbrev pub Remembers : Trace → Option ℕ → Option ℕ → Type 0
+Remembers t (Some n) named = named ≡ Some n
+Remembers t None named = MayBeForgotten t named
+
+-- ids have 32 bits
+abbrev pub IsSmall : ℕ → Option ℕ → Type 0
+IsSmall id None = Unit {0}
+IsSmall id (Some n) = id < 2 ^ 32
+
+abbrev pub AreSmall : (ℕ → ℕ → ℕ → Option ℕ) → Type 0
+AreSmall known = (c o id : ℕ) → IsSmall id (known c o id)
+
+pub record NamesFit (s : Names) (t : Trace) : Type 0 where
+  pub names : (c o id : ℕ) → Remembers t (at_id s.ids c o id) (named t c o id)
+  pub small : AreSmall (at_id s.ids)
+
+-- a name that is kept: that of a delivery which is undecided, or wasn't bound yet
+abbrev pub kept_name : Option ℕ → ℕ → (ℕ → Option Delivery) → Option ℕ
+kept_name None b known = None
+kept_name (Some n) b known = if nat_le n b && not (is_open (known n)) then None else Some n

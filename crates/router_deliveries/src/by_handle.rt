@@ -1,0 +1,143 @@
+//! Values by connection, session and handle.
+ghost use Rattle.std.specs.Prelude.{◌≡◌, ◌==◌, ℕ, Some, None, if◌then◌else◌, OnOk};
+ghost use Rattle.std.specs.Option.{option_map};
+ghost use Rattle.std.specs.Ordering.{nat_cmp};
+ghost use Rattle.std.specs.BTreeMap.{get};
+ghost use Rattle.router_deliveries.specs.Places.{in_map, at};
+
+use std::alloc::{AllocError, Global};
+use std::collections::BTreeMap;
+
+/// Values by handle.
+pub(crate) type InSession<V> = BTreeMap<u32, V>;
+
+/// Values by session and handle.
+pub(crate) type InConnection<V> = BTreeMap<u16, InSession<V>>;
+
+/// Values by connection, the router's channel of a session, and a handle.
+#[derive(Debug, Drop)]
+pub(crate) struct ByHandle<V> {
+    alloc: Global,
+    pub(crate) rows: BTreeMap<u64, InConnection<V>>,
+}
+
+impl<V: Drop> ByHandle<V> {
+    /// No values.
+    pub(crate) fn new(alloc: Global) -> ByHandle<V>
+        ensures { (c o h : ℕ) → at result c o h ≡ None }
+    {
+        ByHandle {
+            alloc,
+            rows: BTreeMap::new(alloc),
+        }
+    }
+
+    /// The value at a place.
+    pub(crate) fn get(&self, conn: u64, own: u16, handle: u32) -> Option<&V>
+        ensures { option_map (λ v. v.now) result ≡ at self.now conn own handle }
+    {
+        match self.rows.get(&conn) {
+            None => None,
+            Some(sessions) => match sessions.get(&own) {
+                None => None,
+                Some(handles) => handles.get(&handle),
+            },
+        }
+    }
+
+    /// Puts a value at a place, for the one that stood there.
+    pub(crate) fn insert(
+        &mut self,
+        conn: u64,
+        own: u16,
+        handle: u32,
+        value: V,
+    ) -> Result<(), AllocError>
+        ensures { OnOk result ((c o h : ℕ) → at self.new c o h
+            ≡ (if conn == c then (if own == o then (if handle == h then Some value else at self.old c o h) else at self.old c o h) else at self.old c o h)) }
+    {
+        let alloc = self.alloc;
+        if let Some(sessions) = self.rows.get_mut(&conn) {
+            return insert_in(alloc, sessions, own, handle, value);
+        }
+        let mut sessions = BTreeMap::new(alloc);
+        insert_in(alloc, &mut sessions, own, handle, value)?;
+        match self.rows.insert(conn, sessions) {
+            Ok(_) => Ok(()),
+            Err(_) => Err(AllocError),
+        }
+    }
+
+    /// Takes the value at a place away.
+    pub(crate) fn remove(&mut self, conn: u64, own: u16, handle: u32) -> Option<V>
+        ensures gives { result ≡ at self.old conn own handle }
+        ensures gone { (c o h : ℕ) → at self.new c o h
+            ≡ (if conn == c then (if own == o then (if handle == h then None else at self.old c o h) else at self.old c o h) else at self.old c o h) }
+    {
+        match self.rows.get_mut(&conn) {
+            None => None,
+            Some(sessions) => remove_in(sessions, own, handle),
+        }
+    }
+
+    /// Takes all values of a session away.
+    pub(crate) fn end(&mut self, conn: u64, own: u16) -> Option<InSession<V>>
+        ensures { (c o h : ℕ) → at self.new c o h ≡ (if conn == c then (if own == o then None else at self.old c o h) else at self.old c o h) }
+    {
+        match self.rows.get_mut(&conn) {
+            None => None,
+            Some(sessions) => sessions.remove(&own),
+        }
+    }
+
+    /// Takes all values of a connection away.
+    pub(crate) fn forget(&mut self, conn: u64) -> Option<InConnection<V>>
+        ensures { (c o h : ℕ) → at self.new c o h ≡ (if conn == c then None else at self.old c o h) }
+    {
+        self.rows.remove(&conn)
+    }
+}
+
+/// Puts a value at a handle of a session.
+fn insert_in<V: Drop>(
+    alloc: Global,
+    sessions: &mut InConnection<V>,
+    own: u16,
+    handle: u32,
+    value: V,
+) -> Result<(), AllocError>
+    ensures { OnOk result ((o h : ℕ) → in_map (get nat_cmp sessions.new o) h
+        ≡ (if own == o then (if handle == h then Some value else in_map (get nat_cmp sessions.old o) h) else in_map (get nat_cmp sessions.old o) h)) }
+{
+    if let Some(handles) = sessions.get_mut(&own) {
+        return put(handles, handle, value);
+    }
+    let mut handles = BTreeMap::new(alloc);
+    put(&mut handles, handle, value)?;
+    match sessions.insert(own, handles) {
+        Ok(_) => Ok(()),
+        Err(_) => Err(AllocError),
+    }
+}
+
+/// Puts a value at a handle.
+fn put<V: Drop>(handles: &mut InSession<V>, handle: u32, value: V) -> Result<(), AllocError>
+    ensures { OnOk result ((h : ℕ) → get nat_cmp handles.new h ≡ (if handle == h then Some value else get nat_cmp handles.old h)) }
+{
+    match handles.insert(handle, value) {
+        Ok(_) => Ok(()),
+        Err(_) => Err(AllocError),
+    }
+}
+
+/// Takes the value at a handle of a session away.
+fn remove_in<V: Drop>(sessions: &mut InConnection<V>, own: u16, handle: u32) -> Option<V>
+    ensures gives { result ≡ in_map (get nat_cmp sessions.old own) handle }
+    ensures gone { (o h : ℕ) → in_map (get nat_cmp sessions.new o) h
+        ≡ (if own == o then (if handle == h then None else in_map (get nat_cmp sessions.old o) h) else in_map (get nat_cmp sessions.old o) h) }
+{
+    match sessions.get_mut(&own) {
+        None => None,
+        Some(handles) => handles.remove(&handle),
+    }
+}

@@ -1,0 +1,155 @@
+//! Values by connection, session and delivery-id.
+ghost use Rattle.std.specs.Prelude.{◌≡◌, ◌==◌, ◌<◌, ◌^◌, ◌&&◌, ℕ, Some, None, if◌then◌else◌, OnOk, IfOk};
+ghost use Rattle.std.specs.Option.{is_some, option_copied};
+ghost use Rattle.std.specs.Ordering.{nat_cmp};
+ghost use Rattle.std.specs.BTreeMap.{get};
+ghost use Rattle.amqp_session.specs.Ranges.{in_range, has, IsRising};
+ghost use Rattle.router_deliveries.specs.Places.{in_map, in_ids, at_id};
+
+use amqp_session::{DeliveryIds, Serial};
+use std::alloc::{AllocError, Global};
+use std::collections::BTreeMap;
+
+/// Values by connection, the router's channel of a session, and the delivery-id on it.
+#[derive(Debug, Drop)]
+pub(crate) struct BySession<V> {
+    alloc: Global,
+    rows: BTreeMap<u64, BTreeMap<u16, DeliveryIds<V>>>,
+}
+
+impl<V: Drop> BySession<V> {
+    /// No values.
+    pub(crate) fn new(alloc: Global) -> BySession<V>
+        ensures { (c o id : ℕ) → at_id result c o id ≡ None }
+    {
+        BySession {
+            alloc,
+            rows: BTreeMap::new(alloc),
+        }
+    }
+
+    /// The values of a session.
+    fn session(&self, conn: u64, own: u16) -> Option<&DeliveryIds<V>>
+        ensures { option_copied result ≡ in_map (get nat_cmp self.now.rows conn) own }
+    {
+        self.rows.get(&conn)?.get(&own)
+    }
+
+    /// The value of an id.
+    pub(crate) fn get(&self, conn: u64, own: u16, id: u32) -> Option<&V>
+        ensures { option_copied result ≡ at_id self.now conn own id }
+    {
+        match self.session(conn, own) {
+            None => None,
+            Some(ids) => ids.get(Serial::new(id)),
+        }
+    }
+
+    /// The ids of the values that a disposition's range has, in its order (AMQP 1.0 part 2, section 2.7.6).
+    pub(crate) fn in_range(
+        &self,
+        conn: u64,
+        own: u16,
+        first: u32,
+        last: u32,
+    ) -> Result<Vec<Serial>, AllocError>
+        ensures exact { IfOk result (λ ids. (id : ℕ) → id < 2 ^ 32 → has id ids.items ≡ (in_range first last id && is_some (at_id self.now conn own id))) }
+        ensures rising { IfOk result (λ ids. IsRising first ids.items) }
+    {
+        match self.session(conn, own) {
+            None => Ok(Vec::new(self.alloc)),
+            Some(ids) => ids.in_range(self.alloc, Serial::new(first), Serial::new(last)),
+        }
+    }
+
+    /// Gives an id this value, for the one that it had.
+    pub(crate) fn insert(
+        &mut self,
+        conn: u64,
+        own: u16,
+        id: u32,
+        value: V,
+    ) -> Result<(), AllocError>
+        ensures { OnOk result ((c o q : ℕ) → at_id self.new c o q
+            ≡ (if conn == c then (if own == o then (if id == q then Some value else at_id self.old c o q) else at_id self.old c o q) else at_id self.old c o q)) }
+    {
+        let alloc = self.alloc;
+        if let Some(sessions) = self.rows.get_mut(&conn) {
+            return insert_in(alloc, sessions, own, id, value);
+        }
+        let mut sessions = BTreeMap::new(alloc);
+        insert_in(alloc, &mut sessions, own, id, value)?;
+        match self.rows.insert(conn, sessions) {
+            Ok(_) => Ok(()),
+            Err(_) => Err(AllocError),
+        }
+    }
+
+    /// Takes the value of an id away.
+    pub(crate) fn remove(&mut self, conn: u64, own: u16, id: u32)
+        ensures { (c o q : ℕ) → at_id self.new c o q
+            ≡ (if conn == c then (if own == o then (if id == q then None else at_id self.old c o q) else at_id self.old c o q) else at_id self.old c o q) }
+    {
+        if let Some(sessions) = self.rows.get_mut(&conn) {
+            remove_in(sessions, own, id);
+        }
+    }
+
+    /// Takes all values of a session away.
+    pub(crate) fn end(&mut self, conn: u64, own: u16)
+        ensures { (c o q : ℕ) → at_id self.new c o q ≡ (if conn == c then (if own == o then None else at_id self.old c o q) else at_id self.old c o q) }
+    {
+        if let Some(sessions) = self.rows.get_mut(&conn) {
+            let _ = sessions.remove(&own);
+        }
+    }
+
+    /// Takes all values of a connection away.
+    pub(crate) fn forget(&mut self, conn: u64)
+        ensures { (c o q : ℕ) → at_id self.new c o q ≡ (if conn == c then None else at_id self.old c o q) }
+    {
+        let _ = self.rows.remove(&conn);
+    }
+}
+
+/// Gives an id of a session this value.
+fn insert_in<V: Drop>(
+    alloc: Global,
+    sessions: &mut BTreeMap<u16, DeliveryIds<V>>,
+    own: u16,
+    id: u32,
+    value: V,
+) -> Result<(), AllocError>
+    ensures { OnOk result ((o q : ℕ) → in_ids (get nat_cmp sessions.new o) q
+        ≡ (if own == o then (if id == q then Some value else in_ids (get nat_cmp sessions.old o) q) else in_ids (get nat_cmp sessions.old o) q)) }
+{
+    if let Some(ids) = sessions.get_mut(&own) {
+        return put(ids, id, value);
+    }
+    let mut ids = DeliveryIds::new(alloc);
+    put(&mut ids, id, value)?;
+    match sessions.insert(own, ids) {
+        Ok(_) => Ok(()),
+        Err(_) => Err(AllocError),
+    }
+}
+
+/// Gives an id this value.
+fn put<V: Drop>(ids: &mut DeliveryIds<V>, id: u32, value: V) -> Result<(), AllocError>
+    ensures { OnOk result ((q : ℕ) → get nat_cmp ids.new.deliveries q ≡ (if id == q then Some value else get nat_cmp ids.old.deliveries q)) }
+{
+    match ids.insert(Serial::new(id), value) {
+        Ok(_) => Ok(()),
+        Err(_) => Err(AllocError),
+    }
+}
+
+/// Takes the value of an id of a session away.
+fn remove_in<V: Drop>(sessions: &mut BTreeMap<u16, DeliveryIds<V>>, own: u16, id: u32)
+    ensures { (o q : ℕ) → in_ids (get nat_cmp sessions.new o) q
+        ≡ (if own == o then (if id == q then None else in_ids (get nat_cmp sessions.old o) q) else in_ids (get nat_cmp sessions.old o) q) }
+{
+    if let Some(ids) = sessions.get_mut(&own) {
+        let _ = ids.remove(Serial::new(id));
+    }
+}

@@ -1,0 +1,232 @@
+//! What ends and dispositions do to deliveries.
+ghost use Rattle.std.specs.Prelude.{◌≡◌, IfOk};
+ghost use Rattle.amqp_session.specs.Ranges.{in_range};
+ghost use Rattle.router_deliveries.specs.Hearing.{heard_change, heard_in_change, disposed_change, decided_by};
+ghost use Rattle.router_deliveries.specs.Stepping.{is_gone, is_gone_from, comes_with_id, put_change, untold_by, is_in};
+
+use crate::state::decision;
+use amqp_frames::Item;
+use amqp_perf::{DeliveryState, Disposition, Perf, Role};
+use amqp_session::Serial;
+use router_trace::{Attachment, Origin};
+use std::alloc::AllocError;
+
+/// Links that end, by their place.
+#[derive(Clone, Copy, Debug, PartialEq, Eq)]
+pub enum Gone {
+    /// The link on a handle of the router.
+    Link {
+        /// The connection.
+        conn: u64,
+        /// The router's channel of the session.
+        own: u16,
+        /// The router's handle.
+        handle: u32,
+    },
+    /// All links of a session.
+    Session {
+        /// The connection.
+        conn: u64,
+        /// The router's channel of the session.
+        own: u16,
+    },
+    /// All links of a connection.
+    Connection(u64),
+}
+
+/// What is done to deliveries at once.
+#[derive(Debug, Drop)]
+pub enum Change {
+    /// Links end.
+    Ends(Gone),
+    /// Producers need no answer any more, those of a session that gave ids of this range (AMQP 1.0 part 2, section 2.7.6).
+    Untold {
+        /// The connection.
+        conn: u64,
+        /// The router's channel of the session.
+        own: u16,
+        /// The first delivery-id.
+        first: u32,
+        /// The last one.
+        last: u32,
+    },
+    /// A consumer decides deliveries, those of a session to which the router gave ids of this range (AMQP 1.0 part 2, section 2.7.6).
+    Decided {
+        /// The connection.
+        conn: u64,
+        /// The router's channel of the session.
+        own: u16,
+        /// The first delivery-id.
+        first: u32,
+        /// The last one.
+        last: u32,
+        /// The outcome.
+        outcome: DeliveryState,
+    },
+}
+
+impl Gone {
+    /// Whether a link ends.
+    pub(crate) fn has(self, link: Attachment) -> bool
+        ensures { result ≡ is_gone self link }
+    {
+        match self {
+            Gone::Link { conn, own, handle } => {
+                link.conn.0 == conn && (own == link.channel && handle == link.handle)
+            }
+            Gone::Session { conn, own } => link.conn.0 == conn && own == link.channel,
+            Gone::Connection(conn) => link.conn.0 == conn,
+        }
+    }
+
+    /// Whether the link of a producer ends.
+    pub(crate) fn has_origin(self, origin: Option<Origin>) -> bool
+        ensures { result ≡ is_gone_from self origin }
+    {
+        match origin {
+            None => false,
+            Some(origin) => self.has(origin.link),
+        }
+    }
+}
+
+/// What the router's performative on a channel of its own does to deliveries at once.
+pub(crate) fn behind_put(conn: u64, own: u16, perf: &Perf) -> Option<Change>
+    ensures { result ≡ put_change conn own perf.now }
+{
+    match perf {
+        Perf::Disposition(disposition) => match disposition.role {
+            Role::Sender => None,
+            Role::Receiver => untold_by(conn, own, disposition),
+        },
+        Perf::Detach(detach) => Some(Change::Ends(Gone::Link {
+            conn,
+            own,
+            handle: detach.handle,
+        })),
+        Perf::End(_) => Some(Change::Ends(Gone::Session { conn, own })),
+        Perf::Close(_) => Some(Change::Ends(Gone::Connection(conn))),
+        _ => None,
+    }
+}
+
+/// The producers that need no answer any more behind a disposition on a session, where it settles.
+pub(crate) fn untold_by(conn: u64, own: u16, disposition: &Disposition) -> Option<Change>
+    ensures { result ≡ untold_by conn own disposition.now }
+{
+    if !disposition.settled {
+        return None;
+    }
+    Some(Change::Untold {
+        conn,
+        own,
+        first: disposition.first,
+        last: disposition.last.unwrap_or(disposition.first),
+    })
+}
+
+/// What the peer's item does to deliveries at once, on the session on this channel of the router, where there is one.
+pub(crate) fn behind_heard(
+    conn: u64,
+    own: Option<u16>,
+    item: &Item,
+) -> Result<Option<Change>, AllocError>
+    ensures { IfOk result (λ change. change ≡ heard_change conn own item.now) }
+{
+    match item {
+        Item::Frame { sasl, perf, .. } => {
+            if *sasl {
+                return Ok(None);
+            }
+            behind_perf(conn, own, perf)
+        }
+        _ => Ok(None),
+    }
+}
+
+/// What the peer's performative does to deliveries at once.
+fn behind_perf(conn: u64, own: Option<u16>, perf: &Perf) -> Result<Option<Change>, AllocError>
+    ensures { IfOk result (λ change. change ≡ heard_in_change conn own perf.now) }
+{
+    match perf {
+        Perf::Disposition(disposition) => disposed(conn, own, disposition),
+        _ => Ok(None),
+    }
+}
+
+/// What the peer's disposition does to deliveries.
+fn disposed(
+    conn: u64,
+    own: Option<u16>,
+    disposition: &Disposition,
+) -> Result<Option<Change>, AllocError>
+    ensures { IfOk result (λ change. change ≡ disposed_change disposition.now.role conn own disposition.now) }
+{
+    let Some(own) = own else {
+        return Ok(None);
+    };
+    match disposition.role {
+        Role::Sender => Ok(untold_by(conn, own, disposition)),
+        Role::Receiver => Ok(decided_by(conn, own, disposition, decision(disposition)?)),
+    }
+}
+
+/// The deliveries that a disposition decides, where it tells an outcome.
+fn decided_by(
+    conn: u64,
+    own: u16,
+    disposition: &Disposition,
+    outcome: Option<DeliveryState>,
+) -> Option<Change>
+    ensures { result ≡ decided_by conn own disposition.now outcome }
+{
+    match outcome {
+        None => None,
+        Some(outcome) => Some(Change::Decided {
+            conn,
+            own,
+            first: disposition.first,
+            last: disposition.last.unwrap_or(disposition.first),
+            outcome,
+        }),
+    }
+}
+
+/// Whether a producer gave a delivery an id of this range, on a session.
+pub(crate) fn comes_with_id(
+    origin: Option<Origin>,
+    conn: u64,
+    own: u16,
+    first: u32,
+    last: u32,
+) -> bool
+    ensures { result ≡ comes_with_id origin conn own first last }
+{
+    match origin {
+        None => false,
+        Some(origin) => {
+            origin.link.conn.0 == conn
+                && origin.link.channel == own
+                && in_range(first, last, origin.id)
+        }
+    }
+}
+
+/// Whether an id is one of a disposition's range (AMQP 1.0 part 2, section 2.7.6).
+pub(crate) fn in_range(first: u32, last: u32, id: u32) -> bool
+    ensures { result ≡ in_range first last id }
+{
+    let first = Serial::new(first);
+    let reach = first.distance_to(Serial::new(last));
+    reach < 0x8000_0000 && first.distance_to(Serial::new(id)) <= reach
+}
+
+/// Whether a delivery has an id of a disposition's range.
+pub(crate) fn is_in(id: Option<u32>, first: u32, last: u32) -> bool
+    ensures { result ≡ is_in id first last }
+{
+    match id {
+        None => false,
+        Some(id) => in_range(first, last, id),
+    }
+}

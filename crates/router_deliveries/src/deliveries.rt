@@ -1,0 +1,117 @@
+//! The table of deliveries.
+ghost use Rattle.std.specs.Prelude.{◌≡◌, ◌∷◌, [], List, ℕ, OnOk};
+ghost use Rattle.std.specs.Option.{option_map};
+ghost use Rattle.router_trace.specs.Trace.{Entry, Out, Bound, did};
+ghost use Rattle.router_trace.specs.declared.event.Event.TheVariants as event;
+ghost use Rattle.router_trace.specs.Deliveries.{delivery, next_id, sending};
+ghost use Rattle.router_trace.specs.Sessions.{theirs, maps, is_channel};
+ghost use Rattle.router_deliveries.specs.Fits.{DeliveriesFit, channel_of};
+
+use crate::change::behind_heard;
+use crate::delivery::Delivery;
+use crate::hearing::hear;
+use crate::names::Names;
+use crate::next_ids::NextIds;
+use crate::sending::Sending;
+use crate::store::Store;
+use amqp_frames::Item;
+use router_trace::{Binding, ConnectionId};
+use std::alloc::{AllocError, Global};
+
+/// The deliveries that the router passes on. Behind an error nothing can be said of the table.
+#[derive(Debug, Drop)]
+pub struct Deliveries {
+    // so many messages were bound
+    bindings: u64,
+    store: Store,
+    sending: Sending,
+    names: Names,
+    next_ids: NextIds,
+}
+
+impl Deliveries {
+    /// No deliveries.
+    pub fn new(alloc: Global) -> Deliveries
+        ensures { DeliveriesFit result [] }
+    {
+        Deliveries {
+            bindings: 0,
+            store: Store::new(alloc),
+            sending: Sending::new(alloc),
+            names: Names::new(alloc),
+            next_ids: NextIds::new(alloc),
+        }
+    }
+
+    /// The delivery of a number; none before it is bound, and once it is over.
+    pub fn delivery(&self, number: u64) -> Option<&Delivery>
+        ensures { (t : List Entry) → DeliveriesFit self.now t → option_map (λ d. d.now) result ≡ delivery t number }
+    {
+        self.store.get(number)
+    }
+
+    /// The delivery-id that the router gives next on a session of its own: 0 behind its begin, one more behind each that it gave.
+    pub fn next_id(&self, conn: u64, own: u16) -> u32
+        ensures { (t : List Entry) → DeliveriesFit self.now t → result ≡ next_id t conn own }
+    {
+        self.next_ids.get(conn, own)
+    }
+
+    /// The delivery of which more frames are to go on a handle of the router.
+    pub fn sending(&self, conn: u64, own: u16, handle: u32) -> Option<u64>
+        ensures { (t : List Entry) → DeliveriesFit self.now t → result ≡ sending t conn own handle }
+    {
+        self.sending.on(conn, own, handle)
+    }
+
+    /// A message is bound to the link of a consumer. Fails where memory is refused, and where bindings can't be numbered any more.
+    pub fn bind(&mut self, binding: Binding) -> Result<(), AllocError>
+        ensures { OnOk result ((t : List Entry) → DeliveriesFit self.old t → DeliveriesFit self.new (Bound binding ∷ t)) }
+    {
+        let Some(number) = self.bindings.checked_add(1) else {
+            return Err(AllocError);
+        };
+        self.store.bind(number, binding)?;
+        self.bindings = number;
+        Ok(())
+    }
+
+    /// A connection is lost.
+    pub fn down(&mut self, conn: ConnectionId) -> Result<(), AllocError>
+        ensures { OnOk result ((t : List Entry) → DeliveriesFit self.old t → DeliveriesFit self.new (did (event.Down conn) ∷ t)) }
+    {
+        self.store.down(conn)?;
+        self.sending.down(conn);
+        self.names.down(conn);
+        self.next_ids.down(conn);
+        Ok(())
+    }
+
+    /// An item came on a connection, on the session on this channel of the router, where its channel has one.
+    pub fn hear(
+        &mut self,
+        conn: ConnectionId,
+        own: Option<u16>,
+        item: &Item,
+    ) -> Result<(), AllocError>
+        ensures { OnOk result ((t : List Entry) → ((o : ℕ) → is_channel own o ≡ maps (theirs t conn.0 (channel_of item.now)) o)
+            → DeliveriesFit self.old t → DeliveriesFit self.new (did (event.Item conn item.now) ∷ t)) }
+    {
+        let change = behind_heard(conn.0, own, item)?;
+        hear(&mut self.store, &self.names, change)?;
+        Ok(())
+    }
+
+    /// An item is put in the outbox of a connection. Fails where memory is refused, and where the bytes of a delivery can't be
+    /// counted any more.
+    pub fn put(&mut self, conn: u64, item: &Item) -> Result<(), AllocError>
+        ensures { OnOk result ((t : List Entry) → DeliveriesFit self.old t → DeliveriesFit self.new (Out conn item.now ∷ t)) }
+    {
+        let number = self.sending.carried_by(conn, item);
+        self.store.put(conn, item, number)?;
+        self.names.put(conn, item, &self.store, self.bindings)?;
+        self.sending.put(conn, item)?;
+        self.next_ids.put(conn, item)?;
+        Ok(())
+    }
+}

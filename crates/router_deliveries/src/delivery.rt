@@ -1,0 +1,178 @@
+//! Deliveries, as the table has them.
+ghost use Rattle.std.specs.Prelude.{◌≡◌, OnOk, if◌then◌else◌};
+ghost use Rattle.router_trace.specs.Deliveries.{bound, is_over, is_undecided, behind_frame, untold, ended, behind_ends};
+ghost use Rattle.router_deliveries.specs.Stepping.{is_gone, is_decided_by, comes_with_id, changed};
+
+use crate::change::{Change, Gone, comes_with_id, is_in};
+use crate::state::{copy, failed};
+use amqp_perf::{DeliveryState, Transfer};
+use bytes::Bytes;
+use router_trace::{Attachment, Binding, Origin};
+use std::alloc::AllocError;
+use std::marker::Model;
+
+/// A message bound to one link of a consumer (AMQP 1.0 part 2, section 2.6.12).
+#[derive(Debug, Drop)]
+pub struct Delivery {
+    /// Where it goes.
+    pub link: Attachment,
+    /// Whom its outcome is told to; none where nobody is to be told any more.
+    pub origin: Option<Origin>,
+    /// Whether its producer had settled it before it was bound.
+    pub presettled: bool,
+    /// The format of the message.
+    pub format: u32,
+    /// The message.
+    pub payload: Bytes,
+    /// Its delivery-id on the consumer's session, once it has started.
+    pub id: Option<u32>,
+    /// So many bytes of it have gone.
+    pub sent: u64,
+    /// Whether frames of it are still to go.
+    pub going_on: bool,
+    /// What was decided of it.
+    pub outcome: Option<DeliveryState>,
+}
+
+impl Model for Delivery {
+    ghost use Rattle.router_trace.specs.Deliveries.{Delivery as View};
+
+    ghost Value = { View };
+
+    ghost view = { λ d. record {
+      link = d.link;
+      origin = d.origin;
+      presettled = d.presettled;
+      format = d.format;
+      payload = d.payload;
+      id = d.id;
+      sent = d.sent;
+      going_on = d.going_on;
+      outcome = d.outcome;
+    } };
+}
+
+impl Delivery {
+    /// A message that was just bound.
+    pub(crate) fn bound(binding: Binding) -> Delivery
+        ensures { result ≡ bound binding }
+    {
+        Delivery {
+            link: binding.consumer,
+            origin: binding.origin,
+            presettled: binding.origin.is_none(),
+            format: binding.format,
+            payload: binding.payload,
+            id: None,
+            sent: 0,
+            going_on: true,
+            outcome: None,
+        }
+    }
+
+    /// Whether it is decided, nobody is to be told, and no frame is to go.
+    pub fn is_over(&self) -> bool
+        ensures { result ≡ is_over self.now }
+    {
+        !self.going_on && (self.outcome.is_some() && self.origin.is_none())
+    }
+
+    /// Whether its consumer is to decide it.
+    pub fn is_undecided(&self) -> bool
+        ensures { result ≡ is_undecided self.now }
+    {
+        self.outcome.is_none() && !self.presettled
+    }
+
+    /// Notes a transfer that carries so many bytes of it. Fails where its bytes can't be counted any more.
+    pub(crate) fn note_frame(&mut self, transfer: &Transfer, count: u64) -> Result<(), AllocError>
+        ensures { OnOk result (self.new ≡ behind_frame transfer.now count self.old) }
+    {
+        let Some(sent) = self.sent.checked_add(count) else {
+            return Err(AllocError);
+        };
+        if self.id.is_none() {
+            self.id = transfer.delivery_id;
+        }
+        self.sent = sent;
+        self.going_on = transfer.more;
+        if self.presettled && !transfer.more {
+            self.outcome = Some(DeliveryState::Accepted);
+        }
+        Ok(())
+    }
+
+    /// Nobody is to be told of it any more.
+    pub(crate) fn untell(&mut self)
+        ensures { self.new ≡ untold self.old }
+    {
+        self.origin = None;
+    }
+
+    /// Its link ends.
+    pub(crate) fn end(&mut self)
+        ensures { self.new ≡ ended self.old }
+    {
+        self.going_on = false;
+        if self.outcome.is_none() {
+            self.outcome = Some(failed());
+        }
+    }
+
+    /// Links end, its own or its producer's.
+    fn leave(&mut self, gone: Gone)
+        ensures { self.new ≡ behind_ends (is_gone gone) self.old }
+    {
+        if gone.has(self.link) {
+            self.end();
+        }
+        if gone.has_origin(self.origin) {
+            self.untell();
+        }
+    }
+
+    /// What a change does to it.
+    pub(crate) fn change(&mut self, change: &Change) -> Result<(), AllocError>
+        ensures { OnOk result (self.new ≡ changed change.now self.old) }
+    {
+        match change {
+            Change::Ends(gone) => self.leave(*gone),
+            Change::Untold {
+                conn,
+                own,
+                first,
+                last,
+            } => self.untell_within(*conn, *own, *first, *last),
+            Change::Decided {
+                conn,
+                own,
+                first,
+                last,
+                outcome,
+            } => {
+                if self.is_decided_by(*conn, *own, *first, *last) {
+                    self.outcome = Some(copy(outcome)?);
+                }
+            }
+        }
+        Ok(())
+    }
+
+    /// Nobody is to be told of it any more, where its producer gave it an id of this range, on a session.
+    fn untell_within(&mut self, conn: u64, own: u16, first: u32, last: u32)
+        ensures { self.new ≡ (if comes_with_id self.old.origin conn own first last then untold self.old else self.old) }
+    {
+        if comes_with_id(self.origin, conn, own, first, last) {
+            self.untell();
+        }
+    }
+
+    /// Whether it is undecided, and the router gave it an id of this range, on a session.
+    fn is_decided_by(&self, conn: u64, own: u16, first: u32, last: u32) -> bool
+        ensures { result ≡ is_decided_by self.now conn own first last }
+    {
+        self.is_undecided()
+            && ((self.link.conn.0 == conn && self.link.channel == own)
+                && is_in(self.id, first, last))
+    }
+}

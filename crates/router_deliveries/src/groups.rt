@@ -1,0 +1,98 @@
+//! Numbers of deliveries by the number of a link.
+ghost use Rattle.std.specs.Prelude.{◌≡◌, ◌==◌, ℕ, Bool, true, false, if◌then◌else◌, OnOk};
+ghost use Rattle.std.specs.Option.{option_map};
+ghost use Rattle.std.specs.Ordering.{nat_cmp};
+ghost use Rattle.std.specs.BTreeMap.{get};
+ghost use Rattle.std.specs.BTreeSet.{contains};
+ghost use Rattle.router_trace.specs.Deliveries.{is_number};
+ghost use Rattle.router_deliveries.specs.Indexing.{in_set, in_group};
+
+use std::alloc::{AllocError, Global};
+use std::collections::{BTreeMap, BTreeSet};
+
+/// Numbers of deliveries by the number of a link; a link without any takes no room.
+#[derive(Debug, Drop)]
+pub(crate) struct Groups {
+    alloc: Global,
+    sets: BTreeMap<u64, BTreeSet<u64>>,
+}
+
+impl Groups {
+    /// No numbers.
+    pub(crate) fn new(alloc: Global) -> Groups
+        ensures { (k n : ℕ) → in_group result k n ≡ false }
+    {
+        Groups {
+            alloc,
+            sets: BTreeMap::new(alloc),
+        }
+    }
+
+    /// The numbers of a link, where it has any.
+    pub(crate) fn of(&self, link: u64) -> Option<&BTreeSet<u64>>
+        ensures { (n : ℕ) → in_group self.now link n ≡ in_set (option_map (λ s. s.now) result) n }
+    {
+        self.sets.get(&link)
+    }
+
+    /// Moves a number from one link to another.
+    pub(crate) fn shift(
+        &mut self,
+        number: u64,
+        before: Option<u64>,
+        after: Option<u64>,
+    ) -> Result<(), AllocError>
+        ensures { OnOk result (((k : ℕ) → in_group self.old k number ≡ is_number before k)
+            → (k n : ℕ) → in_group self.new k n ≡ (if number == n then is_number after k else in_group self.old k n)) }
+    {
+        if before == after {
+            return Ok(());
+        }
+        self.drop_from(number, before);
+        self.add_to(number, after)
+    }
+
+    /// Takes a number from a link, where there is one.
+    fn drop_from(&mut self, number: u64, link: Option<u64>)
+        ensures { (k n : ℕ) → in_group self.new k n ≡ (if is_number link k then (if number == n then false else in_group self.old k n) else in_group self.old k n) }
+    {
+        let Some(link) = link else {
+            return;
+        };
+        let Some(numbers) = self.sets.get_mut(&link) else {
+            return;
+        };
+        let _ = numbers.remove(&number);
+        if numbers.is_empty() {
+            let _ = self.sets.remove(&link);
+        }
+    }
+
+    /// Gives a number to a link, where there is one.
+    fn add_to(&mut self, number: u64, link: Option<u64>) -> Result<(), AllocError>
+        ensures { OnOk result ((k n : ℕ) → in_group self.new k n ≡ (if is_number link k then (if number == n then true else in_group self.old k n) else in_group self.old k n)) }
+    {
+        let Some(link) = link else {
+            return Ok(());
+        };
+        if let Some(numbers) = self.sets.get_mut(&link) {
+            return add(numbers, number);
+        }
+        let mut numbers = BTreeSet::new(self.alloc);
+        add(&mut numbers, number)?;
+        match self.sets.insert(link, numbers) {
+            Ok(_) => Ok(()),
+            Err(_) => Err(AllocError),
+        }
+    }
+}
+
+/// Puts a number in a set.
+pub(crate) fn add(numbers: &mut BTreeSet<u64>, number: u64) -> Result<(), AllocError>
+    ensures { OnOk result ((n : ℕ) → contains nat_cmp numbers.new n ≡ (if number == n then true else contains nat_cmp numbers.old n)) }
+{
+    match numbers.insert(number) {
+        Ok(_) => Ok(()),
+        Err(_) => Err(AllocError),
+    }
+}

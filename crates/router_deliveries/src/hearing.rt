@@ -1,0 +1,51 @@
+//! What a peer's disposition does to the deliveries of a table.
+ghost use Rattle.std.specs.Prelude.{◌≡◌, ℕ, OnOk};
+ghost use Rattle.std.specs.Ordering.{nat_cmp};
+ghost use Rattle.std.specs.BTreeMap.{get};
+ghost use Rattle.router_deliveries.specs.Fits.{Indexed};
+ghost use Rattle.router_deliveries.specs.Hearing.{heard_by, done_to};
+ghost use Rattle.router_deliveries.specs.Naming.{AreSmall};
+ghost use Rattle.router_deliveries.specs.Places.{at_id};
+ghost use Rattle.router_deliveries.specs.Stepping.{IsKept};
+
+use crate::change::Change;
+use crate::names::Names;
+use crate::store::Store;
+use std::alloc::AllocError;
+
+/// Does this to the deliveries, where anything is to be done.
+pub(crate) fn hear(
+    store: &mut Store,
+    names: &Names,
+    change: Option<Change>,
+) -> Result<(), AllocError>
+    ensures deliveries { OnOk result (((n : ℕ) → IsKept (get nat_cmp store.old.deliveries n)) → AreSmall (at_id names.now.ids)
+        → (n : ℕ) → get nat_cmp store.new.deliveries n ≡ heard_by change (at_id names.now.ids) n (get nat_cmp store.old.deliveries n)) }
+    ensures indexed { OnOk result (Indexed store.old → Indexed store.new) }
+{
+    match change {
+        None => Ok(()),
+        Some(change) => hear_one(store, names, &change),
+    }
+}
+
+/// Does this to the deliveries.
+fn hear_one(store: &mut Store, names: &Names, change: &Change) -> Result<(), AllocError>
+    ensures deliveries { OnOk result (((n : ℕ) → IsKept (get nat_cmp store.old.deliveries n)) → AreSmall (at_id names.now.ids)
+        → (n : ℕ) → get nat_cmp store.new.deliveries n ≡ done_to change.now (at_id names.now.ids) n (get nat_cmp store.old.deliveries n)) }
+    ensures indexed { OnOk result (Indexed store.old → Indexed store.new) }
+{
+    match change {
+        Change::Decided {
+            conn,
+            own,
+            first,
+            last,
+            ..
+        } => {
+            let numbers = names.in_range(store, *conn, *own, *first, *last)?;
+            store.change_all(numbers.as_slice(), change)
+        }
+        _ => store.apply(change),
+    }
+}

@@ -1,0 +1,182 @@
+//! The deliveries that delivery-ids of the router name.
+ghost use Rattle.std.specs.Prelude.{◌≡◌, ◌==◌, ◌∷◌, [], List, ℕ, Bool, None, if◌then◌else◌, OnOk, IfOk, ◌||◌};
+ghost use Rattle.std.specs.Option.{option_and_then};
+ghost use Rattle.std.specs.Ordering.{nat_cmp};
+ghost use Rattle.std.specs.BTreeMap.{get};
+ghost use Rattle.amqp_perf.specs.declared.perf.Perf.TheVariants as perf;
+ghost use Rattle.amqp_frames.specs.declared.item.Item.TheVariants as item;
+ghost use Rattle.router_trace.specs.Trace.{Entry, Out, did};
+ghost use Rattle.router_trace.specs.declared.event.Event.TheVariants as event;
+ghost use Rattle.router_trace.specs.Deliveries.{bindings, is_id, tagged, tag_in, is_number};
+ghost use Rattle.router_deliveries.specs.Places.{at_id};
+ghost use Rattle.router_deliveries.specs.Fits.{StoreFit};
+ghost use Rattle.amqp_session.specs.Ranges.{has};
+ghost use Rattle.router_deliveries.specs.Hearing.{id_of, picks, is_named_in};
+ghost use Rattle.router_deliveries.specs.Naming.{NamesFit, AreSmall, kept_name};
+
+use crate::by_session::BySession;
+use crate::store::Store;
+use crate::tag::number_of;
+use amqp_frames::Item;
+use amqp_perf::{Perf, Transfer};
+use router_trace::ConnectionId;
+use std::alloc::{AllocError, Global};
+
+/// The numbers of deliveries by the delivery-ids that the router gave them, by session; of those that aren't undecided some are
+/// forgotten.
+#[derive(Debug, Drop)]
+pub(crate) struct Names {
+    alloc: Global,
+    ids: BySession<u64>,
+}
+
+impl Names {
+    /// None.
+    pub(crate) fn new(alloc: Global) -> Names
+        ensures { NamesFit result [] }
+    {
+        Names {
+            alloc,
+            ids: BySession::new(alloc),
+        }
+    }
+
+    /// The number of the delivery that an id names.
+    pub(crate) fn get(&self, conn: u64, own: u16, id: u32) -> Option<u64>
+        ensures { result ≡ at_id self.now.ids conn own id }
+    {
+        self.ids.get(conn, own, id).copied()
+    }
+
+    /// The number of the delivery that an id names, where the delivery has this id.
+    fn picked(&self, store: &Store, conn: u64, own: u16, id: u32) -> Option<u64>
+        ensures { (n : ℕ) → is_number result n ≡ picks (at_id self.now.ids conn own) n (id_of (get nat_cmp store.now.deliveries n)) id }
+    {
+        let number = self.get(conn, own, id)?;
+        if store.has_id(number, id) {
+            Some(number)
+        } else {
+            None
+        }
+    }
+
+    /// The numbers of the deliveries that the ids of a disposition's range name, in its order.
+    pub(crate) fn in_range(
+        &self,
+        store: &Store,
+        conn: u64,
+        own: u16,
+        first: u32,
+        last: u32,
+    ) -> Result<Vec<u64>, AllocError>
+        ensures { IfOk result (λ numbers. AreSmall (at_id self.now.ids)
+            → (n : ℕ) → has n numbers.items ≡ is_named_in first last (at_id self.now.ids conn own) n (get nat_cmp store.now.deliveries n)) }
+    {
+        let mut numbers = Vec::new(self.alloc);
+        let ids = self.ids.in_range(conn, own, first, last)?;
+        for id in &ids {
+            add(&mut numbers, self.picked(store, conn, own, id.number()))?;
+        }
+        Ok(numbers)
+    }
+
+    /// A connection is lost.
+    pub(crate) fn down(&mut self, conn: ConnectionId)
+        ensures { (t : List Entry) → NamesFit self.old t → NamesFit self.new (did (event.Down conn) ∷ t) }
+    {
+        self.ids.forget(conn.0);
+    }
+
+    /// An item is put in the outbox of a connection, which these deliveries have seen already, of so many that were bound.
+    pub(crate) fn put(
+        &mut self,
+        conn: u64,
+        item: &Item,
+        store: &Store,
+        count: u64,
+    ) -> Result<(), AllocError>
+        ensures { OnOk result ((t : List Entry) → count ≡ bindings t → StoreFit store.now (Out conn item.now ∷ t) → NamesFit self.old t → NamesFit self.new (Out conn item.now ∷ t)) }
+    {
+        match item {
+            Item::Frame { channel, perf, .. } => {
+                self.put_perf(conn, *channel, perf, store, count)?
+            }
+            _ => {}
+        }
+        Ok(())
+    }
+
+    /// A performative is put in the outbox of a connection, on a channel of the router.
+    fn put_perf(
+        &mut self,
+        conn: u64,
+        own: u16,
+        perf: &Perf,
+        store: &Store,
+        count: u64,
+    ) -> Result<(), AllocError>
+        ensures { OnOk result ((t : List Entry) (sasl : Bool) (payload : List ℕ) → count ≡ bindings t → StoreFit store.now (Out conn (item.Frame sasl own perf.now payload) ∷ t)
+            → NamesFit self.old t → NamesFit self.new (Out conn (item.Frame sasl own perf.now payload) ∷ t)) }
+    {
+        match perf {
+            Perf::Transfer(transfer) => self.begin(conn, own, transfer, store, count)?,
+            Perf::End(_) => self.ids.end(conn, own),
+            Perf::Close(_) => self.ids.forget(conn),
+            _ => {}
+        }
+        Ok(())
+    }
+
+    /// The router's transfer, which may begin a delivery under an id.
+    fn begin(
+        &mut self,
+        conn: u64,
+        own: u16,
+        transfer: &Transfer,
+        store: &Store,
+        count: u64,
+    ) -> Result<(), AllocError>
+        ensures named { OnOk result ((c o q : ℕ) → at_id self.new.ids c o q
+            ≡ (if conn == c then (if own == o then (if is_id transfer.now.delivery_id q then kept_name (option_and_then tagged (tag_in transfer.now)) count (get nat_cmp store.now.deliveries) else at_id self.old.ids c o q) else at_id self.old.ids c o q) else at_id self.old.ids c o q)) }
+        ensures small { OnOk result (AreSmall (at_id self.old.ids) → AreSmall (at_id self.new.ids)) }
+    {
+        if let Some(id) = transfer.delivery_id {
+            self.set(conn, own, id, kept_name(number_of(transfer), store, count))?;
+        }
+        Ok(())
+    }
+
+    /// Gives an id this name, or none.
+    fn set(&mut self, conn: u64, own: u16, id: u32, name: Option<u64>) -> Result<(), AllocError>
+        ensures named { OnOk result ((c o q : ℕ) → at_id self.new.ids c o q
+            ≡ (if conn == c then (if own == o then (if id == q then name else at_id self.old.ids c o q) else at_id self.old.ids c o q) else at_id self.old.ids c o q)) }
+        ensures small { OnOk result (AreSmall (at_id self.old.ids) → AreSmall (at_id self.new.ids)) }
+    {
+        match name {
+            None => self.ids.remove(conn, own, id),
+            Some(number) => self.ids.insert(conn, own, id, number)?,
+        }
+        Ok(())
+    }
+}
+
+/// The number of a delivery that is kept as a name: it is undecided, or wasn't bound yet.
+fn kept_name(number: Option<u64>, store: &Store, count: u64) -> Option<u64>
+    ensures { result ≡ kept_name number count (get nat_cmp store.now.deliveries) }
+{
+    let number = number?;
+    if number <= count && !store.is_open(number) {
+        return None;
+    }
+    Some(number)
+}
+
+/// Puts a number behind others, where there is one.
+fn add(numbers: &mut Vec<u64>, number: Option<u64>) -> Result<(), AllocError>
+    ensures { OnOk result ((n : ℕ) → has n numbers.new.items ≡ (has n numbers.old.items || is_number number n)) }
+{
+    if let Some(number) = number {
+        numbers.push(number)?;
+    }
+    Ok(())
+}

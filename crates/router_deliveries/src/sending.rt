@@ -1,0 +1,125 @@
+//! The deliveries of which more frames are to go, by the router's handles.
+ghost use Rattle.std.specs.Prelude.{◌≡◌, ◌∷◌, [], List, ℕ, Bool, None, if◌then◌else◌, OnOk};
+ghost use Rattle.amqp_perf.specs.declared.perf.Perf.TheVariants as perf;
+ghost use Rattle.amqp_frames.specs.declared.item.Item.TheVariants as item;
+ghost use Rattle.router_trace.specs.Trace.{Entry, Out, did};
+ghost use Rattle.router_trace.specs.declared.event.Event.TheVariants as event;
+ghost use Rattle.router_trace.specs.Deliveries.{carried, tag_in};
+ghost use Rattle.router_deliveries.specs.Places.{at};
+ghost use Rattle.router_deliveries.specs.Fits.{SendingFit, carried_in, carried_by};
+
+use crate::by_handle::ByHandle;
+use crate::tag::carried;
+use amqp_frames::Item;
+use amqp_perf::{Perf, Transfer};
+use router_trace::ConnectionId;
+use std::alloc::{AllocError, Global};
+
+/// The number of the delivery of which more frames are to go, by the router's handle.
+#[derive(Debug, Drop)]
+pub(crate) struct Sending {
+    numbers: ByHandle<u64>,
+}
+
+impl Sending {
+    /// None.
+    pub(crate) fn new(alloc: Global) -> Sending
+        ensures { SendingFit result [] }
+    {
+        Sending {
+            numbers: ByHandle::new(alloc),
+        }
+    }
+
+    /// The number of the delivery of which more frames are to go on a handle of the router.
+    pub(crate) fn on(&self, conn: u64, own: u16, handle: u32) -> Option<u64>
+        ensures { result ≡ at self.now.numbers conn own handle }
+    {
+        self.numbers.get(conn, own, handle).copied()
+    }
+
+    /// A connection is lost.
+    pub(crate) fn down(&mut self, conn: ConnectionId)
+        ensures { (t : List Entry) → SendingFit self.old t → SendingFit self.new (did (event.Down conn) ∷ t) }
+    {
+        let _ = self.numbers.forget(conn.0);
+    }
+
+    /// An item is put in the outbox of a connection.
+    pub(crate) fn put(&mut self, conn: u64, item: &Item) -> Result<(), AllocError>
+        ensures { OnOk result ((t : List Entry) → SendingFit self.old t → SendingFit self.new (Out conn item.now ∷ t)) }
+    {
+        match item {
+            Item::Frame { channel, perf, .. } => self.put_perf(conn, *channel, perf)?,
+            _ => {}
+        }
+        Ok(())
+    }
+
+    /// A performative is put in the outbox of a connection, on a channel of the router.
+    fn put_perf(&mut self, conn: u64, own: u16, perf: &Perf) -> Result<(), AllocError>
+        ensures { OnOk result ((t : List Entry) (sasl : Bool) (payload : List ℕ) → SendingFit self.old t
+            → SendingFit self.new (Out conn (item.Frame sasl own perf.now payload) ∷ t)) }
+    {
+        match perf {
+            Perf::Transfer(transfer) => self.put_transfer(conn, own, transfer)?,
+            Perf::Detach(detach) => {
+                let _ = self.numbers.remove(conn, own, detach.handle);
+            }
+            Perf::End(_) => {
+                let _ = self.numbers.end(conn, own);
+            }
+            Perf::Close(_) => {
+                let _ = self.numbers.forget(conn);
+            }
+            _ => {}
+        }
+        Ok(())
+    }
+
+    /// The router's transfer.
+    fn put_transfer(&mut self, conn: u64, own: u16, transfer: &Transfer) -> Result<(), AllocError>
+        ensures { OnOk result ((t : List Entry) (sasl : Bool) (payload : List ℕ) → SendingFit self.old t
+            → SendingFit self.new (Out conn (item.Frame sasl own (perf.Transfer transfer.now) payload) ∷ t)) }
+    {
+        let number = self.number_behind(conn, own, transfer);
+        match number {
+            None => {
+                let _ = self.numbers.remove(conn, own, transfer.handle);
+                Ok(())
+            }
+            Some(number) => self.numbers.insert(conn, own, transfer.handle, number),
+        }
+    }
+
+    /// The delivery that an item of the router carries.
+    pub(crate) fn carried_by(&self, conn: u64, item: &Item) -> Option<u64>
+        ensures { result ≡ carried_by item.now (at self.now.numbers conn) }
+    {
+        match item {
+            Item::Frame { channel, perf, .. } => self.carried_in(conn, *channel, perf),
+            _ => None,
+        }
+    }
+
+    /// The delivery that a performative of the router carries.
+    fn carried_in(&self, conn: u64, own: u16, perf: &Perf) -> Option<u64>
+        ensures { result ≡ carried_in perf.now (at self.now.numbers conn own) }
+    {
+        match perf {
+            Perf::Transfer(transfer) => carried(transfer, self.on(conn, own, transfer.handle)),
+            _ => None,
+        }
+    }
+
+    /// The delivery of which more frames are to go behind a transfer, on its handle.
+    fn number_behind(&self, conn: u64, own: u16, transfer: &Transfer) -> Option<u64>
+        ensures { result ≡ (if transfer.now.more then carried (tag_in transfer.now) (at self.now.numbers conn own transfer.now.handle) else None) }
+    {
+        if transfer.more {
+            carried(transfer, self.on(conn, own, transfer.handle))
+        } else {
+            None
+        }
+    }
+}

@@ -1,0 +1,256 @@
+//! Deliveries by their numbers.
+ghost use Rattle.std.specs.Prelude.{◌≡◌, ◌==◌, ◌+◌, ℕ, Some, None, if◌then◌else◌, OnOk, IfOk, length, ◌∷◌, List, Bool};
+ghost use Rattle.std.specs.Option.{option_map, option_and_then};
+ghost use Rattle.std.specs.Ordering.{nat_cmp};
+ghost use Rattle.std.specs.Map.{keys_of};
+ghost use Rattle.std.specs.BTreeMap.{get};
+ghost use Rattle.amqp_session.specs.Ranges.{has};
+ghost use Rattle.router_trace.specs.Deliveries.{unless_over, bound, behind_frame, is_number, is_id, sending};
+ghost use Rattle.router_trace.specs.Trace.{Entry, Out, did};
+ghost use Rattle.amqp_frames.specs.declared.item.Item.TheVariants as item;
+ghost use Rattle.router_trace.specs.declared.event.Event.TheVariants as event;
+ghost use Rattle.router_deliveries.specs.Fits.{Indexed, StoreFit, carried_in, carried_by};
+ghost use Rattle.router_deliveries.specs.declared.index.Keys.{Keys as TheKeys};
+ghost use Rattle.router_deliveries.specs.Indexing.{Indexes, standing};
+ghost use Rattle.router_deliveries.specs.Hearing.{id_of};
+ghost use Rattle.router_deliveries.specs.Naming.{is_open};
+ghost use Rattle.router_deliveries.specs.Stepping.{behind, behind_any, IsKept};
+
+use crate::change::{Change, Gone, behind_put};
+use crate::delivery::Delivery;
+use crate::index::{Index, Keys};
+use amqp_frames::Item;
+use amqp_perf::{Perf, Transfer};
+use bytes::Bytes;
+use router_trace::{Binding, ConnectionId};
+use std::alloc::{AllocError, Global};
+use std::collections::BTreeMap;
+
+/// Deliveries by their numbers. One that is over is gone. Behind a refused growth nothing can be said of them.
+#[derive(Debug, Drop)]
+pub(crate) struct Store {
+    alloc: Global,
+    deliveries: BTreeMap<u64, Delivery>,
+    index: Index,
+}
+
+impl Store {
+    /// No deliveries.
+    pub(crate) fn new(alloc: Global) -> Store
+        ensures deliveries { (n : ℕ) → get nat_cmp result.deliveries n ≡ None }
+        ensures indexed { Indexed result }
+    {
+        Store {
+            alloc,
+            deliveries: BTreeMap::new(alloc),
+            index: Index::new(alloc),
+        }
+    }
+
+    /// The delivery of a number.
+    pub(crate) fn get(&self, number: u64) -> Option<&Delivery>
+        ensures { option_map (λ d. d.now) result ≡ get nat_cmp self.now.deliveries number }
+    {
+        self.deliveries.get(&number)
+    }
+
+    /// Whether the delivery of a number is undecided.
+    pub(crate) fn is_open(&self, number: u64) -> bool
+        ensures { result ≡ is_open (get nat_cmp self.now.deliveries number) }
+    {
+        match self.deliveries.get(&number) {
+            None => false,
+            Some(delivery) => delivery.is_undecided(),
+        }
+    }
+
+    /// Whether the delivery of a number has this id.
+    pub(crate) fn has_id(&self, number: u64, id: u32) -> bool
+        ensures { result ≡ is_id (id_of (get nat_cmp self.now.deliveries number)) id }
+    {
+        match self.deliveries.get(&number) {
+            None => false,
+            Some(delivery) => delivery.id == Some(id),
+        }
+    }
+
+    /// Takes the delivery of a number out.
+    fn take(&mut self, number: u64) -> Option<Delivery>
+        ensures gives { result ≡ get nat_cmp self.old.deliveries number }
+        ensures gone { (n : ℕ) → get nat_cmp self.new.deliveries n ≡ (if number == n then None else get nat_cmp self.old.deliveries n) }
+        ensures index { self.new.index ≡ self.old.index }
+    {
+        self.deliveries.remove(&number)
+    }
+
+    /// Gives a number this delivery, unless it is over; what had the number stood here in the indexes.
+    fn keep(&mut self, number: u64, before: Keys, delivery: Delivery) -> Result<(), AllocError>
+        ensures deliveries { OnOk result ((n : ℕ) → get nat_cmp self.new.deliveries n ≡ (if number == n then unless_over delivery else get nat_cmp self.old.deliveries n)) }
+        ensures indexed { OnOk result ((known : ℕ → TheKeys) → known number ≡ before → Indexes self.old.index known
+            → Indexes self.new.index (λ n. if number == n then standing (unless_over delivery) else known n)) }
+    {
+        if delivery.is_over() {
+            let _ = self.deliveries.remove(&number);
+            return self.index.shift(number, before, Keys::nowhere());
+        }
+        self.index.shift(number, before, Keys::of(&delivery))?;
+        match self.deliveries.insert(number, delivery) {
+            Ok(_) => Ok(()),
+            Err(_) => Err(AllocError),
+        }
+    }
+
+    /// Notes a message that was bound, under its number.
+    pub(crate) fn bind(&mut self, number: u64, binding: Binding) -> Result<(), AllocError>
+        ensures deliveries { OnOk result ((n : ℕ) → get nat_cmp self.new.deliveries n ≡ (if number == n then Some (bound binding) else get nat_cmp self.old.deliveries n)) }
+        ensures indexed { OnOk result (Indexed self.old → Indexed self.new) }
+    {
+        let taken = self.take(number);
+        let before = Keys::standing(&taken);
+        self.keep(number, before, Delivery::bound(binding))
+    }
+
+    /// Notes a transfer that carries so many bytes of the delivery of a number.
+    pub(crate) fn note_frame(
+        &mut self,
+        number: u64,
+        transfer: &Transfer,
+        count: u64,
+    ) -> Result<(), AllocError>
+        ensures deliveries { OnOk result ((n : ℕ) → get nat_cmp self.new.deliveries n
+            ≡ (if number == n then option_and_then (λ d. unless_over (behind_frame transfer.now count d)) (get nat_cmp self.old.deliveries n) else get nat_cmp self.old.deliveries n)) }
+        ensures indexed { OnOk result (Indexed self.old → Indexed self.new) }
+    {
+        let Some(mut delivery) = self.take(number) else {
+            return Ok(());
+        };
+        let before = Keys::of(&delivery);
+        delivery.note_frame(transfer, count)?;
+        self.keep(number, before, delivery)
+    }
+
+    /// Changes the delivery of a number.
+    fn change(&mut self, number: u64, change: &Change) -> Result<(), AllocError>
+        ensures deliveries { OnOk result ((n : ℕ) → get nat_cmp self.new.deliveries n
+            ≡ (if number == n then behind change.now (get nat_cmp self.old.deliveries n) else get nat_cmp self.old.deliveries n)) }
+        ensures indexed { OnOk result (Indexed self.old → Indexed self.new) }
+    {
+        let Some(mut delivery) = self.take(number) else {
+            return Ok(());
+        };
+        let before = Keys::of(&delivery);
+        delivery.change(change)?;
+        self.keep(number, before, delivery)
+    }
+
+    /// Changes the deliveries of these numbers.
+    pub(crate) fn change_all(&mut self, numbers: &[u64], change: &Change) -> Result<(), AllocError>
+        ensures deliveries { OnOk result ((n : ℕ) → get nat_cmp self.new.deliveries n
+            ≡ (if has n numbers.now then behind change.now (get nat_cmp self.old.deliveries n) else get nat_cmp self.old.deliveries n)) }
+        ensures indexed { OnOk result (Indexed self.old → Indexed self.new) }
+    {
+        for number in numbers {
+            self.change(*number, change)?;
+        }
+        Ok(())
+    }
+
+    /// Does this to all deliveries.
+    pub(crate) fn apply(&mut self, change: &Change) -> Result<(), AllocError>
+        ensures deliveries { OnOk result (((n : ℕ) → IsKept (get nat_cmp self.old.deliveries n))
+            → (n : ℕ) → get nat_cmp self.new.deliveries n ≡ behind change.now (get nat_cmp self.old.deliveries n)) }
+        ensures indexed { OnOk result (Indexed self.old → Indexed self.new) }
+    {
+        let numbers = self.numbers()?;
+        self.change_all(numbers.as_slice(), change)
+    }
+
+    /// Does this to all deliveries, where anything is to be done.
+    pub(crate) fn apply_any(&mut self, change: Option<Change>) -> Result<(), AllocError>
+        ensures deliveries { OnOk result (((n : ℕ) → IsKept (get nat_cmp self.old.deliveries n))
+            → (n : ℕ) → get nat_cmp self.new.deliveries n ≡ behind_any change (get nat_cmp self.old.deliveries n)) }
+        ensures indexed { OnOk result (Indexed self.old → Indexed self.new) }
+    {
+        match change {
+            None => Ok(()),
+            Some(change) => self.apply(&change),
+        }
+    }
+
+    /// Notes a transfer that carries this much of the delivery of a number, where there is one.
+    pub(crate) fn note_carried(
+        &mut self,
+        number: Option<u64>,
+        transfer: &Transfer,
+        payload: &Bytes,
+    ) -> Result<(), AllocError>
+        ensures deliveries { OnOk result ((n : ℕ) → get nat_cmp self.new.deliveries n
+            ≡ (if is_number number n then option_and_then (λ d. unless_over (behind_frame transfer.now (length payload.now) d)) (get nat_cmp self.old.deliveries n) else get nat_cmp self.old.deliveries n)) }
+        ensures indexed { OnOk result (Indexed self.old → Indexed self.new) }
+    {
+        match number {
+            None => Ok(()),
+            Some(number) => {
+                let count = payload.len() as u64;
+                self.note_frame(number, transfer, count)
+            }
+        }
+    }
+
+    /// A connection is lost.
+    pub(crate) fn down(&mut self, conn: ConnectionId) -> Result<(), AllocError>
+        ensures { OnOk result ((t : List Entry) → StoreFit self.old t → StoreFit self.new (did (event.Down conn) ∷ t)) }
+    {
+        self.apply(&Change::Ends(Gone::Connection(conn.0)))
+    }
+
+    /// An item is put in the outbox of a connection; a transfer carries the delivery of this number.
+    pub(crate) fn put(
+        &mut self,
+        conn: u64,
+        item: &Item,
+        number: Option<u64>,
+    ) -> Result<(), AllocError>
+        ensures { OnOk result ((t : List Entry) → number ≡ carried_by item.now (sending t conn) → StoreFit self.old t → StoreFit self.new (Out conn item.now ∷ t)) }
+    {
+        match item {
+            Item::Frame {
+                channel,
+                perf,
+                payload,
+                ..
+            } => self.put_perf(conn, *channel, perf, payload, number)?,
+            _ => {}
+        }
+        Ok(())
+    }
+
+    /// A performative is put in the outbox of a connection, on a channel of the router.
+    fn put_perf(
+        &mut self,
+        conn: u64,
+        own: u16,
+        perf: &Perf,
+        payload: &Bytes,
+        number: Option<u64>,
+    ) -> Result<(), AllocError>
+        ensures { OnOk result ((t : List Entry) (sasl : Bool) → number ≡ carried_in perf.now (sending t conn own) → StoreFit self.old t
+            → StoreFit self.new (Out conn (item.Frame sasl own perf.now payload.now) ∷ t)) }
+    {
+        match perf {
+            Perf::Transfer(transfer) => self.note_carried(number, transfer, payload),
+            _ => self.apply_any(behind_put(conn, own, perf)),
+        }
+    }
+
+    /// The numbers of all deliveries.
+    fn numbers(&self) -> Result<Vec<u64>, AllocError>
+        ensures { IfOk result (λ numbers. numbers.items ≡ keys_of self.now.deliveries.entries) }
+    {
+        let mut numbers = Vec::new(self.alloc);
+        for (number, _) in &self.deliveries {
+            numbers.push(*number)?;
+        }
+        Ok(numbers)
+    }
+}

@@ -1,0 +1,107 @@
+-- What a trace says of the deliveries that a peer has not settled, by the delivery-ids that it gave them (AMQP 1.0 part 2, section 2.6.12).
+use Rattle.std.specs.Prelude.{ℕ, Bool, true, false, not, ◌&&◌, ◌==◌, if◌then◌else◌, is_none, List, ◌∷◌, [], Option, Some, None, option_map}
+use Rattle.amqp_perf.specs.declared.perf.Disposition.{Disposition}
+use Rattle.amqp_perf.specs.declared.perf.Perf.{Perf}
+use Rattle.amqp_perf.specs.declared.perf.Perf.TheVariants as perf
+use Rattle.amqp_perf.specs.declared.perf.Role.{Role}
+use Rattle.amqp_perf.specs.declared.perf.Role.TheVariants.{Sender, Receiver}
+use Rattle.amqp_perf.specs.declared.perf.Transfer.{Transfer}
+use Rattle.amqp_frames.specs.declared.item.Item.{Item}
+use Rattle.amqp_frames.specs.declared.item.Item.TheVariants as item
+use Rattle.amqp_session.specs.Ranges.{in_range}
+use Rattle.amqp_link.specs.Deliveries.{Frame, delivery}
+use Rattle.amqp_link.specs.Receiving.{Received, middle, is_beyond}
+use Rattle.router_trace.specs.declared.event.Event.{Event}
+use Rattle.router_trace.specs.declared.event.Event.TheVariants as event
+use Rattle.router_trace.specs.declared.channel.PeerChannel.{PeerChannel}
+use Rattle.router_trace.specs.declared.handle.PeerHandle.{PeerHandle}
+use Rattle.router_trace.specs.declared.handle.PeerHandle.TheVariants.{Mapped, Detaching}
+use Rattle.router_trace.specs.Trace.{Did, Out, Took, Bound, Trace}
+use Rattle.router_trace.specs.Links.{Link, Happened, sends, receives, link, their_handle, ends_handle_in}
+use Rattle.router_trace.specs.Sessions.{maps, theirs}
+use Rattle.router_trace.specs.Deliveries.{last_of}
+
+-- An unsettled delivery of a peer: the router's handle of its link, and whether it was ignored (a resumed one that the router doesn't know).
+pub record Claim : Type 0 where
+  pub handle : ℕ
+  pub ignored : Bool
+
+-- A transfer that begins a delivery claims its id, unless it is settled or has no credit; a later one lets it go where it settles or
+-- aborts the delivery, and one that completes a resumed delivery leaves it ignored.
+abbrev pub ends_well : Transfer → Bool
+ends_well x = if x.settled then false else not x.aborted
+
+abbrev pub is_ignored : Bool → Transfer → Bool
+is_ignored resume x = resume && not x.more
+
+abbrev pub claim : ℕ → Bool → Transfer → Option Claim
+claim h resume x = if ends_well x then Some (record { handle = h; ignored = is_ignored resume x }) else None
+
+abbrev pub is_named : Option ℕ → ℕ → Bool
+is_named None id = false
+is_named (Some k) id = k == id
+
+abbrev pub claimed_first : ℕ → Transfer → Bool → ℕ → Option Claim → Option Claim
+claimed_first h x beyond id v = if is_named x.delivery_id id && not beyond then claim h x.resume x else v
+
+abbrev pub claimed_in : ℕ → Transfer → List Frame → Bool → ℕ → Option Claim → Option Claim
+claimed_in h x [] beyond id v = claimed_first h x beyond id v
+claimed_in h x (f ∷ fs) beyond id v =
+    if is_named (delivery f fs).id id then (if is_none v then None else claim h (delivery f fs).resume x) else v
+
+abbrev pub claimed_by : ℕ → Transfer → Happened → ℕ → Option Claim → Option Claim
+claimed_by h x (sends list) id v = v
+claimed_by h x (receives list) id v = claimed_in h x (middle list) (is_beyond list) id v
+
+abbrev pub claimed_on : ℕ → Transfer → Option Link → ℕ → Option Claim → Option Claim
+claimed_on h x None id v = v
+claimed_on h x (Some l) id v = claimed_by h x l.happened id v
+
+abbrev pub claimed : Transfer → Option PeerHandle → (ℕ → Option Link) → ℕ → Option Claim → Option Claim
+claimed x (Some (Mapped h)) known id v = claimed_on h x (known h) id v
+claimed x _ known id v = v
+
+-- dispositions that settle: the peer's as a sender, and the router's as a receiver
+abbrev pub settled_by : Role → Disposition → ℕ → Option Claim → Option Claim
+settled_by Sender x id v = if x.settled && in_range x.first (last_of x) id then None else v
+settled_by Receiver x id v = v
+
+abbrev pub answered_by : Role → Disposition → ℕ → Option Claim → Option Claim
+answered_by Sender x id v = v
+answered_by Receiver x id v = if x.settled && in_range x.first (last_of x) id then None else v
+
+abbrev pub claim_in : Perf → (ℕ → Option PeerHandle) → (ℕ → Option Link) → ℕ → Option Claim → Option Claim
+claim_in (perf.Transfer x) handles known id v = claimed x (handles x.handle) known id v
+claim_in (perf.Disposition x) handles known id v = settled_by x.role x id v
+claim_in _ handles known id v = v
+
+abbrev pub claim_by : Item → ℕ → (ℕ → Option PeerChannel) → (ℕ → Option PeerHandle) → (ℕ → Option Link) → ℕ → Option Claim → Option Claim
+claim_by (item.Frame sasl channel body payload) o channels handles known id v =
+    if sasl then v else (if maps (channels channel) o then claim_in body handles known id v else v)
+claim_by _ o channels handles known id v = v
+
+abbrev pub claim_at : Event → ℕ → ℕ → (ℕ → Option PeerChannel) → (ℕ → Option PeerHandle) → (ℕ → Option Link) → ℕ → Option Claim → Option Claim
+claim_at (event.Item d i) c o channels handles known id v = if d.0 == c then claim_by i o channels handles known id v else v
+claim_at (event.Down d) c o channels handles known id v = if d.0 == c then None else v
+claim_at _ c o channels handles known id v = v
+
+-- what the router puts out: its outcomes, and the ends of links
+abbrev pub unless_ended : Perf → ℕ → ℕ → Option Claim → Option Claim
+unless_ended body own o None = None
+unless_ended body own o (Some v) = if ends_handle_in body own o v.handle then None else Some v
+
+abbrev pub claim_behind_in : Perf → ℕ → ℕ → ℕ → Option Claim → Option Claim
+claim_behind_in (perf.Disposition x) own o id v = if own == o then answered_by x.role x id v else v
+claim_behind_in body own o id v = unless_ended body own o v
+
+abbrev pub claim_behind : Item → ℕ → ℕ → Option Claim → Option Claim
+claim_behind (item.Frame sasl own body payload) o id v = claim_behind_in body own o id v
+claim_behind _ o id v = v
+
+-- the claim of a peer to a delivery-id, on the session of a channel of the router
+abbrev pub claims : Trace → ℕ → ℕ → ℕ → Option Claim
+claims [] c o id = None
+claims (Did s ∷ t) c o id = claim_at s.event c o (theirs t c) (their_handle t c o) (link t c o) id (claims t c o id)
+claims (Out d i ∷ t) c o id = if d == c then claim_behind i o id (claims t c o id) else claims t c o id
+claims (Took d n ∷ t) c o id = claims t c o id
+claims (Bound b ∷ t) c o id = claims t c o id

@@ -1,0 +1,299 @@
+-- What a trace says of deliveries that the router passes on (AMQP 1.0 part 2, sections 2.6.12, 2.6.14, 2.7.5 and 2.7.6): each is a
+-- message bound to one link of a consumer. Bindings are numbered from 1, in their order, and the delivery has its binding's number.
+use Rattle.std.specs.Prelude.{ℕ, ◌+◌, ◌*◌, ◌/◌, ◌%◌, ◌^◌, Bool, true, false, not, ◌&&◌, ◌||◌, ◌==◌, nat_eq, nat_lt, nat_le, if◌then◌else◌, is_none, is_some, List, ◌∷◌, [], length, Option, Some, None, option_map, option_and_then, unwrap_or}
+use Rattle.amqp_perf.specs.declared.perf.Disposition.{Disposition}
+use Rattle.amqp_perf.specs.declared.perf.Perf.{Perf}
+use Rattle.amqp_perf.specs.declared.perf.Perf.TheVariants as perf
+use Rattle.amqp_perf.specs.declared.perf.Role.{Role}
+use Rattle.amqp_perf.specs.declared.perf.Role.TheVariants.{Sender, Receiver}
+use Rattle.amqp_perf.specs.declared.perf.Transfer.{Transfer}
+use Rattle.amqp_perf.specs.declared.state.DeliveryState.{DeliveryState}
+use Rattle.amqp_perf.specs.declared.state.DeliveryState.TheVariants as state
+use Rattle.amqp_frames.specs.declared.item.Item.{Item}
+use Rattle.amqp_frames.specs.declared.item.Item.TheVariants as item
+use Rattle.amqp_session.specs.Ranges.{in_range}
+use Rattle.router_trace.specs.declared.binding.Binding.{Binding}
+use Rattle.router_trace.specs.declared.binding.Origin.{Origin}
+use Rattle.router_trace.specs.declared.event.Event.{Event}
+use Rattle.router_trace.specs.declared.event.Event.TheVariants as event
+use Rattle.router_trace.specs.declared.channel.PeerChannel.{PeerChannel}
+use Rattle.router_trace.specs.declared.handle.Attachment.{Attachment}
+use Rattle.router_trace.specs.Trace.{Did, Out, Took, Bound, Trace}
+use Rattle.router_trace.specs.Links.{ends_handle, ends_handle_in, is_lost}
+use Rattle.router_trace.specs.Sessions.{maps, theirs}
+
+-- how many messages were bound
+abbrev pub bindings : Trace → ℕ
+bindings [] = 0
+bindings (Did s ∷ t) = bindings t
+bindings (Out d i ∷ t) = bindings t
+bindings (Took d n ∷ t) = bindings t
+bindings (Bound b ∷ t) = bindings t + 1
+
+-- A delivery: where it goes, whom its outcome is told to, and how far it is.
+pub record Delivery : Type 0 where
+  pub link : Attachment
+  pub origin : Option Origin
+  -- its producer had settled it before it was bound
+  pub presettled : Bool
+  pub format : ℕ
+  pub payload : List ℕ
+  -- its id on the consumer's session, once it has started, and how many bytes of it have gone
+  pub id : Option ℕ
+  pub sent : ℕ
+  -- frames of it are still to go
+  pub going_on : Bool
+  -- what was decided of it
+  pub outcome : Option DeliveryState
+
+abbrev pub bound : Binding → Delivery
+bound b = record {
+  link = b.consumer;
+  origin = b.origin;
+  presettled = is_none b.origin;
+  format = b.format;
+  payload = b.payload;
+  id = None;
+  sent = 0;
+  going_on = true;
+  outcome = None;
+}
+
+-- It is over once it is decided, nobody is to be told, and no frame is to go.
+abbrev pub is_over : Delivery → Bool
+is_over d = not d.going_on && (is_some d.outcome && is_none d.origin)
+
+abbrev pub unless_over : Delivery → Option Delivery
+unless_over d = if is_over d then None else Some d
+
+-- The tag that the router gives a delivery: 76 and its number in 8 bytes.
+abbrev pub byte_of : ℕ → ℕ → ℕ
+byte_of n place = (n / 256 ^ place) % 256
+
+abbrev pub tag_of : ℕ → List ℕ
+tag_of n = 118 ∷ byte_of n 7 ∷ byte_of n 6 ∷ byte_of n 5 ∷ byte_of n 4 ∷ byte_of n 3 ∷ byte_of n 2 ∷ byte_of n 1 ∷ byte_of n 0 ∷ []
+
+abbrev pub number_in : List ℕ → ℕ → ℕ
+number_in [] n = n
+number_in (b ∷ bs) n = number_in bs (256 * n + b)
+
+abbrev pub tagged : List ℕ → Option ℕ
+tagged [] = None
+tagged (b ∷ bs) = if (b == 118) && (length bs == 8) then Some (number_in bs 0) else None
+
+-- The number of the delivery that a transfer of the router carries: a first frame has its tag, and a later one none, so it is that of
+-- the frame before it on its link while that has more.
+abbrev pub carried : Option (List ℕ) → Option ℕ → Option ℕ
+carried (Some tag) before = tagged tag
+carried None before = before
+
+abbrev pub tag_in : Transfer → Option (List ℕ)
+tag_in x = option_map (λ tag. tag.items) x.delivery_tag
+
+abbrev pub sending_in : Perf → ℕ → ℕ → ℕ → Option ℕ → Option ℕ
+sending_in (perf.Transfer x) own o h v = if (own == o) && (x.handle == h) then (if x.more then carried (tag_in x) v else None) else v
+sending_in body own o h v = if ends_handle_in body own o h then None else v
+
+abbrev pub sending_by : Item → ℕ → ℕ → Option ℕ → Option ℕ
+sending_by (item.Frame sasl own body payload) o h v = sending_in body own o h v
+sending_by _ o h v = v
+
+abbrev pub sending : Trace → ℕ → ℕ → ℕ → Option ℕ
+sending [] c o h = None
+sending (Did s ∷ t) c o h = if is_lost s.event c then None else sending t c o h
+sending (Out d i ∷ t) c o h = if d == c then sending_by i o h (sending t c o h) else sending t c o h
+sending (Took d n ∷ t) c o h = sending t c o h
+sending (Bound b ∷ t) c o h = sending t c o h
+
+abbrev pub is_id : Option ℕ → ℕ → Bool
+is_id None id = false
+is_id (Some k) id = k == id
+
+-- The number of the delivery that an id names on a session of the router's: that of the last transfer that began one under it (2.6.12).
+abbrev pub begins_under : Transfer → ℕ → Option ℕ → Option ℕ
+begins_under x id v = if is_id x.delivery_id id then option_and_then tagged (tag_in x) else v
+
+abbrev pub named_in : Perf → ℕ → ℕ → ℕ → Option ℕ → Option ℕ
+named_in (perf.Transfer x) own o id v = if own == o then begins_under x id v else v
+named_in (perf.End x) own o id v = if own == o then None else v
+named_in (perf.Close x) own o id v = None
+named_in _ own o id v = v
+
+abbrev pub named_by : Item → ℕ → ℕ → Option ℕ → Option ℕ
+named_by (item.Frame sasl own body payload) o id v = named_in body own o id v
+named_by _ o id v = v
+
+abbrev pub named : Trace → ℕ → ℕ → ℕ → Option ℕ
+named [] c o id = None
+named (Did s ∷ t) c o id = if is_lost s.event c then None else named t c o id
+named (Out d i ∷ t) c o id = if d == c then named_by i o id (named t c o id) else named t c o id
+named (Took d n ∷ t) c o id = named t c o id
+named (Bound b ∷ t) c o id = named t c o id
+
+-- A transfer that carries it: its id is that of the first frame, and one that was settled before is decided with its last frame.
+abbrev pub behind_frame : Transfer → ℕ → Delivery → Delivery
+behind_frame x count d = record d {
+  id = (if is_none d.id then x.delivery_id else d.id);
+  sent = d.sent + count;
+  going_on = x.more;
+  outcome = (if d.presettled && not x.more then Some state.Accepted else d.outcome);
+}
+
+abbrev pub stands_on : Attachment → ℕ → ℕ → Bool
+stands_on a c o = (a.conn.0 == c) && (a.channel == o)
+
+-- A delivery is decided by its consumer: its disposition has a terminal state, or settles without one, which is modified with
+-- delivery-failed. So is one that is undecided when its link ends.
+abbrev pub failed : DeliveryState
+failed = state.Modified (record { delivery_failed = true; undeliverable_here = false; message_annotations = None })
+
+abbrev pub terminal : Option DeliveryState → Option DeliveryState
+terminal (Some (state.Received r)) = None
+terminal (Some (state.Other v)) = None
+terminal s = s
+
+abbrev pub decision : Bool → Option DeliveryState → Option DeliveryState
+decision settled (Some s) = Some s
+decision settled None = if settled then Some failed else None
+
+abbrev pub last_of : Disposition → ℕ
+last_of x = unwrap_or x.last x.first
+
+abbrev pub is_undecided : Delivery → Bool
+is_undecided d = is_none d.outcome && not d.presettled
+
+abbrev pub is_meant : Disposition → Option ℕ → Bool
+is_meant x None = false
+is_meant x (Some id) = in_range x.first (last_of x) id
+
+abbrev pub is_number : Option ℕ → ℕ → Bool
+is_number None n = false
+is_number (Some k) n = k == n
+
+-- the delivery of this number, of those that the ids of a session name
+abbrev pub is_named : Option ℕ → (ℕ → Option ℕ) → ℕ → Bool
+is_named None names n = false
+is_named (Some id) names n = is_number (names id) n
+
+abbrev pub decided : Disposition → (ℕ → Option ℕ) → ℕ → Delivery → Delivery
+decided x names n d = if is_undecided d && is_meant x d.id && is_named d.id names n then record d { outcome = decision x.settled (terminal x.state) } else d
+
+-- Nobody is told of it any more: its outcome was told by a disposition of the router as a receiver, or its producer settled it or went.
+abbrev pub origin_id : Option Origin → ℕ → ℕ → Option ℕ
+origin_id None c o = None
+origin_id (Some p) c o = if stands_on p.link c o then Some p.id else None
+
+abbrev pub untold : Delivery → Delivery
+untold d = record d { origin = None }
+
+abbrev pub told : Role → Disposition → ℕ → ℕ → Delivery → Delivery
+told Receiver x c o d = if x.settled && is_meant x (origin_id d.origin c o) then untold d else d
+told Sender x c o d = d
+
+-- Links that end: the consumer's, and the producer's.
+abbrev pub ended : Delivery → Delivery
+ended d = record d { going_on = false; outcome = (if is_none d.outcome then Some failed else d.outcome) }
+
+abbrev pub is_gone_with : (Attachment → Bool) → Option Origin → Bool
+is_gone_with gone None = false
+is_gone_with gone (Some p) = gone p.link
+
+abbrev pub behind_origin : (Attachment → Bool) → Delivery → Delivery
+behind_origin gone d = if is_gone_with gone d.origin then untold d else d
+
+abbrev pub behind_ends : (Attachment → Bool) → Delivery → Delivery
+behind_ends gone d = behind_origin gone (if gone d.link then ended d else d)
+
+-- what an item that the router puts on a connection does to a delivery
+abbrev pub ended_by : Item → ℕ → Attachment → Bool
+ended_by i c a = (a.conn.0 == c) && ends_handle i a.channel a.handle
+
+abbrev pub put_in : Perf → ℕ → ℕ → ℕ → (ℕ → ℕ → Option ℕ) → ℕ → Delivery → Delivery
+put_in (perf.Transfer x) c own n sent count d = if is_number (carried (tag_in x) (sent own x.handle)) n then behind_frame x count d else d
+put_in (perf.Disposition x) c own n sent count d = told x.role x c own d
+put_in _ c own n sent count d = d
+
+abbrev pub behind_put : Item → ℕ → ℕ → (ℕ → ℕ → Option ℕ) → Delivery → Delivery
+behind_put (item.Frame sasl own body payload) c n sent d =
+    behind_ends (ended_by (item.Frame sasl own body payload) c) (put_in body c own n sent (length payload) d)
+behind_put i c n sent d = d
+
+-- what an item that comes on a connection does, where its channel stands for this
+abbrev pub is_on : Attachment → ℕ → Option PeerChannel → Bool
+is_on a c v = (a.conn.0 == c) && maps v a.channel
+
+abbrev pub is_settled_at : Disposition → ℕ → Option PeerChannel → Option Origin → Bool
+is_settled_at x c v None = false
+is_settled_at x c v (Some p) = x.settled && is_on p.link c v && in_range x.first (last_of x) p.id
+
+abbrev pub disposed : Role → Disposition → ℕ → Option PeerChannel → (ℕ → Option ℕ) → ℕ → Delivery → Delivery
+disposed Receiver x c v names n d = if is_on d.link c v then decided x names n d else d
+disposed Sender x c v names n d = if is_settled_at x c v d.origin then untold d else d
+
+abbrev pub heard_in : Perf → ℕ → Option PeerChannel → (ℕ → ℕ → Option ℕ) → ℕ → Delivery → Delivery
+heard_in (perf.Disposition x) c v names n d = disposed x.role x c v (names d.link.channel) n d
+heard_in _ c v names n d = d
+
+abbrev pub heard : Item → ℕ → (ℕ → Option PeerChannel) → (ℕ → ℕ → Option ℕ) → ℕ → Delivery → Delivery
+heard (item.Frame sasl channel body payload) c known names n d = if sasl then d else heard_in body c (known channel) names n d
+heard _ c known names n d = d
+
+abbrev pub lost_with : ℕ → Attachment → Bool
+lost_with c a = a.conn.0 == c
+
+abbrev pub behind_event : Event → (ℕ → ℕ → Option PeerChannel) → (ℕ → ℕ → ℕ → Option ℕ) → ℕ → Delivery → Delivery
+behind_event (event.Item c i) known names n d = heard i c.0 (known c.0) (names c.0) n d
+behind_event (event.Down c) known names n d = behind_ends (lost_with c.0) d
+behind_event _ known names n d = d
+
+-- The delivery of a number; none before it is bound, and once it is over.
+abbrev pub delivery : Trace → ℕ → Option Delivery
+delivery [] n = None
+delivery (Did s ∷ t) n = option_and_then (λ d. unless_over (behind_event s.event (theirs t) (named t) n d)) (delivery t n)
+delivery (Out c i ∷ t) n = option_and_then (λ d. unless_over (behind_put i c n (sending t c) d)) (delivery t n)
+delivery (Took c k ∷ t) n = delivery t n
+delivery (Bound b ∷ t) n = if bindings t + 1 == n then Some (bound b) else delivery t n
+
+-- What is asked of it: whether it waits to start on a link, whether it is undecided there, and whether its producer is to be told.
+abbrev pub waits_on : ℕ → Option Delivery → Bool
+waits_on number None = false
+waits_on number (Some d) = (d.link.number == number) && is_none d.id && d.going_on
+
+abbrev pub undecided_on : ℕ → Option Delivery → Bool
+undecided_on number None = false
+undecided_on number (Some d) = (d.link.number == number) && is_none d.outcome
+
+abbrev pub is_of : ℕ → Option Origin → Bool
+is_of number None = false
+is_of number (Some p) = p.link.number == number
+
+abbrev pub held_from : ℕ → Option Delivery → Bool
+held_from number None = false
+held_from number (Some d) = is_of number d.origin && is_none d.outcome
+
+abbrev pub is_to_tell : Option Delivery → Bool
+is_to_tell None = false
+is_to_tell (Some d) = is_some d.outcome && is_some d.origin
+
+-- The delivery-id that the router gives next on a session of its own: 0 behind its begin, one more behind each that it gave.
+abbrev pub after_id : Option ℕ → ℕ → ℕ
+after_id None next = next
+after_id (Some id) next = (id + 1) % 2 ^ 32
+
+abbrev pub next_id_in : Perf → ℕ → ℕ → ℕ → ℕ
+next_id_in (perf.Begin x) own o next = if own == o then 0 else next
+next_id_in (perf.Transfer x) own o next = if own == o then after_id x.delivery_id next else next
+next_id_in (perf.End x) own o next = if own == o then 0 else next
+next_id_in (perf.Close x) own o next = 0
+next_id_in _ own o next = next
+
+abbrev pub next_id_by : Item → ℕ → ℕ → ℕ
+next_id_by (item.Frame sasl own body payload) o next = next_id_in body own o next
+next_id_by _ o next = next
+
+abbrev pub next_id : Trace → ℕ → ℕ → ℕ
+next_id [] c o = 0
+next_id (Did s ∷ t) c o = if is_lost s.event c then 0 else next_id t c o
+next_id (Out d i ∷ t) c o = if d == c then next_id_by i o (next_id t c o) else next_id t c o
+next_id (Took d n ∷ t) c o = next_id t c o
+next_id (Bound b ∷ t) c o = next_id t c o
