@@ -207,8 +207,7 @@ impl State {
     /// The router starts on its journal, which changes no table.
     pub fn start(&mut self)
         ensures { (t : List Entry) (ends : List ℕ) → TablesAt self.old t event.Start ends → TablesFit self.new (did event.Start ∷ t) }
-    {
-    }
+    {}
 
     /// A connection is lost.
     pub fn down(&mut self, conn: ConnectionId) -> Result<(), AllocError>
