@@ -27,13 +27,13 @@ pub(crate) struct Keys {
 #[derive(Debug, Drop)]
 pub(crate) struct Index {
     // those that wait to start on a link
-    waiting: Groups,
+    pub(crate) waiting: Groups,
     // the undecided ones of a link
-    undecided: Groups,
+    pub(crate) undecided: Groups,
     // those held from a producer's link
-    held: Groups,
+    pub(crate) held: Groups,
     // those whose producer is to be told
-    to_tell: BTreeSet<u64>,
+    pub(crate) to_tell: BTreeSet<u64>,
 }
 
 impl Keys {

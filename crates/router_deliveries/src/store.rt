@@ -11,13 +11,16 @@ ghost use Rattle.amqp_frames.specs.declared.item.Item.TheVariants as item;
 ghost use Rattle.router_trace.specs.declared.event.Event.TheVariants as event;
 ghost use Rattle.router_deliveries.specs.Fits.{Indexed, StoreFit, carried_in, carried_by};
 ghost use Rattle.router_deliveries.specs.declared.index.Keys.{Keys as TheKeys};
-ghost use Rattle.router_deliveries.specs.Indexing.{Indexes, standing};
+ghost use Rattle.router_deliveries.specs.Indexing.{Indexes, standing, in_group};
+ghost use Rattle.std.specs.BTreeSet.{contains};
+ghost use Rattle.router_deliveries.specs.Finding.{IsFirst, IsCount};
 ghost use Rattle.router_deliveries.specs.Hearing.{id_of};
 ghost use Rattle.router_deliveries.specs.Naming.{is_open};
 ghost use Rattle.router_deliveries.specs.Stepping.{behind, behind_any, IsKept};
 
 use crate::change::{Change, Gone, behind_put};
 use crate::delivery::Delivery;
+use crate::groups::first;
 use crate::index::{Index, Keys};
 use amqp_frames::Item;
 use amqp_perf::{Perf, Transfer};
@@ -52,6 +55,34 @@ impl Store {
         ensures { option_map (λ d. d.now) result ≡ get nat_cmp self.now.deliveries number }
     {
         self.deliveries.get(&number)
+    }
+
+    /// The first delivery that waits to start on a link.
+    pub(crate) fn next_waiting(&self, link: u64) -> Option<u64>
+        ensures { IsFirst (in_group self.now.index.waiting link) result }
+    {
+        self.index.waiting.first(link)
+    }
+
+    /// How many deliveries of a link are undecided.
+    pub(crate) fn undecided(&self, link: u64) -> usize
+        ensures { IsCount (in_group self.now.index.undecided link) result }
+    {
+        self.index.undecided.count(link)
+    }
+
+    /// How many deliveries of a producer's link are undecided.
+    pub(crate) fn held(&self, link: u64) -> usize
+        ensures { IsCount (in_group self.now.index.held link) result }
+    {
+        self.index.held.count(link)
+    }
+
+    /// The first delivery whose producer is to be told.
+    pub(crate) fn first_to_tell(&self) -> Option<u64>
+        ensures { IsFirst (contains nat_cmp self.now.index.to_tell) result }
+    {
+        first(&self.index.to_tell)
     }
 
     /// Whether the delivery of a number is undecided.
