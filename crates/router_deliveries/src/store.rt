@@ -1,5 +1,5 @@
 //! Deliveries by their numbers.
-ghost use Rattle.std.specs.Prelude.{◌≡◌, ◌==◌, ◌+◌, ℕ, Some, None, if◌then◌else◌, OnOk, IfOk, length, ◌∷◌, List, Bool};
+ghost use Rattle.std.specs.Prelude.{◌≡◌, ◌==◌, ◌+◌, ℕ, Some, None, if◌then◌else◌, OnOk, IfOk, length, ◌||◌, ◌∷◌, List, Bool};
 ghost use Rattle.std.specs.Option.{option_map, option_and_then};
 ghost use Rattle.std.specs.Ordering.{nat_cmp};
 ghost use Rattle.std.specs.Map.{keys_of};
@@ -188,17 +188,17 @@ impl Store {
 
     /// Does this to all deliveries.
     pub(crate) fn apply(&mut self, change: &Change) -> Result<(), AllocError>
-        ensures deliveries { OnOk result (((n : ℕ) → IsKept (get nat_cmp self.old.deliveries n))
+        ensures deliveries { OnOk result (((n : ℕ) → IsKept (get nat_cmp self.old.deliveries n)) → Indexed self.old
             → (n : ℕ) → get nat_cmp self.new.deliveries n ≡ behind change.now (get nat_cmp self.old.deliveries n)) }
         ensures indexed { OnOk result (Indexed self.old → Indexed self.new) }
     {
-        let numbers = self.numbers()?;
+        let numbers = self.numbers(change.conn())?;
         self.change_all(numbers.as_slice(), change)
     }
 
     /// Does this to all deliveries, where anything is to be done.
     pub(crate) fn apply_any(&mut self, change: Option<Change>) -> Result<(), AllocError>
-        ensures deliveries { OnOk result (((n : ℕ) → IsKept (get nat_cmp self.old.deliveries n))
+        ensures deliveries { OnOk result (((n : ℕ) → IsKept (get nat_cmp self.old.deliveries n)) → Indexed self.old
             → (n : ℕ) → get nat_cmp self.new.deliveries n ≡ behind_any change (get nat_cmp self.old.deliveries n)) }
         ensures indexed { OnOk result (Indexed self.old → Indexed self.new) }
     {
@@ -274,14 +274,13 @@ impl Store {
         }
     }
 
-    /// The numbers of all deliveries.
-    fn numbers(&self) -> Result<Vec<u64>, AllocError>
-        ensures { IfOk result (λ numbers. numbers.items ≡ keys_of self.now.deliveries.entries) }
+    /// The numbers of the deliveries of a connection, as their consumer's or their producer's.
+    fn numbers(&self, conn: u64) -> Result<Vec<u64>, AllocError>
+        ensures { IfOk result (λ numbers. (n : ℕ) → has n numbers.items ≡ (in_group self.now.index.on_conn conn n || in_group self.now.index.from_conn conn n)) }
     {
         let mut numbers = Vec::new(self.alloc);
-        for (number, _) in &self.deliveries {
-            numbers.push(*number)?;
-        }
+        self.index.on_conn.append(conn, &mut numbers)?;
+        self.index.from_conn.append(conn, &mut numbers)?;
         Ok(numbers)
     }
 }

@@ -18,7 +18,7 @@ returns c = λ t channel fit.
       bindings = fit.bindings;
       store = record {
         deliveries = λ n.
-            c.in_ok-hear.ensures.deliveries (λ m. subst IsKept (sym (fit.store.deliveries m)) (kept t m)) fit.names.small n
+            c.in_ok-hear.ensures.deliveries (λ m. subst IsKept (sym (fit.store.deliveries m)) (kept t m)) fit.store.indexed fit.names.small n
             ∙ ap (heard_by c.in_ok-change.change known n) (fit.store.deliveries n)
             ∙ ap (λ x. heard_by x known n (delivery t n)) c.in_ok-change.ensures
             ∙ heard_follows c.args.conn c.args.item.now t n c.args.own known channel (λ o id. fit.names.names c.args.conn.0 o id);
