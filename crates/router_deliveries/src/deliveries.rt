@@ -136,6 +136,8 @@ impl Deliveries {
     {
         let change = behind_heard(conn.0, own, item)?;
         hear(&mut self.store, &self.names, change)?;
+        self.names
+            .settle_heard(&self.store, self.bindings, conn.0, own, item)?;
         Ok(())
     }
 
@@ -147,6 +149,8 @@ impl Deliveries {
         let number = self.sending.carried_by(conn, item);
         self.store.put(conn, item, number)?;
         self.names.put(conn, item, &self.store, self.bindings)?;
+        self.names
+            .settle_put(&self.store, self.bindings, conn, item)?;
         self.sending.put(conn, item)?;
         self.next_ids.put(conn, item)?;
         Ok(())
