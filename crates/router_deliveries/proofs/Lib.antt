@@ -7,3 +7,4 @@ mod Named
 mod Picked
 mod Heard
 mod Reindexed
+mod Found

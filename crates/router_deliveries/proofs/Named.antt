@@ -1,5 +1,5 @@
 -- A table's names stay those of the trace.
-use Rattle.std.proofs.Common.{◌≡◌, ◌∙◌, ◌≤◌, ℕ, Bool, true, false, refl, sym, ap, arith, List, ◌∷◌, Option, Some, None}
+use Rattle.std.proofs.Common.{◌≡◌, ◌∙◌, ◌≤◌, ℕ, Bool, true, false, refl, sym, ap, subst, arith, List, ◌∷◌, Option, Some, None}
 use Rattle.std.specs.Prelude.{◌&&◌, not, if◌then◌else◌, nat_le}
 use Rattle.std.proofs.lemmas.Bool.{leb-true}
 use Rattle.amqp_perf.specs.declared.perf.Perf.{Perf}
@@ -63,3 +63,17 @@ pub small_end : (here own : Bool) (id : ℕ) (new old : Option ℕ) → new ≡ 
 small_end true true id new old e x = rw e tt
 small_end true false id new old e x = rw e x
 small_end false own id new old e x = rw e x
+
+-- a name that is forgotten once its delivery isn't undecided
+pub settled_row : (t : Trace) (here own same : Bool) (new old view name : Option ℕ) (known : ℕ → Option Delivery) (b : ℕ) → b ≡ bindings t → ((n : ℕ) → known n ≡ delivery t n)
+    → (here ≡ true → own ≡ true → same ≡ true → name ≡ kept_name old b known)
+    → new ≡ (if here then (if own then (if same then name else old) else old) else old)
+    → Remembers t old view → Remembers t new view
+settled_row t true true true new old view name known b e all is x y = rw (x, is refl refl refl) (settled old y)
+  where
+    settled : (o : Option ℕ) → Remembers t o view → Remembers t (kept_name o b known) view
+    settled None y = y
+    settled (Some n) y = subst (λ v. Remembers t (kept_name (Some n) b known) v) (sym y) (remembers_kept t (Some n) known b e all)
+settled_row t true true false new old view name known b e all is x y = rw x y
+settled_row t true false same new old view name known b e all is x y = rw x y
+settled_row t false own same new old view name known b e all is x y = rw x y

@@ -13,6 +13,8 @@ indexes_same s f g same x = record {
   undecided = λ k n. x.undecided k n ∙ ap (λ (q : Keys). is_number q.undecided k) (same n);
   held = λ k n. x.held k n ∙ ap (λ (q : Keys). is_number q.held k) (same n);
   to_tell = λ n. x.to_tell n ∙ ap (λ (q : Keys). q.to_tell) (same n);
+  on_conn = λ k n. x.on_conn k n ∙ ap (λ (q : Keys). is_number q.on_conn k) (same n);
+  from_conn = λ k n. x.from_conn k n ∙ ap (λ (q : Keys). is_number q.from_conn k) (same n);
 }
 
 -- one delivery was taken out, changed and put back

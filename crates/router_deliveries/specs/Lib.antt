@@ -2,6 +2,7 @@ pub mod Places
 pub mod Stepping
 pub mod Hearing
 pub mod Indexing
+pub mod Finding
 pub mod Fits
 pub mod Naming
 pub use Rattle.router_trace.specs.Trace

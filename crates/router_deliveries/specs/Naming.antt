@@ -1,7 +1,11 @@
 -- The deliveries that ids name, as a table has them: it may have forgotten the name of one that isn't undecided.
 use Rattle.std.specs.Prelude.{◌≡◌, ◌<◌, ◌≤◌, ◌^◌, ℕ, Bool, false, not, ◌&&◌, nat_le, if◌then◌else◌, Option, Some, None}
+use Rattle.amqp_perf.specs.declared.perf.Perf.{Perf}
+use Rattle.amqp_perf.specs.declared.perf.Perf.TheVariants as perf
+use Rattle.amqp_frames.specs.declared.item.Item.{Item}
+use Rattle.amqp_frames.specs.declared.item.Item.TheVariants as item
 use Rattle.router_trace.specs.Trace.{Trace}
-use Rattle.router_trace.specs.Deliveries.{Delivery, is_undecided, bindings, delivery, named}
+use Rattle.router_trace.specs.Deliveries.{Delivery, is_undecided, bindings, delivery, named, last_of}
 use Rattle.router_deliveries.specs.declared.names.Names.{Names}
 use Rattle.router_deliveries.specs.Places.{at_id}
 
@@ -35,3 +39,20 @@ pub record NamesFit (s : Names) (t : Trace) : Type 0 where
 abbrev pub kept_name : Option ℕ → ℕ → (ℕ → Option Delivery) → Option ℕ
 kept_name None b known = None
 kept_name (Some n) b known = if nat_le n b && not (is_open (known n)) then None else Some n
+
+-- the range of the ids that a disposition names, and the session on which the router detaches a link
+abbrev pub decided_in_body : Perf → Option (ℕ × ℕ)
+decided_in_body (perf.Disposition x) = Some (x.first, last_of x)
+decided_in_body _ = None
+
+abbrev pub decided_in : Item → Option (ℕ × ℕ)
+decided_in (item.Frame sasl channel body payload) = decided_in_body body
+decided_in _ = None
+
+abbrev pub detached_in_body : Perf → ℕ → Option ℕ
+detached_in_body (perf.Detach x) own = Some own
+detached_in_body _ own = None
+
+abbrev pub detached_in : Item → Option ℕ
+detached_in (item.Frame sasl own body payload) = detached_in_body body own
+detached_in _ = None

@@ -3,8 +3,10 @@ ghost use Rattle.std.specs.Prelude.{◌≡◌, ◌∷◌, [], List, ℕ, OnOk};
 ghost use Rattle.std.specs.Option.{option_map};
 ghost use Rattle.router_trace.specs.Trace.{Entry, Out, Bound, did};
 ghost use Rattle.router_trace.specs.declared.event.Event.TheVariants as event;
-ghost use Rattle.router_trace.specs.Deliveries.{delivery, next_id, sending};
+ghost use Rattle.router_trace.specs.Deliveries.{delivery, next_id, sending, named, waits_on, undecided_on, held_from, is_to_tell};
 ghost use Rattle.router_trace.specs.Sessions.{theirs, maps, is_channel};
+ghost use Rattle.router_deliveries.specs.Finding.{IsFirst, IsCount};
+ghost use Rattle.router_deliveries.specs.Naming.{Remembers};
 ghost use Rattle.router_deliveries.specs.Fits.{DeliveriesFit, channel_of};
 
 use crate::change::behind_heard;
@@ -64,6 +66,41 @@ impl Deliveries {
         self.sending.on(conn, own, handle)
     }
 
+    /// The first delivery, by number, that waits to start on the link of this number.
+    pub fn next_waiting(&self, link: u64) -> Option<u64>
+        ensures { (t : List Entry) → DeliveriesFit self.now t → IsFirst (λ n. waits_on link (delivery t n)) result }
+    {
+        self.store.next_waiting(link)
+    }
+
+    /// How many deliveries are undecided on the consumer's link of this number.
+    pub fn undecided(&self, link: u64) -> usize
+        ensures { (t : List Entry) → DeliveriesFit self.now t → IsCount (λ n. undecided_on link (delivery t n)) result }
+    {
+        self.store.undecided(link)
+    }
+
+    /// How many deliveries are held, undecided, from the producer's link of this number.
+    pub fn held(&self, link: u64) -> usize
+        ensures { (t : List Entry) → DeliveriesFit self.now t → IsCount (λ n. held_from link (delivery t n)) result }
+    {
+        self.store.held(link)
+    }
+
+    /// The first delivery, by number, whose producer is to be told its outcome.
+    pub fn first_to_tell(&self) -> Option<u64>
+        ensures { (t : List Entry) → DeliveriesFit self.now t → IsFirst (λ n. is_to_tell (delivery t n)) result }
+    {
+        self.store.first_to_tell()
+    }
+
+    /// The number of the delivery that an id names on a session of the router's; none may be told where it isn't undecided.
+    pub fn named(&self, conn: u64, own: u16, id: u32) -> Option<u64>
+        ensures { (t : List Entry) → DeliveriesFit self.now t → Remembers t result (named t conn own id) }
+    {
+        self.names.get(conn, own, id)
+    }
+
     /// A message is bound to the link of a consumer. Fails where memory is refused, and where bindings can't be numbered any more.
     pub fn bind(&mut self, binding: Binding) -> Result<(), AllocError>
         ensures { OnOk result ((t : List Entry) → DeliveriesFit self.old t → DeliveriesFit self.new (Bound binding ∷ t)) }
@@ -99,6 +136,8 @@ impl Deliveries {
     {
         let change = behind_heard(conn.0, own, item)?;
         hear(&mut self.store, &self.names, change)?;
+        self.names
+            .settle_heard(&self.store, self.bindings, conn.0, own, item)?;
         Ok(())
     }
 
@@ -110,6 +149,8 @@ impl Deliveries {
         let number = self.sending.carried_by(conn, item);
         self.store.put(conn, item, number)?;
         self.names.put(conn, item, &self.store, self.bindings)?;
+        self.names
+            .settle_put(&self.store, self.bindings, conn, item)?;
         self.sending.put(conn, item)?;
         self.next_ids.put(conn, item)?;
         Ok(())

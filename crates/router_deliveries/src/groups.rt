@@ -1,11 +1,12 @@
 //! Numbers of deliveries by the number of a link.
-ghost use Rattle.std.specs.Prelude.{◌≡◌, ◌==◌, ℕ, Bool, true, false, if◌then◌else◌, OnOk};
-ghost use Rattle.std.specs.Option.{option_map};
+ghost use Rattle.std.specs.Prelude.{◌≡◌, ◌==◌, ℕ, Bool, true, false, if◌then◌else◌, OnOk, ◌||◌};
 ghost use Rattle.std.specs.Ordering.{nat_cmp};
 ghost use Rattle.std.specs.BTreeMap.{get};
 ghost use Rattle.std.specs.BTreeSet.{contains};
 ghost use Rattle.router_trace.specs.Deliveries.{is_number};
-ghost use Rattle.router_deliveries.specs.Indexing.{in_set, in_group};
+ghost use Rattle.amqp_session.specs.Ranges.{has};
+ghost use Rattle.router_deliveries.specs.Finding.{IsFirst, IsCount};
+ghost use Rattle.router_deliveries.specs.Indexing.{in_group};
 
 use std::alloc::{AllocError, Global};
 use std::collections::{BTreeMap, BTreeSet};
@@ -28,11 +29,36 @@ impl Groups {
         }
     }
 
-    /// The numbers of a link, where it has any.
-    pub(crate) fn of(&self, link: u64) -> Option<&BTreeSet<u64>>
-        ensures { (n : ℕ) → in_group self.now link n ≡ in_set (option_map (λ s. s.now) result) n }
+    /// The lowest number of a link.
+    pub(crate) fn first(&self, link: u64) -> Option<u64>
+        ensures { IsFirst (in_group self.now link) result }
     {
-        self.sets.get(&link)
+        match self.sets.get(&link) {
+            None => None,
+            Some(numbers) => first(numbers),
+        }
+    }
+
+    /// How many numbers a link has.
+    #[tactic(auto, using(crate::proofs::Found::no_numbers))]
+    pub(crate) fn count(&self, link: u64) -> usize
+        ensures { IsCount (in_group self.now link) result }
+    {
+        match self.sets.get(&link) {
+            None => 0,
+            Some(numbers) => count(numbers),
+        }
+    }
+
+    /// Puts the numbers of a link behind others.
+    pub(crate) fn append(&self, link: u64, numbers: &mut Vec<u64>) -> Result<(), AllocError>
+        ensures { OnOk result ((n : ℕ) → has n numbers.new.items ≡ (has n numbers.old.items || in_group self.now link n)) }
+    {
+        match self.sets.get(&link) {
+            None => {}
+            Some(set) => append(set, numbers)?,
+        }
+        Ok(())
     }
 
     /// Moves a number from one link to another.
@@ -95,4 +121,29 @@ pub(crate) fn add(numbers: &mut BTreeSet<u64>, number: u64) -> Result<(), AllocE
         Ok(_) => Ok(()),
         Err(_) => Err(AllocError),
     }
+}
+
+/// The lowest number of a set.
+pub(crate) fn first(numbers: &BTreeSet<u64>) -> Option<u64>
+    ensures { IsFirst (contains nat_cmp numbers.now) result }
+{
+    numbers.first().copied()
+}
+
+/// How many numbers a set has.
+fn count(numbers: &BTreeSet<u64>) -> usize
+    ensures { IsCount (contains nat_cmp numbers.now) result }
+{
+    numbers.len()
+}
+
+/// Puts the numbers of a set behind others.
+#[tactic(auto, using(crate::proofs::Keys::has_append))]
+fn append(set: &BTreeSet<u64>, numbers: &mut Vec<u64>) -> Result<(), AllocError>
+    ensures { OnOk result ((n : ℕ) → has n numbers.new.items ≡ (has n numbers.old.items || contains nat_cmp set.now n)) }
+{
+    for number in set {
+        numbers.push(*number)?;
+    }
+    Ok(())
 }

@@ -19,7 +19,7 @@ pub(crate) fn hear(
     names: &Names,
     change: Option<Change>,
 ) -> Result<(), AllocError>
-    ensures deliveries { OnOk result (((n : ℕ) → IsKept (get nat_cmp store.old.deliveries n)) → AreSmall (at_id names.now.ids)
+    ensures deliveries { OnOk result (((n : ℕ) → IsKept (get nat_cmp store.old.deliveries n)) → Indexed store.old → AreSmall (at_id names.now.ids)
         → (n : ℕ) → get nat_cmp store.new.deliveries n ≡ heard_by change (at_id names.now.ids) n (get nat_cmp store.old.deliveries n)) }
     ensures indexed { OnOk result (Indexed store.old → Indexed store.new) }
 {
@@ -31,7 +31,7 @@ pub(crate) fn hear(
 
 /// Does this to the deliveries.
 fn hear_one(store: &mut Store, names: &Names, change: &Change) -> Result<(), AllocError>
-    ensures deliveries { OnOk result (((n : ℕ) → IsKept (get nat_cmp store.old.deliveries n)) → AreSmall (at_id names.now.ids)
+    ensures deliveries { OnOk result (((n : ℕ) → IsKept (get nat_cmp store.old.deliveries n)) → Indexed store.old → AreSmall (at_id names.now.ids)
         → (n : ℕ) → get nat_cmp store.new.deliveries n ≡ done_to change.now (at_id names.now.ids) n (get nat_cmp store.old.deliveries n)) }
     ensures indexed { OnOk result (Indexed store.old → Indexed store.new) }
 {

@@ -21,19 +21,26 @@ pub(crate) struct Keys {
     pub(crate) held: Option<u64>,
     /// Whether its producer is to be told.
     pub(crate) to_tell: bool,
+    /// The connection whose end would change it, since it goes there.
+    pub(crate) on_conn: Option<u64>,
+    /// The connection of its producer, where one is to be told.
+    pub(crate) from_conn: Option<u64>,
 }
 
 /// Deliveries found by what is asked of them.
 #[derive(Debug, Drop)]
 pub(crate) struct Index {
     // those that wait to start on a link
-    waiting: Groups,
+    pub(crate) waiting: Groups,
     // the undecided ones of a link
-    undecided: Groups,
+    pub(crate) undecided: Groups,
     // those held from a producer's link
-    held: Groups,
+    pub(crate) held: Groups,
     // those whose producer is to be told
-    to_tell: BTreeSet<u64>,
+    pub(crate) to_tell: BTreeSet<u64>,
+    // those that the end of a consumer's connection changes, and those of a producer's connection
+    pub(crate) on_conn: Groups,
+    pub(crate) from_conn: Groups,
 }
 
 impl Keys {
@@ -46,6 +53,8 @@ impl Keys {
             undecided: None,
             held: None,
             to_tell: false,
+            on_conn: None,
+            from_conn: None,
         }
     }
 
@@ -75,6 +84,11 @@ impl Keys {
                 Some(origin) => on_link(origin.link.number, undecided),
             },
             to_tell: !undecided && delivery.origin.is_some(),
+            on_conn: on_link(delivery.link.conn.0, delivery.going_on || undecided),
+            from_conn: match delivery.origin {
+                None => None,
+                Some(origin) => Some(origin.link.conn.0),
+            },
         }
     }
 }
@@ -96,6 +110,8 @@ impl Index {
             undecided: Groups::new(alloc),
             held: Groups::new(alloc),
             to_tell: BTreeSet::new(alloc),
+            on_conn: Groups::new(alloc),
+            from_conn: Groups::new(alloc),
         }
     }
 
@@ -108,6 +124,9 @@ impl Index {
             .shift(number, before.undecided, after.undecided)?;
         self.held.shift(number, before.held, after.held)?;
         mark(&mut self.to_tell, number, after.to_tell)?;
+        self.on_conn.shift(number, before.on_conn, after.on_conn)?;
+        self.from_conn
+            .shift(number, before.from_conn, after.from_conn)?;
         Ok(())
     }
 }

@@ -7,12 +7,12 @@ ghost use Rattle.amqp_perf.specs.declared.perf.Perf.TheVariants as perf;
 ghost use Rattle.amqp_frames.specs.declared.item.Item.TheVariants as item;
 ghost use Rattle.router_trace.specs.Trace.{Entry, Out, did};
 ghost use Rattle.router_trace.specs.declared.event.Event.TheVariants as event;
-ghost use Rattle.router_trace.specs.Deliveries.{bindings, is_id, tagged, tag_in, is_number};
+ghost use Rattle.router_trace.specs.Deliveries.{bindings, delivery, is_id, tagged, tag_in, is_number};
 ghost use Rattle.router_deliveries.specs.Places.{at_id};
 ghost use Rattle.router_deliveries.specs.Fits.{StoreFit};
 ghost use Rattle.amqp_session.specs.Ranges.{has};
 ghost use Rattle.router_deliveries.specs.Hearing.{id_of, picks, is_named_in};
-ghost use Rattle.router_deliveries.specs.Naming.{NamesFit, AreSmall, kept_name};
+ghost use Rattle.router_deliveries.specs.Naming.{NamesFit, AreSmall, kept_name, decided_in, detached_in};
 
 use crate::by_session::BySession;
 use crate::store::Store;
@@ -157,6 +157,110 @@ impl Names {
             Some(number) => self.ids.insert(conn, own, id, number)?,
         }
         Ok(())
+    }
+
+    /// Forgets, of the ids of a range on a session, those that name deliveries which are bound and not undecided.
+    pub(crate) fn settle(
+        &mut self,
+        store: &Store,
+        count: u64,
+        conn: u64,
+        own: u16,
+        first: u32,
+        last: u32,
+    ) -> Result<(), AllocError>
+        ensures { OnOk result ((t : List Entry) → count ≡ bindings t → ((n : ℕ) → get nat_cmp store.now.deliveries n ≡ delivery t n) → NamesFit self.old t → NamesFit self.new t) }
+    {
+        let ids = self.ids.in_range(conn, own, first, last)?;
+        for id in &ids {
+            self.settle_one(store, count, conn, own, id.number())?;
+        }
+        Ok(())
+    }
+
+    /// Forgets an id where it names a delivery which is bound and not undecided.
+    fn settle_one(
+        &mut self,
+        store: &Store,
+        count: u64,
+        conn: u64,
+        own: u16,
+        id: u32,
+    ) -> Result<(), AllocError>
+        ensures { OnOk result ((t : List Entry) → count ≡ bindings t → ((n : ℕ) → get nat_cmp store.now.deliveries n ≡ delivery t n) → NamesFit self.old t → NamesFit self.new t) }
+    {
+        let name = kept_name(self.get(conn, own, id), store, count);
+        self.set(conn, own, id, name)?;
+        Ok(())
+    }
+
+    /// Behind an item of the peer, forgets the ids of the deliveries that it decided, on the session on this channel of the router.
+    pub(crate) fn settle_heard(
+        &mut self,
+        store: &Store,
+        count: u64,
+        conn: u64,
+        own: Option<u16>,
+        item: &Item,
+    ) -> Result<(), AllocError>
+        ensures { OnOk result ((t : List Entry) → count ≡ bindings t → ((n : ℕ) → get nat_cmp store.now.deliveries n ≡ delivery t n) → NamesFit self.old t → NamesFit self.new t) }
+    {
+        let Some(own) = own else {
+            return Ok(());
+        };
+        if let Some((first, last)) = decided_in(item) {
+            self.settle(store, count, conn, own, first, last)?;
+        }
+        Ok(())
+    }
+
+    /// Behind an item of the router, forgets the ids of deliveries whose link it detached.
+    pub(crate) fn settle_put(
+        &mut self,
+        store: &Store,
+        count: u64,
+        conn: u64,
+        item: &Item,
+    ) -> Result<(), AllocError>
+        ensures { OnOk result ((t : List Entry) → count ≡ bindings t → ((n : ℕ) → get nat_cmp store.now.deliveries n ≡ delivery t n) → NamesFit self.old t → NamesFit self.new t) }
+    {
+        if let Some(own) = detached_in(item) {
+            self.settle(store, count, conn, own, 0, HALF - 1)?;
+            self.settle(store, count, conn, own, HALF, u32::MAX)?;
+        }
+        Ok(())
+    }
+}
+
+/// The ids of a disposition's range reach up to here from 0.
+const HALF: u32 = 0x8000_0000;
+
+/// The range of the ids that a consumer's disposition names.
+fn decided_in(item: &Item) -> Option<(u32, u32)>
+    ensures { result ≡ decided_in item.now }
+{
+    match item {
+        Item::Frame { perf, .. } => match perf {
+            Perf::Disposition(disposition) => Some((
+                disposition.first,
+                disposition.last.unwrap_or(disposition.first),
+            )),
+            _ => None,
+        },
+        _ => None,
+    }
+}
+
+/// The router's channel of the session on which it detaches a link.
+fn detached_in(item: &Item) -> Option<u16>
+    ensures { result ≡ detached_in item.now }
+{
+    match item {
+        Item::Frame { channel, perf, .. } => match perf {
+            Perf::Detach(_) => Some(*channel),
+            _ => None,
+        },
+        _ => None,
     }
 }
 

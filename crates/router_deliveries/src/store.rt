@@ -1,5 +1,5 @@
 //! Deliveries by their numbers.
-ghost use Rattle.std.specs.Prelude.{◌≡◌, ◌==◌, ◌+◌, ℕ, Some, None, if◌then◌else◌, OnOk, IfOk, length, ◌∷◌, List, Bool};
+ghost use Rattle.std.specs.Prelude.{◌≡◌, ◌==◌, ◌+◌, ℕ, Some, None, if◌then◌else◌, OnOk, IfOk, length, ◌||◌, ◌∷◌, List, Bool};
 ghost use Rattle.std.specs.Option.{option_map, option_and_then};
 ghost use Rattle.std.specs.Ordering.{nat_cmp};
 ghost use Rattle.std.specs.Map.{keys_of};
@@ -11,13 +11,16 @@ ghost use Rattle.amqp_frames.specs.declared.item.Item.TheVariants as item;
 ghost use Rattle.router_trace.specs.declared.event.Event.TheVariants as event;
 ghost use Rattle.router_deliveries.specs.Fits.{Indexed, StoreFit, carried_in, carried_by};
 ghost use Rattle.router_deliveries.specs.declared.index.Keys.{Keys as TheKeys};
-ghost use Rattle.router_deliveries.specs.Indexing.{Indexes, standing};
+ghost use Rattle.router_deliveries.specs.Indexing.{Indexes, standing, in_group};
+ghost use Rattle.std.specs.BTreeSet.{contains};
+ghost use Rattle.router_deliveries.specs.Finding.{IsFirst, IsCount};
 ghost use Rattle.router_deliveries.specs.Hearing.{id_of};
 ghost use Rattle.router_deliveries.specs.Naming.{is_open};
 ghost use Rattle.router_deliveries.specs.Stepping.{behind, behind_any, IsKept};
 
 use crate::change::{Change, Gone, behind_put};
 use crate::delivery::Delivery;
+use crate::groups::first;
 use crate::index::{Index, Keys};
 use amqp_frames::Item;
 use amqp_perf::{Perf, Transfer};
@@ -52,6 +55,34 @@ impl Store {
         ensures { option_map (λ d. d.now) result ≡ get nat_cmp self.now.deliveries number }
     {
         self.deliveries.get(&number)
+    }
+
+    /// The first delivery that waits to start on a link.
+    pub(crate) fn next_waiting(&self, link: u64) -> Option<u64>
+        ensures { IsFirst (in_group self.now.index.waiting link) result }
+    {
+        self.index.waiting.first(link)
+    }
+
+    /// How many deliveries of a link are undecided.
+    pub(crate) fn undecided(&self, link: u64) -> usize
+        ensures { IsCount (in_group self.now.index.undecided link) result }
+    {
+        self.index.undecided.count(link)
+    }
+
+    /// How many deliveries of a producer's link are undecided.
+    pub(crate) fn held(&self, link: u64) -> usize
+        ensures { IsCount (in_group self.now.index.held link) result }
+    {
+        self.index.held.count(link)
+    }
+
+    /// The first delivery whose producer is to be told.
+    pub(crate) fn first_to_tell(&self) -> Option<u64>
+        ensures { IsFirst (contains nat_cmp self.now.index.to_tell) result }
+    {
+        first(&self.index.to_tell)
     }
 
     /// Whether the delivery of a number is undecided.
@@ -157,17 +188,17 @@ impl Store {
 
     /// Does this to all deliveries.
     pub(crate) fn apply(&mut self, change: &Change) -> Result<(), AllocError>
-        ensures deliveries { OnOk result (((n : ℕ) → IsKept (get nat_cmp self.old.deliveries n))
+        ensures deliveries { OnOk result (((n : ℕ) → IsKept (get nat_cmp self.old.deliveries n)) → Indexed self.old
             → (n : ℕ) → get nat_cmp self.new.deliveries n ≡ behind change.now (get nat_cmp self.old.deliveries n)) }
         ensures indexed { OnOk result (Indexed self.old → Indexed self.new) }
     {
-        let numbers = self.numbers()?;
+        let numbers = self.numbers(change.conn())?;
         self.change_all(numbers.as_slice(), change)
     }
 
     /// Does this to all deliveries, where anything is to be done.
     pub(crate) fn apply_any(&mut self, change: Option<Change>) -> Result<(), AllocError>
-        ensures deliveries { OnOk result (((n : ℕ) → IsKept (get nat_cmp self.old.deliveries n))
+        ensures deliveries { OnOk result (((n : ℕ) → IsKept (get nat_cmp self.old.deliveries n)) → Indexed self.old
             → (n : ℕ) → get nat_cmp self.new.deliveries n ≡ behind_any change (get nat_cmp self.old.deliveries n)) }
         ensures indexed { OnOk result (Indexed self.old → Indexed self.new) }
     {
@@ -243,14 +274,13 @@ impl Store {
         }
     }
 
-    /// The numbers of all deliveries.
-    fn numbers(&self) -> Result<Vec<u64>, AllocError>
-        ensures { IfOk result (λ numbers. numbers.items ≡ keys_of self.now.deliveries.entries) }
+    /// The numbers of the deliveries of a connection, as their consumer's or their producer's.
+    fn numbers(&self, conn: u64) -> Result<Vec<u64>, AllocError>
+        ensures { IfOk result (λ numbers. (n : ℕ) → has n numbers.items ≡ (in_group self.now.index.on_conn conn n || in_group self.now.index.from_conn conn n)) }
     {
         let mut numbers = Vec::new(self.alloc);
-        for (number, _) in &self.deliveries {
-            numbers.push(*number)?;
-        }
+        self.index.on_conn.append(conn, &mut numbers)?;
+        self.index.from_conn.append(conn, &mut numbers)?;
         Ok(numbers)
     }
 }

@@ -1,7 +1,8 @@
-use Rattle.std.proofs.Common.{◌∙◌, ap, sym, subst}
+use Rattle.std.proofs.Common.{◌∷◌, ◌∙◌, ap, sym, subst}
 use Rattle.router_trace.specs.Trace.{did}
 use Rattle.router_trace.specs.Deliveries.{named, delivery}
 use Rattle.router_trace.specs.declared.event.Event.TheVariants as event
+use Rattle.router_deliveries.specs.Fits.{StoreFit}
 use Rattle.router_deliveries.specs.Hearing.{heard_by}
 use Rattle.router_deliveries.specs.Places.{at_id}
 use Rattle.router_deliveries.specs.Stepping.{IsKept}
@@ -14,17 +15,18 @@ pub returns : goal.returns
 returns c = λ t channel fit.
     let known = at_id c.args.self.now.names.ids in
     let hears = did (event.Item c.args.conn c.args.item.now) in
+    let store : StoreFit c.hear.new.store (hears ∷ t) = record {
+      deliveries = λ n.
+          c.in_ok-hear.ensures.deliveries (λ m. subst IsKept (sym (fit.store.deliveries m)) (kept t m)) fit.store.indexed fit.names.small n
+          ∙ ap (heard_by c.in_ok-change.change known n) (fit.store.deliveries n)
+          ∙ ap (λ x. heard_by x known n (delivery t n)) c.in_ok-change.ensures
+          ∙ heard_follows c.args.conn c.args.item.now t n c.args.own known channel (λ o id. fit.names.names c.args.conn.0 o id);
+      indexed = c.in_ok-hear.ensures.indexed fit.store.indexed;
+    } in
     record {
       bindings = fit.bindings;
-      store = record {
-        deliveries = λ n.
-            c.in_ok-hear.ensures.deliveries (λ m. subst IsKept (sym (fit.store.deliveries m)) (kept t m)) fit.names.small n
-            ∙ ap (heard_by c.in_ok-change.change known n) (fit.store.deliveries n)
-            ∙ ap (λ x. heard_by x known n (delivery t n)) c.in_ok-change.ensures
-            ∙ heard_follows c.args.conn c.args.item.now t n c.args.own known channel (λ o id. fit.names.names c.args.conn.0 o id);
-        indexed = c.in_ok-hear.ensures.indexed fit.store.indexed;
-      };
+      store = store;
       sending = record { numbers = λ d o h. fit.sending.numbers d o h };
       next_ids = record { ids = λ d o. fit.next_ids.ids d o };
-      names = record { names = λ d o id. still hears t (known d o id) (named t d o id) (fit.names.names d o id); small = fit.names.small };
+      names = c.in_ok-settle_heard.ensures (hears ∷ t) fit.bindings store.deliveries (record { names = λ d o id. still hears t (known d o id) (named t d o id) (fit.names.names d o id); small = fit.names.small });
     }

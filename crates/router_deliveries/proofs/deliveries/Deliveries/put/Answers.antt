@@ -1,4 +1,5 @@
-use Rattle.std.proofs.Common.{◌∙◌, ap}
+use Rattle.std.proofs.Common.{◌∷◌, ◌∙◌, ap}
+use Rattle.router_trace.specs.Trace.{Out}
 use Rattle.router_deliveries.specs.Fits.{carried_by}
 use Rattle.router_deliveries.proofs.deliveries.Deliveries.put.Goals as goal
 
@@ -9,6 +10,6 @@ returns c = λ t fit.
       bindings = fit.bindings;
       store = store;
       sending = c.in_ok-put-3.ensures t fit.sending;
-      names = c.in_ok-put-2.ensures t fit.bindings store fit.names;
+      names = c.in_ok-settle_put.ensures (Out c.args.conn c.args.item.now ∷ t) fit.bindings store.deliveries (c.in_ok-put-2.ensures t fit.bindings store fit.names);
       next_ids = c.in_ok-put-4.ensures t fit.next_ids;
     }

@@ -32,7 +32,7 @@ returns-in_default c = on_ok_both c.apply_any.result
     let body = c.args.perf.now in
     record {
       deliveries = λ n.
-          applied (λ m. subst IsKept (sym (fit.deliveries m)) (kept t m)) n
+          applied (λ m. subst IsKept (sym (fit.deliveries m)) (kept t m)) fit.indexed n
           ∙ ap (behind_any c.behind_put.result) (fit.deliveries n)
           ∙ ap (λ x. behind_any x (delivery t n)) c.behind_put.ensures
           ∙ other_frame c.args.conn c.args.own n sasl body c.args.payload.now (sending t c.args.conn) c.in_default.not-Transfer (delivery t n) (kept t n);

@@ -1,0 +1,66 @@
+-- What is found in the indexes is found in the deliveries.
+use Rattle.std.proofs.Common.{◌≡◌, ◌∙◌, ℕ, Bool, true, false, refl, sym, ap, [], Option, Some, None}
+use Rattle.std.specs.Prelude.{◌&&◌, ◌==◌, not, is_none, is_some}
+use Rattle.std.specs.List.Sorted.{IsStrictlySortedBy}
+use Rattle.std.specs.Ordering.{nat_cmp}
+use Rattle.std.specs.BTreeMap.{get}
+use Rattle.amqp_perf.specs.declared.state.DeliveryState.{DeliveryState}
+use Rattle.router_trace.specs.declared.binding.Origin.{Origin}
+use Rattle.router_trace.specs.Deliveries.{Delivery, is_number, is_of, waits_on, undecided_on, held_from, is_to_tell}
+use Rattle.router_deliveries.specs.declared.groups.Groups.{Groups}
+use Rattle.router_deliveries.specs.Finding.{IsFirst, IsCount}
+use Rattle.router_deliveries.specs.Indexing.{in_set, in_group, standing, from_link, on_link}
+
+no_rise : IsStrictlySortedBy nat_cmp []
+unfolding IsStrictlySortedBy
+no_rise = tt
+
+pub no_numbers : (g : Groups) (k : ℕ) → get nat_cmp g.sets k ≡ None → IsCount (in_group g k) 0
+no_numbers g k none = record { numbers = []; rise = no_rise; pass = λ n. sym (ap (λ s. in_set s n) none); are = refl }
+
+pub first_same : (p q : ℕ → Bool) → ((n : ℕ) → p n ≡ q n) → (r : Option ℕ) → IsFirst p r → IsFirst q r
+first_same p q same None x = λ n. sym (same n) ∙ x n
+first_same p q same (Some n) x = (sym (same n) ∙ x.0, λ m e. x.1 m (same m ∙ e))
+
+pub count_same : (p q : ℕ → Bool) → ((n : ℕ) → p n ≡ q n) → (k : ℕ) → IsCount p k → IsCount q k
+count_same p q same k x = record { numbers = x.numbers; rise = x.rise; pass = λ n. x.pass n ∙ same n; are = x.are }
+
+on : (link k : ℕ) (holds : Bool) → is_number (on_link link holds) k ≡ ((link == k) && holds)
+on link k true = sym (and_true (link == k))
+  where
+    and_true : (b : Bool) → (b && true) ≡ b
+    and_true true = refl
+    and_true false = refl
+on link k false = sym (and_false (link == k))
+  where
+    and_false : (b : Bool) → (b && false) ≡ false
+    and_false true = refl
+    and_false false = refl
+
+pub waits_is : (k : ℕ) (v : Option Delivery) → is_number (standing v).waiting k ≡ waits_on k v
+waits_is k None = refl
+waits_is k (Some d) = on d.link.number k (is_none d.id && d.going_on) ∙ three (d.link.number == k) (is_none d.id) d.going_on
+  where
+    three : (a b e : Bool) → (a && (b && e)) ≡ ((a && b) && e)
+    three true b e = refl
+    three false b e = refl
+
+pub undecided_is : (k : ℕ) (v : Option Delivery) → is_number (standing v).undecided k ≡ undecided_on k v
+undecided_is k None = refl
+undecided_is k (Some d) = on d.link.number k (is_none d.outcome)
+
+pub held_is : (k : ℕ) (v : Option Delivery) → is_number (standing v).held k ≡ held_from k v
+held_is k None = refl
+held_is k (Some d) = by_origin d.origin
+  where
+    by_origin : (o : Option Origin) → is_number (from_link o (is_none d.outcome)) k ≡ (is_of k o && is_none d.outcome)
+    by_origin None = refl
+    by_origin (Some p) = on p.link.number k (is_none d.outcome)
+
+pub to_tell_is : (v : Option Delivery) → (standing v).to_tell ≡ is_to_tell v
+to_tell_is None = refl
+to_tell_is (Some d) = by_outcome d.outcome
+  where
+    by_outcome : (s : Option DeliveryState) → (not (is_none s) && is_some d.origin) ≡ (is_some s && is_some d.origin)
+    by_outcome None = refl
+    by_outcome (Some s) = refl
