@@ -74,6 +74,7 @@ quiet (Did s ∷ t) c h =
     waits_at s.event c (length (live_of (ups t) (found t s.event))) (found t s.event c) (waits_ended (has c (due t s.event)) (conn t c) (quiet t c h))
 quiet (Out d i ∷ t) c h =
     by_test (d == c) (λ e. absurd (push_some (outs t c) i (rw e at h))) (λ e. rw e (quiet t c (rw e at h)))
+quiet (Bound b ∷ t) c h = quiet t c h
 quiet (Took d n ∷ t) c h =
     by_test (d == c) (λ e. rw e (waits_took n (conn t c) (quiet t c h))) (λ e. rw e (quiet t c h))
 

@@ -113,7 +113,7 @@ same_last u e b (Did s ∷ t) = same_last u e b t
 same_last u e b (Out d i ∷ t) =
     λ j. newest_by i d (same_attachments t j + 1) (λ a. same_key (same_key_at t d a j) (key_at u e b)) (same_last u e b t j)
 same_last u e b (Took d n ∷ t) = same_last u e b t
-same_last u e b (Bound b ∷ t) = same_last u e b t
+same_last u e b (Bound x ∷ t) = same_last u e b t
 
 same_attached : (t : List Entry) (v : Option Attachment) → if_attached t v ≡ if_attached (untaken t) v
 same_attached t None = refl
