@@ -1,5 +1,5 @@
 //! The router: one event or one take at a time.
-ghost use Rattle.std.specs.Prelude.{◌≡◌, ◌≤◌, ◌∷◌, ◌&&◌, nat_lt, ℕ, List, [], length, true, false, Ok, Err, None, option_map, OnOk, OnErr, IfOk, IfErr};
+ghost use Rattle.std.specs.Prelude.{◌≡◌, ◌≤◌, ◌∷◌, ◌&&◌, nat_lt, ℕ, List, [], length, true, false, Ok, Err, None, option_map, is_some, OnOk, OnErr, IfOk, IfErr};
 ghost use Rattle.router_trace.specs.Trace.{Entry, Took, step_of};
 ghost use Rattle.router_trace.specs.Connection.{conn as known, is_ready};
 ghost use Rattle.router_trace.specs.Refusing.{refuses};
@@ -229,6 +229,13 @@ impl Core {
             None => None,
             Some(next) => Some(ConnectionId(next)),
         }
+    }
+
+    /// Whether anything is known of a connection: it is live, or it is over and its outbox isn't empty.
+    pub fn knows(&self, conn: ConnectionId) -> bool
+        ensures { (t : List Entry) → Fits self.now t → result ≡ is_some (known t conn.0) }
+    {
+        self.state.phase(conn.0).is_some()
     }
 
     /// Whether something can be taken of a connection.

@@ -1,0 +1,22 @@
+//! Threads round one lock: the router under it, a reader and a writer for each connection beside it.
+#![tactic(auto)]
+
+mod bells;
+mod end;
+mod gate;
+mod kind;
+mod ledgers;
+mod locked;
+mod router;
+mod seat;
+mod shared;
+mod tally;
+mod totals;
+mod writing;
+
+pub use end::{ReadEnd, WriteEnd};
+pub use gate::{Gate, OpenGate, Side};
+pub use ledgers::{Blanks, Hall, Ledgers, SEATS, Six};
+pub use locked::{Closed, Log, NoLog, Receipt};
+pub use seat::Seat;
+pub use shared::Shared;
