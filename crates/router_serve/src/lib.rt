@@ -12,6 +12,7 @@ mod seat;
 mod shared;
 mod tally;
 mod totals;
+mod writer;
 mod writing;
 
 pub use end::{ReadEnd, WriteEnd};
@@ -20,3 +21,4 @@ pub use ledgers::{Blanks, Hall, Ledgers, SEATS, Six};
 pub use locked::{Closed, Log, NoLog, Receipt};
 pub use seat::Seat;
 pub use shared::Shared;
+pub use writer::serve_writer;

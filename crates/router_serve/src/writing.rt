@@ -9,7 +9,7 @@ use std::io::{ErrorKind, Write};
 pub fn write_beginning<W: Write>(output: &mut W, bytes: &[u8]) -> (usize, bool)
     ensures bound { result.0 ≤ length bytes.now }
     ensures begun { Appends (W.contents output.old) (W.contents output.new) (take result.0 bytes.now) }
-    ensures whole { result.1 ≡ true → result.0 ≡ length bytes.now }
+    ensures whole { result.1 ≡ true → Appends (W.contents output.old) (W.contents output.new) bytes.now }
 {
     let mut done = 0;
     for _turn in 0..u64::MAX {
