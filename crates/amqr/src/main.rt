@@ -1,10 +1,19 @@
 //! A message router for AMQP 1.0: the program.
 #![tactic(auto)]
 
-use amqr_commands::{Refusal, Status, refuse, run};
+mod connection;
+mod hub;
+mod lines;
+mod listening;
+mod serving;
+mod socket;
+
+use amqr_commands::{Refusal, Status, refuse, run, serving_in};
 use std::env;
 use std::io::{self, BufWriter, Write};
 use std::process::ExitCode;
+
+use crate::serving::serve;
 
 fn main(rt: HostRuntime) -> ExitCode {
     let status = match run_over(&rt) {
@@ -24,6 +33,9 @@ fn run_over(rt: &HostRuntime) -> io::Result<Status> {
     let Ok(words) = words_of(rt) else {
         return refuse(&mut rt.stdout(), Refusal::Memory);
     };
+    if let Some(serving) = serving_in(rt.alloc(), words.as_slice()) {
+        return serve(rt, serving, &mut rt.stdout());
+    }
     let Ok(mut output) = BufWriter::new(rt.alloc(), rt.stdout()) else {
         return refuse(&mut rt.stdout(), Refusal::Memory);
     };

@@ -1,6 +1,7 @@
 pub mod Adding
 pub mod Ends
 pub mod History
+pub mod Submitting
 pub mod Wrote
 pub use Rattle.router_core.specs.Handling
 pub use Rattle.router_core.specs.Moves

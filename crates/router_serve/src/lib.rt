@@ -4,9 +4,11 @@
 mod bells;
 mod end;
 mod gate;
+mod greeting;
 mod kind;
 mod ledgers;
 mod locked;
+mod reader;
 mod router;
 mod seat;
 mod shared;
@@ -17,8 +19,10 @@ mod writing;
 
 pub use end::{ReadEnd, WriteEnd};
 pub use gate::{Gate, OpenGate, Side};
+pub use greeting::{Greeted, greet};
 pub use ledgers::{Blanks, Hall, Ledgers, SEATS, Six};
 pub use locked::{Closed, Log, NoLog, Receipt};
+pub use reader::serve_reader;
 pub use seat::Seat;
 pub use shared::Shared;
 pub use writer::serve_writer;

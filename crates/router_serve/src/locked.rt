@@ -100,6 +100,11 @@ impl<L: Log, G: Ledgers> Locked<L, G> {
         Ok(batch)
     }
 
+    /// Whether a connection is up and the router didn't end it.
+    pub fn is_live(&self, conn: ConnectionId) -> bool {
+        self.router.is_live(conn)
+    }
+
     /// Whether the router failed.
     pub fn is_failed(&self) -> bool {
         self.router.is_failed()

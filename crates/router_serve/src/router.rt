@@ -64,6 +64,11 @@ impl Router {
         self.core.ready_behind(conn)
     }
 
+    /// Whether a connection is up and the router didn't end it.
+    pub fn is_live(&self, conn: ConnectionId) -> bool {
+        self.core.is_live(conn)
+    }
+
     /// Whether it failed.
     pub fn is_failed(&self) -> bool
         ensures { result ≡ is_failed self.now.core }

@@ -101,6 +101,11 @@ impl<L: Log, G: Ledgers> Shared<L, G> {
         locked.take(seat, conn)
     }
 
+    /// Whether a connection is up and the router didn't end it.
+    pub fn is_live<R: Wait>(&self, rt: &R, conn: ConnectionId) -> bool {
+        self.state.lock(rt).is_live(conn)
+    }
+
     /// Whether the router failed.
     pub fn is_failed<R: Wait>(&self, rt: &R) -> bool {
         self.state.lock(rt).is_failed()

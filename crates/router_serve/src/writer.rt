@@ -92,7 +92,7 @@ fn announce<R: Wait, P: Gate>(rt: &R, gate: &P, batch: &Batch, number: u64) {
 }
 
 /// Spells items in a buffer, which is emptied first.
-fn spell(alloc: Global, items: &[Item], buffer: &mut Vec<u8>) -> Result<(), AllocError>
+pub(crate) fn spell(alloc: Global, items: &[Item], buffer: &mut Vec<u8>) -> Result<(), AllocError>
     ensures { OnOk result (buffer.new.items ≡ spelled items.now) }
 {
     buffer.clear();
