@@ -4,7 +4,7 @@ use route_table::Config;
 use router_core::{ConnectionId, CoreFault, Event, Peer};
 use router_serve::{Ledgers, NoLog, Seat, Shared};
 use std::alloc::Global;
-use std::sync::{Mutex, Wait};
+use std::sync::{Condvar, Mutex, Wait};
 
 /// At most so many connections have threads at once.
 const THREADS: usize = 256;
@@ -50,6 +50,8 @@ pub struct Hub<G: Ledgers> {
     pub newest: Mutex<u64>,
     /// The connections that are taken.
     pub taking: Mutex<Taking>,
+    /// Rings when no more are taken.
+    pub over: Condvar,
 }
 
 impl<G: Ledgers> Hub<G> {
@@ -80,6 +82,7 @@ impl<G: Ledgers> Hub<G> {
         if let Some(left) = taking.left {
             taking.left = Some(left.saturating_sub(1));
             taking.over = left <= 1;
+            self.over.notify_all();
         }
         match (room, taking.over) {
             (false, _) => Taken::TooMany,
@@ -97,6 +100,15 @@ impl<G: Ledgers> Hub<G> {
     /// No more connections are taken.
     pub fn stop<R: Wait>(&self, rt: &R) {
         self.taking.lock(rt).over = true;
+        self.over.notify_all();
+    }
+
+    /// Waits until no more connections are taken.
+    pub fn wait_over<R: Wait>(&self, rt: &R) {
+        let taking = self
+            .over
+            .wait_while(rt, self.taking.lock(rt), |taking| !taking.over);
+        drop(taking);
     }
 
     /// Whether no more connections are taken.
@@ -104,13 +116,26 @@ impl<G: Ledgers> Hub<G> {
         self.taking.lock(rt).over
     }
 
+    /// The router answered a fault; where it failed, no more connections are taken.
+    pub fn failed<R: Wait>(&self, rt: &R, fault: CoreFault) {
+        if fault != CoreFault::NoConnection {
+            self.stop(rt);
+        }
+    }
+
     /// A connection comes up, with the next number.
-    pub fn up<R: Wait>(&self, rt: &R, seat: &mut Seat<G>, peer: Peer) -> Result<ConnectionId, CoreFault> {
+    pub fn up<R: Wait>(
+        &self,
+        rt: &R,
+        seat: &mut Seat<G>,
+        peer: Peer,
+    ) -> Result<ConnectionId, CoreFault> {
         let mut newest = self.newest.lock(rt);
         let Some(number) = newest.checked_add(1) else {
             return Err(CoreFault::Memory);
         };
-        self.shared.submit(rt, seat, Event::Up(ConnectionId(number), peer))?;
+        self.shared
+            .submit(rt, seat, Event::Up(ConnectionId(number), peer))?;
         *newest = number;
         Ok(ConnectionId(number))
     }

@@ -35,6 +35,7 @@ impl Lines {
 }
 
 /// Tells what a connection's threads see: who opened it, and what it is refused.
+#[derive(Drop)]
 pub struct Watch<'a, R> {
     /// The runtime.
     pub rt: &'a R,
@@ -52,8 +53,9 @@ impl<'a, R: Wait + Eprint> Watch<'a, R> {
     /// The peer's open.
     fn opened(&self, conn: ConnectionId, container: &str) {
         let (number, peer, user) = (conn.0, self.peer, self.user);
-        if let Ok(line) = format!(in self.alloc; "connection {number} opened from {peer} as {user:?}: container {container:?}")
-        {
+        if let Ok(line) = format!(in self.alloc;
+            "connection {number} opened from {peer} as {user:?}: container {container:?}"
+        ) {
             self.lines.say(self.rt, &line);
         }
     }

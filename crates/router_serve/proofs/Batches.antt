@@ -65,12 +65,12 @@ pub goes : (c : ConnectionId) (next behind : ℕ) (before mid now : Option (List
     → b.conn ≡ c → b.first ≡ next → behind ≡ next + length b.items.items → Appends mid now (spelled b.items.items)
     → new ≡ with_batch seat → IsFar c behind before now old new
 goes c next behind before mid now old seat new b far whose first is bytes counted = let bs = far.0 in (
-      bs ++ b ∷ [],
-      follow_more c 0 bs b far.1 whose (omega (arith, first, far.2)),
-      omega (arith, is, far.2, items_more bs b),
-      subst (λ (ys : List ℕ). Appends before now ys) (sym (spelled_more bs b)) (appends_on before mid now (batches_spelled bs) (spelled b.items.items) far.3 bytes),
-      counted ∙ (ap with_batch far.4 ∙ (counts_more (length bs) 1 old ∙ ap (λ (k : ℕ). with_batches k old) (sym (length_more bs b)))),
-    )
+  bs ++ b ∷ [],
+  follow_more c 0 bs b far.1 whose (omega (arith, first, far.2)),
+  omega (arith, is, far.2, items_more bs b),
+  subst (λ (ys : List ℕ). Appends before now ys) (sym (spelled_more bs b)) (appends_on before mid now (batches_spelled bs) (spelled b.items.items) far.3 bytes),
+  counted ∙ (ap with_batch far.4 ∙ (counts_more (length bs) 1 old ∙ ap (λ (k : ℕ). with_batches k old) (sym (length_more bs b)))),
+)
 
 -- a writer of which a write failed
 pub breaks : (c : ConnectionId) (next : ℕ) (before mid now : Option (List ℕ)) (old seat new : Counts) (b : Batch) (k : ℕ) → IsFar c next before mid old seat

@@ -34,7 +34,9 @@ pub fn serve_reader<L: Log, G: Ledgers, R: Wait, I: Read, P: Gate>(
     ensures { Submitted seat result.0 result.2 }
 {
     let mut seat = seat;
-    let end = hand_in_all(rt, alloc, shared, &mut seat, conn, left, frames, input, gate);
+    let end = hand_in_all(
+        rt, alloc, shared, &mut seat, conn, left, frames, input, gate,
+    );
     if needs_down(end) {
         let _ = shared.submit(rt, &mut seat, Event::Down(conn));
     }
