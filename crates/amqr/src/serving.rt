@@ -139,12 +139,12 @@ fn counted<
 ) -> Result<Status, AllocError>
     requires fits { Fits core [] }
     requires counts { counts_of core ≡ uncounted }
-    requires ups { (blanks.ups.name ≡ U.name) × (blanks.ups.parts ≡ U.parts) × (U.seats ≡ 4611686018427387904) }
-    requires items { (blanks.items.name ≡ I.name) × (blanks.items.parts ≡ I.parts) × (I.seats ≡ 4611686018427387904) }
-    requires downs { (blanks.downs.name ≡ D.name) × (blanks.downs.parts ≡ D.parts) × (D.seats ≡ 4611686018427387904) }
-    requires ticks { (blanks.ticks.name ≡ T.name) × (blanks.ticks.parts ≡ T.parts) × (T.seats ≡ 4611686018427387904) }
-    requires starts { (blanks.starts.name ≡ S.name) × (blanks.starts.parts ≡ S.parts) × (S.seats ≡ 4611686018427387904) }
-    requires batches { (blanks.batches.name ≡ B.name) × (blanks.batches.parts ≡ B.parts) × (B.seats ≡ 4611686018427387904) }
+    requires ups { (blanks.ups.name ≡ U.name) × (blanks.ups.parts ≡ U.parts) × (U.seats ≡ U.parts) × (U.seats ≡ 4611686018427387904) }
+    requires items { (blanks.items.name ≡ I.name) × (blanks.items.parts ≡ I.parts) × (I.seats ≡ I.parts) × (I.seats ≡ 4611686018427387904) }
+    requires downs { (blanks.downs.name ≡ D.name) × (blanks.downs.parts ≡ D.parts) × (D.seats ≡ D.parts) × (D.seats ≡ 4611686018427387904) }
+    requires ticks { (blanks.ticks.name ≡ T.name) × (blanks.ticks.parts ≡ T.parts) × (T.seats ≡ T.parts) × (T.seats ≡ 4611686018427387904) }
+    requires starts { (blanks.starts.name ≡ S.name) × (blanks.starts.parts ≡ S.parts) × (S.seats ≡ S.parts) × (S.seats ≡ 4611686018427387904) }
+    requires batches { (blanks.batches.name ≡ B.name) × (blanks.batches.parts ≡ B.parts) × (B.seats ≡ B.parts) × (B.seats ≡ 4611686018427387904) }
 {
     let shared: Shared<NoLog, Six<U, I, D, T, S, B>> = Shared::new(
         alloc,

@@ -1,5 +1,5 @@
 //! The ledgers in which the threads' counts add up to the router's.
-ghost use Rattle.std.specs.Prelude.{◌≡◌, ◌^◌, ◌<◌, ℕ};
+ghost use Rattle.std.specs.Prelude.{ℕ};
 
 use std::marker::{Brand, PhantomData};
 use std::sync::ledger::{Blank, Ledger};
@@ -10,21 +10,10 @@ pub const SEATS: u64 = 1 << 62;
 /// A ledger and into how many parts it is cut, which fields beside its tokens can name.
 pub trait Hall: Ledger {
     ghost seats: { ℕ };
-
-    ghost cut: { seats ≡ Self.parts };
-
-    ghost few: { seats < 2 ^ 64 };
 }
 
 impl Hall for Brand {
-    ghost use Rattle.std.specs.Prelude.{refl};
-    ghost use Rattle.std.proofs.Common.{arith};
-
     ghost seats = { 0 };
-
-    ghost cut = { refl };
-
-    ghost few = { omega arith };
 }
 
 /// A ledger for each number that a router counts.

@@ -153,6 +153,7 @@ impl<L: Log, G: Ledgers> Locked<L, G> {
 
     /// Puts the seats' counts beside the router's.
     pub fn close(self, seats: Vec<Seat<G>>, receipts: Vec<Receipt>) -> Closed<L>
+        requires cut { (G.Ups.seats ≡ G.Ups.parts) × (G.Items.seats ≡ G.Items.parts) × (G.Downs.seats ≡ G.Downs.parts) × (G.Ticks.seats ≡ G.Ticks.parts) × (G.Starts.seats ≡ G.Starts.parts) × (G.Batches.seats ≡ G.Batches.parts) }
         ensures counts { result.counts ≡ sums seats.items }
         ensures all { result.all ≡ true → counts_of result.core ≡ result.counts }
         ensures history { ∥ HasHistory result.core ∥₁ }

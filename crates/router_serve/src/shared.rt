@@ -37,12 +37,12 @@ impl<L: Log, G: Ledgers> Shared<L, G> {
     ) -> Result<Shared<L, G>, AllocError>
         requires fits { Fits core [] }
         requires counts { counts_of core ≡ uncounted }
-        requires ups { (blanks.ups.name ≡ G.Ups.name) × (blanks.ups.parts ≡ G.Ups.parts) × (seats ≡ G.Ups.seats) }
-        requires items { (blanks.items.name ≡ G.Items.name) × (blanks.items.parts ≡ G.Items.parts) × (seats ≡ G.Items.seats) }
-        requires downs { (blanks.downs.name ≡ G.Downs.name) × (blanks.downs.parts ≡ G.Downs.parts) × (seats ≡ G.Downs.seats) }
-        requires ticks { (blanks.ticks.name ≡ G.Ticks.name) × (blanks.ticks.parts ≡ G.Ticks.parts) × (seats ≡ G.Ticks.seats) }
-        requires starts { (blanks.starts.name ≡ G.Starts.name) × (blanks.starts.parts ≡ G.Starts.parts) × (seats ≡ G.Starts.seats) }
-        requires batches { (blanks.batches.name ≡ G.Batches.name) × (blanks.batches.parts ≡ G.Batches.parts) × (seats ≡ G.Batches.seats) }
+        requires ups { (blanks.ups.name ≡ G.Ups.name) × (blanks.ups.parts ≡ G.Ups.parts) × (seats ≡ G.Ups.seats) × (G.Ups.seats ≡ G.Ups.parts) }
+        requires items { (blanks.items.name ≡ G.Items.name) × (blanks.items.parts ≡ G.Items.parts) × (seats ≡ G.Items.seats) × (G.Items.seats ≡ G.Items.parts) }
+        requires downs { (blanks.downs.name ≡ G.Downs.name) × (blanks.downs.parts ≡ G.Downs.parts) × (seats ≡ G.Downs.seats) × (G.Downs.seats ≡ G.Downs.parts) }
+        requires ticks { (blanks.ticks.name ≡ G.Ticks.name) × (blanks.ticks.parts ≡ G.Ticks.parts) × (seats ≡ G.Ticks.seats) × (G.Ticks.seats ≡ G.Ticks.parts) }
+        requires starts { (blanks.starts.name ≡ G.Starts.name) × (blanks.starts.parts ≡ G.Starts.parts) × (seats ≡ G.Starts.seats) × (G.Starts.seats ≡ G.Starts.parts) }
+        requires batches { (blanks.batches.name ≡ G.Batches.name) × (blanks.batches.parts ≡ G.Batches.parts) × (seats ≡ G.Batches.seats) × (G.Batches.seats ≡ G.Batches.parts) }
     {
         let bells = bells(alloc)?;
         let locked = Locked::new(Router::new(core), Totals::new(blanks, seats), log);
@@ -113,6 +113,7 @@ impl<L: Log, G: Ledgers> Shared<L, G> {
 
     /// Puts the counts of the seats that come back beside the router's: where all came back, they add up to these, number by number.
     pub fn close(self, seats: Vec<Seat<G>>, receipts: Vec<Receipt>) -> Closed<L>
+        requires cut { (G.Ups.seats ≡ G.Ups.parts) × (G.Items.seats ≡ G.Items.parts) × (G.Downs.seats ≡ G.Downs.parts) × (G.Ticks.seats ≡ G.Ticks.parts) × (G.Starts.seats ≡ G.Starts.parts) × (G.Batches.seats ≡ G.Batches.parts) }
         ensures counts { result.counts ≡ sums seats.items }
         ensures all { result.all ≡ true → counts_of result.core ≡ result.counts }
         ensures history { ∥ HasHistory result.core ∥₁ }

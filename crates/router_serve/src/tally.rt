@@ -13,6 +13,7 @@ pub struct Total<H: Hall> {
     given: u64,
     left: u64,
     ghost told: { total ≡ book.total },
+    ghost fits: { H.seats < 2 ^ 64 },
     ghost whole: { given + left ≡ H.seats },
     ghost parts: { rest.parts ≡ left },
     ghost none: { rest.amount ≡ 0 },
@@ -37,6 +38,7 @@ pub struct Gathered<H: Hall> {
     given: u64,
     back: u64,
     ghost told: { total ≡ book.total },
+    ghost fits: { H.seats < 2 ^ 64 },
     ghost whole: { share.parts + given ≡ H.seats + back },
     ghost same: { count ≡ share.amount },
 }
@@ -54,7 +56,7 @@ impl<H: Hall> Total<H> {
     /// A total of 0, of a ledger with so many parts.
     pub fn new(blank: Blank, seats: u64) -> Total<H>
         requires blank { (blank.name ≡ H.name) × (blank.parts ≡ H.parts) }
-        requires seats { seats ≡ H.seats }
+        requires seats { (seats ≡ H.seats) × (H.seats ≡ H.parts) }
         ensures total { result.total ≡ 0 }
     {
         let (book, rest) = blank.open::<H>();
@@ -126,6 +128,7 @@ impl<H: Hall> Gathered<H> {
 
     /// A part comes back.
     pub fn take_back(&mut self, part: Part<H>)
+        requires { H.seats ≡ H.parts }
         ensures total { self.new.total ≡ self.old.total }
         ensures count { self.new.count ≡ self.old.count + part.count }
     {
@@ -138,6 +141,7 @@ impl<H: Hall> Gathered<H> {
 
     /// Whether all parts came back; then they counted the total.
     pub fn is_whole(&mut self) -> bool
+        requires { H.seats ≡ H.parts }
         ensures whole { result ≡ true → self.new.total ≡ self.new.count }
         ensures total { self.new.total ≡ self.old.total }
         ensures count { self.new.count ≡ self.old.count }
