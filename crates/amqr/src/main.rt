@@ -1,13 +1,29 @@
 //! A message router for AMQP 1.0: the program.
 #![tactic(auto)]
 
-use amqr_commands::{Refusal, Status, refuse, run};
+mod connection;
+mod hub;
+mod lines;
+mod listening;
+mod serving;
+mod socket;
+
+use crate::serving::serve;
+use amqr_commands::{Refusal, Status, refuse, run, serving_in};
 use std::env;
 use std::io::{self, BufWriter, Write};
 use std::process::ExitCode;
 
 fn main(rt: HostRuntime) -> ExitCode {
-    let status = match run_over(&rt) {
+    let Ok(words) = words_of(&rt) else {
+        let _ = refuse(&mut rt.stdout(), Refusal::Memory);
+        return ExitCode::from(Status::Failed.code());
+    };
+    let done = match serving_in(rt.alloc(), words.as_slice()) {
+        Some(serving) => serve(&rt, serving, &mut rt.stdout()),
+        None => run_over(&rt, words.as_slice()),
+    };
+    let status = match done {
         Ok(status) => status,
         Err(_) => Status::Failed,
     };
@@ -20,21 +36,12 @@ fn words_of(rt: &HostRuntime) -> io::Result<Vec<String>> {
 }
 
 /// Runs the program on the words and streams of the process.
-fn run_over(rt: &HostRuntime) -> io::Result<Status> {
-    let Ok(words) = words_of(rt) else {
-        return refuse(&mut rt.stdout(), Refusal::Memory);
-    };
+fn run_over(rt: &HostRuntime, words: &[String]) -> io::Result<Status> {
     let Ok(mut output) = BufWriter::new(rt.alloc(), rt.stdout()) else {
         return refuse(&mut rt.stdout(), Refusal::Memory);
     };
     let mut errors = rt.stderr();
-    let status = run(
-        rt,
-        words.as_slice(),
-        &mut rt.stdin(),
-        &mut output,
-        &mut errors,
-    )?;
+    let status = run(rt, words, &mut rt.stdin(), &mut output, &mut errors)?;
     output.flush()?;
     Ok(status)
 }

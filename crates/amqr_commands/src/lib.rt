@@ -5,6 +5,6 @@ mod config;
 mod program;
 mod script;
 
-pub use amqr_files::{Refusal, Status, format_disk, list, list_journal, refuse};
+pub use amqr_files::{Refusal, Serving, Status, format_disk, list, list_journal, refuse};
 pub use config::config_of;
-pub use program::{play_text, run};
+pub use program::{config_at, play_text, run, serving_in};

@@ -10,7 +10,7 @@ ghost use Rattle.amqr_commands.specs.Running.{Plays, PlaysInput, PlaysSteps, end
 use crate::config::config_of;
 use crate::script::{ScriptFault, read_script};
 use amqr_files::{
-    InputFault, MOST_BYTES, Refusal, Status, Task, format_disk, list, list_journal, print_lines,
+    InputFault, MOST_BYTES, Refusal, Serving, Status, Task, format_disk, list, list_journal, print_lines,
     read_whole, read_words, refuse,
 };
 use clap::Error;
@@ -46,6 +46,10 @@ pub fn run<R: Files<File = File> + AllocGlobal, S: AsStr, I: Read, O: Write, E: 
     match read_words(alloc, words) {
         Ok(Task::PlayInput) => play_standard(alloc, input, output),
         Ok(Task::Play { config, script }) => play_file(rt, config, script, output),
+        Ok(Task::Serve(_)) => {
+            writeln!(errors, "clients are served by the program alone")?;
+            Ok(Status::BadWords)
+        }
         Ok(Task::Frames { file }) => match fs::open(rt, file) {
             Ok(mut file) => frames(alloc, &mut file, output),
             Err(_) => refuse(output, Refusal::File),
@@ -56,6 +60,29 @@ pub fn run<R: Files<File = File> + AllocGlobal, S: AsStr, I: Read, O: Write, E: 
             show(alloc, disk, output)
         }
         Err(fault) => explain(&fault, output, errors),
+    }
+}
+
+/// How clients are to be served, where good words ask for that.
+pub fn serving_in<'a, S: AsStr>(alloc: Global, words: &'a [S]) -> Option<Serving<'a>> {
+    match read_words(alloc, words) {
+        Ok(Task::Serve(serving)) => Some(serving),
+        _ => None,
+    }
+}
+
+/// The configuration in a file, or the standard one where none is named.
+///
+/// # Errors
+///
+/// `File` where it can't be read; `Config` with its first faulty line; `Memory` where memory was refused.
+pub fn config_at<R: Files<File = File> + AllocGlobal>(
+    rt: &R,
+    path: Option<&str>,
+) -> Result<Config, Refusal> {
+    match path {
+        Some(path) => config_in(rt, path),
+        None => standard(rt.alloc()),
     }
 }
 
@@ -123,11 +150,7 @@ fn play_file<R: Files<File = File> + AllocGlobal, O: Write>(
     script: &str,
     output: &mut O,
 ) -> io::Result<Status> {
-    let config = match config {
-        Some(path) => config_in(rt, path),
-        None => standard(rt.alloc()),
-    };
-    let config = match config {
+    let config = match config_at(rt, config) {
         Ok(config) => config,
         Err(refusal) => return refuse(output, refusal),
     };

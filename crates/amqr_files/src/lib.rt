@@ -13,4 +13,4 @@ pub use journal::{format_disk, list_journal};
 pub use listing::list;
 pub use print::{print_lines, refuse};
 pub use status::{Refusal, Status};
-pub use words::{Task, read_words};
+pub use words::{Serving, Task, read_words};

@@ -21,6 +21,8 @@ pub enum Task<'a> {
         /// The file of the script.
         script: &'a str,
     },
+    /// To serve clients.
+    Serve(Serving<'a>),
     /// To list the frames in a file.
     Frames {
         /// The file.
@@ -36,6 +38,17 @@ pub enum Task<'a> {
         /// The file.
         file: &'a str,
     },
+}
+
+/// How clients are to be served.
+#[derive(Clone, Copy, Debug)]
+pub struct Serving<'a> {
+    /// The file of the router's configuration; the standard one where none is named.
+    pub config: Option<&'a str>,
+    /// After so many connections the program ends, at least 1; it doesn't where none is named.
+    pub connections: Option<u64>,
+    /// Whether nothing is told of connections on standard error.
+    pub quiet: bool,
 }
 
 /// What these words ask for; the first is the program's name. With no word behind it the script comes on standard input.
@@ -57,6 +70,19 @@ pub fn read_words<'a, S: AsStr>(alloc: Global, words: &'a [S]) -> Result<Task<'a
                 let config = rest.get_str("config");
                 return Ok(Task::Play { config, script });
             }
+        }
+        Some(("serve", rest)) => {
+            if let Some(connections) = connections_in(rest.get_str("connections")) {
+                return Ok(Task::Serve(Serving {
+                    config: rest.get_str("config"),
+                    connections,
+                    quiet: rest.get_flag("quiet"),
+                }));
+            }
+            return Err(program(alloc)?.error(
+                ErrorKind::InvalidValue,
+                "a number of connections is decimal digits, from 1 to 2^64 - 1",
+            )?);
         }
         Some(("frames", rest)) => {
             if let Some(file) = rest.get_str("FILE") {
@@ -87,6 +113,7 @@ fn program<'a>(alloc: Global) -> Result<Command<'a>, AllocError> {
         )
         .subcommand_required(true)
         .subcommand(play(alloc)?)?
+        .subcommand(serve(alloc)?)?
         .subcommand(frames(alloc)?)?
         .subcommand(format(alloc)?)?
         .subcommand(journal(alloc)?)
@@ -111,6 +138,46 @@ fn play<'a>(alloc: Global) -> Result<Command<'a>, AllocError> {
         .about("Plays a script against a router in memory, and prints what the router sends")
         .arg(config)?
         .arg(script)
+}
+
+/// The command that serves clients.
+fn serve<'a>(alloc: Global) -> Result<Command<'a>, AllocError> {
+    let config = Arg::new(alloc, "config")
+        .long("config")
+        .value_name("FILE")
+        .action(ArgAction::Set)
+        .help(
+            "A file of the router's configuration; without it the router is R1 and listens on 127.0.0.1:5672",
+        );
+    let connections = Arg::new(alloc, "connections")
+        .long("connections")
+        .value_name("N")
+        .action(ArgAction::Set)
+        .help("Ends after N connections");
+    let quiet = Arg::new(alloc, "quiet")
+        .long("quiet")
+        .action(ArgAction::SetTrue)
+        .help("Tells nothing of connections on standard error");
+    Command::new(alloc, "serve")
+        .about("Serves clients, each connection in threads of its own")
+        .arg(config)?
+        .arg(connections)?
+        .arg(quiet)
+}
+
+/// The number of connections that a word tells, where one is there: digits alone, and not 0. None where it is no such number.
+fn connections_in(word: Option<&str>) -> Option<Option<u64>> {
+    let Some(word) = word else {
+        return Some(None);
+    };
+    if !word.bytes().all(|byte| byte.is_ascii_digit()) {
+        return None;
+    }
+    match word.parse::<u64>() {
+        Ok(0) => None,
+        Ok(number) => Some(Some(number)),
+        Err(_) => None,
+    }
 }
 
 /// The command that lists frames.

@@ -1,7 +1,7 @@
 //! The router: one event or one take at a time.
-ghost use Rattle.std.specs.Prelude.{◌≡◌, ◌≤◌, ◌∷◌, ◌&&◌, nat_lt, ℕ, List, [], length, true, false, Ok, Err, None, option_map, OnOk, OnErr, IfOk, IfErr};
+ghost use Rattle.std.specs.Prelude.{◌≡◌, ◌≤◌, ◌∷◌, ◌&&◌, nat_lt, ℕ, List, [], length, true, false, Ok, Err, None, option_map, is_some, OnOk, OnErr, IfOk, IfErr};
 ghost use Rattle.router_trace.specs.Trace.{Entry, Took, step_of};
-ghost use Rattle.router_trace.specs.Connection.{conn as known, is_ready};
+ghost use Rattle.router_trace.specs.Connection.{conn as known, is_ready, is_live};
 ghost use Rattle.router_trace.specs.Refusing.{refuses};
 ghost use Rattle.router_conns.specs.Fits.{IsLeast};
 ghost use Rattle.router_core.specs.Replies.{Replies, answered};
@@ -229,6 +229,20 @@ impl Core {
             None => None,
             Some(next) => Some(ConnectionId(next)),
         }
+    }
+
+    /// Whether anything is known of a connection: it is live, or it is over and its outbox isn't empty.
+    pub fn knows(&self, conn: ConnectionId) -> bool
+        ensures { (t : List Entry) → Fits self.now t → result ≡ is_some (known t conn.0) }
+    {
+        self.state.phase(conn.0).is_some()
+    }
+
+    /// Whether a connection is live: it is up, and the router didn't end it.
+    pub fn is_live(&self, conn: ConnectionId) -> bool
+        ensures { (t : List Entry) → Fits self.now t → result ≡ is_live (known t conn.0) }
+    {
+        self.state.standing(conn.0).is_some()
     }
 
     /// Whether something can be taken of a connection.

@@ -1,0 +1,229 @@
+//! The threads of one connection.
+use crate::hub::Hub;
+use crate::lines::{Watch, reader_words, writer_words};
+use crate::socket::{LINGER, PATIENCE, swallow};
+use amqp_frames::{FrameReader, Item};
+use amqp_perf::Text;
+use route_table::Listener;
+use router_core::{ConnectionId, Door, Peer};
+use router_serve::{
+    Greeted, Hall, Ledgers, ReadEnd, Seat, Six, WriteEnd, greet, serve_reader, serve_writer,
+};
+use std::net::{Shutdown, SocketAddr, TcpStream};
+use std::sync::{Condvar, Mutex, Wait};
+use std::thread;
+use std::thread::Threads;
+use std::time::{Clock, Duration};
+
+/// Serves a connection until it ends.
+pub fn connection<
+    U: Hall + Send + Sync,
+    I: Hall + Send + Sync,
+    D: Hall + Send + Sync,
+    T: Hall + Send + Sync,
+    S: Hall + Send + Sync,
+    B: Hall + Send + Sync,
+    R: Threads + Wait + Clock + Eprint + Sync,
+>(
+    rt: &R,
+    hub: &Hub<Six<U, I, D, T, S, B>>,
+    listener: &Listener,
+    peer: SocketAddr,
+    stream: TcpStream,
+) {
+    let _ = stream.set_nodelay(true);
+    let _ = stream.set_write_timeout(Some(Duration::from_millis(PATIENCE)));
+    let mut frames = FrameReader::new(hub.alloc);
+    let Ok(mut door) = Door::new(hub.alloc, &hub.config, listener) else {
+        return;
+    };
+    let role = door.role();
+    match greet(
+        hub.alloc,
+        &mut &stream,
+        &mut &stream,
+        &mut frames,
+        &mut door,
+    ) {
+        Greeted::Up(user, items) => {
+            let Ok(copy) = user.clone() else {
+                return;
+            };
+            let who = Peer { user: copy, role };
+            enter(rt, hub, &stream, peer, &user, who, items, &mut frames);
+        }
+        Greeted::Ended(end) => {
+            let words = reader_words(end);
+            if let Ok(line) = format!(in hub.alloc; "{peer} ended at the door: {words}") {
+                hub.lines.say(rt, &line);
+            }
+            if end == ReadEnd::Door {
+                let _ = stream.shutdown(Shutdown::Write);
+                let _ = stream.set_read_timeout(Some(Duration::from_millis(LINGER)));
+                swallow(rt, &stream);
+            }
+        }
+    }
+}
+
+/// Serves a connection behind its door.
+fn enter<
+    U: Hall + Send + Sync,
+    I: Hall + Send + Sync,
+    D: Hall + Send + Sync,
+    T: Hall + Send + Sync,
+    S: Hall + Send + Sync,
+    B: Hall + Send + Sync,
+    R: Threads + Wait + Clock + Eprint + Sync,
+>(
+    rt: &R,
+    hub: &Hub<Six<U, I, D, T, S, B>>,
+    stream: &TcpStream,
+    peer: SocketAddr,
+    user: &Text,
+    who: Peer,
+    items: Vec<Item>,
+    frames: &mut FrameReader,
+) {
+    let Some(mut seat) = hub.seat(rt) else {
+        return;
+    };
+    match hub.up(rt, &mut seat, who) {
+        Ok(conn) => {
+            let watch = Watch {
+                rt,
+                alloc: hub.alloc,
+                lines: &hub.lines,
+                peer,
+                user: user.as_str(),
+            };
+            let seat = both(rt, hub, stream, conn, seat, items, frames, &watch);
+            hub.put_back(rt, drained(rt, hub, conn, seat));
+        }
+        Err(fault) => {
+            hub.put_back(rt, seat);
+            hub.failed(rt, fault);
+        }
+    }
+}
+
+/// Reads in this thread and writes in another, until both have ended.
+fn both<
+    U: Hall + Send + Sync,
+    I: Hall + Send + Sync,
+    D: Hall + Send + Sync,
+    T: Hall + Send + Sync,
+    S: Hall + Send + Sync,
+    B: Hall + Send + Sync,
+    R: Threads + Wait + Clock + Eprint + Sync,
+>(
+    rt: &R,
+    hub: &Hub<Six<U, I, D, T, S, B>>,
+    stream: &TcpStream,
+    conn: ConnectionId,
+    seat: Seat<Six<U, I, D, T, S, B>>,
+    items: Vec<Item>,
+    frames: &mut FrameReader,
+    watch: &Watch<'_, R>,
+) -> Seat<Six<U, I, D, T, S, B>> {
+    let read = Mutex::new(false);
+    let rung = Condvar::new();
+    let read = &read;
+    let rung = &rung;
+    thread::scope(
+        thread::scope_env(),
+        rt,
+        |scope| -> Seat<Six<U, I, D, T, S, B>> {
+            let writer = scope.spawn(move || output(rt, hub, stream, conn, watch, read, rung));
+            let (seat, _, end) = serve_reader(
+                rt,
+                hub.alloc,
+                &hub.shared,
+                seat,
+                conn,
+                items,
+                frames,
+                &mut &*stream,
+                watch,
+            );
+            swallow(rt, stream);
+            *read.lock(rt) = true;
+            rung.notify_all();
+            let written = match writer {
+                Ok(writer) => writer.join(rt),
+                Err(_) => None,
+            };
+            tell_end(rt, hub, conn, end, written);
+            seat
+        },
+    )
+}
+
+/// Writes what the router puts out, then waits for the peer's end.
+fn output<G: Ledgers, R: Wait + Clock + Eprint>(
+    rt: &R,
+    hub: &Hub<G>,
+    stream: &TcpStream,
+    conn: ConnectionId,
+    watch: &Watch<'_, R>,
+    read: &Mutex<bool>,
+    rung: &Condvar,
+) -> Option<WriteEnd> {
+    let Some(seat) = hub.seat(rt) else {
+        let _ = stream.shutdown(Shutdown::Both);
+        return None;
+    };
+    let (seat, end) = serve_writer(rt, hub.alloc, &hub.shared, seat, conn, &mut &*stream, watch);
+    hub.put_back(rt, seat);
+    if end == WriteEnd::Ended {
+        let _ = stream.shutdown(Shutdown::Write);
+        let most = Duration::from_millis(LINGER);
+        let (guard, _) = rung.wait_timeout_while(rt, read.lock(rt), most, |read| !*read);
+        drop(guard);
+    }
+    let _ = stream.shutdown(Shutdown::Both);
+    Some(end)
+}
+
+/// Takes what still waits for a connection that is over.
+fn drained<G: Ledgers, R: Wait>(
+    rt: &R,
+    hub: &Hub<G>,
+    conn: ConnectionId,
+    seat: Seat<G>,
+) -> Seat<G> {
+    let mut seat = seat;
+    for _turn in 0..u64::MAX {
+        match hub.shared.wait_batch(rt, &mut seat, conn) {
+            Ok(batch) => {
+                if batch.is_last() {
+                    return seat;
+                }
+            }
+            Err(_) => return seat,
+        }
+    }
+    seat
+}
+
+/// Tells why a connection ended.
+fn tell_end<G: Ledgers, R: Wait + Eprint>(
+    rt: &R,
+    hub: &Hub<G>,
+    conn: ConnectionId,
+    end: ReadEnd,
+    written: Option<WriteEnd>,
+) {
+    if let ReadEnd::Core(fault) = end {
+        hub.failed(rt, fault);
+    }
+    let number = conn.0;
+    let reader = reader_words(end);
+    let writer = match written {
+        Some(end) => writer_words(end),
+        None => "no thread could be made",
+    };
+    if let Ok(line) = format!(in hub.alloc; "connection {number} ended: {reader}; {writer}") {
+        hub.lines.say(rt, &line);
+    }
+}

@@ -1,0 +1,142 @@
+//! What the threads of a serving program share.
+use crate::lines::Lines;
+use route_table::Config;
+use router_core::{ConnectionId, CoreFault, Event, Peer};
+use router_serve::{Ledgers, NoLog, Seat, Shared};
+use std::alloc::Global;
+use std::sync::{Condvar, Mutex, Wait};
+
+/// At most so many connections have threads at once.
+const THREADS: usize = 256;
+
+/// How many connections there were and are, and whether more are taken.
+#[derive(Clone, Copy)]
+pub struct Taking {
+    /// So many are still to be taken; any number where none is told.
+    pub left: Option<u64>,
+    /// So many have threads.
+    pub running: usize,
+    /// No more are taken.
+    pub over: bool,
+}
+
+/// What becomes of a connection that was accepted.
+#[derive(Clone, Copy)]
+pub enum Taken {
+    /// It gets threads.
+    Served,
+    /// It gets threads, and is the last.
+    Last,
+    /// There are too many: it is closed.
+    TooMany,
+    /// No more are taken.
+    Over,
+}
+
+/// The router, its seats, and what else the threads share.
+#[derive(Drop)]
+pub struct Hub<G: Ledgers> {
+    /// For all that grows.
+    pub alloc: Global,
+    /// The router.
+    pub shared: Shared<NoLog, G>,
+    /// The configuration.
+    pub config: Config,
+    /// What is told.
+    pub lines: Lines,
+    /// Seats that nobody sits on.
+    pub bench: Mutex<Vec<Seat<G>>>,
+    /// The number of the last connection that came up.
+    pub newest: Mutex<u64>,
+    /// The connections that are taken.
+    pub taking: Mutex<Taking>,
+    /// Rings when no more are taken.
+    pub over: Condvar,
+}
+
+impl<G: Ledgers> Hub<G> {
+    /// A seat, which is put back.
+    pub fn seat<R: Wait>(&self, rt: &R) -> Option<Seat<G>> {
+        let free = self.bench.lock(rt).pop();
+        match free {
+            Some(seat) => Some(seat),
+            None => self.shared.seat(rt),
+        }
+    }
+
+    /// Puts a seat back. Where memory is refused it is lost, and its counts with it.
+    pub fn put_back<R: Wait>(&self, rt: &R, seat: Seat<G>) {
+        let _ = self.bench.lock(rt).push(seat);
+    }
+
+    /// A connection was accepted.
+    pub fn take<R: Wait>(&self, rt: &R) -> Taken {
+        let mut taking = self.taking.lock(rt);
+        if taking.over {
+            return Taken::Over;
+        }
+        let room = taking.running < THREADS;
+        if room {
+            taking.running += 1;
+        }
+        if let Some(left) = taking.left {
+            taking.left = Some(left.saturating_sub(1));
+            taking.over = left <= 1;
+            self.over.notify_all();
+        }
+        match (room, taking.over) {
+            (false, _) => Taken::TooMany,
+            (true, false) => Taken::Served,
+            (true, true) => Taken::Last,
+        }
+    }
+
+    /// The threads of a connection ended.
+    pub fn leave<R: Wait>(&self, rt: &R) {
+        let mut taking = self.taking.lock(rt);
+        taking.running = taking.running.saturating_sub(1);
+    }
+
+    /// No more connections are taken.
+    pub fn stop<R: Wait>(&self, rt: &R) {
+        self.taking.lock(rt).over = true;
+        self.over.notify_all();
+    }
+
+    /// Waits until no more connections are taken.
+    pub fn wait_over<R: Wait>(&self, rt: &R) {
+        let taking = self
+            .over
+            .wait_while(rt, self.taking.lock(rt), |taking| !taking.over);
+        drop(taking);
+    }
+
+    /// Whether no more connections are taken.
+    pub fn is_over<R: Wait>(&self, rt: &R) -> bool {
+        self.taking.lock(rt).over
+    }
+
+    /// The router answered a fault; where it failed, no more connections are taken.
+    pub fn failed<R: Wait>(&self, rt: &R, fault: CoreFault) {
+        if fault != CoreFault::NoConnection {
+            self.stop(rt);
+        }
+    }
+
+    /// A connection comes up, with the next number.
+    pub fn up<R: Wait>(
+        &self,
+        rt: &R,
+        seat: &mut Seat<G>,
+        peer: Peer,
+    ) -> Result<ConnectionId, CoreFault> {
+        let mut newest = self.newest.lock(rt);
+        let Some(number) = newest.checked_add(1) else {
+            return Err(CoreFault::Memory);
+        };
+        self.shared
+            .submit(rt, seat, Event::Up(ConnectionId(number), peer))?;
+        *newest = number;
+        Ok(ConnectionId(number))
+    }
+}

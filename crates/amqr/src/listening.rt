@@ -1,0 +1,149 @@
+//! Takes connections, and tells the time.
+use crate::connection::connection;
+use crate::hub::{Hub, Taken};
+use route_table::Listener;
+use router_core::Event;
+use router_serve::{Hall, Ledgers, Six};
+use std::net::{Net, TcpListener, TcpStream};
+use std::sync::{Condvar, Mutex, Wait};
+use std::thread;
+use std::thread::Threads;
+use std::time::{Clock, Duration, Instant};
+
+/// So long between two ticks, in milliseconds.
+const TICK: u64 = 500;
+
+/// So long is waited when no connection could be taken, in milliseconds.
+const PAUSE: u64 = 20;
+
+/// Takes connections at all listeners, each of which has its socket, until no more are taken and all have ended.
+pub fn listen<
+    U: Hall + Send + Sync,
+    I: Hall + Send + Sync,
+    D: Hall + Send + Sync,
+    T: Hall + Send + Sync,
+    S: Hall + Send + Sync,
+    B: Hall + Send + Sync,
+    R: Net<Listener = TcpListener, Stream = TcpStream> + Threads + Wait + Sync + Clock + Eprint,
+>(rt: &R, hub: &Hub<Six<U, I, D, T, S, B>>, listeners: &[Listener], sockets: &[TcpListener]) {
+    let done = Mutex::new(false);
+    let rung = Condvar::new();
+    let done = &done;
+    let rung = &rung;
+    thread::scope(thread::scope_env(), rt, |outer| {
+        let _ = outer.spawn(move || tick(rt, hub, done, rung));
+        thread::scope(thread::scope_env(), rt, |scope| {
+            for (listener, socket) in listeners.iter().zip(sockets.iter()) {
+                if scope
+                    .spawn(move || accept_all(rt, hub, listener, socket))
+                    .is_err()
+                {
+                    hub.stop(rt);
+                }
+            }
+            hub.wait_over(rt);
+            wake(rt, sockets);
+        });
+        *done.lock(rt) = true;
+        rung.notify_all();
+    });
+}
+
+/// Takes the connections of one listener.
+fn accept_all<
+    U: Hall + Send + Sync,
+    I: Hall + Send + Sync,
+    D: Hall + Send + Sync,
+    T: Hall + Send + Sync,
+    S: Hall + Send + Sync,
+    B: Hall + Send + Sync,
+    R: Threads + Wait + Sync + Clock + Eprint,
+>(rt: &R, hub: &Hub<Six<U, I, D, T, S, B>>, listener: &Listener, socket: &TcpListener) {
+    thread::scope(thread::scope_env(), rt, |scope| {
+        let mut failing = false;
+        for stream in socket.incoming() {
+            match stream {
+                Ok(stream) => {
+                    failing = false;
+                    match hub.take(rt) {
+                        Taken::Over => {}
+                        Taken::TooMany => hub.lines.say(rt, "a connection is closed: too many"),
+                        Taken::Served | Taken::Last => {
+                            let made = scope.spawn(move || run_one(rt, hub, listener, stream));
+                            if made.is_err() {
+                                hub.leave(rt);
+                                hub.lines
+                                    .say(rt, "a connection is closed: no thread can be made");
+                            }
+                        }
+                    }
+                }
+                Err(error) => {
+                    if !failing {
+                        if let Ok(line) = format!(in hub.alloc;
+                            "no connection can be taken: {error}"
+                        ) {
+                            hub.lines.say(rt, &line);
+                        }
+                    }
+                    failing = true;
+                    thread::sleep(rt, Duration::from_millis(PAUSE));
+                }
+            }
+            if hub.is_over(rt) {
+                break;
+            }
+        }
+    });
+}
+
+/// Serves one connection.
+fn run_one<
+    U: Hall + Send + Sync,
+    I: Hall + Send + Sync,
+    D: Hall + Send + Sync,
+    T: Hall + Send + Sync,
+    S: Hall + Send + Sync,
+    B: Hall + Send + Sync,
+    R: Threads + Wait + Sync + Clock + Eprint,
+>(rt: &R, hub: &Hub<Six<U, I, D, T, S, B>>, listener: &Listener, stream: TcpStream) {
+    if let Ok(peer) = stream.peer_addr() {
+        connection(rt, hub, listener, peer, stream);
+    }
+    hub.leave(rt);
+}
+
+/// Wakes the threads that wait at listeners: each takes a connection that asks for nothing, and finds that no more are taken.
+fn wake<R: Net<Listener = TcpListener, Stream = TcpStream>>(rt: &R, sockets: &[TcpListener]) {
+    for socket in sockets {
+        if let Ok(at) = socket.local_addr() {
+            let _ = TcpStream::connect(rt, at);
+        }
+    }
+}
+
+/// Tells the router the time every half second, until it is done; where the router fails no more connections are taken.
+fn tick<G: Ledgers, R: Wait + Clock>(rt: &R, hub: &Hub<G>, done: &Mutex<bool>, rung: &Condvar) {
+    let Some(mut seat) = hub.seat(rt) else {
+        return;
+    };
+    let Ok(start) = Instant::now(rt) else {
+        hub.put_back(rt, seat);
+        return;
+    };
+    for _turn in rt.forever() {
+        let (guard, _) = rung.wait_timeout(rt, done.lock(rt), Duration::from_millis(TICK));
+        let ended = *guard;
+        drop(guard);
+        if ended {
+            break;
+        }
+        if let Ok(passed) = start.elapsed(rt) {
+            let moment = u64::try_from(passed.as_millis()).unwrap_or(u64::MAX);
+            if let Err(fault) = hub.shared.submit(rt, &mut seat, Event::Tick(moment)) {
+                hub.failed(rt, fault);
+            }
+        }
+    }
+    hub.put_back(rt, seat);
+}

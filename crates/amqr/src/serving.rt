@@ -1,0 +1,178 @@
+//! The command that serves clients.
+ghost use Rattle.std.specs.Prelude.{◌≡◌, ◌^◌, [], IfOk};
+ghost use Rattle.router_core.specs.Handling.{Fits, counts_of};
+ghost use Rattle.router_core.specs.Counting.{uncounted};
+
+use crate::hub::{Hub, Taking};
+use crate::lines::Lines;
+use crate::listening::listen;
+use amqr_commands::{Refusal, Serving, Status, config_at, refuse};
+use route_table::{Config, Listener, Role};
+use router_core::Core;
+use router_serve::{Blanks, Hall, NoLog, SEATS, Shared, Six};
+use std::alloc::{AllocError, Global};
+use std::fs::File;
+use std::io::{self, Write};
+use std::marker::Brand;
+use std::net::{Net, TcpListener, TcpStream};
+use std::rt::Files;
+use std::sync::ledger::Blank;
+use std::sync::{Condvar, Mutex, Wait};
+use std::thread::Threads;
+use std::time::Clock;
+
+/// Serves clients at the configuration's listeners, or at the standard one where it has none.
+pub fn serve<
+    R: Net<Listener = TcpListener, Stream = TcpStream>
+        + Files<File = File>
+        + AllocGlobal
+        + Threads
+        + Wait
+        + Sync
+        + Clock
+        + Eprint,
+    O: Write,
+>(rt: &R, serving: Serving<'_>, output: &mut O) -> io::Result<Status> {
+    let alloc = rt.alloc();
+    let config = match config_at(rt, serving.config) {
+        Ok(config) => config,
+        Err(refusal) => return refuse(output, refusal),
+    };
+    let Ok(own) = standard_listeners(alloc) else {
+        return refuse(output, Refusal::Memory);
+    };
+    let listeners = listeners_of(&config, &own);
+    let Ok(sockets) = bind_all(rt, alloc, listeners) else {
+        return refuse(output, Refusal::Memory);
+    };
+    if let Some(listener) = listeners.get(sockets.len()) {
+        let (host, port) = (listener.host.as_str(), listener.port);
+        writeln!(output, "listen {host}:{port}")?;
+        return Ok(Status::BadInput);
+    }
+    for listener in listeners {
+        let (host, port) = (listener.host.as_str(), listener.port);
+        writeln!(output, "listening {host}:{port}")?;
+    }
+    output.flush()?;
+    match start(rt, alloc, config, &own, &sockets, serving) {
+        Ok(status) => Ok(status),
+        Err(_) => refuse(output, Refusal::Memory),
+    }
+}
+
+/// The listener of a configuration that has none.
+fn standard_listeners(alloc: Global) -> Result<Vec<Listener>, AllocError> {
+    let mut own = Vec::new(alloc);
+    own.push(Listener::standard(alloc, Role::Normal)?)?;
+    Ok(own)
+}
+
+/// The listeners of a configuration, or these where it has none.
+fn listeners_of<'a>(config: &'a Config, own: &'a [Listener]) -> &'a [Listener] {
+    if config.listeners().is_empty() {
+        own
+    } else {
+        config.listeners()
+    }
+}
+
+/// The sockets of listeners, in order, up to the first that can't be bound.
+fn bind_all<R: Net<Listener = TcpListener, Stream = TcpStream>>(
+    rt: &R,
+    alloc: Global,
+    listeners: &[Listener],
+) -> Result<Vec<TcpListener>, AllocError> {
+    let mut sockets = Vec::new(alloc);
+    for listener in listeners {
+        match TcpListener::bind(rt, (listener.host.as_str(), listener.port)) {
+            Ok(socket) => sockets.push(socket)?,
+            Err(_) => return Ok(sockets),
+        }
+    }
+    Ok(sockets)
+}
+
+/// Opens the router and serves, with ledgers that are made for it.
+fn start<
+    R: Net<Listener = TcpListener, Stream = TcpStream> + Threads + Wait + Sync + Clock + Eprint,
+>(
+    rt: &R,
+    alloc: Global,
+    config: Config,
+    own: &[Listener],
+    sockets: &[TcpListener],
+    serving: Serving<'_>,
+) -> Result<Status, AllocError> {
+    let core = Core::open(alloc, &config)?;
+    let blanks = Blanks {
+        ups: Blank::new(SEATS),
+        items: Blank::new(SEATS),
+        downs: Blank::new(SEATS),
+        ticks: Blank::new(SEATS),
+        starts: Blank::new(SEATS),
+        batches: Blank::new(SEATS),
+    };
+    counted::<Brand, Brand, Brand, Brand, Brand, Brand, R>(
+        rt, alloc, config, own, sockets, serving, core, blanks,
+    )
+}
+
+/// Serves, and puts what the threads counted beside what the router did.
+fn counted<
+    U: Hall + Send + Sync,
+    I: Hall + Send + Sync,
+    D: Hall + Send + Sync,
+    T: Hall + Send + Sync,
+    S: Hall + Send + Sync,
+    B: Hall + Send + Sync,
+    R: Net<Listener = TcpListener, Stream = TcpStream> + Threads + Wait + Sync + Clock + Eprint,
+>(
+    rt: &R,
+    alloc: Global,
+    config: Config,
+    own: &[Listener],
+    sockets: &[TcpListener],
+    serving: Serving<'_>,
+    core: Core,
+    blanks: Blanks,
+) -> Result<Status, AllocError>
+    requires fits { Fits core [] }
+    requires counts { counts_of core ≡ uncounted }
+    requires ups { (blanks.ups.name ≡ U.name) × (blanks.ups.parts ≡ U.parts) × (U.seats ≡ U.parts) × (U.seats ≡ 4611686018427387904) }
+    requires items { (blanks.items.name ≡ I.name) × (blanks.items.parts ≡ I.parts) × (I.seats ≡ I.parts) × (I.seats ≡ 4611686018427387904) }
+    requires downs { (blanks.downs.name ≡ D.name) × (blanks.downs.parts ≡ D.parts) × (D.seats ≡ D.parts) × (D.seats ≡ 4611686018427387904) }
+    requires ticks { (blanks.ticks.name ≡ T.name) × (blanks.ticks.parts ≡ T.parts) × (T.seats ≡ T.parts) × (T.seats ≡ 4611686018427387904) }
+    requires starts { (blanks.starts.name ≡ S.name) × (blanks.starts.parts ≡ S.parts) × (S.seats ≡ S.parts) × (S.seats ≡ 4611686018427387904) }
+    requires batches { (blanks.batches.name ≡ B.name) × (blanks.batches.parts ≡ B.parts) × (B.seats ≡ B.parts) × (B.seats ≡ 4611686018427387904) }
+{
+    let shared: Shared<NoLog, Six<U, I, D, T, S, B>> = Shared::new(
+        alloc,
+        core,
+        NoLog {},
+        blanks,
+        SEATS,
+    )?;
+    let hub = Hub {
+        alloc,
+        shared,
+        config,
+        lines: Lines::new(serving.quiet),
+        bench: Mutex::new(Vec::new(alloc)),
+        newest: Mutex::new(0),
+        taking: Mutex::new(Taking {
+            left: serving.connections,
+            running: 0,
+            over: false,
+        }),
+        over: Condvar::new(),
+    };
+    listen(rt, &hub, listeners_of(&hub.config, own), sockets);
+    let Hub { shared, bench, .. } = hub;
+    let closed = shared.close(bench.into_inner(), Vec::new(alloc));
+    let failed = closed.core.is_failed();
+    if failed {
+        return Ok(Status::Failed);
+    }
+    Ok(Status::Done)
+}

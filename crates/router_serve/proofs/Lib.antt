@@ -1,0 +1,4 @@
+pub mod Histories
+pub mod Appending
+pub mod Batches
+pub mod Submits

@@ -1,0 +1,11 @@
+pub mod Adding
+pub mod Ends
+pub mod History
+pub mod Submitting
+pub mod Wrote
+pub use Rattle.router_core.specs.Handling
+pub use Rattle.router_core.specs.Moves
+pub use Rattle.router_core.specs.Counting
+pub use Rattle.router_core.specs.Door
+pub use Rattle.amqp_frames.specs.Cuts
+pub use Rattle.amqp_frames.specs.ItemSpelling

@@ -1,0 +1,29 @@
+-- What a reader hands in.
+use Rattle.std.specs.Prelude.{◌≡◌, ◌≤◌, ℕ, ◌+◌, Bool, true, false}
+use Rattle.router_core.specs.declared.counts.Counts.{Counts}
+use Rattle.router_core.specs.declared.fault.CoreFault.TheVariants.{Failed, NoConnection}
+use Rattle.router_serve.specs.declared.end.ReadEnd.{ReadEnd}
+use Rattle.router_serve.specs.declared.end.ReadEnd.TheVariants as end
+
+-- so many more items
+abbrev pub with_items : ℕ → Counts → Counts
+with_items k n = record n { items = n.items + k }
+
+-- so many more losses
+abbrev pub with_downs : ℕ → Counts → Counts
+with_downs k n = record n { downs = n.downs + k }
+
+-- the router is still to be told of the loss
+abbrev pub needs_down : ReadEnd → Bool
+needs_down (end.Core Failed) = false
+needs_down (end.Core NoConnection) = false
+needs_down _ = true
+
+-- what the seat of a reader that ended so counted: items, and the loss of the connection once at most, and not where the router answered
+-- Failed or NoConnection
+pub record Submitted (old new : Counts) (e : ReadEnd) : Type 0 where
+  pub items : ℕ
+  pub downs : ℕ
+  pub once : downs ≤ 1
+  pub not_again : needs_down e ≡ false → downs ≡ 0
+  pub counted : new ≡ with_downs downs (with_items items old)

@@ -1,0 +1,155 @@
+//! The thread that reads what a peer sends and hands it in.
+ghost use Rattle.std.specs.Prelude.{◌≡◌, ℕ};
+ghost use Rattle.router_serve.specs.Submitting.{with_items, needs_down, Submitted};
+
+use crate::end::ReadEnd;
+use crate::gate::{Gate, Side};
+use crate::ledgers::Ledgers;
+use crate::locked::{Log, Receipt};
+use crate::seat::Seat;
+use crate::shared::Shared;
+use amqp_frames::{FrameFault, FrameReader, Item};
+use router_core::{ConnectionId, CoreFault, Event};
+use std::alloc::Global;
+use std::io::{ErrorKind, Read};
+use std::sync::Wait;
+
+/// So many bytes are read at once.
+pub const PIECE: usize = 65_536;
+
+/// Hands in what a peer sends: the items left over from the door, then those that the input cuts into, and one loss of the
+/// connection at the end, unless the router answered `Failed` or `NoConnection`. It gives the seat back, what receipts there are, and
+/// why it ended.
+pub fn serve_reader<L: Log, G: Ledgers, R: Wait, I: Read, P: Gate>(
+    rt: &R,
+    alloc: Global,
+    shared: &Shared<L, G>,
+    seat: Seat<G>,
+    conn: ConnectionId,
+    left: Vec<Item>,
+    frames: &mut FrameReader,
+    input: &mut I,
+    gate: &P,
+) -> (Seat<G>, Vec<Receipt>, ReadEnd)
+    ensures { Submitted seat result.0 result.2 }
+{
+    let mut seat = seat;
+    let end = hand_in_all(
+        rt, alloc, shared, &mut seat, conn, left, frames, input, gate,
+    );
+    if needs_down(end) {
+        let _ = shared.submit(rt, &mut seat, Event::Down(conn));
+    }
+    (seat, Vec::new(alloc), end)
+}
+
+/// Whether the router is still to be told that the connection is lost.
+fn needs_down(end: ReadEnd) -> bool
+    ensures { result ≡ needs_down end }
+{
+    match end {
+        ReadEnd::Core(CoreFault::Failed) | ReadEnd::Core(CoreFault::NoConnection) => false,
+        _ => true,
+    }
+}
+
+/// Hands in the items left over and those of the input, until one of them is refused or the input ends.
+fn hand_in_all<L: Log, G: Ledgers, R: Wait, I: Read, P: Gate>(
+    rt: &R,
+    alloc: Global,
+    shared: &Shared<L, G>,
+    seat: &mut Seat<G>,
+    conn: ConnectionId,
+    left: Vec<Item>,
+    frames: &mut FrameReader,
+    input: &mut I,
+    gate: &P,
+) -> ReadEnd
+    ensures { (k : ℕ) × (seat.new ≡ with_items k seat.old) }
+{
+    let Ok(mut piece) = vec![in alloc; 0u8; PIECE] else {
+        return ReadEnd::Memory;
+    };
+    let mut number = 0u64;
+    let mut items = left;
+    for _turn in 0..u64::MAX {
+        if let Err(end) = hand_in(rt, shared, seat, conn, items, &mut number, gate) {
+            return end;
+        }
+        items = match read_items(alloc, frames, input, piece.as_mut_slice()) {
+            Ok(more) => more,
+            Err(end) => return end,
+        };
+    }
+    ReadEnd::ReadFailed
+}
+
+/// Hands in items, each behind the gate.
+///
+/// # Errors
+///
+/// Why the reader ends: the router's fault, or `End` behind an item `Bad`.
+fn hand_in<L: Log, G: Ledgers, R: Wait, P: Gate>(
+    rt: &R,
+    shared: &Shared<L, G>,
+    seat: &mut Seat<G>,
+    conn: ConnectionId,
+    items: Vec<Item>,
+    number: &mut u64,
+    gate: &P,
+) -> Result<(), ReadEnd>
+    ensures { (k : ℕ) × (seat.new ≡ with_items k seat.old) }
+{
+    for item in items {
+        gate.pass(rt, conn, Side::Reader, *number);
+        gate.see(rt, conn, Side::Reader, &item);
+        *number = number.saturating_add(1);
+        let last = is_bad(&item);
+        match shared.submit(rt, seat, Event::Item(conn, item)) {
+            Ok(_) => {}
+            Err(fault) => return Err(ReadEnd::Core(fault)),
+        }
+        if last {
+            return Err(ReadEnd::End);
+        }
+    }
+    Ok(())
+}
+
+/// Whether an item is the last of its stream.
+fn is_bad(item: &Item) -> bool {
+    match item {
+        Item::Bad(_) => true,
+        _ => false,
+    }
+}
+
+/// Reads a piece, and gives the items that are whole with it. A read that is interrupted gives none.
+///
+/// # Errors
+///
+/// Why the reader ends: `End`, `ReadFailed` or `Memory`.
+pub(crate) fn read_items<I: Read>(
+    alloc: Global,
+    frames: &mut FrameReader,
+    input: &mut I,
+    piece: &mut [u8],
+) -> Result<Vec<Item>, ReadEnd> {
+    match input.read(piece) {
+        Ok(0) => Err(ReadEnd::End),
+        Ok(count) => {
+            let (bytes, _) = piece.split_at(count);
+            match frames.feed(bytes) {
+                Ok(items) => Ok(items),
+                Err(FrameFault::Memory) => Err(ReadEnd::Memory),
+                Err(_) => Err(ReadEnd::End),
+            }
+        }
+        Err(error) => {
+            if error.kind() == ErrorKind::Interrupted {
+                return Ok(Vec::new(alloc));
+            }
+            Err(ReadEnd::ReadFailed)
+        }
+    }
+}

@@ -1,0 +1,31 @@
+//! Writes bytes, and tells how far it came.
+ghost use Rattle.std.specs.Prelude.{◌≡◌, ◌≤◌, true, length, take};
+ghost use Rattle.std.specs.Io.KnownBytes.{Appends};
+
+use std::io::{ErrorKind, Write};
+
+/// Writes these bytes, and tells how many were written and whether it was all. A write that fails ends it, unless it was only
+/// interrupted.
+pub fn write_beginning<W: Write>(output: &mut W, bytes: &[u8]) -> (usize, bool)
+    ensures bound { result.0 ≤ length bytes.now }
+    ensures begun { Appends (W.contents output.old) (W.contents output.new) (take result.0 bytes.now) }
+    ensures whole { result.1 ≡ true → Appends (W.contents output.old) (W.contents output.new) bytes.now }
+{
+    let mut done = 0;
+    for _turn in 0..u64::MAX {
+        if done == bytes.len() {
+            return (done, true);
+        }
+        let (_, rest) = bytes.split_at(done);
+        match output.write(rest) {
+            Ok(0) => return (done, false),
+            Ok(count) => done += count,
+            Err(error) => {
+                if error.kind() != ErrorKind::Interrupted {
+                    return (done, false);
+                }
+            }
+        }
+    }
+    (done, false)
+}
