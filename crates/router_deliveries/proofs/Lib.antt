@@ -8,3 +8,4 @@ mod Picked
 mod Heard
 mod Reindexed
 mod Found
+mod Claimed

@@ -3,6 +3,7 @@ pub mod Stepping
 pub mod Hearing
 pub mod Indexing
 pub mod Finding
+pub mod Claiming
 pub mod Fits
 pub mod Naming
 pub use Rattle.router_trace.specs.Trace

@@ -233,7 +233,7 @@ impl Names {
 }
 
 /// The ids of a disposition's range reach up to here from 0.
-const HALF: u32 = 0x8000_0000;
+pub(crate) const HALF: u32 = 0x8000_0000;
 
 /// The range of the ids that a consumer's disposition names.
 fn decided_in(item: &Item) -> Option<(u32, u32)>

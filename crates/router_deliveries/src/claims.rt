@@ -1,0 +1,304 @@
+//! The deliveries that peers have not settled, by their delivery-ids.
+ghost use Rattle.std.specs.Prelude.{◌≡◌, ◌==◌, ◌∷◌, [], List, ℕ, Some, true, if◌then◌else◌, OnOk};
+ghost use Rattle.std.specs.Option.{option_map};
+ghost use Rattle.router_trace.specs.Trace.{Entry, Out, did};
+ghost use Rattle.router_trace.specs.Claims.{claims, claim, claim_behind_in};
+ghost use Rattle.router_trace.specs.Sessions.{theirs, maps, is_channel};
+ghost use Rattle.router_trace.specs.Links.{their_handle, link};
+ghost use Rattle.router_deliveries.specs.Fits.{channel_of};
+ghost use Rattle.router_trace.specs.declared.event.Event.TheVariants as event;
+ghost use Rattle.amqp_session.specs.Ranges.{in_range};
+ghost use Rattle.router_deliveries.specs.Claiming.{ClaimsFit, AreSmall, claimed_at, heard_claim, settled_at, found_by, let_go_at, is_on};
+ghost use Rattle.router_deliveries.specs.Places.{at_id};
+
+use crate::by_session::BySession;
+use crate::names::HALF;
+use amqp_frames::Item;
+use amqp_perf::{Disposition, Perf, Role, Transfer};
+use router_trace::ConnectionId;
+use std::alloc::{AllocError, Global};
+use std::marker::Model;
+
+/// An unsettled delivery of a peer.
+#[derive(Debug, Drop)]
+pub struct Claim {
+    /// The router's handle of its link.
+    pub handle: u32,
+    /// Whether it was ignored: a resumed one that the router doesn't know.
+    pub ignored: bool,
+}
+
+impl Model for Claim {
+    ghost use Rattle.router_trace.specs.Claims.{Claim as View};
+
+    ghost Value = { View };
+
+    ghost view = { λ c. record { handle = c.handle; ignored = c.ignored } };
+}
+
+/// The delivery in the middle on a link, of which more frames are to come.
+#[derive(Clone, Copy, Debug, PartialEq, Eq)]
+pub struct Middle {
+    /// Its delivery-id.
+    pub id: Option<u32>,
+    /// Whether it goes on where it was.
+    pub resume: bool,
+}
+
+/// A link on which a peer sends, as a transfer of it finds it.
+#[derive(Clone, Copy, Debug, PartialEq, Eq)]
+pub struct Receiving {
+    /// The router's handle.
+    pub handle: u32,
+    /// The delivery in the middle.
+    pub middle: Option<Middle>,
+    /// Whether a delivery that begins is beyond the credit.
+    pub beyond: bool,
+}
+
+/// The deliveries that peers have not settled. Behind an error nothing can be said of the table.
+#[derive(Debug, Drop)]
+pub struct Claims {
+    ids: BySession<Claim>,
+}
+
+impl Claims {
+    /// None.
+    pub fn new(alloc: Global) -> Claims
+        ensures { ClaimsFit result [] }
+    {
+        Claims {
+            ids: BySession::new(alloc),
+        }
+    }
+
+    /// The claim of a peer to a delivery-id.
+    pub fn get(&self, conn: u64, own: u16, id: u32) -> Option<&Claim>
+        ensures { (t : List Entry) → ClaimsFit self.now t → option_map (λ c. c.now) result ≡ claims t conn own id }
+    {
+        self.ids.get(conn, own, id)
+    }
+
+    /// A connection is lost.
+    pub fn down(&mut self, conn: ConnectionId)
+        ensures { (t : List Entry) → ClaimsFit self.old t → ClaimsFit self.new (did (event.Down conn) ∷ t) }
+    {
+        self.ids.forget(conn.0);
+    }
+
+    /// An item came on a connection, on the session on this channel of the router, where its channel has one; a transfer finds this
+    /// link there, where its handle stands for one on which the peer sends.
+    pub fn hear(
+        &mut self,
+        conn: ConnectionId,
+        own: Option<u16>,
+        item: &Item,
+        found: Option<Receiving>,
+    ) -> Result<(), AllocError>
+        ensures { OnOk result ((t : List Entry) → ((o : ℕ) → is_channel own o ≡ maps (theirs t conn.0 (channel_of item.now)) o)
+            → ((o : ℕ) → is_channel own o ≡ true → found ≡ found_by item.now (their_handle t conn.0 o) (link t conn.0 o))
+            → ClaimsFit self.old t → ClaimsFit self.new (did (event.Item conn item.now) ∷ t)) }
+    {
+        match item {
+            Item::Frame { sasl, perf, .. } => {
+                if !*sasl {
+                    self.hear_perf(conn.0, own, perf, found)?;
+                }
+            }
+            _ => {}
+        }
+        Ok(())
+    }
+
+    /// A performative came on a connection.
+    fn hear_perf(
+        &mut self,
+        conn: u64,
+        own: Option<u16>,
+        perf: &Perf,
+        link: Option<Receiving>,
+    ) -> Result<(), AllocError>
+        ensures claims { OnOk result (AreSmall (at_id self.old.ids) → (c o q : ℕ) → at_id self.new.ids c o q
+            ≡ (if conn == c then (if is_channel own o then heard_claim perf.now link q (at_id self.old.ids c o q) else at_id self.old.ids c o q) else at_id self.old.ids c o q)) }
+        ensures small { OnOk result (AreSmall (at_id self.old.ids) → AreSmall (at_id self.new.ids)) }
+    {
+        let Some(own) = own else {
+            return Ok(());
+        };
+        match perf {
+            Perf::Transfer(transfer) => {
+                if let Some(link) = link {
+                    self.hear_transfer(conn, own, transfer, link)?;
+                }
+            }
+            Perf::Disposition(disposition) => {
+                self.settle(Role::Sender, conn, own, disposition)?;
+            }
+            _ => {}
+        }
+        Ok(())
+    }
+
+    /// An item is put in the outbox of a connection.
+    pub fn put(&mut self, conn: u64, item: &Item) -> Result<(), AllocError>
+        ensures { OnOk result ((t : List Entry) → ClaimsFit self.old t → ClaimsFit self.new (Out conn item.now ∷ t)) }
+    {
+        match item {
+            Item::Frame { channel, perf, .. } => self.put_perf(conn, *channel, perf)?,
+            _ => {}
+        }
+        Ok(())
+    }
+
+    /// A performative is put in the outbox of a connection, on a channel of the router.
+    fn put_perf(&mut self, conn: u64, own: u16, perf: &Perf) -> Result<(), AllocError>
+        ensures claims { OnOk result (AreSmall (at_id self.old.ids) → (c o q : ℕ) → at_id self.new.ids c o q
+            ≡ (if conn == c then claim_behind_in perf.now own o q (at_id self.old.ids c o q) else at_id self.old.ids c o q)) }
+        ensures small { OnOk result (AreSmall (at_id self.old.ids) → AreSmall (at_id self.new.ids)) }
+    {
+        match perf {
+            Perf::Disposition(disposition) => {
+                self.settle(Role::Receiver, conn, own, disposition)?;
+            }
+            Perf::Detach(detach) => self.detach(conn, own, detach.handle)?,
+            Perf::End(_) => self.ids.end(conn, own),
+            Perf::Close(_) => self.ids.forget(conn),
+            _ => {}
+        }
+        Ok(())
+    }
+
+    /// A disposition settles deliveries of a peer, where it comes from an end of this role.
+    fn settle(
+        &mut self,
+        role: Role,
+        conn: u64,
+        own: u16,
+        disposition: &Disposition,
+    ) -> Result<(), AllocError>
+        ensures claims { OnOk result (AreSmall (at_id self.old.ids) → (c o q : ℕ) → at_id self.new.ids c o q
+            ≡ (if conn == c then (if own == o then settled_at role disposition.now q (at_id self.old.ids c o q) else at_id self.old.ids c o q) else at_id self.old.ids c o q)) }
+        ensures small { OnOk result (AreSmall (at_id self.old.ids) → AreSmall (at_id self.new.ids)) }
+    {
+        if disposition.role != role || !disposition.settled {
+            return Ok(());
+        }
+        let last = disposition.last.unwrap_or(disposition.first);
+        self.let_go(conn, own, disposition.first, last, None)?;
+        Ok(())
+    }
+
+    /// The router detaches a link: the claims on it end.
+    fn detach(&mut self, conn: u64, own: u16, link: u32) -> Result<(), AllocError>
+        ensures claims { OnOk result (AreSmall (at_id self.old.ids) → (c o q : ℕ) → at_id self.new.ids c o q ≡ let_go_at (conn == c) (own == o) true (Some link) (at_id self.old.ids c o q)) }
+        ensures small { OnOk result (AreSmall (at_id self.old.ids) → AreSmall (at_id self.new.ids)) }
+    {
+        self.let_go(conn, own, 0, HALF - 1, Some(link))?;
+        self.let_go(conn, own, HALF, u32::MAX, Some(link))?;
+        Ok(())
+    }
+
+    /// The transfer of a peer on a link on which it sends.
+    fn hear_transfer(
+        &mut self,
+        conn: u64,
+        own: u16,
+        transfer: &Transfer,
+        link: Receiving,
+    ) -> Result<(), AllocError>
+        ensures claims { OnOk result ((c o q : ℕ) → at_id self.new.ids c o q
+            ≡ (if conn == c then (if own == o then claimed_at transfer.now (Some link) q (at_id self.old.ids c o q) else at_id self.old.ids c o q) else at_id self.old.ids c o q)) }
+        ensures small { OnOk result (AreSmall (at_id self.old.ids) → AreSmall (at_id self.new.ids)) }
+    {
+        match link.middle {
+            None => match transfer.delivery_id {
+                None => {}
+                Some(id) => {
+                    if !link.beyond {
+                        self.set(
+                            conn,
+                            own,
+                            id,
+                            claimed(link.handle, transfer.resume, transfer),
+                        )?;
+                    }
+                }
+            },
+            Some(middle) => match middle.id {
+                None => {}
+                Some(id) => {
+                    if self.ids.get(conn, own, id).is_some() {
+                        self.set(conn, own, id, claimed(link.handle, middle.resume, transfer))?;
+                    }
+                }
+            },
+        }
+        Ok(())
+    }
+
+    /// Lets go of the claims to the ids of a range on a session: of those on this link of the router, or of all.
+    fn let_go(
+        &mut self,
+        conn: u64,
+        own: u16,
+        first: u32,
+        last: u32,
+        link: Option<u32>,
+    ) -> Result<(), AllocError>
+        ensures claims { OnOk result (AreSmall (at_id self.old.ids) → (c o q : ℕ) → at_id self.new.ids c o q
+            ≡ let_go_at (conn == c) (own == o) (in_range first last q) link (at_id self.old.ids c o q)) }
+        ensures small { OnOk result (AreSmall (at_id self.old.ids) → AreSmall (at_id self.new.ids)) }
+    {
+        let ids = self.ids.in_range(conn, own, first, last)?;
+        for id in &ids {
+            self.let_go_one(conn, own, id.number(), link);
+        }
+        Ok(())
+    }
+
+    /// Lets go of the claim to an id, where it is on this link of the router, or on any.
+    fn let_go_one(&mut self, conn: u64, own: u16, id: u32, link: Option<u32>)
+        ensures { (c o q : ℕ) → at_id self.new.ids c o q ≡ let_go_at (conn == c) (own == o) (id == q) link (at_id self.old.ids c o q) }
+    {
+        if is_on(self.ids.get(conn, own, id), link) {
+            self.ids.remove(conn, own, id);
+        }
+    }
+
+    /// Gives an id this claim, or none.
+    fn set(&mut self, conn: u64, own: u16, id: u32, claim: Option<Claim>) -> Result<(), AllocError>
+        ensures claims { OnOk result ((c o q : ℕ) → at_id self.new.ids c o q
+            ≡ (if conn == c then (if own == o then (if id == q then claim else at_id self.old.ids c o q) else at_id self.old.ids c o q) else at_id self.old.ids c o q)) }
+        ensures small { OnOk result (AreSmall (at_id self.old.ids) → AreSmall (at_id self.new.ids)) }
+    {
+        match claim {
+            None => self.ids.remove(conn, own, id),
+            Some(claim) => self.ids.insert(conn, own, id, claim)?,
+        }
+        Ok(())
+    }
+}
+
+/// What a transfer claims that begins a delivery or goes on with one.
+fn claimed(handle: u32, resume: bool, transfer: &Transfer) -> Option<Claim>
+    ensures { result ≡ claim handle resume transfer.now }
+{
+    if transfer.settled || transfer.aborted {
+        return None;
+    }
+    Some(Claim {
+        handle,
+        ignored: resume && !transfer.more,
+    })
+}
+
+/// Whether a claim is on this link of the router, or on any.
+fn is_on(claim: Option<&Claim>, link: Option<u32>) -> bool
+    ensures { result ≡ is_on (option_map (λ c. c.now) claim.entry) link }
+{
+    match (claim, link) {
+        (None, _) => false,
+        (Some(_), None) => true,
+        (Some(claim), Some(link)) => claim.handle == link,
+    }
+}
