@@ -10,8 +10,8 @@ ghost use Rattle.amqr_commands.specs.Running.{Plays, PlaysInput, PlaysSteps, end
 use crate::config::config_of;
 use crate::script::{ScriptFault, read_script};
 use amqr_files::{
-    InputFault, MOST_BYTES, Refusal, Serving, Status, Task, format_disk, list, list_journal, print_lines,
-    read_whole, read_words, refuse,
+    InputFault, MOST_BYTES, Refusal, Serving, Status, Task, format_disk, list, list_journal,
+    print_lines, read_whole, read_words, refuse,
 };
 use clap::Error;
 use clap::error::ErrorKind;
