@@ -192,7 +192,7 @@ impl State {
         let own = self.sessions.own_channel(conn.0, channel_of(item));
         self.clocks.hear(conn, item)?;
         self.peers.hear(conn, item)?;
-        self.links.hear(conn, own, item)?;
+        let _ = self.links.hear(conn, own, item)?;
         self.sessions.hear(conn, item)?;
         Ok(())
     }
@@ -217,7 +217,7 @@ impl State {
         self.clocks.down(conn);
         self.peers.down(conn);
         self.sessions.down(conn);
-        self.links.down(conn);
+        self.links.down(conn)?;
         note(&mut self.ready, &self.connections, conn.0)
     }
 

@@ -1,0 +1,10 @@
+pub mod Numbered
+pub mod Seen
+pub mod Known
+pub mod Chosen
+pub mod Granted
+pub mod Telling
+pub mod Asked
+pub mod Taken
+pub mod Going
+pub mod Owed

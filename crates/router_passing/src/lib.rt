@@ -1,0 +1,14 @@
+//! Links, the deliveries on them and the pools of their addresses, changed together.
+#![tactic(auto)]
+
+mod asking;
+mod busy;
+mod figures;
+mod grant;
+mod granting;
+mod hearing;
+mod owing;
+mod passing;
+
+pub use grant::LinkGrant;
+pub use passing::Passing;
