@@ -10,6 +10,10 @@ pub mod Links
 pub mod LinkFrames
 pub mod Deliveries
 pub mod Claims
+pub mod Numbers
+pub mod DeliveryFrames
+pub mod Following
+pub mod Settling
 pub use Rattle.amqp_conn.specs.Phase
 pub use Rattle.amqp_conn.specs.Heartbeats
 pub use Rattle.amqp_session.specs.Session
