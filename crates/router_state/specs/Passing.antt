@@ -1,0 +1,34 @@
+-- Messages that go from a producer to a consumer of its address, and the credit that producers are granted.
+use Rattle.std.specs.Prelude.{ℕ, Bool, false, List, [], ◌∷◌, Option, Some, None, option_and_then, option_map}
+use Rattle.router_trace.specs.declared.binding.Binding.{Binding}
+use Rattle.router_trace.specs.declared.binding.Origin.{Origin}
+use Rattle.router_trace.specs.declared.handle.Attachment.{Attachment}
+use Rattle.router_trace.specs.Trace.{Trace, Put, Bound}
+use Rattle.router_trace.specs.Links.{Link, numbered, attachments}
+use Rattle.router_trace.specs.Following.{link_of}
+use Rattle.router_trace.specs.Numbers.{first_below}
+
+-- the consumer that is chosen for an address
+unfoldable pub choice_of : Trace → List ℕ → Option ℕ
+choice_of t address = first_below (attachments t) (λ n. false)
+
+-- the grants that are due
+unfoldable pub grants_due : Trace → List Put
+grants_due t = []
+
+-- the consumer for a message of a producer's link
+abbrev pub consumer_of : Trace → Option Link → Option Attachment
+consumer_of t None = None
+consumer_of t (Some l) = option_and_then (numbered t) (choice_of t l.address)
+
+-- a message of a producer's link, bound to the consumer that is chosen, if one is
+abbrev pub binding_to : Option Origin → ℕ → List ℕ → Attachment → Binding
+binding_to origin format payload consumer = record { consumer = consumer; origin = origin; format = format; payload = payload }
+
+abbrev pub passing : Trace → Attachment → Option Origin → ℕ → List ℕ → Option Binding
+passing t from origin format payload = option_map (binding_to origin format payload) (consumer_of t (link_of t from))
+
+-- the trace with a binding, if there is one
+abbrev pub with_bound : Option Binding → Trace → Trace
+with_bound None t = t
+with_bound (Some b) t = Bound b ∷ t
