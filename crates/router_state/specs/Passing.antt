@@ -4,7 +4,7 @@ use Rattle.router_trace.specs.declared.binding.Binding.{Binding}
 use Rattle.router_trace.specs.declared.binding.Origin.{Origin}
 use Rattle.router_trace.specs.declared.handle.Attachment.{Attachment}
 use Rattle.router_trace.specs.Trace.{Trace, Put, Bound}
-use Rattle.router_trace.specs.Links.{Link, numbered, attachments}
+use Rattle.router_trace.specs.Links.{Link, link, numbered, attachments}
 use Rattle.router_trace.specs.Following.{link_of}
 use Rattle.router_trace.specs.Numbers.{first_below}
 
@@ -32,3 +32,10 @@ passing t from origin format payload = option_map (binding_to origin format payl
 abbrev pub with_bound : Option Binding → Trace → Trace
 with_bound None t = t
 with_bound (Some b) t = Bound b ∷ t
+
+-- the attachment that stands on a handle of the router
+abbrev pub standing_at : ℕ → ℕ → ℕ → Link → Attachment
+standing_at c o h l = record { number = l.number; conn = record { 0 = c }; channel = o; handle = h }
+
+abbrev pub attachment_at : Trace → ℕ → ℕ → ℕ → Option Attachment
+attachment_at t c o h = option_map (standing_at c o h) (link t c o h)

@@ -1,0 +1,40 @@
+-- What the tables are asked of what follows an event's rows.
+use Rattle.std.specs.Prelude.{ℕ, ◌+◌, ◌%◌, ◌^◌, Bool, true, false, ◌&&◌, ◌==◌, nat_lt, is_some, Option, Some, None}
+use Rattle.amqp_link.specs.Credit as credit
+use Rattle.router_trace.specs.declared.frames.LinkState.{LinkState}
+use Rattle.router_trace.specs.declared.handle.Attachment.{Attachment}
+use Rattle.router_trace.specs.Trace.{Trace}
+use Rattle.router_trace.specs.Links.{Link, Happened, sends, receives, numbered}
+use Rattle.router_trace.specs.Deliveries.{delivery}
+use Rattle.router_trace.specs.Following.{link_of, first_delivery, is_unsent_on, owes_one}
+
+-- a number is above another, if there is one
+abbrev pub is_above : Option ℕ → ℕ → Bool
+is_above None n = true
+is_above (Some m) n = nat_lt m n
+
+-- frames of deliveries are still to go on a link
+abbrev pub has_unsent : Trace → ℕ → Bool
+has_unsent t number = is_some (first_delivery t (is_unsent_on number))
+
+-- the router has begun a delivery on a link, of which more frames are to go
+abbrev pub goes_on : Option Link → ℕ → Bool
+goes_on None number = false
+goes_on (Some l) number = (l.number == number) && l.going_on
+
+-- the link of an attachment's number owes a drain
+abbrev pub owes_on : Trace → ℕ → Option Attachment → Bool
+owes_on t n None = false
+owes_on t n (Some a) = owes_one (link_of t a) n
+
+abbrev pub owes_drain : Trace → ℕ → Bool
+owes_drain t n = owes_on t n (numbered t n)
+
+-- what tells a drain: the count ahead by the credit left, and no credit
+abbrev pub drained_by : ℕ → Happened → Option LinkState
+drained_by h (sends list) = Some (record { handle = h; count = (credit.count list + credit.credit list) % 2 ^ 32; credit = 0; drain = true })
+drained_by h (receives list) = None
+
+abbrev pub drained_state : ℕ → Option Link → Option LinkState
+drained_state h None = None
+drained_state h (Some l) = drained_by h l.happened
