@@ -1,0 +1,2 @@
+pub use Rattle.router_trace.specs.Deliveries
+pub use Rattle.router_trace.specs.DeliveryFrames

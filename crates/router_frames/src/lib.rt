@@ -1,0 +1,10 @@
+//! The frames of deliveries: outcomes as the router keeps and tells them, and transfers that fill the frames of a peer.
+#![tactic(auto)]
+
+mod outcome;
+mod state;
+mod transfer;
+
+pub use outcome::{kept_outcome, outcome_item};
+pub use state::copy_state;
+pub use transfer::{first_transfer, later_transfer};
