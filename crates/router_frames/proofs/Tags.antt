@@ -1,5 +1,5 @@
 -- A tag by its bytes.
-use Rattle.std.proofs.Common.{◌≡◌, ℕ, ◌/◌, ◌%◌, ◌^◌, List, [], ◌∷◌, w64, ap, sym, arith}
+use Rattle.std.proofs.Common.{◌≡◌, ℕ, ◌/◌, ◌%◌, ◌^◌, [], ◌∷◌, w64, ap, arith}
 use Rattle.std.specs.Int.{to_be_bytes}
 use Rattle.router_trace.specs.Deliveries.{byte_of, tag_of}
 
