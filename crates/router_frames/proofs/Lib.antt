@@ -1,2 +1,4 @@
 mod Filled
+mod Fullness
+mod Longer
 mod Tags
