@@ -1,3 +1,4 @@
+mod Either
 mod Filled
 mod Fullness
 mod Longer

@@ -1,7 +1,8 @@
 //! Outcomes as the router keeps them, and the dispositions that tell them.
-ghost use Rattle.std.specs.Prelude.{◌≡◌, length, option_map, IfOk};
+ghost use Rattle.std.specs.Prelude.{◌≡◌, length, option_map, true, if◌then◌else◌, IfOk, IsOk};
 ghost use Rattle.amqp_perf.specs.Spelling.{state_spelling};
 ghost use Rattle.router_trace.specs.DeliveryFrames.{kept_condition, kept_error, undescribed, without_info, bare, unless_long, kept_outcome, outcome_item};
+ghost use Rattle.router_frames.specs.Outcomes.{is_plain};
 
 use crate::state::copy_state;
 use amqp_frames::Item;
@@ -22,7 +23,7 @@ const INTERNAL_ERROR: &str = "amqp:internal-error";
 ///
 /// # Errors
 ///
-/// `AllocError` where memory was refused.
+/// `AllocError` where memory was refused; it takes none for an outcome that holds none.
 pub fn outcome_item(
     alloc: Global,
     own: u16,
@@ -30,7 +31,8 @@ pub fn outcome_item(
     id: u32,
     state: &DeliveryState,
 ) -> Result<Item, AllocError>
-    ensures { IfOk result (λ item. item ≡ outcome_item own role id state.now) }
+    ensures item { IfOk result (λ item. item ≡ outcome_item own role id state.now) }
+    ensures plain { is_plain state.now ≡ true → IsOk result }
 {
     let kept = kept_outcome(alloc, state)?;
     Ok(Item::Frame {
@@ -53,15 +55,29 @@ pub fn outcome_item(
 ///
 /// # Errors
 ///
-/// `AllocError` where memory was refused.
+/// `AllocError` where memory was refused; it takes none for an outcome that holds none.
 pub fn kept_outcome(alloc: Global, state: &DeliveryState) -> Result<DeliveryState, AllocError>
-    ensures { IfOk result (λ kept. kept ≡ kept_outcome state.now) }
+    ensures kept { IfOk result (λ kept. kept ≡ kept_outcome state.now) }
+    ensures plain { is_plain state.now ≡ true → IsOk result }
 {
     let mut kept = undescribed(alloc, state)?;
-    if MAX_OUTCOME < state_len(alloc, &kept)? {
+    if is_long(alloc, &kept)? {
         make_bare(&mut kept);
     }
     Ok(kept)
+}
+
+/// Whether an outcome is so long that it is kept without its info or annotations.
+#[tactic(auto, using(crate::proofs::Either::either))]
+fn is_long(alloc: Global, state: &DeliveryState) -> Result<bool, AllocError>
+    ensures long { IfOk result (λ long. (if long then bare state.now else state.now) ≡ unless_long state.now) }
+    ensures plain { is_plain state.now ≡ true → IsOk result }
+{
+    match state {
+        DeliveryState::Rejected(_) => Ok(MAX_OUTCOME < state_len(alloc, state)?),
+        DeliveryState::Modified(_) => Ok(MAX_OUTCOME < state_len(alloc, state)?),
+        _ => Ok(false),
+    }
 }
 
 /// How many bytes the spelling of a delivery state has.
@@ -75,7 +91,8 @@ fn state_len(alloc: Global, state: &DeliveryState) -> Result<usize, AllocError>
 
 /// A copy of an outcome, without the description of its error.
 fn undescribed(alloc: Global, state: &DeliveryState) -> Result<DeliveryState, AllocError>
-    ensures { IfOk result (λ made. made ≡ undescribed state.now) }
+    ensures made { IfOk result (λ made. made ≡ undescribed state.now) }
+    ensures plain { is_plain state.now ≡ true → IsOk result }
 {
     match state {
         DeliveryState::Rejected(rejected) => Ok(DeliveryState::Rejected(Rejected {

@@ -1,5 +1,6 @@
 //! Copies of delivery states.
-ghost use Rattle.std.specs.Prelude.{◌≡◌, IfOk};
+ghost use Rattle.std.specs.Prelude.{◌≡◌, true, IfOk, IsOk};
+ghost use Rattle.router_frames.specs.Outcomes.{is_plain};
 
 use amqp_perf::{DeliveryState, Fault, Modified, Received, Rejected};
 use std::alloc::AllocError;
@@ -8,9 +9,10 @@ use std::alloc::AllocError;
 ///
 /// # Errors
 ///
-/// `AllocError` where memory was refused.
+/// `AllocError` where memory was refused; it takes none for a state that holds none.
 pub fn copy_state(state: &DeliveryState) -> Result<DeliveryState, AllocError>
-    ensures { IfOk result (λ copied. copied ≡ state.now) }
+    ensures copied { IfOk result (λ copied. copied ≡ state.now) }
+    ensures plain { is_plain state.now ≡ true → IsOk result }
 {
     Ok(match state {
         DeliveryState::Received(received) => DeliveryState::Received(Received {
