@@ -2,4 +2,5 @@ mod Either
 mod Filled
 mod Fullness
 mod Longer
+mod Small
 mod Tags

@@ -1,9 +1,11 @@
-//! What holds of all frames of deliveries. The function does nothing: its contract is the laws.
-ghost use Rattle.std.specs.Prelude.{◌≡◌, ◌≤◌, ◌↔◌, ℕ, List, [], length, true, false};
+//! What holds of all frames of deliveries. The functions do nothing: their contracts are the laws.
+ghost use Rattle.std.specs.Prelude.{◌≡◌, ◌≤◌, ◌+◌, ◌↔◌, ℕ, List, [], length, true, false};
 ghost use Rattle.amqp_perf.specs.declared.perf.Transfer.{Transfer as ATransfer};
+ghost use Rattle.amqp_frames.specs.ItemSpelling.{item_spelling};
 ghost use Rattle.amqp_frames.specs.Room.{transfer_frame};
+ghost use Rattle.router_trace.specs.Deliveries.{Delivery};
 ghost use Rattle.router_trace.specs.LinkFrames.{fits};
-ghost use Rattle.router_trace.specs.DeliveryFrames.{next_frame, part_frame, with_more};
+ghost use Rattle.router_trace.specs.DeliveryFrames.{first_transfer, later_transfer, next_frame, part_frame, with_more};
 ghost use Rattle.router_frames.specs.Filling.{payload_in, has_more, IsBeginning};
 
 /// A frame of a delivery is no longer than the peer takes, where an empty one is not. It carries a beginning of what is still to go: as
@@ -17,4 +19,13 @@ pub fn frames_are_filled()
     ensures all { (largest own : ℕ) (x : ATransfer) (rest : List ℕ)
         → fits largest (transfer_frame own (with_more x) []) ≡ true → x.more ≡ false
         → (has_more (next_frame largest own x rest) ≡ false) ↔ (payload_in (next_frame largest own x rest) ≡ rest) }
+{}
+
+/// Beside what it carries a frame of a delivery has at most 42 bytes, and at most 24 where it isn't the first: so each that says that more
+/// is to come carries some, since no peer takes less than 512 bytes (AMQP 1.0 part 2, section 2.7.1).
+pub fn frames_have_room()
+    ensures first { (own handle id n : ℕ) (d : Delivery) (payload : List ℕ)
+        → length (item_spelling (transfer_frame own (with_more (first_transfer handle id n d)) payload)) ≤ 42 + length payload }
+    ensures later { (own handle : ℕ) (d : Delivery) (payload : List ℕ)
+        → length (item_spelling (transfer_frame own (with_more (later_transfer handle d)) payload)) ≤ 24 + length payload }
 {}
