@@ -45,7 +45,7 @@ most_greatest zero k passes le h = le
 most_greatest (suc n) k passes le h = greatest_step n k (most_of n passes) passes (passes (suc n)) refl h le (λ less. most_greatest n k passes less h)
 
 -- the whole rest, or a part
-pick : {A : Type 0} (Q : A → Type 0) (test : Bool) (whole part : A) → (test ≡ true → Q whole) → (test ≡ false → Q part) → Q (if test then whole else part)
+pub pick : {A : Type 0} (Q : A → Type 0) (test : Bool) (whole part : A) → (test ≡ true → Q whole) → (test ≡ false → Q part) → Q (if test then whole else part)
 pick Q true whole part w p = w refl
 pick Q false whole part w p = p refl
 

@@ -20,7 +20,7 @@ number_by true small n = omega arith
 number_by false true n = omega arith
 number_by false false n = omega arith
 
-number_len : (n : ℕ) → length (value_spelling (d.uint n)) ≤ 5
+pub number_len : (n : ℕ) → length (value_spelling (d.uint n)) ≤ 5
 unfolding value_spelling
 number_len n = number_by (n == 0) (nat_lt n 256) n
 
@@ -28,7 +28,7 @@ tag_len : (n : ℕ) → length (value_spelling (d.binary (tag_of n))) ≡ 11
 unfolding value_spelling
 tag_len n = refl
 
-flag_len : (b : Bool) → length (field_bytes (flag_text b)) ≡ 1
+pub flag_len : (b : Bool) → length (field_bytes (flag_text b)) ≡ 1
 flag_len true = ap (λ (t : List ℕ). length t) said_true
 flag_len false = refl
 
