@@ -1,0 +1,7 @@
+mod Either
+mod Filled
+mod Fullness
+mod Longer
+mod Short
+mod Small
+mod Tags
