@@ -1,6 +1,8 @@
 -- How the pools follow what each link has.
-use Rattle.std.proofs.Common.{◌≡◌, ◌∙◌, sym, ap, refl, subst, ℕ, Bool, true, false, true≢false, ◌||◌, ◌&&◌, not, cond, if◌then◌else◌, Option, Some, None, List, [], ◌∷◌}
+use Rattle.std.proofs.Common.{◌≡◌, ◌∙◌, sym, ap, refl, subst, ℕ, Bool, true, false, true≢false, ◌||◌, ◌&&◌, not, cond, if◌then◌else◌, Option, Some, None, option_map, is_some, List, [], ◌∷◌}
 use Rattle.std.specs.Prelude.{◌==◌}
+use Rattle.std.specs.BTreeMap.{is_at}
+use Rattle.std.specs.Ordering.{nat_cmp}
 use Rattle.std.specs.Str.{bytes_eq}
 use Rattle.std.proofs.lemmas.Bool.{eqb-true, eq-eqb}
 use Rattle.route_credit.specs.Granting.{all_granted, grants_of}
@@ -11,6 +13,7 @@ use Rattle.route_credit.specs.declared.offer.Offer.{Offer}
 use Rattle.route_credit.proofs.Entries.{InOrder, with_ordered, without_ordered}
 use Rattle.route_credit.proofs.Gains.{grants_but_last, kept_producer, no_more_grants}
 use Rattle.route_credit.proofs.Grants.{all_consumers, all_distribution, all_last, all_ordered, none_by_all}
+use Rattle.route_credit.proofs.Indices.{same_test}
 use Rattle.route_credit.proofs.Lookups.{link_with, link_without}
 use Rattle.router_pools.specs.Addresses.{with_pool, without}
 use Rattle.router_pools.specs.Fits.{AgreeBut, chosen_at, Fits, is_place, or_last}
@@ -293,3 +296,32 @@ module _ (apart : ℕ → Bool) (pools : List ℕ → Sharing) (place : ℕ → 
       (λ a. refl) (λ a. refl)
       (λ a. without_ordered (pools a).consumers n)
       (λ a. with_ordered (pools a).producers n demand)
+
+-- as maps and sets by number tell a change
+pub places_moved : {V : Type 0} (read : V → List ℕ) (f g : ℕ → Option V) (n : ℕ) (x : Option V) → ((q : ℕ) → g q ≡ cond (is_at (nat_cmp n) q) x (f q))
+    → (m : ℕ) → option_map read (g m) ≡ (if n == m then option_map read x else option_map read (f m))
+places_moved read f g n x moves m = ap (option_map read) (moves m ∙ ap (λ b. cond b x (f m)) (same_test n m)) ∙ inside (n == m)
+  where
+    inside : (b : Bool) → option_map read (cond b x (f m)) ≡ (if b then option_map read x else option_map read (f m))
+    inside true = refl
+    inside false = refl
+
+pub untouched : (f g : ℕ → Bool) (n : ℕ) → ((q : ℕ) → g q ≡ cond (is_at (nat_cmp n) q) false (f q)) → (m : ℕ) → g m ≡ false → (n == m) ≡ false → (n == m || f m) ≡ false
+untouched f g n less m is other = ap (λ b. b || f m) other ∙ sym (less m ∙ ap (λ b. cond b false (f m)) (same_test n m ∙ other)) ∙ is
+
+-- all but one link
+pub but_one : (n : ℕ) (f : ℕ → Bool) (known : ℕ → Option Figure) (m : ℕ) → (n == m || f m) ≡ false → (f m ≡ false) × (known m ≡ known m)
+but_one n f known m is = (right (n == m) (f m) is, refl)
+  where
+    right : (b c : Bool) → (b || c) ≡ false → c ≡ false
+    right true c h = absurd cc
+    right false c h = h
+
+pub itself : (n : ℕ) (b : Bool) → (n == n || b) ≡ true
+itself n b = ap (λ c. c || b) (eq-eqb n n refl)
+
+-- who is not touched was not, and was granted nothing
+pub more_apart : {X : Type 0} (new old : Bool) (x : Option X) → new ≡ (old || is_some x) → new ≡ false → (old ≡ false) × (x ≡ None)
+more_apart new true x is none = absurd (true≢false (sym is ∙ none))
+more_apart new false None is none = (refl, refl)
+more_apart new false (Some x) is none = absurd (true≢false (sym is ∙ none))

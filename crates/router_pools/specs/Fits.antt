@@ -1,5 +1,5 @@
 -- When the pools are those of what each link has.
-use Rattle.std.specs.Prelude.{◌≡◌, ◌==◌, ◌||◌, ℕ, Bool, false, List, [], Option, None, Some, option_map, if◌then◌else◌}
+use Rattle.std.specs.Prelude.{◌≡◌, ◌==◌, ◌||◌, ℕ, Bool, false, List, [], Option, None, Some, option_map, is_some, if◌then◌else◌}
 use Rattle.std.specs.BTreeMap.{get}
 use Rattle.std.specs.BTreeSet.{contains}
 use Rattle.std.specs.List.Sorted.{IsStrictlySortedBy}
@@ -72,3 +72,8 @@ or_last (Some id) last = id
 
 abbrev pub chosen_at : List ℕ → Option ℕ → (List ℕ → ℕ) → List ℕ → ℕ
 chosen_at address chosen last other = if bytes_eq address other then or_last chosen (last other) else last other
+
+-- whether a link is among those that were granted credit
+abbrev pub is_granted : Option (List (ℕ × ℕ)) → ℕ → Bool
+is_granted None number = false
+is_granted (Some sums) number = is_some (link_at sums number)

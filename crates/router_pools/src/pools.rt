@@ -1,11 +1,13 @@
 //! The pools of all addresses.
-ghost use Rattle.std.specs.Prelude.{◌≡◌, ◌==◌, ◌||◌, ◌&&◌, ◌<◌, not, ℕ, List, [], Bool, true, false, Option, None, Some, OnOk, IfOk, IfNone, IfSome, option_map};
+ghost use Rattle.std.specs.Prelude.{◌≡◌, ◌==◌, ◌||◌, ◌&&◌, ◌<◌, not, ℕ, List, [], Bool, true, false, Option, None, Some, OnOk, IfOk, IfNone, IfSome, option_map, is_some};
 ghost use Rattle.std.specs.Cmp.Lexicographic.{slice_cmp};
 ghost use Rattle.std.specs.Ordering.{nat_cmp};
 ghost use Rattle.std.specs.declared.cmp.Ordering.TheVariants.{Less};
 ghost use Rattle.route_credit.specs.Granting.{choice, grants_of};
+ghost use Rattle.route_credit.specs.Links.{link_at};
 ghost use Rattle.route_credit.specs.Pool.{by_id};
-ghost use Rattle.router_pools.specs.Fits.{AgreeBut, chosen_at, is_due, is_touched, NoneTouched, place_of, pool_at, PoolsFit, PoolsFitBut};
+ghost use Rattle.std.specs.BTreeSet.{contains};
+ghost use Rattle.router_pools.specs.Fits.{AgreeBut, chosen_at, is_due, is_touched, is_granted, NoneTouched, place_of, pool_at, PoolsFit, PoolsFitBut};
 ghost use Rattle.router_pools.specs.Sharing.{AreNumbered, Figure, sharing};
 ghost use Rattle.router_pools.specs.Sharing.Figure.{consumer, producer};
 
@@ -125,6 +127,30 @@ impl Pools {
         self.pools.choose(address)
     }
 
+    /// What the producers of an address are granted: of the first address in the order of bytes that may have grants. None
+    /// where no address may. Those who are granted credit may have changed then, and the address has no grants until
+    /// something changes there.
+    pub fn grants(&mut self) -> Result<Option<Grants>, AllocError>
+        ensures none { IfOk result (λ r. IfNone r ((known : ℕ → Option Figure) (last : List ℕ → ℕ) (count : ℕ) → PoolsFit self.old known last → NoneTouched self.old → AreNumbered known count
+            → (a : List ℕ) → grants_of (sharing known count (last a) a) ≡ [])) }
+        ensures sums { IfOk result (λ r. IfSome r (λ grants. (known : ℕ → Option Figure) (last : List ℕ → ℕ) (count : ℕ) → PoolsFit self.old known last → NoneTouched self.old → AreNumbered known count
+            → by_id grants.sums.items ≡ grants_of (sharing known count (last grants.address.items) grants.address.items))) }
+        ensures below { IfOk result (λ r. IfSome r (λ grants. (known : ℕ → Option Figure) (last : List ℕ → ℕ) (count : ℕ) → PoolsFit self.old known last → NoneTouched self.old → AreNumbered known count
+            → (a : List ℕ) → slice_cmp nat_cmp a grants.address.items ≡ Less → grants_of (sharing known count (last a) a) ≡ [])) }
+        ensures fits { OnOk result ((known : ℕ → Option Figure) (last : List ℕ → ℕ) → PoolsFit self.old known last → PoolsFit self.new known last) }
+        ensures touched { IfOk result (λ r. (n : ℕ) → is_touched self.new n ≡ (is_touched self.old n || is_granted (option_map (λ grants. by_id grants.sums.items) r) n)) }
+    {
+        let address = match self.due.pop() {
+            None => return Ok(None),
+            Some(address) => address,
+        };
+        let place = address.as_slice();
+        let sums = self.pools.grants(place)?;
+        let granted = sums.as_slice();
+        touch_all(&mut self.touched, granted)?;
+        Ok(Some(Grants { address, sums }))
+    }
+
     /// Takes a link from the pool where it stands, which may then have grants.
     fn take_out(&mut self, number: u64) -> Result<(), AllocError>
         ensures fits { OnOk result ((known : ℕ → Option Figure) (last : List ℕ → ℕ) → PoolsFitBut number self.old known last → PoolsFitBut number self.new known last) }
@@ -135,8 +161,9 @@ impl Pools {
         match self.places.remove(&number) {
             None => Ok(()),
             Some(place) => {
-                self.due.add(&place)?;
-                self.pools.leave(&place, number);
+                let address = place.as_slice();
+                self.due.add(address)?;
+                self.pools.leave(address, number);
                 Ok(())
             }
         }
@@ -166,4 +193,14 @@ impl Pools {
             Some(place) => place.as_slice() == address,
         }
     }
+}
+
+/// Each link that was granted credit may have changed.
+fn touch_all(touched: &mut BTreeSet<u64>, sums: &[(ProducerId, u32)]) -> Result<(), AllocError>
+    ensures { OnOk result ((n : ℕ) → contains nat_cmp touched.new n ≡ (contains nat_cmp touched.old n || is_some (link_at (by_id sums.now) n))) }
+{
+    for sum in sums {
+        let _ = touched.insert(sum.0.0)?;
+    }
+    Ok(())
 }
