@@ -1,5 +1,5 @@
 //! The pools of all addresses.
-ghost use Rattle.std.specs.Prelude.{◌≡◌, ◌==◌, ◌||◌, ◌&&◌, ◌<◌, not, ℕ, List, [], Bool, true, false, Option, None, Some, OnOk, IfOk, IfNone, IfSome, option_map, is_some};
+ghost use Rattle.std.specs.Prelude.{◌≡◌, ◌==◌, ◌||◌, ◌&&◌, ◌<◌, not, ℕ, List, [], Bool, true, false, Option, None, Some, OnOk, IfOk, IfNone, IfSome, option_map, is_some, length};
 ghost use Rattle.std.specs.Cmp.Lexicographic.{slice_cmp};
 ghost use Rattle.std.specs.Ordering.{nat_cmp};
 ghost use Rattle.std.specs.declared.cmp.Ordering.TheVariants.{Less};
@@ -7,7 +7,7 @@ ghost use Rattle.route_credit.specs.Granting.{choice, grants_of};
 ghost use Rattle.route_credit.specs.Links.{link_at};
 ghost use Rattle.route_credit.specs.Pool.{by_id};
 ghost use Rattle.std.specs.BTreeSet.{contains};
-ghost use Rattle.router_pools.specs.Fits.{AgreeBut, chosen_at, is_due, is_touched, is_granted, NoneTouched, place_of, pool_at, PoolsFit, PoolsFitBut};
+ghost use Rattle.router_pools.specs.Fits.{AgreeBut, chosen_at, is_due, is_touched, is_granted, NoneTouched, place_of, pool_at, PoolsFit, PoolsFitBut, touched_count};
 ghost use Rattle.router_pools.specs.Sharing.{AreNumbered, Figure, sharing};
 ghost use Rattle.router_pools.specs.Sharing.Figure.{consumer, producer};
 
@@ -81,6 +81,7 @@ impl Pools {
         ensures fits { OnOk result ((known other : ℕ → Option Figure) (last : List ℕ → ℕ) → PoolsFit self.old known last
             → other number ≡ Some (consumer address.now free undecided) → AgreeBut number other known → PoolsFit self.new other last) }
         ensures touched { OnOk result ((n : ℕ) → is_touched self.new n ≡ (not (number == n) && is_touched self.old n)) }
+        ensures fewer { OnOk result (is_touched self.old number ≡ true → touched_count self.new < touched_count self.old) }
     {
         self.place(number, address)?;
         self.pools.offer(address, number, free, undecided)?;
@@ -99,6 +100,7 @@ impl Pools {
         ensures fits { OnOk result ((known other : ℕ → Option Figure) (last : List ℕ → ℕ) → PoolsFit self.old known last
             → other number ≡ Some (producer address.now unused held) → AgreeBut number other known → PoolsFit self.new other last) }
         ensures touched { OnOk result ((n : ℕ) → is_touched self.new n ≡ (not (number == n) && is_touched self.old n)) }
+        ensures fewer { OnOk result (is_touched self.old number ≡ true → touched_count self.new < touched_count self.old) }
     {
         self.place(number, address)?;
         self.pools.want(address, number, unused, held)?;
@@ -111,6 +113,7 @@ impl Pools {
         ensures fits { OnOk result ((known other : ℕ → Option Figure) (last : List ℕ → ℕ) → PoolsFit self.old known last
             → other number ≡ None → AgreeBut number other known → PoolsFit self.new other last) }
         ensures touched { OnOk result ((n : ℕ) → is_touched self.new n ≡ (not (number == n) && is_touched self.old n)) }
+        ensures fewer { OnOk result (is_touched self.old number ≡ true → touched_count self.new < touched_count self.old) }
     {
         self.take_out(number)?;
         let _ = self.touched.remove(&number);
@@ -127,10 +130,34 @@ impl Pools {
         self.pools.choose(address)
     }
 
-    /// What the producers of an address are granted: of the first address in the order of bytes that may have grants. None
-    /// where no address may. Those who are granted credit may have changed then, and the address has no grants until
-    /// something changes there.
+    /// What the producers of an address are granted, of the first address in the order of bytes that has grants. None where no
+    /// address has. Those who are granted credit may have changed then. Where memory was refused, credit may be lent
+    /// that is told to nobody.
     pub fn grants(&mut self) -> Result<Option<Grants>, AllocError>
+        ensures none { IfOk result (λ r. IfNone r ((known : ℕ → Option Figure) (last : List ℕ → ℕ) (count : ℕ) → PoolsFit self.old known last → NoneTouched self.old → AreNumbered known count
+            → (a : List ℕ) → grants_of (sharing known count (last a) a) ≡ [])) }
+        ensures sums { IfOk result (λ r. IfSome r (λ grants. (known : ℕ → Option Figure) (last : List ℕ → ℕ) (count : ℕ) → PoolsFit self.old known last → NoneTouched self.old → AreNumbered known count
+            → by_id grants.sums.items ≡ grants_of (sharing known count (last grants.address.items) grants.address.items))) }
+        ensures some { IfOk result (λ r. IfSome r (λ grants. 0 < length grants.sums.items)) }
+        ensures below { IfOk result (λ r. IfSome r (λ grants. (known : ℕ → Option Figure) (last : List ℕ → ℕ) (count : ℕ) → PoolsFit self.old known last → NoneTouched self.old → AreNumbered known count
+            → (a : List ℕ) → slice_cmp nat_cmp a grants.address.items ≡ Less → grants_of (sharing known count (last a) a) ≡ [])) }
+        ensures fits { OnOk result ((known : ℕ → Option Figure) (last : List ℕ → ℕ) → PoolsFit self.old known last → PoolsFit self.new known last) }
+        ensures touched { IfOk result (λ r. (n : ℕ) → is_touched self.new n ≡ (is_touched self.old n || is_granted (option_map (λ grants. by_id grants.sums.items) r) n)) }
+    {
+        loop {
+            match self.next_grants()? {
+                None => return Ok(None),
+                Some(grants) => {
+                    if !grants.sums.is_empty() {
+                        return Ok(Some(grants));
+                    }
+                }
+            }
+        }
+    }
+
+    /// The grants of the first address that may have some, which are none where it has none.
+    fn next_grants(&mut self) -> Result<Option<Grants>, AllocError>
         ensures none { IfOk result (λ r. IfNone r ((known : ℕ → Option Figure) (last : List ℕ → ℕ) (count : ℕ) → PoolsFit self.old known last → NoneTouched self.old → AreNumbered known count
             → (a : List ℕ) → grants_of (sharing known count (last a) a) ≡ [])) }
         ensures sums { IfOk result (λ r. IfSome r (λ grants. (known : ℕ → Option Figure) (last : List ℕ → ℕ) (count : ℕ) → PoolsFit self.old known last → NoneTouched self.old → AreNumbered known count
@@ -139,6 +166,7 @@ impl Pools {
             → (a : List ℕ) → slice_cmp nat_cmp a grants.address.items ≡ Less → grants_of (sharing known count (last a) a) ≡ [])) }
         ensures fits { OnOk result ((known : ℕ → Option Figure) (last : List ℕ → ℕ) → PoolsFit self.old known last → PoolsFit self.new known last) }
         ensures touched { IfOk result (λ r. (n : ℕ) → is_touched self.new n ≡ (is_touched self.old n || is_granted (option_map (λ grants. by_id grants.sums.items) r) n)) }
+        ensures fewer { IfOk result (λ r. IfSome r (λ grants. length self.new.due.addresses.keys < length self.old.due.addresses.keys)) }
     {
         let address = match self.due.pop() {
             None => return Ok(None),
@@ -156,7 +184,7 @@ impl Pools {
         ensures fits { OnOk result ((known : ℕ → Option Figure) (last : List ℕ → ℕ) → PoolsFitBut number self.old known last → PoolsFitBut number self.new known last) }
         ensures nowhere { OnOk result (place_of self.new number ≡ None) }
         ensures due { OnOk result ((a : List ℕ) → is_due self.new a ≡ false → is_due self.old a ≡ false) }
-        ensures touched { OnOk result ((n : ℕ) → is_touched self.new n ≡ is_touched self.old n) }
+        ensures touched { OnOk result (self.new.touched ≡ self.old.touched) }
     {
         match self.places.remove(&number) {
             None => Ok(()),
@@ -174,7 +202,7 @@ impl Pools {
         ensures fits { OnOk result ((known : ℕ → Option Figure) (last : List ℕ → ℕ) → PoolsFitBut number self.old known last → PoolsFitBut number self.new known last) }
         ensures there { OnOk result (place_of self.new number ≡ Some address.now) }
         ensures due { OnOk result (is_due self.new address.now ≡ true) }
-        ensures touched { OnOk result ((n : ℕ) → is_touched self.new n ≡ is_touched self.old n) }
+        ensures touched { OnOk result (self.new.touched ≡ self.old.touched) }
     {
         if !self.stands_at(number, address) {
             self.take_out(number)?;

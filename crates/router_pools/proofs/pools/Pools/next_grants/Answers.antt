@@ -6,7 +6,7 @@ use Rattle.router_pools.specs.Addresses.{with_pool}
 use Rattle.router_pools.specs.Fits.{is_due, is_touched, place_of, pool_at, pool_in}
 use Rattle.router_pools.proofs.Fitting.{granted_fits, more_apart}
 use Rattle.router_pools.proofs.Listed.{pool_is}
-use Rattle.router_pools.proofs.pools.Pools.grants.Goals as goal
+use Rattle.router_pools.proofs.pools.Pools.next_grants.Goals as goal
 
 pub returns-in-None-clause-none : goal.returns-in-None-clause-none
 returns-in-None-clause-none c known last count fits none numbered a =
