@@ -7,6 +7,7 @@
 
 mod addresses;
 mod by_address;
+pub mod laws;
 mod pools;
 
 pub use pools::{Grants, Pools};
