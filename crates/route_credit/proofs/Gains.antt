@@ -1,12 +1,12 @@
 -- The sums of all grants.
-use Rattle.std.proofs.Common.{◌≡◌, ◌∙◌, sym, ap, refl, subst, ℕ, zero, suc, Bool, true, false, cond, ◌&&◌, ◌+◌, ◌-◌, ◌<◌, ◌≤◌, Option, Some, None, Result, Ok, Err, OnOk, IfOk, List, [], ◌∷◌, arith}
-use Rattle.std.specs.Prelude.{◌==◌, filter, map, nat_lt, is_some}
+use Rattle.std.proofs.Common.{◌≡◌, ◌∙◌, sym, ap, refl, subst, ℕ, zero, suc, Bool, true, false, cond, ◌&&◌, ◌+◌, ◌<◌, Option, Some, None, Result, Ok, Err, OnOk, IfOk, List, [], ◌∷◌, arith}
+use Rattle.std.specs.Prelude.{◌==◌, nat_lt, is_some}
 use Rattle.std.specs.BTreeMap.{is_at}
 use Rattle.std.specs.List.{list_any}
 use Rattle.std.specs.List.Sorted.{IsStrictlySortedBy}
 use Rattle.std.specs.Map.{keys_of}
 use Rattle.std.specs.Ordering.{nat_cmp}
-use Rattle.std.proofs.lemmas.Bool.{eqb-true, lt-ltb, le-ltb}
+use Rattle.std.proofs.lemmas.Bool.{eqb-true, lt-ltb}
 use Rattle.std.proofs.lemmas.Map.Made.{is_some-lookup}
 use Rattle.route_credit.specs.Giving.{IsGiving}
 use Rattle.route_credit.specs.Granting.{all_granted, gain, gains, granting, granted, given_to, grants_of, next, room}
@@ -14,7 +14,7 @@ use Rattle.route_credit.specs.Links.{amount_at, link_at}
 use Rattle.route_credit.specs.Pool.{given, IsNext, lent_at, part_of, Sharing}
 use Rattle.route_credit.specs.declared.demand.Demand.{Demand}
 use Rattle.route_credit.proofs.Entries.{Above, InOrder, keys_with, same_entries}
-use Rattle.route_credit.proofs.Grants.{all_done, all_keys, all_of_all, kept_by_all, none_granted, one_of_all}
+use Rattle.route_credit.proofs.Grants.{all_done, all_keys, kept_by_all, none_granted, one_of_all}
 use Rattle.route_credit.proofs.Indices.{same_test}
 use Rattle.route_credit.proofs.Leasts.{next_is}
 use Rattle.route_credit.proofs.Moved.{by_test}

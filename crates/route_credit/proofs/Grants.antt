@@ -1,18 +1,17 @@
 -- What all grants of a pool leave.
-use Rattle.std.proofs.Common.{◌≡◌, ◌∙◌, sym, ap, refl, subst, ℕ, zero, suc, Bool, true, false, cond, ◌+◌, ◌-◌, ◌<◌, ◌≤◌, Option, Some, None, List, [], ◌∷◌, arith}
+use Rattle.std.proofs.Common.{◌≡◌, ◌∙◌, sym, ap, refl, subst, ℕ, zero, suc, cond, ◌+◌, ◌-◌, ◌<◌, ◌≤◌, Option, Some, None, arith}
 use Rattle.std.specs.Prelude.{◌==◌}
 use Rattle.std.specs.Map.{keys_of}
 use Rattle.std.proofs.lemmas.Bool.{eqb-true}
 use Rattle.route_credit.specs.Granting.{all_granted, gain, given_to, granted, granting, next, room}
-use Rattle.route_credit.specs.Links.{amount_at, link_at, with_link, total}
-use Rattle.route_credit.specs.Pool.{given, IsNext, lent_at, part_of, Sharing}
+use Rattle.route_credit.specs.Links.{amount_at, link_at}
+use Rattle.route_credit.specs.Pool.{given, IsNext, part_of, Sharing}
 use Rattle.route_credit.specs.declared.demand.Demand.{Demand}
 use Rattle.route_credit.proofs.Entries.{InOrder, keys_with, with_ordered}
-use Rattle.route_credit.proofs.Leasts.{is_next, next_is}
+use Rattle.route_credit.proofs.Leasts.{is_next}
 use Rattle.route_credit.proofs.Lookups.{link_with}
 use Rattle.route_credit.proofs.Moved.{by_test}
 use Rattle.route_credit.proofs.Steps.{InNeed, less_room, next_needs}
-use Rattle.route_credit.proofs.Sums.{part_of_total}
 
 none_some : {P : Type 0} {X : Type 0} (x : X) → None ≡ Some x → P
 none_some x h = absurd cc

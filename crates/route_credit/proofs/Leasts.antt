@@ -1,13 +1,13 @@
 -- The first of a list by a figure is the first by look-ups.
 use Rattle.std.proofs.Common.{◌≡◌, ◌∙◌, sym, ap, refl, subst, ℕ, Bool, true, false, cond, ◌<◌, ◌≤◌, ◌⊎◌, inl, inr, ⊎_elim, Option, Some, None, List, [], ◌∷◌, arith}
-use Rattle.std.specs.Prelude.{◌==◌, nat_lt, nat_le, if◌then◌else◌, option_and_then}
+use Rattle.std.specs.Prelude.{◌==◌, nat_lt, nat_le, option_and_then}
 use Rattle.std.specs.List.Sorted.{IsStrictlySortedBy}
 use Rattle.std.proofs.lemmas.Bool.{eqb-true, eq-eqb, leb-true, leb-false, ltb-true, ltb-false}
 use Rattle.route_credit.specs.Granting.{choice, is_sooner, least, next}
 use Rattle.route_credit.specs.Links.{link_at, IsLeast}
 use Rattle.route_credit.specs.Pool.{is_short, IsChoice, IsNext, IsNextIf, need, Sharing, turn}
 use Rattle.route_credit.proofs.Choices.{least_agree}
-use Rattle.route_credit.proofs.Entries.{Above, found_above, InOrder}
+use Rattle.route_credit.proofs.Entries.{found_above, InOrder}
 use Rattle.route_credit.proofs.Indices.{same_test}
 use Rattle.route_credit.proofs.Lawful.{least_is_one}
 use Rattle.route_credit.proofs.Moved.{by_test}

@@ -1,5 +1,5 @@
 -- Addresses in a set.
-use Rattle.std.proofs.Common.{◌≡◌, ◌∙◌, sym, ap, refl, subst, ℕ, Bool, true, false, true≢false, ◌||◌, cond, Option, Some, None, IfSome, All, List, [], ◌∷◌}
+use Rattle.std.proofs.Common.{◌≡◌, ◌∙◌, sym, ap, refl, ℕ, Bool, true, false, ◌||◌, Option, Some, None, IfSome, All, List, [], ◌∷◌}
 use Rattle.std.specs.BTreeMap.Range.{IsLtBy}
 use Rattle.std.specs.BTreeSet.{insert_key}
 use Rattle.std.specs.Cmp.Lexicographic.{slice_cmp}
@@ -12,7 +12,7 @@ use Rattle.std.proofs.lemmas.Cmp.{nat_list_cmp_total}
 use Rattle.std.proofs.lemmas.List.Elements.{recursion_from_All}
 use Rattle.std.proofs.lemmas.Map.Text.{is_eq-slice_cmp}
 use Rattle.router_pools.specs.Addresses.{among}
-use Rattle.router_pools.proofs.AtAddress.{by_test, equal_bytes, same_bytes, turned}
+use Rattle.router_pools.proofs.AtAddress.{equal_bytes, same_bytes, turned}
 
 module _ {K : Type 0} (read : K → List ℕ) where
   -- as sets look it up

@@ -1,12 +1,12 @@
 -- How the pools follow what each link has.
-use Rattle.std.proofs.Common.{◌≡◌, ◌∙◌, sym, ap, refl, subst, ℕ, Bool, true, false, true≢false, ◌||◌, ◌&&◌, not, cond, if◌then◌else◌, Option, Some, None, option_map, is_some, List, [], ◌∷◌}
+use Rattle.std.proofs.Common.{◌≡◌, ◌∙◌, sym, ap, refl, subst, ℕ, Bool, true, false, true≢false, ◌||◌, cond, if◌then◌else◌, Option, Some, None, option_map, is_some, List, []}
 use Rattle.std.specs.Prelude.{◌==◌}
 use Rattle.std.specs.BTreeMap.{is_at}
 use Rattle.std.specs.Ordering.{nat_cmp}
 use Rattle.std.specs.Str.{bytes_eq}
 use Rattle.std.proofs.lemmas.Bool.{eqb-true, eq-eqb}
 use Rattle.route_credit.specs.Granting.{all_granted, grants_of}
-use Rattle.route_credit.specs.Links.{link_at, with_link, without_link}
+use Rattle.route_credit.specs.Links.{link_at}
 use Rattle.route_credit.specs.Pool.{chose, demand_of, offered, Sharing, wanted, without_consumer, without_producer}
 use Rattle.route_credit.specs.declared.demand.Demand.{Demand}
 use Rattle.route_credit.specs.declared.offer.Offer.{Offer}
@@ -16,7 +16,7 @@ use Rattle.route_credit.proofs.Grants.{all_consumers, all_distribution, all_last
 use Rattle.route_credit.proofs.Indices.{same_test}
 use Rattle.route_credit.proofs.Lookups.{link_with, link_without}
 use Rattle.router_pools.specs.Addresses.{with_pool, without}
-use Rattle.router_pools.specs.Fits.{AgreeBut, chosen_at, Fits, is_place, or_last}
+use Rattle.router_pools.specs.Fits.{chosen_at, Fits, is_place, or_last}
 use Rattle.router_pools.specs.Sharing.{demand_at, distribution_of, Figure, offer_at}
 use Rattle.router_pools.specs.Sharing.Figure.{consumer, producer}
 use Rattle.router_pools.proofs.AtAddress.{by_test, equal_bytes, same_bytes}

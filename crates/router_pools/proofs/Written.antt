@@ -1,5 +1,5 @@
 -- The pools behind a change of one.
-use Rattle.std.proofs.Common.{◌≡◌, ◌∙◌, sym, ap, refl, ℕ, Bool, true, false, true≢false, cond, if◌then◌else◌, Result, Ok, Err, OnOk, IfOk, Option, Some, None, option_map, is_some, List, [], ◌∷◌}
+use Rattle.std.proofs.Common.{◌≡◌, ◌∙◌, sym, ap, refl, ℕ, Bool, true, false, true≢false, cond, if◌then◌else◌, Result, Ok, Err, OnOk, IfOk, Option, Some, None, is_some, List}
 use Rattle.std.specs.BTreeMap.{insert_entry}
 use Rattle.std.specs.Cmp.Lexicographic.{slice_cmp}
 use Rattle.std.specs.Map.{lookup, set_value}

@@ -1,4 +1,4 @@
-use Rattle.std.proofs.Common.{◌≡◌, refl}
+use Rattle.std.proofs.Common.{refl}
 use Rattle.router_pools.proofs.Touches.{touched_all, touched_more}
 use Rattle.router_pools.proofs.pools.touch_all.Goals as goal
 

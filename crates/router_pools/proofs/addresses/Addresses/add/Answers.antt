@@ -1,4 +1,4 @@
-use Rattle.std.proofs.Common.{◌≡◌, ◌∙◌, sym, ap, refl}
+use Rattle.std.proofs.Common.{◌∙◌, sym}
 use Rattle.router_pools.proofs.Among.{any_is, come, not_before}
 use Rattle.router_pools.proofs.addresses.Addresses.add.Goals as goal
 

@@ -1,7 +1,7 @@
-use Rattle.std.proofs.Common.{◌≡◌, ◌∙◌, sym, ap, refl, option_map}
+use Rattle.std.proofs.Common.{◌∙◌, sym, ap, option_map}
 use Rattle.route_credit.specs.Granting.{choice}
 use Rattle.route_credit.specs.Pool.{chose}
-use Rattle.router_pools.proofs.Written.{here, nowhere, unwritten, written}
+use Rattle.router_pools.proofs.Written.{here, nowhere, written}
 use Rattle.router_pools.proofs.by_address.ByAddress.choose.Goals as goal
 
 pub returns-in-None-clause-chosen : goal.returns-in-None-clause-chosen

@@ -1,4 +1,3 @@
-use Rattle.std.proofs.Common.{◌≡◌, ◌∙◌, sym, ap, refl}
 use Rattle.router_pools.proofs.Written.{come, present, absent, there}
 use Rattle.router_pools.proofs.by_address.ByAddress.found.Goals as goal
 

@@ -1,4 +1,4 @@
-use Rattle.std.proofs.Common.{◌≡◌, ◌∙◌, sym, ap, refl}
+use Rattle.std.proofs.Common.{◌∙◌, sym, ap, refl}
 use Rattle.route_credit.specs.Granting.{all_granted, grants_of}
 use Rattle.route_credit.specs.Pool.{by_id}
 use Rattle.router_pools.proofs.Written.{here, nowhere, on_ok_then, told_is, unwritten, written}

@@ -1,4 +1,4 @@
-use Rattle.std.proofs.Common.{◌≡◌, ◌∙◌, sym, ap, refl}
+use Rattle.std.proofs.Common.{◌∙◌, ap, refl}
 use Rattle.route_credit.specs.Pool.{without_producer}
 use Rattle.router_pools.specs.Addresses.{without}
 use Rattle.router_pools.proofs.Written.{unwritten, written}

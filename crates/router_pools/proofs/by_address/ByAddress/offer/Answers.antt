@@ -1,5 +1,4 @@
-use Rattle.std.proofs.Common.{◌≡◌, ◌∙◌, sym, ap, refl, List, ℕ, is_some, true, None}
-use Rattle.std.specs.BTreeMap.{get_by}
+use Rattle.std.proofs.Common.{◌∙◌, ap}
 use Rattle.route_credit.specs.Pool.{offered, Sharing, without_producer}
 use Rattle.router_pools.specs.Fits.{pool_in}
 use Rattle.router_pools.proofs.Written.{missing, on_ok_then, same_elsewhere, written}

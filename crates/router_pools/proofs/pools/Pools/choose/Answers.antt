@@ -1,4 +1,4 @@
-use Rattle.std.proofs.Common.{◌≡◌, ◌∙◌, ap, option_map}
+use Rattle.std.proofs.Common.{◌∙◌, ap, option_map}
 use Rattle.route_credit.specs.Granting.{choice}
 use Rattle.router_pools.specs.Fits.{is_due, is_touched, place_of, pool_at}
 use Rattle.router_pools.proofs.Fitting.{chosen_fits}

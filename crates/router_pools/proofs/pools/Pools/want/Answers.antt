@@ -1,4 +1,4 @@
-use Rattle.std.proofs.Common.{◌≡◌, ◌==◌, ◌||◌, ◌∙◌, sym, ap, refl}
+use Rattle.std.proofs.Common.{◌==◌, ◌||◌}
 use Rattle.router_pools.specs.Fits.{is_due, is_touched, place_of, pool_at, pool_in}
 use Rattle.router_pools.proofs.Fitting.{but_one, wanted_fits, untouched, widened}
 use Rattle.router_pools.proofs.pools.Pools.want.Goals as goal
