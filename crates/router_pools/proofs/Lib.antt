@@ -1,0 +1,6 @@
+pub mod Among
+pub mod AtAddress
+pub mod Fitting
+pub mod Listed
+pub mod Touches
+pub mod Written

@@ -1,0 +1,4 @@
+pub mod Addresses
+pub mod Fits
+pub mod Laws
+pub mod Sharing
