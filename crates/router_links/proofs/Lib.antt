@@ -4,3 +4,4 @@ pub mod Numbered
 pub mod Attached
 pub mod Rows
 pub mod Free
+pub mod Gives

@@ -1,5 +1,6 @@
 pub mod Places
 pub mod Ends
+pub mod Giving
 pub mod Fits
 pub mod Handled
 pub mod Naming

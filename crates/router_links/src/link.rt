@@ -1,12 +1,13 @@
 //! Links, as a table has them.
-ghost use Rattle.std.specs.Prelude.{◌≡◌, List, ℕ, if◌then◌else◌, OnOk};
+ghost use Rattle.std.specs.Prelude.{◌≡◌, List, ℕ, if◌then◌else◌, IfOk, OnOk};
 ghost use Rattle.std.specs.Option.{option_map};
 ghost use Rattle.router_trace.specs.Links.{address_by, source_address, target_address, text_of};
 ghost use Rattle.amqp_link.specs.Figures.{behind_start};
 ghost use Rattle.router_links.specs.declared.link.Side.TheVariants.{Peer, Router};
 ghost use Rattle.router_links.specs.Ends.{begun, begun_end, behind_their_flow, behind_their_transfer, behind_our_flow, behind_our_transfer, noted, with_grant, with_count, with_our_count, with_our_grant};
+ghost use Rattle.router_links.specs.Giving.{given_at, part_noted};
 
-use amqp_link::{Grant, RecvEnd, SendEnd};
+use amqp_link::{Grant, Part, RecvEnd, SendEnd};
 use amqp_perf::{
     Address, Attach, Flow, Perf, Role, SourceTerminus, TargetTerminus, Text, Transfer,
 };
@@ -127,35 +128,39 @@ impl Link {
         }
     }
 
-    /// Notes a flow or a transfer of one side; other performatives change nothing. Where memory is refused nothing can be said
-    /// of the link.
+    /// Notes a flow or a transfer of one side, and gives what a transfer of the peer gives; other performatives change nothing.
+    /// Where memory is refused nothing can be said of the link.
     pub(crate) fn note(
         &mut self,
         side: Side,
         perf: &Perf,
         payload: &Bytes,
-    ) -> Result<(), AllocError>
-        ensures { OnOk result (self.new ≡ noted side perf.now payload.now self.old) }
+    ) -> Result<Option<Part>, AllocError>
+        ensures link { OnOk result (self.new ≡ noted side perf.now payload.now self.old) }
+        ensures part { IfOk result (λ p. p ≡ part_noted side perf.now payload.now self.old) }
     {
         match side {
             Side::Peer => self.note_theirs(perf, payload),
             Side::Router => {
                 self.note_ours(perf);
-                Ok(())
+                Ok(None)
             }
         }
     }
 
     /// Notes a performative of the peer.
-    fn note_theirs(&mut self, perf: &Perf, payload: &Bytes) -> Result<(), AllocError>
-        ensures { OnOk result (self.new ≡ noted Peer perf.now payload.now self.old) }
+    fn note_theirs(&mut self, perf: &Perf, payload: &Bytes) -> Result<Option<Part>, AllocError>
+        ensures link { OnOk result (self.new ≡ noted Peer perf.now payload.now self.old) }
+        ensures part { IfOk result (λ p. p ≡ part_noted Peer perf.now payload.now self.old) }
     {
         match perf {
-            Perf::Flow(flow) => self.on_their_flow(flow),
-            Perf::Transfer(transfer) => self.on_their_transfer(transfer, payload)?,
-            _ => {}
+            Perf::Flow(flow) => {
+                self.on_their_flow(flow);
+                Ok(None)
+            }
+            Perf::Transfer(transfer) => self.on_their_transfer(transfer, payload),
+            _ => Ok(None),
         }
-        Ok(())
     }
 
     /// Notes a performative of the router.
@@ -181,21 +186,20 @@ impl Link {
         self.owes_drain = flow.drain;
     }
 
-    /// Takes a transfer of the peer and what it carries. Where memory is refused nothing can be said of the link.
+    /// Takes a transfer of the peer and what it carries, and gives what it makes of its delivery, where the peer sends. Where
+    /// memory is refused nothing can be said of the link.
     pub fn on_their_transfer(
         &mut self,
         transfer: &Transfer,
         payload: &Bytes,
-    ) -> Result<(), AllocError>
-        ensures { OnOk result (self.new ≡ behind_their_transfer transfer.now payload.now self.old) }
+    ) -> Result<Option<Part>, AllocError>
+        ensures link { OnOk result (self.new ≡ behind_their_transfer transfer.now payload.now self.old) }
+        ensures part { IfOk result (λ p. p ≡ given_at transfer.now payload.now self.old.end) }
     {
         match &mut self.end {
-            LinkEnd::Sends(_) => {}
-            LinkEnd::Receives(end) => {
-                let _ = end.on_transfer(transfer, payload.clone()?)?;
-            }
+            LinkEnd::Sends(_) => Ok(None),
+            LinkEnd::Receives(end) => Ok(Some(end.on_transfer(transfer, payload.clone()?)?)),
         }
-        Ok(())
     }
 
     /// Notes a flow of the router: the count that it tells, or what it grants; and a drain that it tells.
