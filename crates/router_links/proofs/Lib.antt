@@ -5,3 +5,4 @@ pub mod Attached
 pub mod Rows
 pub mod Free
 pub mod Gives
+pub mod Looks

@@ -4,14 +4,18 @@ ghost use Rattle.amqp_frames.specs.declared.item.Item.TheVariants as item;
 ghost use Rattle.router_trace.specs.Trace.{Entry, Out, did};
 ghost use Rattle.router_trace.specs.Sessions.{is_channel, maps, theirs};
 ghost use Rattle.router_trace.specs.Links.{link, link_place, found_link, free_handle, holder, place_of};
-ghost use Rattle.router_trace.specs.Settling.{part_at};
+ghost use Rattle.router_trace.specs.Settling.{part_at, middle_on};
+ghost use Rattle.router_links.specs.Ends.{link_of};
+ghost use Rattle.router_links.specs.Looking.{attachment_on};
+ghost use Rattle.std.specs.Option.{option_map};
 ghost use Rattle.router_trace.specs.declared.event.Event.TheVariants as event;
 ghost use Rattle.router_links.specs.Fits.{LinksFit, owes_drain, key_in, key_by, channel_of};
 
 use crate::handles::HandleTable;
+use crate::link::Link;
 use crate::table::LinkTable;
 use amqp_frames::Item;
-use amqp_link::Part;
+use amqp_link::{Delivery, Part};
 use amqp_perf::Perf;
 use book_core::LinkKey;
 use bytes::Bytes;
@@ -45,6 +49,31 @@ impl Links {
             Some(PeerHandle::Detaching) => LinkAt::Detaching,
             Some(PeerHandle::Mapped(handle)) => self.table.found(conn, own, handle),
         }
+    }
+
+    /// What is told of the delivery in the middle of the link on a handle of the peer, on the session on a channel of the
+    /// router.
+    #[tactic(auto, using(crate::proofs::Looks::middle_follows))]
+    pub fn middle(&self, conn: u64, own: u16, handle: u32) -> Option<&Delivery>
+        ensures { (t : List Entry) → LinksFit self.now t → option_map (λ d. d.now) result ≡ middle_on (link_place t conn own handle) }
+    {
+        let handle = self.handles.mapped(conn, own, handle);
+        self.table.middle(conn, own, handle)
+    }
+
+    /// The link at the place of an attachment; whether it is that attachment's its number says.
+    pub fn link(&self, place: Attachment) -> Option<&Link>
+        ensures { (t : List Entry) → LinksFit self.now t → option_map (λ l. l.now) result ≡ option_map link_of (link t place.conn.0 place.channel place.handle) }
+    {
+        self.table.link(place.conn.0, place.channel, place.handle)
+    }
+
+    /// The attachment of the link on a handle of the router, of the session on a channel of the router.
+    #[tactic(auto, using(crate::proofs::Looks::attachment_follows))]
+    pub fn attachment(&self, conn: u64, own: u16, handle: u32) -> Option<Attachment>
+        ensures { (t : List Entry) → LinksFit self.now t → result ≡ attachment_on conn own handle (link t conn own handle) }
+    {
+        self.table.attachment(conn, own, handle)
     }
 
     /// The lowest handle of the router, of 64, that the peer of a session takes too and on which nothing is attached.

@@ -17,6 +17,7 @@ ghost use Rattle.router_trace.specs.declared.event.Event.TheVariants as event;
 ghost use Rattle.router_links.specs.declared.link.Side.TheVariants.{Peer, Router};
 ghost use Rattle.router_links.specs.Ends.{begun, noted};
 ghost use Rattle.router_links.specs.Giving.{part_named};
+ghost use Rattle.router_links.specs.Looking.{middle_named, attachment_of};
 ghost use Rattle.router_links.specs.Fits.{TableFit, with_mark, asks_drain, names_in, key_in, found_at, attachment, IsNoted};
 ghost use Rattle.router_links.specs.Naming.{on_conn, on_session, on_handle, Thinned};
 ghost use Rattle.router_links.specs.Places.{at};
@@ -24,7 +25,7 @@ ghost use Rattle.router_links.specs.Places.{at};
 use crate::by_handle::ByHandle;
 use crate::link::{Link, LinkEnd, Side, address_of};
 use crate::names::Names;
-use amqp_link::Part;
+use amqp_link::{Delivery, Part};
 use amqp_perf::{Attach, Detach, Perf, Text};
 use book_core::LinkKey;
 use bytes::Bytes;
@@ -73,6 +74,41 @@ impl LinkTable {
                     unused: end.unused(),
                 },
             },
+        }
+    }
+
+    /// The link on a handle of the router.
+    pub fn link(&self, conn: u64, own: u16, handle: u32) -> Option<&Link>
+        ensures { option_map (λ l. l.now) result ≡ at self.now.links conn own handle }
+    {
+        self.links.get(conn, own, handle)
+    }
+
+    /// What is told of the delivery in the middle of the link on a handle of the router, where there is such.
+    pub fn middle(&self, conn: u64, own: u16, handle: Option<u32>) -> Option<&Delivery>
+        ensures { option_map (λ d. d.now) result ≡ middle_named handle (at self.now.links conn own) }
+    {
+        match handle {
+            None => None,
+            Some(handle) => match self.links.get(conn, own, handle) {
+                None => None,
+                Some(link) => link.middle(),
+            },
+        }
+    }
+
+    /// The attachment of the link on a handle of the router.
+    pub fn attachment(&self, conn: u64, own: u16, handle: u32) -> Option<Attachment>
+        ensures { result ≡ option_map (attachment_of conn own handle) (at self.now.links conn own handle) }
+    {
+        match self.links.get(conn, own, handle) {
+            None => None,
+            Some(link) => Some(Attachment {
+                number: link.number,
+                conn: ConnectionId(conn),
+                channel: own,
+                handle,
+            }),
         }
     }
 
