@@ -6,5 +6,6 @@ pub mod Rows
 pub mod Free
 pub mod Gives
 pub mod Looks
+pub mod Owing
 pub mod Putting
 pub mod Touches

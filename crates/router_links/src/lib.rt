@@ -6,6 +6,7 @@ mod handles;
 mod link;
 mod links;
 mod names;
+mod owed;
 mod table;
 mod touched;
 

@@ -138,7 +138,7 @@ impl LinkEnd {
     }
 
     /// Whether the router sends.
-    fn sends(&self) -> bool
+    pub(crate) fn sends(&self) -> bool
         ensures { result ≡ sends_at self.now }
     {
         matches!(self, LinkEnd::Sends(_))

@@ -1,5 +1,5 @@
 //! The table of links.
-ghost use Rattle.std.specs.Prelude.{◌≡◌, ◌==◌, ◌∷◌, [], List, ℕ, Bool, false, if◌then◌else◌, IfOk, OnOk};
+ghost use Rattle.std.specs.Prelude.{◌≡◌, ◌==◌, ◌&&◌, ◌∷◌, [], List, ℕ, Bool, false, if◌then◌else◌, IfOk, OnOk};
 ghost use Rattle.amqp_frames.specs.declared.item.Item.TheVariants as item;
 ghost use Rattle.router_trace.specs.Trace.{Entry, Out, did};
 ghost use Rattle.router_trace.specs.Sessions.{is_channel, maps, theirs};
@@ -7,6 +7,11 @@ ghost use Rattle.router_trace.specs.Links.{link, link_place, found_link, free_ha
 ghost use Rattle.router_trace.specs.Settling.{part_at, middle_on};
 ghost use Rattle.router_links.specs.Ends.{link_of};
 ghost use Rattle.router_links.specs.Looking.{attachment_on};
+ghost use Rattle.router_links.specs.Owed.{is_listed, is_marked, owes_on};
+ghost use Rattle.router_trace.specs.Following.{owes_one};
+ghost use Rattle.router_trace.specs.declared.handle.Attachment.{Attachment as Attached};
+ghost use Rattle.std.specs.Ordering.{nat_cmp};
+ghost use Rattle.std.specs.BTreeMap.{get};
 ghost use Rattle.router_links.specs.Touching.{Touches, is_touched, IsLowest};
 ghost use Rattle.std.specs.Option.{option_map};
 ghost use Rattle.router_trace.specs.declared.event.Event.TheVariants as event;
@@ -111,6 +116,27 @@ impl Links {
         ensures { (t : List Entry) → LinksFit self.now t → result ≡ place_of t number }
     {
         self.table.place_of(number)
+    }
+
+    /// The attachments of the links that owe a drain and on which the router sends, by connection and by channel. It looks at
+    /// marked connections alone.
+    pub fn owed(&self) -> Result<Vec<Attachment>, AllocError>
+        ensures { (t : List Entry) → LinksFit self.now t
+            → IfOk result (λ xs. (a : Attached) → is_listed a xs.items ≡ owes_one (link t a.conn.0 a.channel a.handle) a.number) }
+    {
+        let owed = self.table.owed()?;
+        Ok(owed)
+    }
+
+    /// Takes the marks off connections none of whose links owes a drain any more.
+    pub fn settle_owed(&mut self)
+        ensures fits { (t : List Entry) → LinksFit self.old t → LinksFit self.new t }
+        ensures marks { (c : ℕ) → is_marked self.new c ≡ (owes_on (get nat_cmp self.old.table.links.rows c) && is_marked self.old c) }
+        ensures touched { (k : ℕ) → is_touched self.new k ≡ is_touched self.old k }
+        ensures links { self.new.table.links ≡ self.old.table.links }
+        ensures names { self.new.table.names ≡ self.old.table.names }
+    {
+        self.table.settle_owed();
     }
 
     /// The lowest number of a link that may have changed since its number was forgotten.

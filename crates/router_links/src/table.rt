@@ -1,5 +1,5 @@
 //! The links that the router took, with their keys and numbers.
-ghost use Rattle.std.specs.Prelude.{◌≡◌, ◌==◌, ◌+◌, ◌||◌, ◌∷◌, [], List, ℕ, Bool, Some, None, true, false, if◌then◌else◌, IfOk, OnOk};
+ghost use Rattle.std.specs.Prelude.{◌≡◌, ◌==◌, ◌+◌, ◌||◌, ◌&&◌, ◌∷◌, [], List, ℕ, Bool, Some, None, true, false, if◌then◌else◌, IfOk, OnOk};
 ghost use Rattle.std.specs.Option.{option_map};
 ghost use Rattle.std.specs.Ordering.{nat_cmp, is_eq};
 ghost use Rattle.std.specs.BTreeMap.{get};
@@ -21,11 +21,13 @@ ghost use Rattle.router_links.specs.Looking.{middle_named, attachment_of};
 ghost use Rattle.router_links.specs.Fits.{TableFit, with_mark, asks_drain, names_in, key_in, found_at, attachment, IsNoted};
 ghost use Rattle.router_links.specs.Naming.{on_conn, on_session, on_handle, Thinned};
 ghost use Rattle.router_links.specs.Places.{at};
+ghost use Rattle.router_links.specs.Owed.{owed_of, owes_on};
 ghost use Rattle.router_links.specs.Touching.{is_numbered, in_session, in_connection, Touched, IsLowest};
 
 use crate::by_handle::{ByHandle, InConnection, InSession};
 use crate::link::{Link, LinkEnd, Side, address_of};
 use crate::names::Names;
+use crate::owed::{append_all, settle};
 use crate::touched::{touch, touch_at, touch_connection, touch_session};
 use amqp_link::{Delivery, Part};
 use amqp_perf::{Attach, Detach, Perf, Text};
@@ -169,6 +171,23 @@ impl LinkTable {
         ensures { result ≡ contains nat_cmp self.now.owing conn }
     {
         self.owing.contains(&conn)
+    }
+
+    /// The attachments of the links that owe a drain and on which the router sends, by connection and by channel.
+    pub fn owed(&self) -> Result<Vec<Attachment>, AllocError>
+        ensures { IfOk result (λ xs. xs.items ≡ owed_of (get nat_cmp self.now.links.rows) self.now.owing.keys) }
+    {
+        let mut owed = Vec::new(self.alloc);
+        append_all(&mut owed, &self.owing, &self.links)?;
+        Ok(owed)
+    }
+
+    /// Takes the marks off connections none of whose links owes a drain.
+    pub fn settle_owed(&mut self)
+        ensures rest { self.new ≡ record self.old { owing = self.new.owing } }
+        ensures marks { (c : ℕ) → contains nat_cmp self.new.owing c ≡ (owes_on (get nat_cmp self.old.links.rows c) && contains nat_cmp self.old.owing c) }
+    {
+        settle(&mut self.owing, &self.links);
     }
 
     /// The lowest number of a link that may have changed since its number was forgotten.
