@@ -8,4 +8,5 @@ pub mod Gives
 pub mod Looks
 pub mod Owing
 pub mod Putting
+pub mod Standing
 pub mod Touches

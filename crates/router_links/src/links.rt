@@ -1,5 +1,5 @@
 //! The table of links.
-ghost use Rattle.std.specs.Prelude.{◌≡◌, ◌==◌, ◌&&◌, ◌∷◌, [], List, ℕ, Bool, false, if◌then◌else◌, IfOk, OnOk};
+ghost use Rattle.std.specs.Prelude.{◌≡◌, ◌==◌, ◌&&◌, ◌∷◌, [], List, ℕ, Bool, Some, true, false, if◌then◌else◌, IfOk, OnOk};
 ghost use Rattle.amqp_frames.specs.declared.item.Item.TheVariants as item;
 ghost use Rattle.router_trace.specs.Trace.{Entry, Out, did};
 ghost use Rattle.router_trace.specs.Sessions.{is_channel, maps, theirs};
@@ -121,8 +121,10 @@ impl Links {
     /// The attachments of the links that owe a drain and on which the router sends, by connection and by channel. It looks at
     /// marked connections alone.
     pub fn owed(&self) -> Result<Vec<Attachment>, AllocError>
-        ensures { (t : List Entry) → LinksFit self.now t
+        ensures owes { (t : List Entry) → LinksFit self.now t
             → IfOk result (λ xs. (a : Attached) → is_listed a xs.items ≡ owes_one (link t a.conn.0 a.channel a.handle) a.number) }
+        ensures stands { (t : List Entry) → LinksFit self.now t
+            → IfOk result (λ xs. (a : Attached) → is_listed a xs.items ≡ true → place_of t a.number ≡ Some a) }
     {
         let owed = self.table.owed()?;
         Ok(owed)
