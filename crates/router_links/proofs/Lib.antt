@@ -4,3 +4,9 @@ pub mod Numbered
 pub mod Attached
 pub mod Rows
 pub mod Free
+pub mod Gives
+pub mod Looks
+pub mod Owing
+pub mod Putting
+pub mod Standing
+pub mod Touches

@@ -67,11 +67,11 @@ newest_same (item.Frame sasl own body payload) c n passes v e = newest_in_same b
 newest_same _ c n passes v e = refl
 
 -- a number that a link hasn't it doesn't get
-number_if : (n : ℕ) (b : Bool) (x y : Option Link) → has_number n x ≡ false → has_number n y ≡ false → has_number n (if b then x else y) ≡ false
+pub number_if : (n : ℕ) (b : Bool) (x y : Option Link) → has_number n x ≡ false → has_number n y ≡ false → has_number n (if b then x else y) ≡ false
 number_if n true x y e f = e
 number_if n false x y e f = f
 
-number_map : (n : ℕ) (f : Link → Link) → ((l : Link) → (f l).number ≡ l.number) → (v : Option Link) → has_number n v ≡ false → has_number n (option_map f v) ≡ false
+pub number_map : (n : ℕ) (f : Link → Link) → ((l : Link) → (f l).number ≡ l.number) → (v : Option Link) → has_number n v ≡ false → has_number n (option_map f v) ≡ false
 number_map n f keeps None e = refl
 number_map n f keeps (Some l) e = ap (λ m. m == n) (keeps l) ∙ e
 
@@ -87,7 +87,7 @@ item_stays n (item.Frame sasl channel body payload) o h channels handles v e =
     number_if n sasl _ _ e (number_if n (maps (channels channel) o) _ _ (heard_stays n body payload h handles v e) e)
 item_stays n _ o h channels handles v e = e
 
-event_stays : (n : ℕ) (x : Event) (c o h : ℕ) (channels : ℕ → Option PeerChannel) (handles : ℕ → Option PeerHandle) (v : Option Link)
+pub event_stays : (n : ℕ) (x : Event) (c o h : ℕ) (channels : ℕ → Option PeerChannel) (handles : ℕ → Option PeerHandle) (v : Option Link)
     → has_number n v ≡ false → has_number n (link_at x c o h channels handles v) ≡ false
 event_stays n (event.Item d i) c o h channels handles v e = number_if n (d.0 == c) _ _ (item_stays n i o h channels handles v e) e
 event_stays n (event.Down d) c o h channels handles v e = number_if n (d.0 == c) None v refl e
@@ -111,7 +111,7 @@ put_stays n (perf.Transfer x) own o h number key last v new e =
     number_if n ((own == o) && (x.handle == h)) _ _ (number_map n (behind_our_transfer x) (λ l. refl) v e) e
 put_stays n body own o h number key last v new e = number_if n (ends_handle_in body own o h) None v refl e
 
-behind_stays : (n : ℕ) (i : Item) (o h number : ℕ) (key : Attach → LinkKey) (last : Option Asked) (v : Option Link)
+pub behind_stays : (n : ℕ) (i : Item) (o h number : ℕ) (key : Attach → LinkKey) (last : Option Asked) (v : Option Link)
     → (number == n) ≡ false → has_number n v ≡ false → has_number n (link_behind i o h number key last v) ≡ false
 behind_stays n (item.Frame sasl own body payload) o h number key last v new e = put_stays n body own o h number key last v new e
 behind_stays n _ o h number key last v new e = e

@@ -1,8 +1,12 @@
 pub mod Places
 pub mod Ends
+pub mod Giving
 pub mod Fits
 pub mod Handled
+pub mod Looking
 pub mod Naming
+pub mod Owed
+pub mod Touching
 pub use Rattle.router_trace.specs.Trace
 pub use Rattle.router_trace.specs.Sessions
 pub use Rattle.router_trace.specs.Links

@@ -6,7 +6,9 @@ mod handles;
 mod link;
 mod links;
 mod names;
+mod owed;
 mod table;
+mod touched;
 
 pub use link::{Link, LinkEnd, Side};
 pub use links::Links;

@@ -1,15 +1,27 @@
 //! The table of links.
-ghost use Rattle.std.specs.Prelude.{◌≡◌, ◌∷◌, [], List, ℕ, Bool, false, OnOk};
+ghost use Rattle.std.specs.Prelude.{◌≡◌, ◌==◌, ◌&&◌, ◌∷◌, [], List, ℕ, Bool, Some, true, false, if◌then◌else◌, IfOk, OnOk};
 ghost use Rattle.amqp_frames.specs.declared.item.Item.TheVariants as item;
 ghost use Rattle.router_trace.specs.Trace.{Entry, Out, did};
 ghost use Rattle.router_trace.specs.Sessions.{is_channel, maps, theirs};
 ghost use Rattle.router_trace.specs.Links.{link, link_place, found_link, free_handle, holder, place_of};
+ghost use Rattle.router_trace.specs.Settling.{part_at, middle_on};
+ghost use Rattle.router_links.specs.Ends.{link_of};
+ghost use Rattle.router_links.specs.Looking.{attachment_on};
+ghost use Rattle.router_links.specs.Owed.{is_listed, is_marked, owes_on};
+ghost use Rattle.router_trace.specs.Following.{owes_one};
+ghost use Rattle.router_trace.specs.declared.handle.Attachment.{Attachment as Attached};
+ghost use Rattle.std.specs.Ordering.{nat_cmp};
+ghost use Rattle.std.specs.BTreeMap.{get};
+ghost use Rattle.router_links.specs.Touching.{Touches, is_touched, IsLowest};
+ghost use Rattle.std.specs.Option.{option_map};
 ghost use Rattle.router_trace.specs.declared.event.Event.TheVariants as event;
 ghost use Rattle.router_links.specs.Fits.{LinksFit, owes_drain, key_in, key_by, channel_of};
 
 use crate::handles::HandleTable;
+use crate::link::Link;
 use crate::table::LinkTable;
 use amqp_frames::Item;
+use amqp_link::{Delivery, Part};
 use amqp_perf::Perf;
 use book_core::LinkKey;
 use bytes::Bytes;
@@ -26,7 +38,8 @@ pub struct Links {
 impl Links {
     /// No links.
     pub fn new(alloc: Global) -> Links
-        ensures { LinksFit result [] }
+        ensures fits { LinksFit result [] }
+        ensures untouched { (k : ℕ) → is_touched result k ≡ false }
     {
         Links {
             handles: HandleTable::new(alloc),
@@ -43,6 +56,31 @@ impl Links {
             Some(PeerHandle::Detaching) => LinkAt::Detaching,
             Some(PeerHandle::Mapped(handle)) => self.table.found(conn, own, handle),
         }
+    }
+
+    /// What is told of the delivery in the middle of the link on a handle of the peer, on the session on a channel of the
+    /// router.
+    #[tactic(auto, using(crate::proofs::Looks::middle_follows))]
+    pub fn middle(&self, conn: u64, own: u16, handle: u32) -> Option<&Delivery>
+        ensures { (t : List Entry) → LinksFit self.now t → option_map (λ d. d.now) result ≡ middle_on (link_place t conn own handle) }
+    {
+        let handle = self.handles.mapped(conn, own, handle);
+        self.table.middle(conn, own, handle)
+    }
+
+    /// The link at the place of an attachment; whether it is that attachment's its number says.
+    pub fn link(&self, place: Attachment) -> Option<&Link>
+        ensures { (t : List Entry) → LinksFit self.now t → option_map (λ l. l.now) result ≡ option_map link_of (link t place.conn.0 place.channel place.handle) }
+    {
+        self.table.link(place.conn.0, place.channel, place.handle)
+    }
+
+    /// The attachment of the link on a handle of the router, of the session on a channel of the router.
+    #[tactic(auto, using(crate::proofs::Looks::attachment_follows))]
+    pub fn attachment(&self, conn: u64, own: u16, handle: u32) -> Option<Attachment>
+        ensures { (t : List Entry) → LinksFit self.now t → result ≡ attachment_on conn own handle (link t conn own handle) }
+    {
+        self.table.attachment(conn, own, handle)
     }
 
     /// The lowest handle of the router, of 64, that the peer of a session takes too and on which nothing is attached.
@@ -80,23 +118,67 @@ impl Links {
         self.table.place_of(number)
     }
 
-    /// A connection is lost.
-    pub fn down(&mut self, conn: ConnectionId)
-        ensures { (t : List Entry) → LinksFit self.old t → LinksFit self.new (did (event.Down conn) ∷ t) }
+    /// The attachments of the links that owe a drain and on which the router sends, by connection and by channel. It looks at
+    /// marked connections alone.
+    pub fn owed(&self) -> Result<Vec<Attachment>, AllocError>
+        ensures owes { (t : List Entry) → LinksFit self.now t
+            → IfOk result (λ xs. (a : Attached) → is_listed a xs.items ≡ owes_one (link t a.conn.0 a.channel a.handle) a.number) }
+        ensures stands { (t : List Entry) → LinksFit self.now t
+            → IfOk result (λ xs. (a : Attached) → is_listed a xs.items ≡ true → place_of t a.number ≡ Some a) }
     {
-        self.handles.down(conn);
-        self.table.down(conn);
+        let owed = self.table.owed()?;
+        Ok(owed)
     }
 
-    /// An item came on a connection, on the session on this channel of the router, where its channel has one.
+    /// Takes the marks off connections none of whose links owes a drain any more.
+    pub fn settle_owed(&mut self)
+        ensures fits { (t : List Entry) → LinksFit self.old t → LinksFit self.new t }
+        ensures marks { (c : ℕ) → is_marked self.new c ≡ (owes_on (get nat_cmp self.old.table.links.rows c) && is_marked self.old c) }
+        ensures touched { (k : ℕ) → is_touched self.new k ≡ is_touched self.old k }
+        ensures links { self.new.table.links ≡ self.old.table.links }
+        ensures names { self.new.table.names ≡ self.old.table.names }
+    {
+        self.table.settle_owed();
+    }
+
+    /// The lowest number of a link that may have changed since its number was forgotten.
+    pub fn touched(&self) -> Option<u64>
+        ensures { IsLowest (is_touched self.now) result }
+    {
+        self.table.touched()
+    }
+
+    /// Forgets that the link of a number may have changed.
+    pub fn forget_touched(&mut self, number: u64)
+        ensures fits { (t : List Entry) → LinksFit self.old t → LinksFit self.new t }
+        ensures gone { (k : ℕ) → is_touched self.new k ≡ (if number == k then false else is_touched self.old k) }
+        ensures links { self.new.table.links ≡ self.old.table.links }
+        ensures names { self.new.table.names ≡ self.old.table.names }
+    {
+        self.table.forget_touched(number);
+    }
+
+    /// A connection is lost.
+    pub fn down(&mut self, conn: ConnectionId) -> Result<(), AllocError>
+        ensures fits { (t : List Entry) → LinksFit self.old t → LinksFit self.new (did (event.Down conn) ∷ t) }
+        ensures touches { OnOk result (Touches self.old self.new) }
+    {
+        self.handles.down(conn);
+        self.table.down(conn)
+    }
+
+    /// An item came on a connection, on the session on this channel of the router, where its channel has one. Gives what a
+    /// transfer gives on the link that it finds.
     pub fn hear(
         &mut self,
         conn: ConnectionId,
         own: Option<u16>,
         item: &Item,
-    ) -> Result<(), AllocError>
-        ensures { OnOk result ((t : List Entry) → ((o : ℕ) → is_channel own o ≡ maps (theirs t conn.0 (channel_of item.now)) o)
+    ) -> Result<Option<Part>, AllocError>
+        ensures fits { OnOk result ((t : List Entry) → ((o : ℕ) → is_channel own o ≡ maps (theirs t conn.0 (channel_of item.now)) o)
             → LinksFit self.old t → LinksFit self.new (did (event.Item conn item.now) ∷ t)) }
+        ensures part { (t : List Entry) → LinksFit self.old t → IfOk result (λ p. p ≡ part_at t conn.0 own item.now) }
+        ensures touches { OnOk result (Touches self.old self.new) }
     {
         match item {
             Item::Frame {
@@ -105,13 +187,14 @@ impl Links {
                 payload,
                 ..
             } => {
-                if !*sasl {
-                    self.hear_perf(conn, own, perf, payload)?;
+                if *sasl {
+                    return Ok(None);
                 }
+                let part = self.hear_perf(conn, own, perf, payload)?;
+                Ok(part)
             }
-            _ => {}
+            _ => Ok(None),
         }
-        Ok(())
     }
 
     /// A performative came on a connection.
@@ -121,20 +204,24 @@ impl Links {
         own: Option<u16>,
         perf: &Perf,
         payload: &Bytes,
-    ) -> Result<(), AllocError>
-        ensures { OnOk result ((t : List Entry) (channel : ℕ) → ((o : ℕ) → is_channel own o ≡ maps (theirs t conn.0 channel) o)
+    ) -> Result<Option<Part>, AllocError>
+        ensures fits { OnOk result ((t : List Entry) (channel : ℕ) → ((o : ℕ) → is_channel own o ≡ maps (theirs t conn.0 channel) o)
             → LinksFit self.old t → LinksFit self.new (did (event.Item conn (item.Frame false channel perf.now payload.now)) ∷ t)) }
+        ensures part { (t : List Entry) (channel : ℕ) → LinksFit self.old t
+            → IfOk result (λ p. p ≡ part_at t conn.0 own (item.Frame false channel perf.now payload.now)) }
+        ensures touches { OnOk result (Touches self.old self.new) }
     {
         let handle = self.handles.named(conn.0, own, perf);
-        self.table.hear(conn, own, handle, perf, payload)?;
+        let part = self.table.hear(conn, own, handle, perf, payload)?;
         self.handles.hear(conn, own, perf)?;
-        Ok(())
+        Ok(part)
     }
 
     /// An item is put in the outbox of a connection; an attach comes with its key. Fails where memory is refused, where
     /// attachments can't be numbered any more, and for an attach without its key.
     pub fn put(&mut self, conn: u64, item: &Item, key: Option<LinkKey>) -> Result<(), AllocError>
-        ensures { OnOk result ((t : List Entry) → key ≡ key_by t conn item.now → LinksFit self.old t → LinksFit self.new (Out conn item.now ∷ t)) }
+        ensures fits { OnOk result ((t : List Entry) → key ≡ key_by t conn item.now → LinksFit self.old t → LinksFit self.new (Out conn item.now ∷ t)) }
+        ensures touches { OnOk result (Touches self.old self.new) }
     {
         match item {
             Item::Frame {
@@ -157,8 +244,9 @@ impl Links {
         payload: &Bytes,
         key: Option<LinkKey>,
     ) -> Result<(), AllocError>
-        ensures { OnOk result ((t : List Entry) (sasl : Bool) → key ≡ key_in t conn perf.now → LinksFit self.old t
+        ensures fits { OnOk result ((t : List Entry) (sasl : Bool) → key ≡ key_in t conn perf.now → LinksFit self.old t
             → LinksFit self.new (Out conn (item.Frame sasl own perf.now payload.now) ∷ t)) }
+        ensures touches { OnOk result (Touches self.old self.new) }
     {
         let last = self.handles.asked(conn);
         self.table.put(conn, own, perf, payload, key, last)?;

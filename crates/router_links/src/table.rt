@@ -1,5 +1,5 @@
 //! The links that the router took, with their keys and numbers.
-ghost use Rattle.std.specs.Prelude.{◌≡◌, ◌==◌, ◌+◌, ◌∷◌, [], List, ℕ, Bool, Some, None, true, false, if◌then◌else◌, IfOk, OnOk};
+ghost use Rattle.std.specs.Prelude.{◌≡◌, ◌==◌, ◌+◌, ◌||◌, ◌&&◌, ◌∷◌, [], List, ℕ, Bool, Some, None, true, false, if◌then◌else◌, IfOk, OnOk};
 ghost use Rattle.std.specs.Option.{option_map};
 ghost use Rattle.std.specs.Ordering.{nat_cmp, is_eq};
 ghost use Rattle.std.specs.BTreeMap.{get};
@@ -14,15 +14,22 @@ ghost use Rattle.router_trace.specs.Trace.{Entry, Out, did};
 ghost use Rattle.router_trace.specs.Sessions.{is_channel, maps, theirs};
 ghost use Rattle.router_trace.specs.Links.{is_handle, their_handle, asked, initial_of, key_at, is_attached, if_attached, holder, place_of};
 ghost use Rattle.router_trace.specs.declared.event.Event.TheVariants as event;
-ghost use Rattle.router_links.specs.declared.link.Side.TheVariants.{Peer};
+ghost use Rattle.router_links.specs.declared.link.Side.TheVariants.{Peer, Router};
 ghost use Rattle.router_links.specs.Ends.{begun, noted};
+ghost use Rattle.router_links.specs.Giving.{part_named};
+ghost use Rattle.router_links.specs.Looking.{middle_named, attachment_of};
 ghost use Rattle.router_links.specs.Fits.{TableFit, with_mark, asks_drain, names_in, key_in, found_at, attachment, IsNoted};
 ghost use Rattle.router_links.specs.Naming.{on_conn, on_session, on_handle, Thinned};
 ghost use Rattle.router_links.specs.Places.{at};
+ghost use Rattle.router_links.specs.Owed.{owed_of, owes_on};
+ghost use Rattle.router_links.specs.Touching.{is_numbered, in_session, in_connection, Touched, IsLowest};
 
-use crate::by_handle::ByHandle;
+use crate::by_handle::{ByHandle, InConnection, InSession};
 use crate::link::{Link, LinkEnd, Side, address_of};
 use crate::names::Names;
+use crate::owed::{append_all, settle};
+use crate::touched::{touch, touch_at, touch_connection, touch_session};
+use amqp_link::{Delivery, Part};
 use amqp_perf::{Attach, Detach, Perf, Text};
 use book_core::LinkKey;
 use bytes::Bytes;
@@ -41,12 +48,15 @@ pub struct LinkTable {
     count: u64,
     // the connections that may have a link that owes a drain
     owing: BTreeSet<u64>,
+    // the numbers of links that may have changed
+    touched: BTreeSet<u64>,
 }
 
 impl LinkTable {
     /// No links.
     pub fn new(alloc: Global) -> LinkTable
-        ensures { TableFit result [] }
+        ensures fits { TableFit result [] }
+        ensures untouched { (k : ℕ) → contains nat_cmp result.touched k ≡ false }
     {
         LinkTable {
             alloc,
@@ -54,6 +64,7 @@ impl LinkTable {
             names: Names::new(alloc),
             count: 0,
             owing: BTreeSet::new(alloc),
+            touched: BTreeSet::new(alloc),
         }
     }
 
@@ -71,6 +82,41 @@ impl LinkTable {
                     unused: end.unused(),
                 },
             },
+        }
+    }
+
+    /// The link on a handle of the router.
+    pub fn link(&self, conn: u64, own: u16, handle: u32) -> Option<&Link>
+        ensures { option_map (λ l. l.now) result ≡ at self.now.links conn own handle }
+    {
+        self.links.get(conn, own, handle)
+    }
+
+    /// What is told of the delivery in the middle of the link on a handle of the router, where there is such.
+    pub fn middle(&self, conn: u64, own: u16, handle: Option<u32>) -> Option<&Delivery>
+        ensures { option_map (λ d. d.now) result ≡ middle_named handle (at self.now.links conn own) }
+    {
+        match handle {
+            None => None,
+            Some(handle) => match self.links.get(conn, own, handle) {
+                None => None,
+                Some(link) => link.middle(),
+            },
+        }
+    }
+
+    /// The attachment of the link on a handle of the router.
+    pub fn attachment(&self, conn: u64, own: u16, handle: u32) -> Option<Attachment>
+        ensures { result ≡ option_map (attachment_of conn own handle) (at self.now.links conn own handle) }
+    {
+        match self.links.get(conn, own, handle) {
+            None => None,
+            Some(link) => Some(Attachment {
+                number: link.number,
+                conn: ConnectionId(conn),
+                channel: own,
+                handle,
+            }),
         }
     }
 
@@ -127,15 +173,48 @@ impl LinkTable {
         self.owing.contains(&conn)
     }
 
-    /// A connection is lost.
-    pub fn down(&mut self, conn: ConnectionId)
-        ensures { (t : List Entry) → TableFit self.old t → TableFit self.new (did (event.Down conn) ∷ t) }
+    /// The attachments of the links that owe a drain and on which the router sends, by connection and by channel.
+    pub fn owed(&self) -> Result<Vec<Attachment>, AllocError>
+        ensures { IfOk result (λ xs. xs.items ≡ owed_of (get nat_cmp self.now.links.rows) self.now.owing.keys) }
     {
-        self.forget(conn.0);
+        let mut owed = Vec::new(self.alloc);
+        append_all(&mut owed, &self.owing, &self.links)?;
+        Ok(owed)
+    }
+
+    /// Takes the marks off connections none of whose links owes a drain.
+    pub fn settle_owed(&mut self)
+        ensures rest { self.new ≡ record self.old { owing = self.new.owing } }
+        ensures marks { (c : ℕ) → contains nat_cmp self.new.owing c ≡ (owes_on (get nat_cmp self.old.links.rows c) && contains nat_cmp self.old.owing c) }
+    {
+        settle(&mut self.owing, &self.links);
+    }
+
+    /// The lowest number of a link that may have changed since its number was forgotten.
+    pub fn touched(&self) -> Option<u64>
+        ensures { IsLowest (contains nat_cmp self.now.touched) result }
+    {
+        self.touched.first().copied()
+    }
+
+    /// Forgets that the link of a number may have changed.
+    pub fn forget_touched(&mut self, number: u64)
+        ensures rest { self.new ≡ record self.old { touched = self.new.touched } }
+        ensures gone { (k : ℕ) → contains nat_cmp self.new.touched k ≡ (if number == k then false else contains nat_cmp self.old.touched k) }
+    {
+        let _ = self.touched.remove(&number);
+    }
+
+    /// A connection is lost.
+    pub fn down(&mut self, conn: ConnectionId) -> Result<(), AllocError>
+        ensures fits { (t : List Entry) → TableFit self.old t → TableFit self.new (did (event.Down conn) ∷ t) }
+        ensures touches { OnOk result (Touched self.old self.new) }
+    {
+        self.forget(conn.0)
     }
 
     /// A performative of the peer came on the session on this channel of the router, for the link on this handle of the
-    /// router, where there are such.
+    /// router, where there are such. Gives what a transfer gives.
     pub fn hear(
         &mut self,
         conn: ConnectionId,
@@ -143,13 +222,16 @@ impl LinkTable {
         handle: Option<u32>,
         perf: &Perf,
         payload: &Bytes,
-    ) -> Result<(), AllocError>
-        ensures { OnOk result ((t : List Entry) (channel : ℕ) → ((o : ℕ) → is_channel own o ≡ maps (theirs t conn.0 channel) o)
+    ) -> Result<Option<Part>, AllocError>
+        ensures fits { OnOk result ((t : List Entry) (channel : ℕ) → ((o : ℕ) → is_channel own o ≡ maps (theirs t conn.0 channel) o)
             → ((o h : ℕ) → is_channel own o ≡ true → is_handle handle h ≡ names_in perf.now (their_handle t conn.0 o) h)
             → TableFit self.old t → TableFit self.new (did (event.Item conn (item.Frame false channel perf.now payload.now)) ∷ t)) }
+        ensures part { IfOk result (λ p. p ≡ part_named Peer perf.now payload.now own handle (at self.old.links conn.0)) }
+        ensures touches { OnOk result (Touched self.old self.new) }
     {
         mark(&mut self.owing, conn.0, asks_drain(perf))?;
-        note(
+        touch_at(&mut self.touched, &self.links, conn.0, own, handle)?;
+        let part = note(
             &mut self.links,
             conn.0,
             own,
@@ -158,7 +240,7 @@ impl LinkTable {
             perf,
             payload,
         )?;
-        Ok(())
+        Ok(part)
     }
 
     /// A performative is put in the outbox of a connection, on a channel of the router. An attach comes with its key, and with
@@ -172,8 +254,9 @@ impl LinkTable {
         key: Option<LinkKey>,
         last: Option<Asked>,
     ) -> Result<(), AllocError>
-        ensures { OnOk result ((t : List Entry) (sasl : Bool) → key ≡ key_in t conn perf.now → last ≡ asked t conn
+        ensures fits { OnOk result ((t : List Entry) (sasl : Bool) → key ≡ key_in t conn perf.now → last ≡ asked t conn
             → TableFit self.old t → TableFit self.new (Out conn (item.Frame sasl own perf.now payload.now) ∷ t)) }
+        ensures touches { OnOk result (Touched self.old self.new) }
     {
         match perf {
             Perf::Attach(attach) => self.put_attach(conn, own, attach, key, last)?,
@@ -185,9 +268,9 @@ impl LinkTable {
                 perf,
                 payload,
             )?,
-            Perf::Detach(detach) => self.put_detach(conn, own, detach),
-            Perf::End(_) => self.put_end(conn, own),
-            Perf::Close(_) => self.forget(conn),
+            Perf::Detach(detach) => self.put_detach(conn, own, detach)?,
+            Perf::End(_) => self.put_end(conn, own)?,
+            Perf::Close(_) => self.forget(conn)?,
             _ => {}
         }
         Ok(())
@@ -202,9 +285,17 @@ impl LinkTable {
         key: Option<LinkKey>,
         last: Option<Asked>,
     ) -> Result<(), AllocError>
-        ensures { OnOk result ((t : List Entry) (sasl : Bool) (payload : List ℕ) → key ≡ Some (key_at t conn attach.now) → last ≡ asked t conn
+        ensures fits { OnOk result ((t : List Entry) (sasl : Bool) (payload : List ℕ) → key ≡ Some (key_at t conn attach.now) → last ≡ asked t conn
             → TableFit self.old t → TableFit self.new (Out conn (item.Frame sasl own (perf.Attach attach.now) payload) ∷ t)) }
+        ensures touches { OnOk result (Touched self.old self.new) }
     {
+        touch_at(
+            &mut self.touched,
+            &self.links,
+            conn,
+            Some(own),
+            Some(attach.handle),
+        )?;
         leave(&mut self.links, &mut self.names, conn, own, attach.handle);
         let Some(address) = address_of(attach) else {
             return Ok(());
@@ -234,10 +325,12 @@ impl LinkTable {
         ensures numbers { OnOk result ((n : ℕ) → get nat_cmp self.new.names.numbers.entries n
             ≡ (if self.old.count + 1 == n then Some (attachment (self.old.count + 1) conn own attach.now.handle) else get nat_cmp self.old.names.numbers.entries n)) }
         ensures owing { self.new.owing ≡ self.old.owing }
+        ensures touched { OnOk result ((k : ℕ) → contains nat_cmp self.new.touched k ≡ (if self.old.count + 1 == k then true else contains nat_cmp self.old.touched k)) }
     {
         let Some(number) = self.count.checked_add(1) else {
             return Err(AllocError);
         };
+        touch(&mut self.touched, number)?;
         let theirs = initial_of(last);
         let address = address.clone()?;
         let kept = copy(&key)?;
@@ -265,48 +358,56 @@ impl LinkTable {
         perf: &Perf,
         payload: &Bytes,
     ) -> Result<(), AllocError>
-        ensures { OnOk result ((t : List Entry) (sasl : Bool) → IsNoted perf.now handle
+        ensures fits { OnOk result ((t : List Entry) (sasl : Bool) → IsNoted perf.now handle
             → TableFit self.old t → TableFit self.new (Out conn (item.Frame sasl own perf.now payload.now) ∷ t)) }
+        ensures touches { OnOk result (Touched self.old self.new) }
     {
-        note(
-            &mut self.links,
-            conn,
-            Some(own),
-            handle,
-            Side::Router,
-            perf,
-            payload,
-        )
+        touch_at(&mut self.touched, &self.links, conn, Some(own), handle)?;
+        note_ours(&mut self.links, conn, own, handle, perf, payload)?;
+        Ok(())
     }
 
     /// The router's detach.
-    fn put_detach(&mut self, conn: u64, own: u16, detach: &Detach)
-        ensures { (t : List Entry) (sasl : Bool) (payload : List ℕ) → TableFit self.old t
-            → TableFit self.new (Out conn (item.Frame sasl own (perf.Detach detach.now) payload) ∷ t) }
+    fn put_detach(&mut self, conn: u64, own: u16, detach: &Detach) -> Result<(), AllocError>
+        ensures fits { OnOk result ((t : List Entry) (sasl : Bool) (payload : List ℕ) → TableFit self.old t
+            → TableFit self.new (Out conn (item.Frame sasl own (perf.Detach detach.now) payload) ∷ t)) }
+        ensures touches { OnOk result (Touched self.old self.new) }
     {
+        touch_at(
+            &mut self.touched,
+            &self.links,
+            conn,
+            Some(own),
+            Some(detach.handle),
+        )?;
         leave(&mut self.links, &mut self.names, conn, own, detach.handle);
+        Ok(())
     }
 
     /// The router's end.
-    fn put_end(&mut self, conn: u64, own: u16)
-        ensures { (t : List Entry) (sasl : Bool) (payload : List ℕ) (x : End) → TableFit self.old t
+    fn put_end(&mut self, conn: u64, own: u16) -> Result<(), AllocError>
+        ensures fits { (t : List Entry) (sasl : Bool) (payload : List ℕ) (x : End) → TableFit self.old t
             → TableFit self.new (Out conn (item.Frame sasl own (perf.End x) payload) ∷ t) }
+        ensures touches { OnOk result (Touched self.old self.new) }
     {
-        if let Some(handles) = self.links.end(conn, own) {
-            self.names.forget_session(conn, own, &handles);
+        match self.links.end(conn, own) {
+            None => Ok(()),
+            Some(handles) => leave_session(&mut self.names, &mut self.touched, conn, own, handles),
         }
     }
 
     /// Nothing is known of the links of a connection any more.
-    fn forget(&mut self, conn: u64)
+    fn forget(&mut self, conn: u64) -> Result<(), AllocError>
         ensures down { (t : List Entry) → TableFit self.old t → TableFit self.new (did (event.Down (record { 0 = conn })) ∷ t) }
         ensures closed { (t : List Entry) (sasl : Bool) (own : ℕ) (payload : List ℕ) (x : Close) → TableFit self.old t
             → TableFit self.new (Out conn (item.Frame sasl own (perf.Close x) payload) ∷ t) }
+        ensures touches { OnOk result (Touched self.old self.new) }
     {
-        if let Some(sessions) = self.links.forget(conn) {
-            self.names.forget_connection(conn, &sessions);
-        }
         let _ = self.owing.remove(&conn);
+        match self.links.forget(conn) {
+            None => Ok(()),
+            Some(sessions) => leave_connection(&mut self.names, &mut self.touched, conn, sessions),
+        }
     }
 }
 
@@ -315,13 +416,45 @@ fn leave(links: &mut ByHandle<Link>, names: &mut Names, conn: u64, own: u16, han
     ensures links { (c o h : ℕ) → at links.new c o h
         ≡ (if conn == c then (if own == o then (if handle == h then None else at links.old c o h) else at links.old c o h) else at links.old c o h) }
     ensures names { Thinned (on_handle conn own handle) names.old names.new }
+    ensures others { (k : ℕ) → is_numbered k (at links.old conn own handle) ≡ false → get nat_cmp names.old.numbers.entries k ≡ get nat_cmp names.new.numbers.entries k }
 {
     if let Some(link) = links.remove(conn, own, handle) {
         names.forget(conn, own, handle, &link);
     }
 }
 
-/// Notes a performative of one side on a link, where there is one.
+/// Takes their names from the links of a session that went, and touches them.
+fn leave_session(
+    names: &mut Names,
+    touched: &mut BTreeSet<u64>,
+    conn: u64,
+    own: u16,
+    handles: InSession<Link>,
+) -> Result<(), AllocError>
+    ensures names { Thinned (on_session conn own) names.old names.new }
+    ensures others { (k : ℕ) → in_session k handles ≡ false → get nat_cmp names.old.numbers.entries k ≡ get nat_cmp names.new.numbers.entries k }
+    ensures touched { OnOk result ((k : ℕ) → contains nat_cmp touched.new k ≡ (in_session k handles || contains nat_cmp touched.old k)) }
+{
+    names.forget_session(conn, own, &handles);
+    touch_session(touched, &handles)
+}
+
+/// Takes their names from the links of a connection that went, and touches them.
+fn leave_connection(
+    names: &mut Names,
+    touched: &mut BTreeSet<u64>,
+    conn: u64,
+    sessions: InConnection<Link>,
+) -> Result<(), AllocError>
+    ensures names { Thinned (on_conn conn) names.old names.new }
+    ensures others { (k : ℕ) → in_connection k sessions ≡ false → get nat_cmp names.old.numbers.entries k ≡ get nat_cmp names.new.numbers.entries k }
+    ensures touched { OnOk result ((k : ℕ) → contains nat_cmp touched.new k ≡ (in_connection k sessions || contains nat_cmp touched.old k)) }
+{
+    names.forget_connection(conn, &sessions);
+    touch_connection(touched, &sessions)
+}
+
+/// Notes a performative of one side on a link, where there is one, and gives what a transfer of the peer gives.
 fn note(
     links: &mut ByHandle<Link>,
     conn: u64,
@@ -330,14 +463,31 @@ fn note(
     side: Side,
     perf: &Perf,
     payload: &Bytes,
-) -> Result<(), AllocError>
-    ensures { OnOk result ((c o h : ℕ) → at links.new c o h
+) -> Result<Option<Part>, AllocError>
+    ensures links { OnOk result ((c o h : ℕ) → at links.new c o h
         ≡ (if conn == c then (if is_channel own o then (if is_handle handle h then option_map (noted side perf.now payload.now) (at links.old c o h) else at links.old c o h) else at links.old c o h) else at links.old c o h)) }
+    ensures part { IfOk result (λ p. p ≡ part_named side perf.now payload.now own handle (at links.old conn)) }
 {
     let (Some(own), Some(handle)) = (own, handle) else {
-        return Ok(());
+        return Ok(None);
     };
     links.note(conn, own, handle, side, perf, payload)
+}
+
+/// Notes a performative of the router on a link, where there is one.
+fn note_ours(
+    links: &mut ByHandle<Link>,
+    conn: u64,
+    own: u16,
+    handle: Option<u32>,
+    perf: &Perf,
+    payload: &Bytes,
+) -> Result<(), AllocError>
+    ensures { OnOk result ((c o h : ℕ) → at links.new c o h
+        ≡ (if conn == c then (if own == o then (if is_handle handle h then option_map (noted Router perf.now payload.now) (at links.old c o h) else at links.old c o h) else at links.old c o h) else at links.old c o h)) }
+{
+    let _ = note(links, conn, Some(own), handle, Side::Router, perf, payload)?;
+    Ok(())
 }
 
 /// Whether a performative asks for a drain.
