@@ -7,7 +7,11 @@ use Rattle.std.specs.BTreeMap.{get}
 use Rattle.amqp_perf.specs.declared.state.DeliveryState.{DeliveryState}
 use Rattle.router_trace.specs.declared.binding.Origin.{Origin}
 use Rattle.router_trace.specs.Deliveries.{Delivery, is_number, is_of, waits_on, undecided_on, held_from, is_to_tell}
+use Rattle.router_trace.specs.Following.{is_unsent_on}
 use Rattle.router_deliveries.specs.declared.groups.Groups.{Groups}
+use Rattle.router_deliveries.specs.declared.ignored.Ignored.{Ignored}
+use Rattle.router_deliveries.specs.Claiming.{is_marked}
+use Rattle.router_deliveries.specs.Places.{at}
 use Rattle.router_deliveries.specs.Finding.{IsFirst, IsCount}
 use Rattle.router_deliveries.specs.Indexing.{in_set, in_group, standing, from_link, on_link}
 
@@ -17,6 +21,9 @@ no_rise = tt
 
 pub no_numbers : (g : Groups) (k : ℕ) → get nat_cmp g.sets k ≡ None → IsCount (in_group g k) 0
 no_numbers g k none = record { numbers = []; rise = no_rise; pass = λ n. sym (ap (λ s. in_set s n) none); are = refl }
+
+pub no_ids : (s : Ignored) (c o h : ℕ) → at s.sets c o h ≡ None → IsCount (is_marked s c o h) 0
+no_ids s c o h none = record { numbers = []; rise = no_rise; pass = λ n. sym (ap (λ s. in_set s n) none); are = refl }
 
 pub first_same : (p q : ℕ → Bool) → ((n : ℕ) → p n ≡ q n) → (r : Option ℕ) → IsFirst p r → IsFirst q r
 first_same p q same None x = λ n. sym (same n) ∙ x n
@@ -44,6 +51,10 @@ waits_is k (Some d) = on d.link.number k (is_none d.id && d.going_on) ∙ three 
     three : (a b e : Bool) → (a && (b && e)) ≡ ((a && b) && e)
     three true b e = refl
     three false b e = refl
+
+pub unsent_is : (k : ℕ) (v : Option Delivery) → is_number (standing v).unsent k ≡ is_unsent_on k v
+unsent_is k None = refl
+unsent_is k (Some d) = on d.link.number k d.going_on
 
 pub undecided_is : (k : ℕ) (v : Option Delivery) → is_number (standing v).undecided k ≡ undecided_on k v
 undecided_is k None = refl

@@ -9,3 +9,11 @@ mod Heard
 mod Reindexed
 mod Found
 mod Claimed
+pub mod Numbers
+mod Asked
+pub mod Touching
+mod Above
+mod Ranges
+mod Opened
+pub mod Listed
+mod Marked

@@ -16,6 +16,7 @@ mod deliveries;
 mod delivery;
 mod groups;
 mod hearing;
+mod ignored;
 mod index;
 mod names;
 mod next_ids;
@@ -23,6 +24,7 @@ mod sending;
 mod state;
 mod store;
 mod tag;
+mod touched;
 
 pub use claims::{Claim, Claims, Middle, Receiving};
 pub use deliveries::Deliveries;
