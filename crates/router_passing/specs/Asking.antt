@@ -38,3 +38,8 @@ drained_by h (receives list) = None
 abbrev pub drained_state : ℕ → Option Link → Option LinkState
 drained_state h None = None
 drained_state h (Some l) = drained_by h l.happened
+
+-- a number is below another, if there is one
+abbrev pub is_below : Option ℕ → ℕ → Bool
+is_below None n = true
+is_below (Some m) n = nat_lt n m
