@@ -1,9 +1,8 @@
 -- The address whose grants come first.
-use Rattle.std.proofs.Common.{◌≡◌, ◌∙◌, ◌+◌, ◌<◌, ◌≤◌, ℕ, zero, suc, Bool, true, false, true≢false, refl, sym, ap, subst, Option, Some, None, List, [], ◌∷◌, ◌++◌, length, arith, ⊥}
-use Rattle.std.specs.Prelude.{◌==◌, if◌then◌else◌, is_some}
+use Rattle.std.proofs.Common.{◌≡◌, ◌∙◌, ◌+◌, ◌<◌, ℕ, zero, suc, true, false, true≢false, refl, sym, ap, subst, Option, Some, None, List, [], ◌∷◌, ◌++◌, length, arith}
+use Rattle.std.specs.Prelude.{◌==◌, is_some, unwrap_or, IfNone, IfSome}
 use Rattle.std.specs.Str.{bytes_eq}
 use Rattle.std.specs.Map.{keys_of}
-use Rattle.std.specs.Cmp.{IsTotalOrder}
 use Rattle.std.specs.Cmp.Lexicographic.{slice_cmp}
 use Rattle.std.specs.Ordering.{nat_cmp, ordering_reverse}
 use Rattle.std.specs.declared.cmp.Ordering.{Ordering}
@@ -13,15 +12,14 @@ use Rattle.std.proofs.lemmas.Bool.Decides.{nat_tests}
 use Rattle.std.proofs.lemmas.Cmp.{nat_list_cmp_total}
 use Rattle.std.proofs.lemmas.Map.Lookups.{exact_bytes}
 use Rattle.route_credit.specs.Granting.{all_granted, gain, gains, grants_of}
-use Rattle.route_credit.specs.Pool.{by_id, Sharing}
-use Rattle.route_credit.specs.declared.demand.Demand.{Demand}
+use Rattle.route_credit.specs.Pool.{by_id}
 use Rattle.route_credit.specs.declared.ids.ProducerId.{ProducerId}
 use Rattle.router_trace.specs.Trace.{Trace}
 use Rattle.router_trace.specs.Links.{attachments}
-use Rattle.router_pools.specs.Sharing.{Figure, consumer, producer, demand_at, entry, listed, sharing}
+use Rattle.router_pools.specs.Sharing.{Figure, consumer, producer, demand_at, entry, listed}
 use Rattle.router_pools.proofs.AtAddress.{same_bytes}
 use Rattle.router_passing.specs.Figures.{figure}
-use Rattle.router_passing.specs.Passing.{grants, grants_of_address, grants_on, if_some, last_chosen, lower, lower_of, lowest_below, pool_of, wants}
+use Rattle.router_passing.specs.Passing.{grants, grants_of_address, grants_on, if_some, lower, lower_of, lowest_below, pool_of, wants}
 use Rattle.router_passing.proofs.Seen.{by_test}
 
 -- an address isn't below another
@@ -85,19 +83,20 @@ pub record Has {X : Type 0} (f : ℕ → Option X) (n : ℕ) : Type 0 where
   pub below : number < n + 1
   pub has : is_some (f number) ≡ true
 
+empty_end : {X : Type 0} (xs : List (ℕ × X)) → xs ++ [] ≡ xs
+empty_end [] = refl
+empty_end (x ∷ xs) = ap (λ ys. x ∷ ys) (empty_end xs)
+
+has_more : {X : Type 0} (f : ℕ → Option X) (n : ℕ) → Has f n → Has f (suc n)
+has_more f n there = record { number = there.number; below = (let l : there.number < n + 1 = there.below in let g : there.number < suc n + 1 = omega (arith, l) in g); has = there.has }
+
+listed_by : {X : Type 0} (f : ℕ → Option X) (n : ℕ) (v : Option X) → f (suc n) ≡ v → (0 < length (listed f n) → Has f n) → 0 < length (listed f n ++ entry (suc n) v) → Has f (suc n)
+listed_by f n None is rest some = has_more f n (rest (subst (λ xs. 0 < length xs) (empty_end (listed f n)) some))
+listed_by f n (Some x) is rest some = record { number = suc n; below = omega arith; has = ap is_some is }
+
 listed_has : {X : Type 0} (f : ℕ → Option X) (n : ℕ) → 0 < length (listed f n) → Has f n
 listed_has f zero some = absurd (omega (arith, some))
-listed_has {X = X} f (suc n) some = by_entry (f (suc n)) refl some
-  where
-    empty_end : (xs : List (ℕ × X)) → xs ++ [] ≡ xs
-    empty_end [] = refl
-    empty_end (x ∷ xs) = ap (λ ys. x ∷ ys) (empty_end xs)
-
-    by_entry : (v : Option X) → f (suc n) ≡ v → 0 < length (listed f n ++ entry (suc n) v) → Has f (suc n)
-    by_entry None is some =
-        let there : Has f n = listed_has f n (subst (λ xs. 0 < length xs) (empty_end (listed f n)) some) in
-        record { number = there.number; below = (let l : there.number < n + 1 = there.below in let g : there.number < suc n + 1 = omega (arith, l) in g); has = there.has }
-    by_entry (Some x) is some = record { number = suc n; below = omega arith; has = ap is_some is }
+listed_has f (suc n) some = listed_by f n (f (suc n)) refl (listed_has f n) some
 
 -- where something is granted there is a producer
 gains_some : {X : Type 0} (amount : ℕ → ℕ) (links : List (ℕ × X)) → 0 < length (gains amount (keys_of links)) → 0 < length links
@@ -147,7 +146,16 @@ unfolding grants
 grants_are t q sums is some none =
     let filled : 0 < length (grants_of (pool_of t q)) = subst (λ n. 0 < n) (sym (length_by_id sums) ∙ ap length is) some in
     let one : Has (λ n. demand_at q (figure t n)) (attachments t) = listed_has (λ n. demand_at q (figure t n)) (attachments t)
-        (gains_some (gain (pool_of t q) (all_granted (pool_of t q))) (pool_of t q).producers filled) in
+    (gains_some (gain (pool_of t q) (all_granted (pool_of t q))) (pool_of t q).producers filled) in
     ap (grants_on t) is
     ∙ sym (ap (grants_of_address t) (lowest_is (attachments t + 1) (λ n. wants t (figure t n)) q one.number (λ k. wants_not t q (figure t k) none) one.below
-        (wants_is t q (figure t one.number) one.has filled)))
+    (wants_is t q (figure t one.number) one.has filled)))
+
+-- what is told of an answer where there is none, and where there is one
+pub at_none : {A : Type 0} {P : Type 0} (r : Option A) → r ≡ None → IfNone r P → P
+at_none None e p = p
+at_none (Some x) e p = absurd cc
+
+pub at_some : {A : Type 0} (P : A → Type 0) (r : Option A) (a : A) → r ≡ Some a → IfSome r P → P a
+at_some P None a e p = absurd cc
+at_some {A = A} P (Some x) a e p = subst P (ap (λ (v : Option A). unwrap_or v x) e) p

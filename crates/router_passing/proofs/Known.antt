@@ -1,36 +1,38 @@
 -- What the pools know of the links, behind a change of the tables.
-use Rattle.std.proofs.Common.{◌≡◌, ◌∙◌, ◌+◌, ◌<◌, ◌≤◌, ℕ, zero, suc, Bool, true, false, true≢false, refl, sym, ap, subst, Option, Some, None, List, [], ◌∷◌, arith}
+use Rattle.std.proofs.Common.{◌≡◌, ◌∙◌, ◌+◌, ℕ, zero, suc, Bool, false, refl, sym, ap, subst, Option, Some, None, List, ◌∷◌, arith}
 use Rattle.std.specs.Prelude.{◌==◌, if◌then◌else◌, option_map}
 use Rattle.std.specs.Ordering.{nat_cmp}
 use Rattle.std.specs.BTreeMap.{get}
 use Rattle.std.proofs.lemmas.Bool.{eq-eqb}
 use Rattle.amqp_frames.specs.declared.item.Item.{Item}
+use Rattle.amqp_frames.specs.declared.item.Item.TheVariants as item
 use Rattle.book_core.specs.Keys.{key_cmp}
 use Rattle.router_trace.specs.declared.event.Event.{Event}
 use Rattle.router_trace.specs.declared.handle.Attachment.{Attachment}
 use Rattle.router_trace.specs.Links.{if_attached, last_of_key, numbered}
-use Rattle.router_trace.specs.Trace.{Trace, Did, Out, Took, Bound, did}
+use Rattle.router_trace.specs.Trace.{Trace, Out, Bound, did}
 use Rattle.router_trace.specs.declared.binding.Binding.{Binding}
+use Rattle.router_trace.specs.declared.binding.Origin.{Origin}
 use Rattle.router_trace.specs.Numbers.{count_below}
 use Rattle.router_trace.specs.Deliveries.{Delivery, bindings, delivery, waits_on, undecided_on, held_from}
 use Rattle.router_deliveries.specs.declared.deliveries.Deliveries.{Deliveries}
 use Rattle.router_deliveries.specs.declared.claims.Claims.{Claims}
 use Rattle.router_deliveries.specs.Claiming.{ClaimsFit}
 use Rattle.router_deliveries.specs.Finding.{count_deliveries}
-use Rattle.router_deliveries.specs.Fits.{DeliveriesFit}
+use Rattle.router_deliveries.specs.Fits.{DeliveriesFit, channel_of as of_deliveries}
 use Rattle.router_deliveries.specs.Touching as deliveries
 use Rattle.router_deliveries.proofs.Numbers.{none_beyond}
 use Rattle.router_links.specs.declared.links.Links.{Links}
-use Rattle.router_links.specs.Fits.{LinksFit}
+use Rattle.router_links.specs.Fits.{LinksFit, channel_of as of_links}
 use Rattle.router_links.specs.Naming.{Remembers}
 use Rattle.router_links.specs.Touching as links
 use Rattle.router_pools.specs.declared.pools.Pools.{Pools}
-use Rattle.router_pools.specs.Fits.{Fits, PoolsFit, is_touched}
+use Rattle.router_pools.specs.Fits.{PoolsFit}
 use Rattle.router_pools.specs.Sharing.{Figure, demand_at, offer_at}
 use Rattle.router_passing.specs.declared.passing.Passing.{Passing}
 use Rattle.router_passing.specs.Figures.{figure}
 use Rattle.router_passing.specs.Fits.{IsTold, NotedFit, PassingFit, PoolsKnow, Untouched}
-use Rattle.router_passing.specs.Passing.{last_behind, last_chosen}
+use Rattle.router_passing.specs.Passing.{binding_to, last_behind, last_chosen, with_bound}
 use Rattle.router_passing.proofs.Seen.{by_test, figure_same}
 
 -- Other functions that say the same serve the pools as well.
@@ -173,3 +175,13 @@ bound_fits s u b t pools same claimed stand other old =
     (subst (λ l. LinksFit l (Bound b ∷ t)) (sym same) (links_bound s.links b t old.links)) stand (subst (λ l. ClaimsFit l (Bound b ∷ t)) (sym claimed) (claims_bound s.claims b t old.claims))
     (subst (λ l. links.Touches s.links l) (sym same) (record { before = λ k e. e; links = λ k e c o h. refl; numbers = λ k e. refl }))
     other (bound_counts b t) (λ a. refl) old
+
+-- both tables read the same channel of an item
+pub channel_same : (i : Item) → of_links i ≡ of_deliveries i
+channel_same (item.Frame sasl channel body payload) = refl
+channel_same _ = refl
+
+-- a message that is bound to the consumer that is chosen
+pub passed : (u : Passing) (t : Trace) (a : Attachment) (origin : Option Origin) (format : ℕ) (payload : List ℕ) (chosen : Option Attachment) → Some a ≡ chosen
+    → PassingFit u (Bound (binding_to origin format payload a) ∷ t) → PassingFit u (with_bound (option_map (binding_to origin format payload) chosen) t)
+passed u t a origin format payload chosen is fit = subst (λ v. PassingFit u (with_bound (option_map (binding_to origin format payload) v) t)) is fit

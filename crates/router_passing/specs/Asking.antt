@@ -1,12 +1,11 @@
 -- What the tables are asked of what follows an event's rows.
-use Rattle.std.specs.Prelude.{ℕ, ◌+◌, ◌%◌, ◌^◌, Bool, true, false, ◌&&◌, ◌==◌, nat_lt, is_some, Option, Some, None}
+use Rattle.std.specs.Prelude.{ℕ, ◌+◌, ◌%◌, ◌^◌, Bool, true, false, ◌&&◌, ◌||◌, ◌==◌, nat_lt, is_some, if◌then◌else◌, List, [], ◌∷◌, Option, Some, None}
 use Rattle.amqp_link.specs.Credit as credit
 use Rattle.router_trace.specs.declared.frames.LinkState.{LinkState}
 use Rattle.router_trace.specs.declared.handle.Attachment.{Attachment}
 use Rattle.router_trace.specs.Trace.{Trace}
 use Rattle.router_trace.specs.Links.{Link, Happened, sends, receives, numbered}
-use Rattle.router_trace.specs.Deliveries.{delivery}
-use Rattle.router_trace.specs.Following.{link_of, first_delivery, is_unsent_on, owes_one}
+use Rattle.router_trace.specs.Following.{link_of, first_delivery, is_unsent_on, owes_one, is_going_on}
 
 -- a number is above another, if there is one
 abbrev pub is_above : Option ℕ → ℕ → Bool
@@ -39,7 +38,20 @@ abbrev pub drained_state : ℕ → Option Link → Option LinkState
 drained_state h None = None
 drained_state h (Some l) = drained_by h l.happened
 
+-- one of the deliveries of these numbers goes on on a session
+abbrev pub some_go_on : Trace → ℕ → ℕ → List ℕ → Bool
+some_go_on t c o [] = false
+some_go_on t c o (n ∷ ns) = is_going_on t c o n (delivery t n) || some_go_on t c o ns
+
 -- a number is below another, if there is one
 abbrev pub is_below : Option ℕ → ℕ → Bool
 is_below None n = true
 is_below (Some m) n = nat_lt n m
+
+-- the lowest number of these attachments above another
+abbrev pub lower_number : Option ℕ → Option ℕ → ℕ → Option ℕ
+lower_number above lowest n = if is_above above n && is_below lowest n then Some n else lowest
+
+abbrev pub lowest_of : Option ℕ → Option ℕ → List Attachment → Option ℕ
+lowest_of above lowest [] = lowest
+lowest_of above lowest (a ∷ as) = lowest_of above (lower_number above lowest a.number) as

@@ -1,125 +1,93 @@
-//! What the tables are asked of what follows an event's rows.
-ghost use Rattle.std.specs.Prelude.{◌≡◌, ◌&&◌, ℕ, List, IfOk};
+//! What is asked of the links of attachments.
+ghost use Rattle.std.specs.Prelude.{◌≡◌, List, Some};
 ghost use Rattle.router_trace.specs.Trace.{Entry};
-ghost use Rattle.router_trace.specs.Links.{is_attached};
-ghost use Rattle.router_trace.specs.Deliveries.{delivery};
-ghost use Rattle.router_trace.specs.Following.{link_of, is_busy, is_going_on, takes_more};
-ghost use Rattle.router_deliveries.specs.Finding.{IsFirst};
-ghost use Rattle.router_passing.specs.Asking.{is_above, is_below, goes_on, owes_drain, drained_state};
+ghost use Rattle.router_trace.specs.Links.{Link as View, has_number, is_attached};
+ghost use Rattle.router_trace.specs.Following.{link_of, takes_more};
+ghost use Rattle.router_links.specs.Ends.{link_of as link_of_view};
+ghost use Rattle.router_passing.specs.Asking.{drained_by, drained_state, goes_on};
 ghost use Rattle.router_passing.specs.Fits.{PassingFit};
 
 use crate::passing::Passing;
+use router_links::Link;
 use router_trace::{Attachment, LinkState};
-use std::alloc::AllocError;
 
 impl Passing {
-    /// Whether an attachment still has its link.
-    pub fn is_attached(&self, at: Attachment) -> bool
-        ensures { (t : List Entry) → PassingFit self.now t → result ≡ is_attached t at }
-    {
-        match self.links.link(at) {
-            None => false,
-            Some(link) => link.number == at.number,
-        }
-    }
-
-    /// Whether an attachment's link has credit left and no delivery that has begun.
+    /// Whether the link of an attachment takes a delivery that waits: it is attached, none goes on there, and the peer granted credit.
     pub fn takes_more(&self, at: Attachment) -> bool
         ensures { (t : List Entry) → PassingFit self.now t → result ≡ takes_more (link_of t at) at.number }
     {
         match self.links.link(at) {
             None => false,
-            Some(link) => link.number == at.number && (!link.going_on && link.credit() > 0),
+            Some(link) => link_takes_more(link, at.number),
         }
     }
 
-    /// Whether the router has begun a delivery on an attachment's link, of which more frames are to go.
+    /// Whether a delivery goes on at the link of an attachment.
     pub fn goes_on(&self, at: Attachment) -> bool
         ensures { (t : List Entry) → PassingFit self.now t → result ≡ goes_on (link_of t at) at.number }
     {
         match self.links.link(at) {
             None => false,
-            Some(link) => link.number == at.number && link.going_on,
+            Some(link) => link_goes_on(link, at.number),
         }
     }
 
-    /// What tells the drain of an attachment's link: the count ahead by the credit left, and no credit.
+    /// What tells a drain at the place of an attachment, where the router sends there.
     pub fn drained(&self, at: Attachment) -> Option<LinkState>
         ensures { (t : List Entry) → PassingFit self.now t → result ≡ drained_state at.handle (link_of t at) }
     {
-        let link = self.links.link(at)?;
-        if !link.is_consumer() {
-            return None;
+        match self.links.link(at) {
+            None => None,
+            Some(link) => link_drained(link, at.handle),
         }
-        Some(LinkState {
-            handle: at.handle,
-            count: link.count().plus(link.credit()),
+    }
+
+    /// Whether an attachment has its link.
+    pub fn is_attached(&self, at: Attachment) -> bool
+        ensures { (t : List Entry) → PassingFit self.now t → result ≡ is_attached t at }
+    {
+        match self.links.link(at) {
+            None => false,
+            Some(link) => link_has(link, at.number),
+        }
+    }
+}
+
+/// Whether a link of this number takes a delivery that waits.
+#[tactic(auto, using(crate::proofs::Asked::takes_is))]
+fn link_takes_more(link: &Link, number: u64) -> bool
+    ensures { (l : View) → link.now ≡ link_of_view l → result ≡ takes_more (Some l) number }
+{
+    link.number == number && !link.going_on && link.credit() > 0
+}
+
+/// Whether a delivery goes on at a link of this number.
+fn link_goes_on(link: &Link, number: u64) -> bool
+    ensures { (l : View) → link.now ≡ link_of_view l → result ≡ goes_on (Some l) number }
+{
+    link.number == number && link.going_on
+}
+
+/// What tells a drain of a link on this handle.
+#[tactic(auto, using(crate::proofs::Asked::drained_is, crate::proofs::Asked::drained_not))]
+fn link_drained(link: &Link, handle: u32) -> Option<LinkState>
+    ensures { (l : View) → link.now ≡ link_of_view l → result ≡ drained_by handle l.happened }
+{
+    if link.is_consumer() {
+        let count = link.count().plus(link.credit());
+        return Some(LinkState {
+            handle,
+            count,
             credit: 0,
             drain: true,
-        })
+        });
     }
-
-    /// Whether a delivery goes on on a session: it has begun, and more frames of it are to go.
-    pub fn is_busy(&self, conn: u64, own: u16) -> Result<bool, AllocError>
-        ensures { IfOk result (λ busy. (t : List Entry) → PassingFit self.now t → busy ≡ is_busy t conn own) }
-    {
-        let numbers = self.deliveries.sending_on(conn, own)?;
-        for number in &numbers {
-            if self.is_going_on(conn, own, *number) {
-                return Ok(true);
-            }
-        }
-        Ok(false)
-    }
-
-    /// Whether the delivery of a number goes on on a session.
-    fn is_going_on(&self, conn: u64, own: u16, number: u64) -> bool
-        ensures { (t : List Entry) → PassingFit self.now t → result ≡ is_going_on t conn own number (delivery t number) }
-    {
-        let Some(delivery) = self.deliveries.delivery(number) else {
-            return false;
-        };
-        let at = delivery.link;
-        if at.conn.0 != conn || at.channel != own {
-            return false;
-        }
-        if delivery.id.is_none() || !delivery.going_on {
-            return false;
-        }
-        self.goes_on(at) && self.deliveries.sending(conn, own, at.handle) == Some(number)
-    }
-
-    /// The lowest number above another of an attachment whose link owes a drain.
-    pub fn owing_behind(&self, number: Option<u64>) -> Result<Option<u64>, AllocError>
-        ensures { IfOk result (λ owing. (t : List Entry) → PassingFit self.now t → IsFirst (λ n. is_above number n && owes_drain t n) owing) }
-    {
-        let owed = self.links.owed()?;
-        let mut lowest: Option<u64> = None;
-        for at in &owed {
-            if is_above(number, at.number) && is_below(lowest, at.number) {
-                lowest = Some(at.number);
-            }
-        }
-        Ok(lowest)
-    }
+    None
 }
 
-/// A number is above another, if there is one.
-fn is_above(other: Option<u64>, number: u64) -> bool
-    ensures { result ≡ is_above other number }
+/// Whether a link has this number.
+fn link_has(link: &Link, number: u64) -> bool
+    ensures { (l : View) → link.now ≡ link_of_view l → result ≡ has_number number (Some l) }
 {
-    match other {
-        None => true,
-        Some(other) => other < number,
-    }
-}
-
-/// A number is below another, if there is one.
-fn is_below(other: Option<u64>, number: u64) -> bool
-    ensures { result ≡ is_below other number }
-{
-    match other {
-        None => true,
-        Some(other) => number < other,
-    }
+    link.number == number
 }

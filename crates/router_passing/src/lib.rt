@@ -2,10 +2,12 @@
 #![tactic(auto)]
 
 mod asking;
+mod busy;
 mod figures;
 mod grant;
 mod granting;
 mod hearing;
+mod owing;
 mod passing;
 
 pub use grant::LinkGrant;

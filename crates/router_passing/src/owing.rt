@@ -1,0 +1,53 @@
+//! Links that owe a drain.
+ghost use Rattle.std.specs.Prelude.{◌≡◌, ◌&&◌, ℕ, List, None, IfOk};
+ghost use Rattle.router_trace.specs.Trace.{Entry};
+ghost use Rattle.router_deliveries.specs.Finding.{IsFirst};
+ghost use Rattle.router_passing.specs.Asking.{is_above, is_below, owes_drain, lowest_of};
+ghost use Rattle.router_passing.specs.Fits.{PassingFit};
+
+use crate::passing::Passing;
+use router_trace::Attachment;
+use std::alloc::AllocError;
+
+impl Passing {
+    /// The lowest number above another of an attachment whose link owes a drain.
+    pub fn owing_behind(&self, number: Option<u64>) -> Result<Option<u64>, AllocError>
+        ensures { IfOk result (λ owing. (t : List Entry) → PassingFit self.now t → IsFirst (λ n. is_above number n && owes_drain t n) owing) }
+    {
+        let owed = self.links.owed()?;
+        Ok(lowest_above(number, owed.as_slice()))
+    }
+}
+
+/// The lowest number of these attachments above another.
+fn lowest_above(number: Option<u64>, places: &[Attachment]) -> Option<u64>
+    ensures { result ≡ lowest_of number None places.now }
+{
+    let mut lowest: Option<u64> = None;
+    for at in places {
+        if is_above(number, at.number) && is_below(lowest, at.number) {
+            lowest = Some(at.number);
+        }
+    }
+    lowest
+}
+
+/// A number is above another, if there is one.
+fn is_above(other: Option<u64>, number: u64) -> bool
+    ensures { result ≡ is_above other number }
+{
+    match other {
+        None => true,
+        Some(other) => other < number,
+    }
+}
+
+/// A number is below another, if there is one.
+fn is_below(other: Option<u64>, number: u64) -> bool
+    ensures { result ≡ is_below other number }
+{
+    match other {
+        None => true,
+        Some(other) => number < other,
+    }
+}
