@@ -6,3 +6,5 @@ pub mod Granted
 pub mod Telling
 pub mod Asked
 pub mod Taken
+pub mod Going
+pub mod Owed

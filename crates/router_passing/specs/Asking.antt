@@ -5,6 +5,7 @@ use Rattle.router_trace.specs.declared.frames.LinkState.{LinkState}
 use Rattle.router_trace.specs.declared.handle.Attachment.{Attachment}
 use Rattle.router_trace.specs.Trace.{Trace}
 use Rattle.router_trace.specs.Links.{Link, Happened, sends, receives, numbered}
+use Rattle.router_trace.specs.Deliveries.{delivery}
 use Rattle.router_trace.specs.Following.{link_of, first_delivery, is_unsent_on, owes_one, is_going_on}
 
 -- a number is above another, if there is one
@@ -54,4 +55,4 @@ lower_number above lowest n = if is_above above n && is_below lowest n then Some
 
 abbrev pub lowest_of : Option ℕ → Option ℕ → List Attachment → Option ℕ
 lowest_of above lowest [] = lowest
-lowest_of above lowest (a ∷ as) = lowest_of above (lower_number above lowest a.number) as
+lowest_of above lowest (a ∷ others) = lowest_of above (lower_number above lowest a.number) others
