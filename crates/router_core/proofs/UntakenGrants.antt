@@ -3,10 +3,9 @@ use Rattle.std.proofs.Common.{◌≡◌, ◌∙◌, refl, ℕ, ◌+◌, ◌==◌
 use Rattle.std.specs.Prelude.{Option, Some, None, if◌then◌else◌}
 use Rattle.amqp_link.specs.Credit as credit
 use Rattle.route_credit.specs.Granting.{choice, grants_of}
-use Rattle.route_credit.specs.Pool.{Sharing}
 use Rattle.router_pools.specs.Sharing.{Figure, consumer, producer, sharing}
 use Rattle.router_trace.specs.declared.handle.Attachment.{Attachment}
-use Rattle.router_trace.specs.Trace.{Entry, Put, Did, Out, Took, Bound}
+use Rattle.router_trace.specs.Trace.{Entry, Did, Out, Took, Bound}
 use Rattle.router_trace.specs.Links.{Link, Happened, sends, receives, numbered, attachments}
 use Rattle.router_trace.specs.Deliveries.{waits_on, undecided_on, held_from}
 use Rattle.router_trace.specs.Following.{link_of}
@@ -77,8 +76,8 @@ same_grants_on t (sum ∷ sums) =
 
 same_wants_of : (t : List Entry) (v : Option Figure) → wants t v ≡ wants (untaken t) v
 same_wants_of t None = refl
-same_wants_of t (Some (consumer address free undecided)) = refl
-same_wants_of t (Some (producer address unused held)) = λ j. if_some (grants_of (same_pool t address j)) address
+same_wants_of t (Some (consumer address free pending)) = refl
+same_wants_of t (Some (producer address unused kept)) = λ j. if_some (grants_of (same_pool t address j)) address
 
 same_wants : (t : List Entry) (n : ℕ) → wants t (figure t n) ≡ wants (untaken t) (figure (untaken t) n)
 same_wants t n = (λ j. wants t (same_figure t n j)) ∙ same_wants_of t (figure (untaken t) n)
