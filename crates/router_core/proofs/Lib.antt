@@ -24,8 +24,9 @@ pub mod Kept
 pub mod Starting
 pub mod Untaken
 pub mod UntakenLinks
-pub mod UntakenGrants
 pub mod UntakenDeliveries
+pub mod UntakenGrants
+pub mod UntakenPassed
 pub mod UntakenRows
 pub mod Plain
 pub mod Takes

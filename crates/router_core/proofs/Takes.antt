@@ -18,7 +18,7 @@ use Rattle.router_core.specs.Runs.{took_one}
 use Rattle.router_core.specs.Moves.{Move, handles, takes, Goes, outs}
 use Rattle.router_core.specs.Laws.{untaken, events_of, NeverFull}
 use Rattle.router_core.proofs.Untaken.{untaken_goes, same_outs, same_beats, same_windows}
-use Rattle.router_core.proofs.UntakenDeliveries.{untaken_bound, same_passed}
+use Rattle.router_core.proofs.UntakenPassed.{untaken_bound, same_passed}
 use Rattle.router_core.proofs.UntakenRows.{same_item_row, same_item_bound}
 use Rattle.router_core.proofs.Following.{passed_on, each_keeps, all_keep}
 use Rattle.router_core.proofs.Plain.{plain, plain_live, Calm, calm_goes, none_due, same_live, stood_found, live_found}

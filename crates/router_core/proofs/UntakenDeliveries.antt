@@ -1,23 +1,18 @@
--- What takes leave as it is: a trace without its takes says the same of deliveries, and what follows an event's rows is the same.
+-- What takes leave as it is: a trace without its takes says the same of deliveries, and so do the sends and drains that are due.
 use Rattle.std.proofs.Common.{◌≡◌, ◌∙◌, ap, refl, ℕ, ◌+◌, not, ◌&&◌, ◌||◌, List, [], ◌∷◌, ◌==◌}
 use Rattle.std.specs.Prelude.{Bool, Option, Some, None, is_none, is_some, option_and_then, if◌then◌else◌}
-use Rattle.router_trace.specs.declared.binding.Binding.{Binding}
 use Rattle.router_trace.specs.declared.binding.Origin.{Origin}
 use Rattle.router_trace.specs.declared.handle.Attachment.{Attachment}
-use Rattle.router_trace.specs.Trace.{Entry, Did, Out, Took, Bound, Put, goes}
+use Rattle.router_trace.specs.Trace.{Entry, Did, Out, Took, Bound}
 use Rattle.router_trace.specs.Links.{is_lost, has_number, attachments, newest_by, numbered}
 use Rattle.router_trace.specs.Deliveries.{Delivery, bindings, delivery, bound, unless_over, behind_event, behind_put, sending_by, sending, named_by, named, next_id_by, next_id, stands_on}
 use Rattle.router_trace.specs.DeliveryFrames.{next_frame, largest_out, rest_of, first_transfer, later_transfer}
 use Rattle.router_trace.specs.Claims.{Claim, claim_at, claim_behind, claims}
 use Rattle.router_trace.specs.Numbers.{Placed, first_below, first_placed}
 use Rattle.router_trace.specs.Following.{is_still_attached, is_to_be_told, tell, tells_of, tells, goes_on_at, is_going, takes_more, is_going_on, is_busy, is_open, is_used, can_start, is_wide, is_there, can_go, place_to_go, send, send_of, sends_due, is_unsent_on, owes_one, place_drained, drain_on, drain_by, drains_due}
-use Rattle.router_passing.specs.Passing.{grants_due, with_bound}
-use Rattle.router_after.specs.After.{told, sent, drained}
 use Rattle.router_core.specs.Laws.{untaken}
-use Rattle.router_core.proofs.Following.{due_alike, passed_on}
-use Rattle.router_core.proofs.Untaken.{untaken_goes, same_theirs, same_session}
+use Rattle.router_core.proofs.Untaken.{same_theirs, same_session}
 use Rattle.router_core.proofs.UntakenLinks.{same_largest, same_attachments, same_link, same_handle}
-use Rattle.router_core.proofs.UntakenGrants.{same_grants}
 
 -- deliveries
 
@@ -175,23 +170,3 @@ same_drains t =
   where
     places : (n : ℕ) → place_drained t n (numbered t n) ≡ place_drained (untaken t) n (numbered (untaken t) n)
     places n = ap (place_drained t n) (same_numbered t n) ∙ same_place_drained t n (numbered (untaken t) n)
-
--- all that follows, before windows are told anew
-
-pub untaken_bound : (b : Option Binding) (t : List Entry) → untaken (with_bound b t) ≡ with_bound b (untaken t)
-untaken_bound None t = refl
-untaken_bound (Some b) t = refl
-
-abbrev IsUntaken : List Entry → List Entry → Type 0
-IsUntaken t u = untaken t ≡ u
-
-same_step : (next : List Entry → List Put) → ((t : List Entry) → next t ≡ next (untaken t)) → (t u : List Entry) → untaken t ≡ u
-    → untaken (goes (next t) t) ≡ goes (next u) u
-same_step next same t u e = untaken_goes (next t) t ∙ ap (λ (ps : List Put). goes ps (untaken t)) (same t) ∙ ap (λ (x : List Entry). goes (next x) x) e
-
-pub same_passed : (t u : List Entry) → untaken t ≡ u → untaken (passed_on t) ≡ passed_on u
-same_passed t u e =
-    due_alike grants_due grants_due IsUntaken (same_step grants_due same_grants) (drained (sent (told t))) (drained (sent (told u)))
-    (due_alike drains_due drains_due IsUntaken (same_step drains_due same_drains) (sent (told t)) (sent (told u))
-    (due_alike sends_due sends_due IsUntaken (same_step sends_due same_sends) (told t) (told u)
-    (due_alike tells tells IsUntaken (same_step tells same_tells) t u e)))
