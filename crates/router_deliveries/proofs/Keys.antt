@@ -7,7 +7,7 @@ use Rattle.std.specs.BTreeMap.{is_at}
 use Rattle.std.specs.BTreeSet.{BTreeSet, contains}
 use Rattle.std.proofs.lemmas.Bool.Decides.{nat_tests}
 use Rattle.std.proofs.lemmas.List.Folds.{list_any-append}
-use Rattle.amqp_session.specs.Ranges.{has}
+use Rattle.amqp_session.specs.Ranges.{has, in_range}
 use Rattle.amqp_perf.specs.declared.state.DeliveryState.{DeliveryState}
 use Rattle.router_trace.specs.declared.binding.Origin.{Origin}
 use Rattle.router_trace.specs.declared.handle.Attachment.{Attachment}
@@ -16,8 +16,8 @@ use Rattle.router_deliveries.specs.declared.change.Change.{Change}
 use Rattle.router_deliveries.specs.declared.change.Change.TheVariants as change
 use Rattle.router_deliveries.specs.declared.change.Gone.{Gone}
 use Rattle.router_deliveries.specs.declared.change.Gone.TheVariants as gone
-use Rattle.router_deliveries.specs.Indexing.{standing, conn_of, conn_of_gone, on_link}
-use Rattle.router_deliveries.specs.Stepping.{is_gone, comes_with_id, is_decided_by, is_in, changed, behind, IsKept}
+use Rattle.router_deliveries.specs.Indexing.{standing, conn_of, conn_of_gone, on_link, comes_from}
+use Rattle.router_deliveries.specs.Stepping.{is_gone, comes_with_id, is_decided_by, is_in, changed, behind, IsKept, IsUnmoved}
 
 same_test : (a b : ℕ) → is_at (nat_cmp a) b ≡ (a == b)
 same_test a b = grind (arith, nat_tests)
@@ -89,11 +89,42 @@ changes_nothing (change.Ends g) d e f = ends_nothing g d e f
 changes_nothing (change.Untold c o first last) d e f = ap (λ b. if b then untold d else d) (untells_nothing d.origin c o first last f)
 changes_nothing (change.Decided c o first last made) d e f = ap (λ b. if b then record d { outcome = Some made } else d) (decides_nothing d c o first last e)
 
--- what is done to those of a connection is done to all
-pub where_stands : (x : Change) (b on from : Bool) (old new : Option Delivery) → new ≡ (if b then behind x old else old) → b ≡ (on || from)
-    → on ≡ is_number (standing old).on_conn (conn_of x) → from ≡ is_number (standing old).from_conn (conn_of x) → IsKept old → new ≡ behind x old
-where_stands x true on from old new is any o f keeps = is
-where_stands x false on from None new is any o f keeps = is
-where_stands x false true from (Some d) new is any o f keeps = absurd cc
-where_stands x false false true (Some d) new is any o f keeps = absurd cc
-where_stands x false false false (Some d) new is any o f keeps = is ∙ sym keeps ∙ ap unless_over (sym (changes_nothing x d (sym o) (sym f)))
+-- what isn't of a connection stays as it is
+pub unmoved_elsewhere : (x : Change) (v : Option Delivery) (on from : Bool) → (on || from) ≡ false → on ≡ is_number (standing v).on_conn (conn_of x) → from ≡ is_number (standing v).from_conn (conn_of x)
+    → IsUnmoved x v
+unmoved_elsewhere x None on from none o f = tt
+unmoved_elsewhere x (Some d) true from none o f = absurd cc
+unmoved_elsewhere x (Some d) false true none o f = absurd cc
+unmoved_elsewhere x (Some d) false false none o f = changes_nothing x d (sym o) (sym f)
+
+-- nor does what has no id of a range
+pub unmoved_without : (v : Option Delivery) (c o first last : ℕ) → ((id : ℕ) → in_range first last id ≡ true → comes_from (standing v).origin c o id ≡ false)
+    → IsUnmoved (change.Untold c o first last) v
+unmoved_without None c o first last none = tt
+unmoved_without (Some d) c o first last none = ap (λ b. if b then untold d else d) (by_origin d.origin none)
+  where
+    by_tests : (p : Origin) (h w r : Bool) → (p.link.conn.0 == c) ≡ h → (p.link.channel == o) ≡ w → in_range first last p.id ≡ r
+        → ((id : ℕ) → in_range first last id ≡ true → comes_from (Some p) c o id ≡ false) → (stands_on p.link c o && in_range first last p.id) ≡ false
+    by_tests p true true true e f g none =
+        let wrong : true ≡ false = sym (ap (λ b. if b then (if p.link.channel == o then p.id == p.id else false) else false) e ∙ ap (λ b. if b then p.id == p.id else false) f ∙ itself p.id) ∙ none p.id g in
+        absurd cc
+      where
+        itself : (n : ℕ) → (n == n) ≡ true
+        itself n = grind (arith, nat_tests)
+    by_tests p true true false e f g none = ap (λ b. stands_on p.link c o && b) g ∙ never (stands_on p.link c o)
+      where
+        never : (b : Bool) → (b && false) ≡ false
+        never true = refl
+        never false = refl
+    by_tests p true false r e f g none = ap (λ b. (b && (p.link.channel == o)) && in_range first last p.id) e ∙ ap (λ b. b && in_range first last p.id) f
+    by_tests p false w r e f g none = ap (λ b. (b && (p.link.channel == o)) && in_range first last p.id) e
+
+    by_origin : (v : Option Origin) → ((id : ℕ) → in_range first last id ≡ true → comes_from v c o id ≡ false) → comes_with_id v c o first last ≡ false
+    by_origin None none = refl
+    by_origin (Some p) none = by_tests p (p.link.conn.0 == c) (p.link.channel == o) (in_range first last p.id) refl refl refl none
+
+-- what is done to those that it moves is done to all
+pub all_moved : (x : Change) (b : Bool) (old new : Option Delivery) → new ≡ (if b then behind x old else old) → (b ≡ false → IsUnmoved x old) → IsKept old → new ≡ behind x old
+all_moved x true old new is unmoved keeps = is
+all_moved x false None new is unmoved keeps = is
+all_moved x false (Some d) new is unmoved keeps = is ∙ sym keeps ∙ ap unless_over (sym (unmoved refl))

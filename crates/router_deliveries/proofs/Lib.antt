@@ -17,3 +17,4 @@ mod Ranges
 mod Opened
 pub mod Listed
 mod Marked
+mod FromIds

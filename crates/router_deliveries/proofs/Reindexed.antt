@@ -5,7 +5,7 @@ use Rattle.std.proofs.lemmas.Bool.{eqb-true}
 use Rattle.router_trace.specs.Deliveries.{Delivery, is_number}
 use Rattle.router_deliveries.specs.declared.index.Index.{Index}
 use Rattle.router_deliveries.specs.declared.index.Keys.{Keys}
-use Rattle.router_deliveries.specs.Indexing.{Indexes, standing}
+use Rattle.router_deliveries.specs.Indexing.{Indexes, comes_from, standing}
 
 pub indexes_same : (s : Index) (f g : ℕ → Keys) → ((n : ℕ) → f n ≡ g n) → Indexes s f → Indexes s g
 indexes_same s f g same x = record {
@@ -16,6 +16,8 @@ indexes_same s f g same x = record {
   to_tell = λ n. x.to_tell n ∙ ap (λ (q : Keys). q.to_tell) (same n);
   on_conn = λ k n. x.on_conn k n ∙ ap (λ (q : Keys). is_number q.on_conn k) (same n);
   from_conn = λ k n. x.from_conn k n ∙ ap (λ (q : Keys). is_number q.from_conn k) (same n);
+  origins = λ c o id n. x.origins c o id n ∙ ap (λ (q : Keys). comes_from q.origin c o id) (same n);
+  small = x.small;
 }
 
 -- one delivery was taken out, changed and put back

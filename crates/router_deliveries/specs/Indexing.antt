@@ -1,5 +1,5 @@
 -- Deliveries found by what is asked of them: the indexes of a table.
-use Rattle.std.specs.Prelude.{◌≡◌, ℕ, Bool, false, not, ◌&&◌, ◌||◌, option_map, if◌then◌else◌, is_none, is_some, Option, Some, None}
+use Rattle.std.specs.Prelude.{◌≡◌, ◌==◌, ◌<◌, ◌^◌, ℕ, Bool, false, not, ◌&&◌, ◌||◌, option_map, if◌then◌else◌, is_none, is_some, Option, Some, None}
 use Rattle.std.specs.Ordering.{nat_cmp}
 use Rattle.std.specs.BTreeMap.{get}
 use Rattle.std.specs.BTreeSet.{BTreeSet, contains}
@@ -12,6 +12,8 @@ use Rattle.router_deliveries.specs.declared.change.Gone.TheVariants as gone
 use Rattle.router_deliveries.specs.declared.groups.Groups.{Groups}
 use Rattle.router_deliveries.specs.declared.index.Index.{Index}
 use Rattle.router_deliveries.specs.declared.index.Keys.{Keys}
+use Rattle.router_deliveries.specs.declared.origins.Origins.{Origins}
+use Rattle.router_deliveries.specs.Places.{at_id}
 
 abbrev pub in_set : Option (BTreeSet ℕ) → ℕ → Bool
 in_set None n = false
@@ -38,14 +40,31 @@ keys d = record {
   to_tell = not (is_none d.outcome) && is_some d.origin;
   on_conn = on_link d.link.conn.0 (d.going_on || is_none d.outcome);
   from_conn = option_map (λ p. p.link.conn.0) d.origin;
+  origin = d.origin;
 }
 
 abbrev pub nowhere : Keys
-nowhere = record { waiting = None; unsent = None; undecided = None; held = None; to_tell = false; on_conn = None; from_conn = None }
+nowhere = record { waiting = None; unsent = None; undecided = None; held = None; to_tell = false; on_conn = None; from_conn = None; origin = None }
 
 abbrev pub standing : Option Delivery → Keys
 standing None = nowhere
 standing (Some d) = keys d
+
+-- a number comes from a session, where its producer gave it this id
+abbrev pub comes_from : Option Origin → ℕ → ℕ → ℕ → Bool
+comes_from None c o id = false
+comes_from (Some p) c o id = if p.link.conn.0 == c then (if p.link.channel == o then p.id == id else false) else false
+
+abbrev pub is_from : Origins → ℕ → ℕ → ℕ → ℕ → Bool
+is_from s c o id n = in_set (at_id s.sets c o id) n
+
+-- ids have 32 bits
+abbrev pub IsSmall : ℕ → Option (BTreeSet ℕ) → Type 0
+IsSmall id None = Unit {0}
+IsSmall id (Some s) = id < 2 ^ 32
+
+abbrev pub AreSmall : (ℕ → ℕ → ℕ → Option (BTreeSet ℕ)) → Type 0
+AreSmall known = (c o id : ℕ) → IsSmall id (known c o id)
 
 -- each number stands where it should
 pub record Indexes (s : Index) (known : ℕ → Keys) : Type 0 where
@@ -56,6 +75,8 @@ pub record Indexes (s : Index) (known : ℕ → Keys) : Type 0 where
   pub to_tell : (n : ℕ) → contains nat_cmp s.to_tell n ≡ (known n).to_tell
   pub on_conn : (k n : ℕ) → in_group s.on_conn k n ≡ is_number (known n).on_conn k
   pub from_conn : (k n : ℕ) → in_group s.from_conn k n ≡ is_number (known n).from_conn k
+  pub origins : (c o id n : ℕ) → is_from s.origins c o id n ≡ comes_from (known n).origin c o id
+  pub small : AreSmall (at_id s.origins.sets)
 
 -- the connection that a change is about
 abbrev pub conn_of_gone : Gone → ℕ

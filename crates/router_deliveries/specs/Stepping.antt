@@ -70,3 +70,8 @@ behind_any (Some x) v = behind x v
 -- a delivery isn't over
 abbrev pub IsKept : Option Delivery → Type 0
 IsKept v = option_and_then unless_over v ≡ v
+
+-- a change does nothing to it
+abbrev pub IsUnmoved : Change → Option Delivery → Type 0
+IsUnmoved x None = Unit {0}
+IsUnmoved x (Some d) = changed x d ≡ d

@@ -95,6 +95,18 @@ impl<V: Drop> BySession<V> {
         }
     }
 
+    /// Takes the value of an id out.
+    pub(crate) fn take(&mut self, conn: u64, own: u16, id: u32) -> Option<V>
+        ensures gives { result ≡ at_id self.old conn own id }
+        ensures gone { (c o q : ℕ) → at_id self.new c o q
+            ≡ (if conn == c then (if own == o then (if id == q then None else at_id self.old c o q) else at_id self.old c o q) else at_id self.old c o q) }
+    {
+        match self.rows.get_mut(&conn) {
+            None => None,
+            Some(sessions) => take_in(sessions, own, id),
+        }
+    }
+
     /// Takes all values of a session away.
     pub(crate) fn end(&mut self, conn: u64, own: u16)
         ensures { (c o q : ℕ) → at_id self.new c o q ≡ (if conn == c then (if own == o then None else at_id self.old c o q) else at_id self.old c o q) }
@@ -141,6 +153,22 @@ fn put<V: Drop>(ids: &mut DeliveryIds<V>, id: u32, value: V) -> Result<(), Alloc
     match ids.insert(Serial::new(id), value) {
         Ok(_) => Ok(()),
         Err(_) => Err(AllocError),
+    }
+}
+
+/// Takes the value of an id of a session out.
+fn take_in<V: Drop>(
+    sessions: &mut BTreeMap<u16, DeliveryIds<V>>,
+    own: u16,
+    id: u32,
+) -> Option<V>
+    ensures gives { result ≡ in_ids (get nat_cmp sessions.old own) id }
+    ensures gone { (o q : ℕ) → in_ids (get nat_cmp sessions.new o) q
+        ≡ (if own == o then (if id == q then None else in_ids (get nat_cmp sessions.old o) q) else in_ids (get nat_cmp sessions.old o) q) }
+{
+    match sessions.get_mut(&own) {
+        None => None,
+        Some(ids) => ids.remove(Serial::new(id)),
     }
 }
 

@@ -207,7 +207,7 @@ fn count(numbers: &BTreeSet<u64>) -> usize
 
 /// Puts the numbers of a set behind others.
 #[tactic(auto, using(crate::proofs::Keys::has_append))]
-fn append(set: &BTreeSet<u64>, numbers: &mut Vec<u64>) -> Result<(), AllocError>
+pub(crate) fn append(set: &BTreeSet<u64>, numbers: &mut Vec<u64>) -> Result<(), AllocError>
     ensures { OnOk result ((n : ℕ) → has n numbers.new.items ≡ (has n numbers.old.items || contains nat_cmp set.now n)) }
 {
     for number in set {

@@ -7,6 +7,8 @@ ghost use Rattle.router_deliveries.specs.Indexing.{Indexes, nowhere, keys, stand
 
 use crate::delivery::Delivery;
 use crate::groups::{Groups, add};
+use crate::origins::Origins;
+use router_trace::Origin;
 use std::alloc::{AllocError, Global};
 use std::collections::BTreeSet;
 
@@ -27,6 +29,8 @@ pub(crate) struct Keys {
     pub(crate) on_conn: Option<u64>,
     /// The connection of its producer, where one is to be told.
     pub(crate) from_conn: Option<u64>,
+    /// Whom its outcome is told to.
+    pub(crate) origin: Option<Origin>,
 }
 
 /// Deliveries found by what is asked of them.
@@ -45,6 +49,8 @@ pub(crate) struct Index {
     // those that the end of a consumer's connection changes, and those of a producer's connection
     pub(crate) on_conn: Groups,
     pub(crate) from_conn: Groups,
+    // those that dispositions of a producer's session change
+    pub(crate) origins: Origins,
 }
 
 impl Keys {
@@ -60,6 +66,7 @@ impl Keys {
             to_tell: false,
             on_conn: None,
             from_conn: None,
+            origin: None,
         }
     }
 
@@ -95,6 +102,7 @@ impl Keys {
                 None => None,
                 Some(origin) => Some(origin.link.conn.0),
             },
+            origin: delivery.origin,
         }
     }
 }
@@ -119,6 +127,7 @@ impl Index {
             to_tell: BTreeSet::new(alloc),
             on_conn: Groups::new(alloc),
             from_conn: Groups::new(alloc),
+            origins: Origins::new(alloc),
         }
     }
 
@@ -135,6 +144,7 @@ impl Index {
         self.on_conn.shift(number, before.on_conn, after.on_conn)?;
         self.from_conn
             .shift(number, before.from_conn, after.from_conn)?;
+        self.origins.shift(number, before.origin, after.origin)?;
         Ok(())
     }
 }

@@ -20,6 +20,7 @@ mod ignored;
 mod index;
 mod names;
 mod next_ids;
+mod origins;
 mod sending;
 mod state;
 mod store;

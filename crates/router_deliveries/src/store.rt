@@ -18,7 +18,7 @@ ghost use Rattle.router_deliveries.specs.Finding.{IsFirst, IsCount, IsFirstLink}
 ghost use Rattle.router_deliveries.specs.Touching.{is_touched_in, StandsSame, StoreTouches};
 ghost use Rattle.router_deliveries.specs.Hearing.{id_of};
 ghost use Rattle.router_deliveries.specs.Naming.{is_open};
-ghost use Rattle.router_deliveries.specs.Stepping.{behind, behind_any, IsKept};
+ghost use Rattle.router_deliveries.specs.Stepping.{behind, behind_any, IsKept, IsUnmoved};
 
 use crate::change::{Change, Gone, behind_put};
 use crate::delivery::Delivery;
@@ -272,7 +272,7 @@ impl Store {
         ensures indexed { OnOk result (Indexed self.old → Indexed self.new) }
         ensures touches { OnOk result (StoreTouches self.old self.new) }
     {
-        let numbers = self.numbers(change.conn())?;
+        let numbers = self.concerned(change)?;
         self.change_all(numbers.as_slice(), change)
     }
 
@@ -359,6 +359,21 @@ impl Store {
         match perf {
             Perf::Transfer(transfer) => self.note_carried(number, transfer, payload),
             _ => self.apply_any(behind_put(conn, own, perf)),
+        }
+    }
+
+    /// The numbers of deliveries, among them all to which a change does anything.
+    fn concerned(&self, change: &Change) -> Result<Vec<u64>, AllocError>
+        ensures { IfOk result (λ numbers. Indexed self.now → (n : ℕ) → has n numbers.items ≡ false → IsUnmoved change.now (get nat_cmp self.now.deliveries n)) }
+    {
+        match change {
+            Change::Untold {
+                conn,
+                own,
+                first,
+                last,
+            } => Ok(self.index.origins.in_range(*conn, *own, *first, *last)?),
+            _ => Ok(self.numbers(change.conn())?),
         }
     }
 
