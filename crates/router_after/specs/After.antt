@@ -2,7 +2,7 @@
 -- anew.
 use Rattle.router_trace.specs.Trace.{Trace, goes}
 use Rattle.router_trace.specs.Following.{as_long_as_due, tells, sends_due, drains_due}
-use Rattle.router_state.specs.Passing.{grants_due}
+use Rattle.router_passing.specs.Passing.{grants_due}
 use Rattle.router_sessions.specs.Windows.{windows}
 
 abbrev pub told : Trace → Trace

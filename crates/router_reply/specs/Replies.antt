@@ -32,7 +32,7 @@ use Rattle.router_trace.specs.Links.{Link, link, link_place, free_handle, holder
 use Rattle.router_trace.specs.Peers.{largest_frame}
 use Rattle.router_trace.specs.Clocks.{terms, channel_max_of}
 use Rattle.router_state.specs.Tables.{beats}
-use Rattle.router_state.specs.Passing.{passing, consumer_of, with_bound}
+use Rattle.router_passing.specs.Passing.{passing, consumer_of, with_bound}
 use Rattle.router_reply.specs.declared.answer.Answer.{Answer}
 use Rattle.router_reply.specs.declared.answer.Answer.TheVariants.{Attach, Refuse, Taken, Settle}
 use Rattle.router_reply.specs.Rows.{Finds, said, item_reply, down_reply}

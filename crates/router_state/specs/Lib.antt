@@ -1,6 +1,4 @@
 pub mod Tables
-pub mod Passing
-pub mod Asking
 pub use Rattle.router_trace.specs.Trace
 pub use Rattle.router_trace.specs.Connection
 pub use Rattle.router_trace.specs.Refusing

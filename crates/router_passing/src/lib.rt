@@ -1,0 +1,11 @@
+//! Links, the deliveries on them and the pools of their addresses, changed together.
+#![tactic(auto)]
+
+mod figures;
+mod grant;
+mod granting;
+mod hearing;
+mod passing;
+
+pub use grant::LinkGrant;
+pub use passing::Passing;
