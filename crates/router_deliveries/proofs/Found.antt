@@ -7,6 +7,7 @@ use Rattle.std.specs.BTreeMap.{get}
 use Rattle.amqp_perf.specs.declared.state.DeliveryState.{DeliveryState}
 use Rattle.router_trace.specs.declared.binding.Origin.{Origin}
 use Rattle.router_trace.specs.Deliveries.{Delivery, is_number, is_of, waits_on, undecided_on, held_from, is_to_tell}
+use Rattle.router_trace.specs.Following.{is_unsent_on}
 use Rattle.router_deliveries.specs.declared.groups.Groups.{Groups}
 use Rattle.router_deliveries.specs.Finding.{IsFirst, IsCount}
 use Rattle.router_deliveries.specs.Indexing.{in_set, in_group, standing, from_link, on_link}
@@ -44,6 +45,10 @@ waits_is k (Some d) = on d.link.number k (is_none d.id && d.going_on) ∙ three 
     three : (a b e : Bool) → (a && (b && e)) ≡ ((a && b) && e)
     three true b e = refl
     three false b e = refl
+
+pub unsent_is : (k : ℕ) (v : Option Delivery) → is_number (standing v).unsent k ≡ is_unsent_on k v
+unsent_is k None = refl
+unsent_is k (Some d) = on d.link.number k d.going_on
 
 pub undecided_is : (k : ℕ) (v : Option Delivery) → is_number (standing v).undecided k ≡ undecided_on k v
 undecided_is k None = refl

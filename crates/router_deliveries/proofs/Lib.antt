@@ -9,3 +9,7 @@ mod Heard
 mod Reindexed
 mod Found
 mod Claimed
+mod Numbers
+mod Asked
+mod Touching
+mod Above

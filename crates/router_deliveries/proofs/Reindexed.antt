@@ -10,6 +10,7 @@ use Rattle.router_deliveries.specs.Indexing.{Indexes, standing}
 pub indexes_same : (s : Index) (f g : ℕ → Keys) → ((n : ℕ) → f n ≡ g n) → Indexes s f → Indexes s g
 indexes_same s f g same x = record {
   waiting = λ k n. x.waiting k n ∙ ap (λ (q : Keys). is_number q.waiting k) (same n);
+  unsent = λ k n. x.unsent k n ∙ ap (λ (q : Keys). is_number q.unsent k) (same n);
   undecided = λ k n. x.undecided k n ∙ ap (λ (q : Keys). is_number q.undecided k) (same n);
   held = λ k n. x.held k n ∙ ap (λ (q : Keys). is_number q.held k) (same n);
   to_tell = λ n. x.to_tell n ∙ ap (λ (q : Keys). q.to_tell) (same n);

@@ -1,8 +1,11 @@
 -- What is found of the deliveries that pass a test: the first of them, and how many they are.
-use Rattle.std.specs.Prelude.{◌≡◌, ◌≤◌, ℕ, Bool, true, false, List, length, Option, Some, None}
+use Rattle.std.specs.Prelude.{◌≡◌, ◌≤◌, ◌+◌, ℕ, Bool, true, false, nat_lt, List, length, Option, Some, None}
 use Rattle.std.specs.List.Sorted.{IsStrictlySortedBy}
 use Rattle.std.specs.Ordering.{nat_cmp}
 use Rattle.amqp_session.specs.Ranges.{has}
+use Rattle.router_trace.specs.Trace.{Trace}
+use Rattle.router_trace.specs.Deliveries.{Delivery, bindings, delivery}
+use Rattle.router_trace.specs.Numbers.{count_below}
 
 -- the lowest number that passes, where one does
 abbrev pub IsFirst : (ℕ → Bool) → Option ℕ → Type 0
@@ -15,3 +18,18 @@ pub record IsCount (passes : ℕ → Bool) (count : ℕ) : Type 0 where
   pub rise : IsStrictlySortedBy nat_cmp numbers
   pub pass : (n : ℕ) → has n numbers ≡ passes n
   pub are : length numbers ≡ count
+
+-- how many of all deliveries pass
+abbrev pub count_deliveries : Trace → (Option Delivery → Bool) → ℕ
+count_deliveries t passes = count_below (bindings t + 1) (λ n. passes (delivery t n))
+
+-- a number is above this one, or any where there is none
+abbrev pub is_above : Option ℕ → ℕ → Bool
+is_above None n = true
+is_above (Some m) n = nat_lt m n
+
+-- the lowest link above this one, or of all, that has numbers which pass
+abbrev pub IsFirstLink : (ℕ → ℕ → Bool) → Option ℕ → Option ℕ → Type 0
+IsFirstLink passes above None = (k n : ℕ) → is_above above k ≡ true → passes k n ≡ false
+IsFirstLink passes above (Some k) =
+    (is_above above k ≡ true) × ((n : ℕ) × (passes k n ≡ true)) × ((j n : ℕ) → is_above above j ≡ true → passes j n ≡ true → k ≤ j)

@@ -32,6 +32,7 @@ from_link (Some p) holds = on_link p.link.number holds
 abbrev pub keys : Delivery → Keys
 keys d = record {
   waiting = on_link d.link.number (is_none d.id && d.going_on);
+  unsent = on_link d.link.number d.going_on;
   undecided = on_link d.link.number (is_none d.outcome);
   held = from_link d.origin (is_none d.outcome);
   to_tell = not (is_none d.outcome) && is_some d.origin;
@@ -40,7 +41,7 @@ keys d = record {
 }
 
 abbrev pub nowhere : Keys
-nowhere = record { waiting = None; undecided = None; held = None; to_tell = false; on_conn = None; from_conn = None }
+nowhere = record { waiting = None; unsent = None; undecided = None; held = None; to_tell = false; on_conn = None; from_conn = None }
 
 abbrev pub standing : Option Delivery → Keys
 standing None = nowhere
@@ -49,6 +50,7 @@ standing (Some d) = keys d
 -- each number stands where it should
 pub record Indexes (s : Index) (known : ℕ → Keys) : Type 0 where
   pub waiting : (k n : ℕ) → in_group s.waiting k n ≡ is_number (known n).waiting k
+  pub unsent : (k n : ℕ) → in_group s.unsent k n ≡ is_number (known n).unsent k
   pub undecided : (k n : ℕ) → in_group s.undecided k n ≡ is_number (known n).undecided k
   pub held : (k n : ℕ) → in_group s.held k n ≡ is_number (known n).held k
   pub to_tell : (n : ℕ) → contains nat_cmp s.to_tell n ≡ (known n).to_tell

@@ -5,6 +5,7 @@ pub mod Indexing
 pub mod Finding
 pub mod Claiming
 pub mod Fits
+pub mod Touching
 pub mod Naming
 pub use Rattle.router_trace.specs.Trace
 pub use Rattle.router_trace.specs.Deliveries

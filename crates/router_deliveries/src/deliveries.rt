@@ -1,13 +1,17 @@
 //! The table of deliveries.
-ghost use Rattle.std.specs.Prelude.{◌≡◌, ◌∷◌, [], List, ℕ, OnOk};
-ghost use Rattle.std.specs.Option.{option_map};
+ghost use Rattle.std.specs.Prelude.{◌≡◌, ◌==◌, ◌&&◌, ◌∷◌, [], List, ℕ, OnOk, false, if◌then◌else◌, nat_lt};
+ghost use Rattle.std.specs.Option.{option_map, is_some};
+ghost use Rattle.std.specs.Ordering.{nat_cmp};
+ghost use Rattle.std.specs.BTreeMap.{get};
 ghost use Rattle.router_trace.specs.Trace.{Entry, Out, Bound, did};
 ghost use Rattle.router_trace.specs.declared.event.Event.TheVariants as event;
 ghost use Rattle.router_trace.specs.Deliveries.{delivery, next_id, sending, named, waits_on, undecided_on, held_from, is_to_tell};
 ghost use Rattle.router_trace.specs.Sessions.{theirs, maps, is_channel};
-ghost use Rattle.router_deliveries.specs.Finding.{IsFirst, IsCount};
+ghost use Rattle.router_trace.specs.Following.{first_delivery, is_unsent_on};
+ghost use Rattle.router_deliveries.specs.Finding.{IsFirst, IsCount, IsFirstLink, count_deliveries};
 ghost use Rattle.router_deliveries.specs.Naming.{Remembers};
 ghost use Rattle.router_deliveries.specs.Fits.{DeliveriesFit, channel_of};
+ghost use Rattle.router_deliveries.specs.Touching.{is_touched, Touches};
 
 use crate::change::behind_heard;
 use crate::delivery::Delivery;
@@ -68,28 +72,77 @@ impl Deliveries {
 
     /// The first delivery, by number, that waits to start on the link of this number.
     pub fn next_waiting(&self, link: u64) -> Option<u64>
-        ensures { (t : List Entry) → DeliveriesFit self.now t → IsFirst (λ n. waits_on link (delivery t n)) result }
+        ensures found { (t : List Entry) → DeliveriesFit self.now t → IsFirst (λ n. waits_on link (delivery t n)) result }
+        ensures first { (t : List Entry) → DeliveriesFit self.now t → result ≡ first_delivery t (waits_on link) }
     {
         self.store.next_waiting(link)
     }
 
+    /// How many deliveries wait to start on the link of this number.
+    pub fn waiting(&self, link: u64) -> usize
+        ensures found { (t : List Entry) → DeliveriesFit self.now t → IsCount (λ n. waits_on link (delivery t n)) result }
+        ensures count { (t : List Entry) → DeliveriesFit self.now t → result ≡ count_deliveries t (waits_on link) }
+    {
+        self.store.waiting(link)
+    }
+
+    /// Whether frames of a delivery are still to go on the link of this number.
+    pub fn has_unsent(&self, link: u64) -> bool
+        ensures { (t : List Entry) → DeliveriesFit self.now t → result ≡ is_some (first_delivery t (is_unsent_on link)) }
+    {
+        self.store.first_unsent(link).is_some()
+    }
+
+    /// The first delivery above a number of which frames are still to go on the link of this number.
+    pub fn unsent_behind(&self, link: u64, number: u64) -> Option<u64>
+        ensures { (t : List Entry) → DeliveriesFit self.now t → IsFirst (λ n. nat_lt number n && is_unsent_on link (delivery t n)) result }
+    {
+        self.store.unsent_behind(link, number)
+    }
+
+    /// The lowest number of a link above this one, or of all, on which frames of a delivery are still to go.
+    pub fn unsent_link_behind(&self, link: Option<u64>) -> Option<u64>
+        ensures { (t : List Entry) → DeliveriesFit self.now t → IsFirstLink (λ k n. is_unsent_on k (delivery t n)) link result }
+    {
+        self.store.unsent_link_behind(link)
+    }
+
+    /// The lowest number of a link whose waiting, undecided or held deliveries may have changed since it was last forgotten.
+    pub fn touched(&self) -> Option<u64>
+        ensures { IsFirst (is_touched self.now) result }
+    {
+        self.store.touched()
+    }
+
+    /// Forgets that the deliveries of the link of this number may have changed.
+    pub fn forget_touched(&mut self, link: u64)
+        ensures fits { (t : List Entry) → DeliveriesFit self.old t → DeliveriesFit self.new t }
+        ensures touched { (k : ℕ) → is_touched self.new k ≡ (if link == k then false else is_touched self.old k) }
+        ensures deliveries { (n : ℕ) → get nat_cmp self.new.store.deliveries n ≡ get nat_cmp self.old.store.deliveries n }
+    {
+        self.store.forget_touched(link);
+    }
+
     /// How many deliveries are undecided on the consumer's link of this number.
     pub fn undecided(&self, link: u64) -> usize
-        ensures { (t : List Entry) → DeliveriesFit self.now t → IsCount (λ n. undecided_on link (delivery t n)) result }
+        ensures found { (t : List Entry) → DeliveriesFit self.now t → IsCount (λ n. undecided_on link (delivery t n)) result }
+        ensures count { (t : List Entry) → DeliveriesFit self.now t → result ≡ count_deliveries t (undecided_on link) }
     {
         self.store.undecided(link)
     }
 
     /// How many deliveries are held, undecided, from the producer's link of this number.
     pub fn held(&self, link: u64) -> usize
-        ensures { (t : List Entry) → DeliveriesFit self.now t → IsCount (λ n. held_from link (delivery t n)) result }
+        ensures found { (t : List Entry) → DeliveriesFit self.now t → IsCount (λ n. held_from link (delivery t n)) result }
+        ensures count { (t : List Entry) → DeliveriesFit self.now t → result ≡ count_deliveries t (held_from link) }
     {
         self.store.held(link)
     }
 
     /// The first delivery, by number, whose producer is to be told its outcome.
     pub fn first_to_tell(&self) -> Option<u64>
-        ensures { (t : List Entry) → DeliveriesFit self.now t → IsFirst (λ n. is_to_tell (delivery t n)) result }
+        ensures found { (t : List Entry) → DeliveriesFit self.now t → IsFirst (λ n. is_to_tell (delivery t n)) result }
+        ensures first { (t : List Entry) → DeliveriesFit self.now t → result ≡ first_delivery t is_to_tell }
     {
         self.store.first_to_tell()
     }
@@ -103,7 +156,8 @@ impl Deliveries {
 
     /// A message is bound to the link of a consumer. Fails where memory is refused, and where bindings can't be numbered any more.
     pub fn bind(&mut self, binding: Binding) -> Result<(), AllocError>
-        ensures { OnOk result ((t : List Entry) → DeliveriesFit self.old t → DeliveriesFit self.new (Bound binding ∷ t)) }
+        ensures fits { OnOk result ((t : List Entry) → DeliveriesFit self.old t → DeliveriesFit self.new (Bound binding ∷ t)) }
+        ensures touches { OnOk result (Touches self.old self.new) }
     {
         let Some(number) = self.bindings.checked_add(1) else {
             return Err(AllocError);
@@ -115,7 +169,8 @@ impl Deliveries {
 
     /// A connection is lost.
     pub fn down(&mut self, conn: ConnectionId) -> Result<(), AllocError>
-        ensures { OnOk result ((t : List Entry) → DeliveriesFit self.old t → DeliveriesFit self.new (did (event.Down conn) ∷ t)) }
+        ensures fits { OnOk result ((t : List Entry) → DeliveriesFit self.old t → DeliveriesFit self.new (did (event.Down conn) ∷ t)) }
+        ensures touches { OnOk result (Touches self.old self.new) }
     {
         self.store.down(conn)?;
         self.sending.down(conn);
@@ -131,8 +186,9 @@ impl Deliveries {
         own: Option<u16>,
         item: &Item,
     ) -> Result<(), AllocError>
-        ensures { OnOk result ((t : List Entry) → ((o : ℕ) → is_channel own o ≡ maps (theirs t conn.0 (channel_of item.now)) o)
+        ensures fits { OnOk result ((t : List Entry) → ((o : ℕ) → is_channel own o ≡ maps (theirs t conn.0 (channel_of item.now)) o)
             → DeliveriesFit self.old t → DeliveriesFit self.new (did (event.Item conn item.now) ∷ t)) }
+        ensures touches { OnOk result (Touches self.old self.new) }
     {
         let change = behind_heard(conn.0, own, item)?;
         hear(&mut self.store, &self.names, change)?;
@@ -144,7 +200,8 @@ impl Deliveries {
     /// An item is put in the outbox of a connection. Fails where memory is refused, and where the bytes of a delivery can't be
     /// counted any more.
     pub fn put(&mut self, conn: u64, item: &Item) -> Result<(), AllocError>
-        ensures { OnOk result ((t : List Entry) → DeliveriesFit self.old t → DeliveriesFit self.new (Out conn item.now ∷ t)) }
+        ensures fits { OnOk result ((t : List Entry) → DeliveriesFit self.old t → DeliveriesFit self.new (Out conn item.now ∷ t)) }
+        ensures touches { OnOk result (Touches self.old self.new) }
     {
         let number = self.sending.carried_by(conn, item);
         self.store.put(conn, item, number)?;

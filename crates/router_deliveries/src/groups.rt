@@ -1,15 +1,17 @@
 //! Numbers of deliveries by the number of a link.
-ghost use Rattle.std.specs.Prelude.{◌≡◌, ◌==◌, ℕ, Bool, true, false, if◌then◌else◌, OnOk, ◌||◌};
+ghost use Rattle.std.specs.Prelude.{◌≡◌, ◌==◌, ℕ, Bool, true, false, if◌then◌else◌, OnOk, ◌||◌, ◌&&◌, nat_lt};
+ghost use Rattle.std.specs.Option.{is_some};
 ghost use Rattle.std.specs.Ordering.{nat_cmp};
 ghost use Rattle.std.specs.BTreeMap.{get};
 ghost use Rattle.std.specs.BTreeSet.{contains};
 ghost use Rattle.router_trace.specs.Deliveries.{is_number};
 ghost use Rattle.amqp_session.specs.Ranges.{has};
-ghost use Rattle.router_deliveries.specs.Finding.{IsFirst, IsCount};
+ghost use Rattle.router_deliveries.specs.Finding.{IsFirst, IsCount, IsFirstLink, is_above};
 ghost use Rattle.router_deliveries.specs.Indexing.{in_group};
 
 use std::alloc::{AllocError, Global};
 use std::collections::{BTreeMap, BTreeSet};
+use std::ops::Bound;
 
 /// Numbers of deliveries by the number of a link; a link without any takes no room.
 #[derive(Debug, Drop)]
@@ -36,6 +38,61 @@ impl Groups {
         match self.sets.get(&link) {
             None => None,
             Some(numbers) => first(numbers),
+        }
+    }
+
+    /// The lowest number of a link above this one.
+    pub(crate) fn first_behind(&self, link: u64, number: u64) -> Option<u64>
+        ensures { IsFirst (λ n. nat_lt number n && in_group self.now link n) result }
+    {
+        match self.sets.get(&link) {
+            None => None,
+            Some(numbers) => behind(numbers, number),
+        }
+    }
+
+    /// The lowest link above this one, or of all, that has numbers.
+    pub(crate) fn link_behind(&self, link: Option<u64>) -> Option<u64>
+        ensures { IsFirstLink (in_group self.now) link result }
+    {
+        let mut above = link;
+        while let Some(next) = self.set_behind(above) {
+            if self.first(next).is_some() {
+                return Some(next);
+            }
+            above = Some(next);
+        }
+        None
+    }
+
+    /// The lowest link above this one, or of all, that has a set.
+    fn set_behind(&self, link: Option<u64>) -> Option<u64>
+        ensures { IsFirst (λ k. is_above link k && is_some (get nat_cmp self.now.sets k)) result }
+    {
+        match link {
+            None => self.first_set(),
+            Some(link) => self.set_above(link),
+        }
+    }
+
+    /// The lowest link that has a set.
+    fn first_set(&self) -> Option<u64>
+        ensures { IsFirst (λ k. is_some (get nat_cmp self.now.sets k)) result }
+    {
+        match self.sets.first_key_value() {
+            None => None,
+            Some((link, _)) => Some(*link),
+        }
+    }
+
+    /// The lowest link above this one that has a set.
+    fn set_above(&self, link: u64) -> Option<u64>
+        ensures { IsFirst (λ k. nat_lt link k && is_some (get nat_cmp self.now.sets k)) result }
+    {
+        let mut above = self.sets.range((Bound::Excluded(link), Bound::Unbounded));
+        match above.next() {
+            None => None,
+            Some((next, _)) => Some(*next),
         }
     }
 
@@ -128,6 +185,17 @@ pub(crate) fn first(numbers: &BTreeSet<u64>) -> Option<u64>
     ensures { IsFirst (contains nat_cmp numbers.now) result }
 {
     numbers.first().copied()
+}
+
+/// The lowest number of a set above this one.
+fn behind(numbers: &BTreeSet<u64>, number: u64) -> Option<u64>
+    ensures { IsFirst (λ n. nat_lt number n && contains nat_cmp numbers.now n) result }
+{
+    let mut above = numbers.range((Bound::Excluded(number), Bound::Unbounded));
+    match above.next() {
+        None => None,
+        Some(next) => Some(*next),
+    }
 }
 
 /// How many numbers a set has.

@@ -7,6 +7,7 @@ ghost use Rattle.router_deliveries.specs.Hearing.{heard_by, done_to};
 ghost use Rattle.router_deliveries.specs.Naming.{AreSmall};
 ghost use Rattle.router_deliveries.specs.Places.{at_id};
 ghost use Rattle.router_deliveries.specs.Stepping.{IsKept};
+ghost use Rattle.router_deliveries.specs.Touching.{StoreTouches};
 
 use crate::change::Change;
 use crate::names::Names;
@@ -14,6 +15,7 @@ use crate::store::Store;
 use std::alloc::AllocError;
 
 /// Does this to the deliveries, where anything is to be done.
+#[tactic(auto, using(crate::proofs::Touching::touches_self))]
 pub(crate) fn hear(
     store: &mut Store,
     names: &Names,
@@ -22,6 +24,7 @@ pub(crate) fn hear(
     ensures deliveries { OnOk result (((n : ℕ) → IsKept (get nat_cmp store.old.deliveries n)) → Indexed store.old → AreSmall (at_id names.now.ids)
         → (n : ℕ) → get nat_cmp store.new.deliveries n ≡ heard_by change (at_id names.now.ids) n (get nat_cmp store.old.deliveries n)) }
     ensures indexed { OnOk result (Indexed store.old → Indexed store.new) }
+    ensures touches { OnOk result (StoreTouches store.old store.new) }
 {
     match change {
         None => Ok(()),
@@ -34,6 +37,7 @@ fn hear_one(store: &mut Store, names: &Names, change: &Change) -> Result<(), All
     ensures deliveries { OnOk result (((n : ℕ) → IsKept (get nat_cmp store.old.deliveries n)) → Indexed store.old → AreSmall (at_id names.now.ids)
         → (n : ℕ) → get nat_cmp store.new.deliveries n ≡ done_to change.now (at_id names.now.ids) n (get nat_cmp store.old.deliveries n)) }
     ensures indexed { OnOk result (Indexed store.old → Indexed store.new) }
+    ensures touches { OnOk result (StoreTouches store.old store.new) }
 {
     match change {
         Change::Decided {

@@ -15,6 +15,8 @@ use std::collections::BTreeSet;
 pub(crate) struct Keys {
     /// The link on which it waits to start.
     pub(crate) waiting: Option<u64>,
+    /// The link on which frames of it are still to go.
+    pub(crate) unsent: Option<u64>,
     /// The link on which it is undecided.
     pub(crate) undecided: Option<u64>,
     /// The producer's link from which it is held.
@@ -32,6 +34,8 @@ pub(crate) struct Keys {
 pub(crate) struct Index {
     // those that wait to start on a link
     pub(crate) waiting: Groups,
+    // those of a link of which frames are still to go
+    pub(crate) unsent: Groups,
     // the undecided ones of a link
     pub(crate) undecided: Groups,
     // those held from a producer's link
@@ -50,6 +54,7 @@ impl Keys {
     {
         Keys {
             waiting: None,
+            unsent: None,
             undecided: None,
             held: None,
             to_tell: false,
@@ -78,6 +83,7 @@ impl Keys {
                 delivery.link.number,
                 delivery.id.is_none() && delivery.going_on,
             ),
+            unsent: on_link(delivery.link.number, delivery.going_on),
             undecided: on_link(delivery.link.number, undecided),
             held: match delivery.origin {
                 None => None,
@@ -107,6 +113,7 @@ impl Index {
     {
         Index {
             waiting: Groups::new(alloc),
+            unsent: Groups::new(alloc),
             undecided: Groups::new(alloc),
             held: Groups::new(alloc),
             to_tell: BTreeSet::new(alloc),
@@ -120,6 +127,7 @@ impl Index {
         ensures { OnOk result ((known : ℕ → TheKeys) → known number ≡ before → Indexes self.old known → Indexes self.new (λ n. if number == n then after else known n)) }
     {
         self.waiting.shift(number, before.waiting, after.waiting)?;
+        self.unsent.shift(number, before.unsent, after.unsent)?;
         self.undecided
             .shift(number, before.undecided, after.undecided)?;
         self.held.shift(number, before.held, after.held)?;

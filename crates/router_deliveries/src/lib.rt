@@ -23,6 +23,7 @@ mod sending;
 mod state;
 mod store;
 mod tag;
+mod touched;
 
 pub use claims::{Claim, Claims, Middle, Receiving};
 pub use deliveries::Deliveries;

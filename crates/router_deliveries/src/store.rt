@@ -1,5 +1,5 @@
 //! Deliveries by their numbers.
-ghost use Rattle.std.specs.Prelude.{◌≡◌, ◌==◌, ◌+◌, ℕ, Some, None, if◌then◌else◌, OnOk, IfOk, length, ◌||◌, ◌∷◌, List, Bool};
+ghost use Rattle.std.specs.Prelude.{◌≡◌, ◌==◌, ◌+◌, ℕ, Some, None, if◌then◌else◌, OnOk, IfOk, length, ◌||◌, ◌&&◌, nat_lt, ◌∷◌, List, Bool, false};
 ghost use Rattle.std.specs.Option.{option_map, option_and_then};
 ghost use Rattle.std.specs.Ordering.{nat_cmp};
 ghost use Rattle.std.specs.Map.{keys_of};
@@ -13,7 +13,8 @@ ghost use Rattle.router_deliveries.specs.Fits.{Indexed, StoreFit, carried_in, ca
 ghost use Rattle.router_deliveries.specs.declared.index.Keys.{Keys as TheKeys};
 ghost use Rattle.router_deliveries.specs.Indexing.{Indexes, standing, in_group};
 ghost use Rattle.std.specs.BTreeSet.{contains};
-ghost use Rattle.router_deliveries.specs.Finding.{IsFirst, IsCount};
+ghost use Rattle.router_deliveries.specs.Finding.{IsFirst, IsCount, IsFirstLink};
+ghost use Rattle.router_deliveries.specs.Touching.{is_touched_in, StandsSame, StoreTouches};
 ghost use Rattle.router_deliveries.specs.Hearing.{id_of};
 ghost use Rattle.router_deliveries.specs.Naming.{is_open};
 ghost use Rattle.router_deliveries.specs.Stepping.{behind, behind_any, IsKept};
@@ -22,6 +23,7 @@ use crate::change::{Change, Gone, behind_put};
 use crate::delivery::Delivery;
 use crate::groups::first;
 use crate::index::{Index, Keys};
+use crate::touched::Touched;
 use amqp_frames::Item;
 use amqp_perf::{Perf, Transfer};
 use bytes::Bytes;
@@ -35,6 +37,7 @@ pub(crate) struct Store {
     alloc: Global,
     deliveries: BTreeMap<u64, Delivery>,
     index: Index,
+    touched: Touched,
 }
 
 impl Store {
@@ -47,6 +50,7 @@ impl Store {
             alloc,
             deliveries: BTreeMap::new(alloc),
             index: Index::new(alloc),
+            touched: Touched::new(alloc),
         }
     }
 
@@ -76,6 +80,50 @@ impl Store {
         ensures { IsCount (in_group self.now.index.held link) result }
     {
         self.index.held.count(link)
+    }
+
+    /// How many deliveries wait to start on a link.
+    pub(crate) fn waiting(&self, link: u64) -> usize
+        ensures { IsCount (in_group self.now.index.waiting link) result }
+    {
+        self.index.waiting.count(link)
+    }
+
+    /// The first delivery of a link of which frames are still to go.
+    pub(crate) fn first_unsent(&self, link: u64) -> Option<u64>
+        ensures { IsFirst (in_group self.now.index.unsent link) result }
+    {
+        self.index.unsent.first(link)
+    }
+
+    /// The first of them above a number.
+    pub(crate) fn unsent_behind(&self, link: u64, number: u64) -> Option<u64>
+        ensures { IsFirst (λ n. nat_lt number n && in_group self.now.index.unsent link n) result }
+    {
+        self.index.unsent.first_behind(link, number)
+    }
+
+    /// The lowest link above this one, or of all, that has such deliveries.
+    pub(crate) fn unsent_link_behind(&self, link: Option<u64>) -> Option<u64>
+        ensures { IsFirstLink (in_group self.now.index.unsent) link result }
+    {
+        self.index.unsent.link_behind(link)
+    }
+
+    /// The lowest link that was touched.
+    pub(crate) fn touched(&self) -> Option<u64>
+        ensures { IsFirst (is_touched_in self.now.touched) result }
+    {
+        self.touched.first()
+    }
+
+    /// Forgets that a link was touched.
+    pub(crate) fn forget_touched(&mut self, link: u64)
+        ensures deliveries { self.new.deliveries ≡ self.old.deliveries }
+        ensures index { self.new.index ≡ self.old.index }
+        ensures touched { (k : ℕ) → is_touched_in self.new.touched k ≡ (if link == k then false else is_touched_in self.old.touched k) }
+    {
+        self.touched.forget(link);
     }
 
     /// The first delivery whose producer is to be told.
@@ -110,6 +158,7 @@ impl Store {
         ensures gives { result ≡ get nat_cmp self.old.deliveries number }
         ensures gone { (n : ℕ) → get nat_cmp self.new.deliveries n ≡ (if number == n then None else get nat_cmp self.old.deliveries n) }
         ensures index { self.new.index ≡ self.old.index }
+        ensures touched { self.new.touched ≡ self.old.touched }
     {
         self.deliveries.remove(&number)
     }
@@ -119,22 +168,37 @@ impl Store {
         ensures deliveries { OnOk result ((n : ℕ) → get nat_cmp self.new.deliveries n ≡ (if number == n then unless_over delivery else get nat_cmp self.old.deliveries n)) }
         ensures indexed { OnOk result ((known : ℕ → TheKeys) → known number ≡ before → Indexes self.old.index known
             → Indexes self.new.index (λ n. if number == n then standing (unless_over delivery) else known n)) }
+        ensures touched { OnOk result ((k : ℕ) → is_touched_in self.new.touched k ≡ false
+            → (is_touched_in self.old.touched k ≡ false) × StandsSame k before (standing (unless_over delivery))) }
     {
         if delivery.is_over() {
             let _ = self.deliveries.remove(&number);
-            return self.index.shift(number, before, Keys::nowhere());
+            return self.shift(number, before, Keys::nowhere());
         }
-        self.index.shift(number, before, Keys::of(&delivery))?;
+        self.shift(number, before, Keys::of(&delivery))?;
         match self.deliveries.insert(number, delivery) {
             Ok(_) => Ok(()),
             Err(_) => Err(AllocError),
         }
     }
 
+    /// Moves a delivery from where it stood in the indexes.
+    fn shift(&mut self, number: u64, before: Keys, after: Keys) -> Result<(), AllocError>
+        ensures deliveries { self.new.deliveries ≡ self.old.deliveries }
+        ensures indexed { OnOk result ((known : ℕ → TheKeys) → known number ≡ before → Indexes self.old.index known
+            → Indexes self.new.index (λ n. if number == n then after else known n)) }
+        ensures touched { OnOk result ((k : ℕ) → is_touched_in self.new.touched k ≡ false
+            → (is_touched_in self.old.touched k ≡ false) × StandsSame k before after) }
+    {
+        self.touched.note(before, after)?;
+        self.index.shift(number, before, after)
+    }
+
     /// Notes a message that was bound, under its number.
     pub(crate) fn bind(&mut self, number: u64, binding: Binding) -> Result<(), AllocError>
         ensures deliveries { OnOk result ((n : ℕ) → get nat_cmp self.new.deliveries n ≡ (if number == n then Some (bound binding) else get nat_cmp self.old.deliveries n)) }
         ensures indexed { OnOk result (Indexed self.old → Indexed self.new) }
+        ensures touches { OnOk result (StoreTouches self.old self.new) }
     {
         let taken = self.take(number);
         let before = Keys::standing(&taken);
@@ -151,6 +215,7 @@ impl Store {
         ensures deliveries { OnOk result ((n : ℕ) → get nat_cmp self.new.deliveries n
             ≡ (if number == n then option_and_then (λ d. unless_over (behind_frame transfer.now count d)) (get nat_cmp self.old.deliveries n) else get nat_cmp self.old.deliveries n)) }
         ensures indexed { OnOk result (Indexed self.old → Indexed self.new) }
+        ensures touches { OnOk result (StoreTouches self.old self.new) }
     {
         let Some(mut delivery) = self.take(number) else {
             return Ok(());
@@ -165,6 +230,7 @@ impl Store {
         ensures deliveries { OnOk result ((n : ℕ) → get nat_cmp self.new.deliveries n
             ≡ (if number == n then behind change.now (get nat_cmp self.old.deliveries n) else get nat_cmp self.old.deliveries n)) }
         ensures indexed { OnOk result (Indexed self.old → Indexed self.new) }
+        ensures touches { OnOk result (StoreTouches self.old self.new) }
     {
         let Some(mut delivery) = self.take(number) else {
             return Ok(());
@@ -175,10 +241,12 @@ impl Store {
     }
 
     /// Changes the deliveries of these numbers.
+    #[tactic(auto, using(crate::proofs::Touching::touches_self))]
     pub(crate) fn change_all(&mut self, numbers: &[u64], change: &Change) -> Result<(), AllocError>
         ensures deliveries { OnOk result ((n : ℕ) → get nat_cmp self.new.deliveries n
             ≡ (if has n numbers.now then behind change.now (get nat_cmp self.old.deliveries n) else get nat_cmp self.old.deliveries n)) }
         ensures indexed { OnOk result (Indexed self.old → Indexed self.new) }
+        ensures touches { OnOk result (StoreTouches self.old self.new) }
     {
         for number in numbers {
             self.change(*number, change)?;
@@ -191,16 +259,19 @@ impl Store {
         ensures deliveries { OnOk result (((n : ℕ) → IsKept (get nat_cmp self.old.deliveries n)) → Indexed self.old
             → (n : ℕ) → get nat_cmp self.new.deliveries n ≡ behind change.now (get nat_cmp self.old.deliveries n)) }
         ensures indexed { OnOk result (Indexed self.old → Indexed self.new) }
+        ensures touches { OnOk result (StoreTouches self.old self.new) }
     {
         let numbers = self.numbers(change.conn())?;
         self.change_all(numbers.as_slice(), change)
     }
 
     /// Does this to all deliveries, where anything is to be done.
+    #[tactic(auto, using(crate::proofs::Touching::touches_self))]
     pub(crate) fn apply_any(&mut self, change: Option<Change>) -> Result<(), AllocError>
         ensures deliveries { OnOk result (((n : ℕ) → IsKept (get nat_cmp self.old.deliveries n)) → Indexed self.old
             → (n : ℕ) → get nat_cmp self.new.deliveries n ≡ behind_any change (get nat_cmp self.old.deliveries n)) }
         ensures indexed { OnOk result (Indexed self.old → Indexed self.new) }
+        ensures touches { OnOk result (StoreTouches self.old self.new) }
     {
         match change {
             None => Ok(()),
@@ -209,6 +280,7 @@ impl Store {
     }
 
     /// Notes a transfer that carries this much of the delivery of a number, where there is one.
+    #[tactic(auto, using(crate::proofs::Touching::touches_self))]
     pub(crate) fn note_carried(
         &mut self,
         number: Option<u64>,
@@ -218,6 +290,7 @@ impl Store {
         ensures deliveries { OnOk result ((n : ℕ) → get nat_cmp self.new.deliveries n
             ≡ (if is_number number n then option_and_then (λ d. unless_over (behind_frame transfer.now (length payload.now) d)) (get nat_cmp self.old.deliveries n) else get nat_cmp self.old.deliveries n)) }
         ensures indexed { OnOk result (Indexed self.old → Indexed self.new) }
+        ensures touches { OnOk result (StoreTouches self.old self.new) }
     {
         match number {
             None => Ok(()),
@@ -230,19 +303,22 @@ impl Store {
 
     /// A connection is lost.
     pub(crate) fn down(&mut self, conn: ConnectionId) -> Result<(), AllocError>
-        ensures { OnOk result ((t : List Entry) → StoreFit self.old t → StoreFit self.new (did (event.Down conn) ∷ t)) }
+        ensures fits { OnOk result ((t : List Entry) → StoreFit self.old t → StoreFit self.new (did (event.Down conn) ∷ t)) }
+        ensures touches { OnOk result (StoreTouches self.old self.new) }
     {
         self.apply(&Change::Ends(Gone::Connection(conn.0)))
     }
 
     /// An item is put in the outbox of a connection; a transfer carries the delivery of this number.
+    #[tactic(auto, using(crate::proofs::Touching::touches_self))]
     pub(crate) fn put(
         &mut self,
         conn: u64,
         item: &Item,
         number: Option<u64>,
     ) -> Result<(), AllocError>
-        ensures { OnOk result ((t : List Entry) → number ≡ carried_by item.now (sending t conn) → StoreFit self.old t → StoreFit self.new (Out conn item.now ∷ t)) }
+        ensures fits { OnOk result ((t : List Entry) → number ≡ carried_by item.now (sending t conn) → StoreFit self.old t → StoreFit self.new (Out conn item.now ∷ t)) }
+        ensures touches { OnOk result (StoreTouches self.old self.new) }
     {
         match item {
             Item::Frame {
@@ -265,8 +341,9 @@ impl Store {
         payload: &Bytes,
         number: Option<u64>,
     ) -> Result<(), AllocError>
-        ensures { OnOk result ((t : List Entry) (sasl : Bool) → number ≡ carried_in perf.now (sending t conn own) → StoreFit self.old t
+        ensures fits { OnOk result ((t : List Entry) (sasl : Bool) → number ≡ carried_in perf.now (sending t conn own) → StoreFit self.old t
             → StoreFit self.new (Out conn (item.Frame sasl own perf.now payload.now) ∷ t)) }
+        ensures touches { OnOk result (StoreTouches self.old self.new) }
     {
         match perf {
             Perf::Transfer(transfer) => self.note_carried(number, transfer, payload),

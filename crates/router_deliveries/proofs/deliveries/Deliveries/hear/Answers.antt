@@ -11,8 +11,8 @@ use Rattle.router_deliveries.proofs.Named.{still}
 use Rattle.router_deliveries.proofs.Heard.{heard_follows}
 use Rattle.router_deliveries.proofs.deliveries.Deliveries.hear.Goals as goal
 
-pub returns : goal.returns
-returns c = λ t channel fit.
+pub returns-clause-fits : goal.returns-clause-fits
+returns-clause-fits c = λ t channel fit.
     let known = at_id c.args.self.now.names.ids in
     let hears = did (event.Item c.args.conn c.args.item.now) in
     let store : StoreFit c.hear.new.store (hears ∷ t) = record {

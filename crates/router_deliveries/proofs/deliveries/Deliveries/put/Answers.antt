@@ -3,9 +3,9 @@ use Rattle.router_trace.specs.Trace.{Out}
 use Rattle.router_deliveries.specs.Fits.{carried_by}
 use Rattle.router_deliveries.proofs.deliveries.Deliveries.put.Goals as goal
 
-pub returns : goal.returns
-returns c = λ t fit.
-    let store = c.in_ok-put.ensures t (c.carried_by-number.ensures ∙ ap (carried_by c.args.item.now) (λ i o h. fit.sending.numbers c.args.conn o h i)) fit.store in
+pub returns-clause-fits : goal.returns-clause-fits
+returns-clause-fits c = λ t fit.
+    let store = c.in_ok-put.ensures.fits t (c.carried_by-number.ensures ∙ ap (carried_by c.args.item.now) (λ i o h. fit.sending.numbers c.args.conn o h i)) fit.store in
     record {
       bindings = fit.bindings;
       store = store;

@@ -6,6 +6,7 @@ use Rattle.router_deliveries.specs.declared.index.Keys.{Keys}
 use Rattle.router_deliveries.specs.Indexing.{Indexes, standing}
 use Rattle.router_deliveries.proofs.Puts.{on_ok_both}
 use Rattle.router_deliveries.proofs.Reindexed.{put_back}
+use Rattle.router_deliveries.proofs.Touching.{touches_one}
 use Rattle.router_deliveries.proofs.store.Store.bind.Goals as goal
 
 pub returns-clause-indexed : goal.returns-clause-indexed
@@ -16,3 +17,8 @@ returns-clause-indexed c =
     (λ deliveries indexed before. put_back _ c.args.number _ old (get nat_cmp c.take-taken.new.self.deliveries) _ c.take-taken.ensures.gone deliveries
     (indexed stood (ap standing (sym c.take-taken.ensures.gives) ∙ sym c.standing-before.ensures) (subst (λ (x : Index). Indexes x stood) (sym c.take-taken.ensures.index) before)))
     c.keep.ensures.deliveries c.keep.ensures.indexed
+
+pub returns-clause-touches : goal.returns-clause-touches
+returns-clause-touches c = on_ok_both c.keep.result
+    (λ deliveries touched. touches_one c.args.self.now c.take-taken.new.self _ c.args.number _ c.standing-before.result (c.standing-before.ensures ∙ ap standing c.take-taken.ensures.gives) c.take-taken.ensures.touched c.take-taken.ensures.gone deliveries touched)
+    c.keep.ensures.deliveries c.keep.ensures.touched

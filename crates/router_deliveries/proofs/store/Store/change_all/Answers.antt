@@ -4,6 +4,7 @@ use Rattle.std.specs.Ordering.{nat_cmp}
 use Rattle.std.specs.BTreeMap.{get}
 use Rattle.amqp_session.specs.Ranges.{has}
 use Rattle.router_deliveries.proofs.Again.{finish, one_more}
+use Rattle.router_deliveries.proofs.Touching.{touches_then}
 use Rattle.router_deliveries.proofs.store.Store.change_all.Goals as goal
 
 pub loop-number-preserved : goal.loop-number-preserved
@@ -14,4 +15,5 @@ loop-number-preserved c = (
       ∙ sym (ap (λ l. finish c.args.change.now (has n l) before) (drop_more c.args.numbers.now c.loop-number.number-index 0 c.loop-number-test.true))
       ∙ c.loop-number.invariant.0 n,
   λ old. c.in_ok-change.ensures.indexed (c.loop-number.invariant.1 old),
+  touches_then c.args.self.now c.loop-number.self c.change.new.self c.loop-number.invariant.2 c.in_ok-change.ensures.touches,
 )

@@ -3,6 +3,7 @@ use Rattle.std.specs.Ordering.{nat_cmp}
 use Rattle.std.specs.BTreeMap.{get}
 use Rattle.amqp_session.specs.Ranges.{has}
 use Rattle.router_deliveries.specs.Fits.{Indexed}
+use Rattle.router_deliveries.specs.Touching.{StoreTouches}
 use Rattle.router_deliveries.proofs.Again.{finish}
 use Rattle.router_deliveries.proofs.store.Store.change_all.Given as goal
 
@@ -11,3 +12,4 @@ abbrev pub invariant-loop-number : goal.invariant-loop-number
 invariant-loop-number l = ((n : ℕ) → finish l.change (has n (drop l.number-index l.numbers)) (get nat_cmp l.self.deliveries n)
     ≡ finish l.change (has n l.numbers) (get nat_cmp l.fn.self.deliveries n))
     × (Indexed l.fn.self → Indexed l.self)
+    × StoreTouches l.fn.self l.self

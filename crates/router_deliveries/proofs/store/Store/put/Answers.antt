@@ -6,10 +6,10 @@ use Rattle.router_deliveries.specs.Fits.{StoreFit, carried_by}
 use Rattle.router_deliveries.proofs.Puts.{unframed}
 use Rattle.router_deliveries.proofs.store.Store.put.Goals as goal
 
-pub returns-in_ok-put_perf-in-Frame : goal.returns-in_ok-put_perf-in-Frame
-returns-in_ok-put_perf-in-Frame c = λ t number fit.
+pub returns-in_ok-put_perf-in-Frame-clause-fits : goal.returns-in_ok-put_perf-in-Frame-clause-fits
+returns-in_ok-put_perf-in-Frame-clause-fits c = λ t number fit.
     subst (λ (i : Item). c.args.number ≡ carried_by i (sending t c.args.conn) → StoreFit c.put_perf.new.self (Out c.args.conn i ∷ t)) (sym c.in-Frame.is)
-    (λ same. c.in_ok-put_perf-in-Frame.ensures t _ same fit) number
+    (λ same. c.in_ok-put_perf-in-Frame.ensures.fits t _ same fit) number
 
-pub returns-in_default : goal.returns-in_default
-returns-in_default c = λ t number fit. unframed c.args.self.now c.args.conn c.args.item.now t c.in_default.not-Frame fit
+pub returns-in_default-clause-fits : goal.returns-in_default-clause-fits
+returns-in_default-clause-fits c = λ t number fit. unframed c.args.self.now c.args.conn c.args.item.now t c.in_default.not-Frame fit

@@ -9,8 +9,8 @@ use Rattle.router_deliveries.specs.Stepping.{behind_any, IsKept}
 use Rattle.router_deliveries.proofs.Puts.{on_ok_both, one_frame, other_frame, put_behind, kept}
 use Rattle.router_deliveries.proofs.store.Store.put_perf.Goals as goal
 
-pub returns-in-Transfer : goal.returns-in-Transfer
-returns-in-Transfer c = on_ok_both c.note_carried.result
+pub returns-in-Transfer-clause-fits : goal.returns-in-Transfer-clause-fits
+returns-in-Transfer-clause-fits c = on_ok_both c.note_carried.result
     (λ noted indexed t sasl number fit.
     let conn = c.args.conn in
     let own = c.args.own in
@@ -26,8 +26,8 @@ returns-in-Transfer c = on_ok_both c.note_carried.result
     })
     c.note_carried.ensures.deliveries c.note_carried.ensures.indexed
 
-pub returns-in_default : goal.returns-in_default
-returns-in_default c = on_ok_both c.apply_any.result
+pub returns-in_default-clause-fits : goal.returns-in_default-clause-fits
+returns-in_default-clause-fits c = on_ok_both c.apply_any.result
     (λ applied indexed t sasl number fit.
     let body = c.args.perf.now in
     record {

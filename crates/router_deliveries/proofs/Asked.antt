@@ -1,0 +1,34 @@
+-- What a table's indexes have is what the trace says.
+use Rattle.std.proofs.Common.{◌≡◌, ◌∙◌, ◌≤◌, ℕ, Bool, true, false, refl, sym, ap, Option, Some, None}
+use Rattle.std.specs.Prelude.{◌&&◌, nat_lt}
+use Rattle.std.specs.Ordering.{nat_cmp}
+use Rattle.std.specs.BTreeMap.{get}
+use Rattle.std.specs.BTreeSet.{contains}
+use Rattle.router_trace.specs.Trace.{Trace}
+use Rattle.router_trace.specs.Deliveries.{delivery, waits_on, undecided_on, held_from, is_to_tell}
+use Rattle.router_trace.specs.Following.{is_unsent_on}
+use Rattle.router_deliveries.specs.declared.store.Store.{Store}
+use Rattle.router_deliveries.specs.Finding.{IsFirstLink, is_above}
+use Rattle.router_deliveries.specs.Fits.{StoreFit}
+use Rattle.router_deliveries.specs.Indexing.{in_group}
+use Rattle.router_deliveries.proofs.Found.{waits_is, unsent_is, undecided_is, held_is, to_tell_is}
+
+pub waits_in : (s : Store) (t : Trace) → StoreFit s t → (k n : ℕ) → in_group s.index.waiting k n ≡ waits_on k (delivery t n)
+waits_in s t fit k n = fit.indexed.waiting k n ∙ waits_is k (get nat_cmp s.deliveries n) ∙ ap (waits_on k) (fit.deliveries n)
+
+pub unsent_in : (s : Store) (t : Trace) → StoreFit s t → (k n : ℕ) → in_group s.index.unsent k n ≡ is_unsent_on k (delivery t n)
+unsent_in s t fit k n = fit.indexed.unsent k n ∙ unsent_is k (get nat_cmp s.deliveries n) ∙ ap (is_unsent_on k) (fit.deliveries n)
+
+pub undecided_in : (s : Store) (t : Trace) → StoreFit s t → (k n : ℕ) → in_group s.index.undecided k n ≡ undecided_on k (delivery t n)
+undecided_in s t fit k n = fit.indexed.undecided k n ∙ undecided_is k (get nat_cmp s.deliveries n) ∙ ap (undecided_on k) (fit.deliveries n)
+
+pub held_in : (s : Store) (t : Trace) → StoreFit s t → (k n : ℕ) → in_group s.index.held k n ≡ held_from k (delivery t n)
+held_in s t fit k n = fit.indexed.held k n ∙ held_is k (get nat_cmp s.deliveries n) ∙ ap (held_from k) (fit.deliveries n)
+
+pub to_tell_in : (s : Store) (t : Trace) → StoreFit s t → (n : ℕ) → contains nat_cmp s.index.to_tell n ≡ is_to_tell (delivery t n)
+to_tell_in s t fit n = fit.indexed.to_tell n ∙ to_tell_is (get nat_cmp s.deliveries n) ∙ ap is_to_tell (fit.deliveries n)
+
+-- the lowest link, by a test that says the same
+pub link_same : (p q : ℕ → ℕ → Bool) → ((k n : ℕ) → p k n ≡ q k n) → (above r : Option ℕ) → IsFirstLink p above r → IsFirstLink q above r
+link_same p q same above None x = λ k n a. sym (same k n) ∙ x k n a
+link_same p q same above (Some k) x = (x.0, (x.1.0, sym (same k x.1.0) ∙ x.1.1), λ j n a e. x.2 j n a (same j n ∙ e))
