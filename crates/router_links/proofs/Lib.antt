@@ -4,3 +4,5 @@ pub mod Numbered
 pub mod Attached
 pub mod Rows
 pub mod Free
+pub mod Gives
+pub mod Looks

@@ -6,13 +6,12 @@ use Rattle.amqp_perf.specs.declared.perf.Perf.{Perf}
 use Rattle.amqp_perf.specs.declared.perf.Perf.TheVariants as perf
 use Rattle.amqp_frames.specs.declared.item.Item.{Item}
 use Rattle.amqp_frames.specs.declared.item.Item.TheVariants as item
-use Rattle.amqp_link.specs.Figures.{send_end_of, unused_at}
-use Rattle.amqp_link.specs.Receiving.{delivery_count, unused}
+use Rattle.amqp_link.specs.Figures.{unused_at}
 use Rattle.book_core.specs.declared.terminus.LinkKey.{LinkKey}
 use Rattle.router_trace.specs.Trace.{Trace}
 use Rattle.router_trace.specs.declared.handle.Attachment.{Attachment}
 use Rattle.router_trace.specs.declared.handle.PeerHandle.{PeerHandle}
-use Rattle.router_trace.specs.Links.{Link as View, Happened, sends, receives, LinkPlace, nowhere, detaching, on, attachments, key_at, link, names, names_by}
+use Rattle.router_trace.specs.Links.{Link as View, attachments, key_at, link, names, names_by}
 use Rattle.router_trace.specs.declared.handle.LinkAt.{LinkAt}
 use Rattle.router_trace.specs.declared.handle.LinkAt.TheVariants as found
 use Rattle.router_links.specs.declared.link.Link.{Link}

@@ -1,7 +1,9 @@
 pub mod Places
 pub mod Ends
+pub mod Giving
 pub mod Fits
 pub mod Handled
+pub mod Looking
 pub mod Naming
 pub use Rattle.router_trace.specs.Trace
 pub use Rattle.router_trace.specs.Sessions

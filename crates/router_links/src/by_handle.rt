@@ -1,12 +1,14 @@
 //! Values by connection, session and handle.
-ghost use Rattle.std.specs.Prelude.{◌≡◌, ◌==◌, ℕ, Some, None, if◌then◌else◌, OnOk};
+ghost use Rattle.std.specs.Prelude.{◌≡◌, ◌==◌, ℕ, Some, None, if◌then◌else◌, IfOk, OnOk};
 ghost use Rattle.std.specs.Option.{option_map};
 ghost use Rattle.std.specs.Ordering.{nat_cmp};
 ghost use Rattle.std.specs.BTreeMap.{get};
 ghost use Rattle.router_links.specs.Places.{in_map, at};
 ghost use Rattle.router_links.specs.Ends.{noted};
+ghost use Rattle.router_links.specs.Giving.{part_here};
 
 use crate::link::{Link, Side};
+use amqp_link::Part;
 use amqp_perf::Perf;
 use bytes::Bytes;
 use std::alloc::{AllocError, Global};
@@ -103,8 +105,8 @@ impl<V: Drop> ByHandle<V> {
 }
 
 impl ByHandle<Link> {
-    /// Notes a performative of one side on a link, where one stands at the place. Where memory is refused nothing can be said
-    /// of the link.
+    /// Notes a performative of one side on a link, where one stands at the place, and gives what a transfer of the peer gives.
+    /// Where memory is refused nothing can be said of the link.
     pub(crate) fn note(
         &mut self,
         conn: u64,
@@ -113,14 +115,15 @@ impl ByHandle<Link> {
         side: Side,
         perf: &Perf,
         payload: &Bytes,
-    ) -> Result<(), AllocError>
-        ensures { OnOk result ((c o h : ℕ) → at self.new c o h
+    ) -> Result<Option<Part>, AllocError>
+        ensures links { OnOk result ((c o h : ℕ) → at self.new c o h
             ≡ (if conn == c then (if own == o then (if handle == h then option_map (noted side perf.now payload.now) (at self.old c o h) else at self.old c o h) else at self.old c o h) else at self.old c o h)) }
+        ensures part { IfOk result (λ p. p ≡ part_here side perf.now payload.now (at self.old conn own handle)) }
     {
-        if let Some(sessions) = self.rows.get_mut(&conn) {
-            note_in(sessions, own, handle, side, perf, payload)?;
+        match self.rows.get_mut(&conn) {
+            None => Ok(None),
+            Some(sessions) => note_in(sessions, own, handle, side, perf, payload),
         }
-        Ok(())
     }
 }
 
@@ -132,14 +135,15 @@ fn note_in(
     side: Side,
     perf: &Perf,
     payload: &Bytes,
-) -> Result<(), AllocError>
-    ensures { OnOk result ((o h : ℕ) → in_map (get nat_cmp sessions.new o) h
+) -> Result<Option<Part>, AllocError>
+    ensures links { OnOk result ((o h : ℕ) → in_map (get nat_cmp sessions.new o) h
         ≡ (if own == o then (if handle == h then option_map (noted side perf.now payload.now) (in_map (get nat_cmp sessions.old o) h) else in_map (get nat_cmp sessions.old o) h) else in_map (get nat_cmp sessions.old o) h)) }
+    ensures part { IfOk result (λ p. p ≡ part_here side perf.now payload.now (in_map (get nat_cmp sessions.old own) handle)) }
 {
-    if let Some(handles) = sessions.get_mut(&own) {
-        note_at(handles, handle, side, perf, payload)?;
+    match sessions.get_mut(&own) {
+        None => Ok(None),
+        Some(handles) => note_at(handles, handle, side, perf, payload),
     }
-    Ok(())
 }
 
 /// Notes a performative on the link at a handle.
@@ -149,14 +153,15 @@ fn note_at(
     side: Side,
     perf: &Perf,
     payload: &Bytes,
-) -> Result<(), AllocError>
-    ensures { OnOk result ((h : ℕ) → get nat_cmp handles.new h
+) -> Result<Option<Part>, AllocError>
+    ensures links { OnOk result ((h : ℕ) → get nat_cmp handles.new h
         ≡ (if handle == h then option_map (noted side perf.now payload.now) (get nat_cmp handles.old h) else get nat_cmp handles.old h)) }
+    ensures part { IfOk result (λ p. p ≡ part_here side perf.now payload.now (get nat_cmp handles.old handle)) }
 {
-    if let Some(link) = handles.get_mut(&handle) {
-        link.note(side, perf, payload)?;
+    match handles.get_mut(&handle) {
+        None => Ok(None),
+        Some(link) => link.note(side, perf, payload),
     }
-    Ok(())
 }
 
 /// Puts a value at a handle of a session.

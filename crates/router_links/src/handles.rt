@@ -7,6 +7,7 @@ ghost use Rattle.router_trace.specs.Trace.{Entry, Out, did};
 ghost use Rattle.router_trace.specs.Sessions.{is_channel, maps, theirs};
 ghost use Rattle.router_trace.specs.Links.{is_handle, names, handle_asked, detached, first_free_below, is_free_handle, free_handle};
 ghost use Rattle.router_links.specs.Fits.{names_in};
+ghost use Rattle.router_links.specs.Giving.{handle_of, handle_on};
 ghost use Rattle.router_links.specs.Places.{in_map, at};
 ghost use Rattle.router_links.specs.Handled.{HandlesFit};
 ghost use Rattle.router_trace.specs.declared.event.Event.TheVariants as event;
@@ -72,7 +73,8 @@ impl HandleTable {
     /// The router's handle of the link that a flow or a transfer of the peer names, on the session on this channel of the
     /// router, where there is one.
     pub fn named(&self, conn: u64, own: Option<u16>, perf: &Perf) -> Option<u32>
-        ensures { (o h : ℕ) → is_channel own o ≡ true → is_handle result h ≡ names_in perf.now (at self.now.theirs conn o) h }
+        ensures names { (o h : ℕ) → is_channel own o ≡ true → is_handle result h ≡ names_in perf.now (at self.now.theirs conn o) h }
+        ensures exact { result ≡ handle_on own perf.now (at self.now.theirs conn) }
     {
         let own = own?;
         match perf {
@@ -83,8 +85,9 @@ impl HandleTable {
     }
 
     /// The router's handle that a handle of the peer stands for.
-    fn mapped(&self, conn: u64, own: u16, handle: u32) -> Option<u32>
-        ensures { (h : ℕ) → is_handle result h ≡ names (at self.now.theirs conn own handle) h }
+    pub fn mapped(&self, conn: u64, own: u16, handle: u32) -> Option<u32>
+        ensures names { (h : ℕ) → is_handle result h ≡ names (at self.now.theirs conn own handle) h }
+        ensures exact { result ≡ handle_of (at self.now.theirs conn own handle) }
     {
         match self.theirs(conn, own, handle) {
             Some(PeerHandle::Mapped(handle)) => Some(handle),

@@ -1,12 +1,16 @@
 //! Links, as a table has them.
-ghost use Rattle.std.specs.Prelude.{◌≡◌, List, ℕ, if◌then◌else◌, OnOk};
+ghost use Rattle.std.specs.Prelude.{◌≡◌, List, ℕ, if◌then◌else◌, IfOk, OnOk};
 ghost use Rattle.std.specs.Option.{option_map};
 ghost use Rattle.router_trace.specs.Links.{address_by, source_address, target_address, text_of};
 ghost use Rattle.amqp_link.specs.Figures.{behind_start};
 ghost use Rattle.router_links.specs.declared.link.Side.TheVariants.{Peer, Router};
-ghost use Rattle.router_links.specs.Ends.{begun, begun_end, behind_their_flow, behind_their_transfer, behind_our_flow, behind_our_transfer, noted, with_grant, with_count, with_our_count, with_our_grant};
+ghost use Rattle.router_links.specs.Ends.{link_of, begun, begun_end, behind_their_flow, behind_their_transfer, behind_our_flow, behind_our_transfer, noted, with_grant, with_count, with_our_count, with_our_grant};
+ghost use Rattle.router_links.specs.Giving.{given_at, part_noted};
+ghost use Rattle.router_links.specs.Looking.{credit_on, credit_at, unused_on, unused_end, count_on, count_at, sends_at, middle_at, is_new, is_in_middle};
+ghost use Rattle.router_trace.specs.Links.{Link as View};
+ghost use Rattle.router_trace.specs.Following.{is_sending};
 
-use amqp_link::{Grant, RecvEnd, SendEnd};
+use amqp_link::{Delivery, Grant, Part, RecvEnd, SendEnd};
 use amqp_perf::{
     Address, Attach, Flow, Perf, Role, SourceTerminus, TargetTerminus, Text, Transfer,
 };
@@ -102,6 +106,53 @@ impl LinkEnd {
             Role::Receiver => LinkEnd::Receives(RecvEnd::new(alloc, Serial::new(theirs))),
         }
     }
+
+    /// The credit left, where the router sends.
+    fn credit(&self) -> u32
+        ensures { result ≡ credit_at self.now }
+    {
+        match self {
+            LinkEnd::Sends(end) => end.left(),
+            LinkEnd::Receives(_) => 0,
+        }
+    }
+
+    /// The credit that the peer was granted and hasn't used, where it sends.
+    fn unused(&self) -> u32
+        ensures { result ≡ unused_end self.now }
+    {
+        match self {
+            LinkEnd::Sends(_) => 0,
+            LinkEnd::Receives(end) => end.unused(),
+        }
+    }
+
+    /// The delivery-count of the one that sends.
+    fn count(&self) -> Serial
+        ensures { result ≡ count_at self.now }
+    {
+        match self {
+            LinkEnd::Sends(end) => end.count(),
+            LinkEnd::Receives(end) => end.count(),
+        }
+    }
+
+    /// Whether the router sends.
+    fn sends(&self) -> bool
+        ensures { result ≡ sends_at self.now }
+    {
+        matches!(self, LinkEnd::Sends(_))
+    }
+
+    /// What is told of the delivery in the middle, where the peer sends and one is.
+    fn middle(&self) -> Option<&Delivery>
+        ensures { option_map (λ d. d.now) result ≡ middle_at self.now }
+    {
+        match self {
+            LinkEnd::Sends(_) => None,
+            LinkEnd::Receives(end) => end.in_middle(),
+        }
+    }
 }
 
 impl Link {
@@ -127,35 +178,86 @@ impl Link {
         }
     }
 
-    /// Notes a flow or a transfer of one side; other performatives change nothing. Where memory is refused nothing can be said
-    /// of the link.
+    /// The credit left, where the router sends; 0 elsewhere.
+    #[tactic(auto, using(crate::proofs::Looks::credit_follows))]
+    pub fn credit(&self) -> u32
+        ensures { (l : View) → self.now ≡ link_of l → result ≡ credit_on l.happened }
+    {
+        self.end.credit()
+    }
+
+    /// The credit that the peer was granted and hasn't used, where it sends; 0 elsewhere.
+    #[tactic(auto, using(crate::proofs::Looks::unused_follows))]
+    pub fn unused(&self) -> u32
+        ensures { (l : View) → self.now ≡ link_of l → result ≡ unused_on l.happened }
+    {
+        self.end.unused()
+    }
+
+    /// The delivery-count of the one that sends.
+    #[tactic(auto, using(crate::proofs::Looks::count_follows))]
+    pub fn count(&self) -> Serial
+        ensures { (l : View) → self.now ≡ link_of l → result ≡ count_on l.happened }
+    {
+        self.end.count()
+    }
+
+    /// Whether the router sends.
+    #[tactic(auto, using(crate::proofs::Looks::sends_follows))]
+    pub fn is_consumer(&self) -> bool
+        ensures { (l : View) → self.now ≡ link_of l → result ≡ is_sending l.happened }
+    {
+        self.end.sends()
+    }
+
+    /// Whether a delivery of the peer is in the middle that isn't resumed.
+    #[tactic(auto, using(crate::proofs::Looks::in_middle_follows))]
+    pub fn is_in_middle(&self) -> bool
+        ensures { (l : View) → self.now ≡ link_of l → result ≡ is_in_middle l }
+    {
+        is_new(self.middle())
+    }
+
+    /// What is told of the delivery in the middle, where the peer sends and one is.
+    pub(crate) fn middle(&self) -> Option<&Delivery>
+        ensures { option_map (λ d. d.now) result ≡ middle_at self.now.end }
+    {
+        self.end.middle()
+    }
+
+    /// Notes a flow or a transfer of one side, and gives what a transfer of the peer gives; other performatives change nothing.
+    /// Where memory is refused nothing can be said of the link.
     pub(crate) fn note(
         &mut self,
         side: Side,
         perf: &Perf,
         payload: &Bytes,
-    ) -> Result<(), AllocError>
-        ensures { OnOk result (self.new ≡ noted side perf.now payload.now self.old) }
+    ) -> Result<Option<Part>, AllocError>
+        ensures link { OnOk result (self.new ≡ noted side perf.now payload.now self.old) }
+        ensures part { IfOk result (λ p. p ≡ part_noted side perf.now payload.now self.old) }
     {
         match side {
             Side::Peer => self.note_theirs(perf, payload),
             Side::Router => {
                 self.note_ours(perf);
-                Ok(())
+                Ok(None)
             }
         }
     }
 
     /// Notes a performative of the peer.
-    fn note_theirs(&mut self, perf: &Perf, payload: &Bytes) -> Result<(), AllocError>
-        ensures { OnOk result (self.new ≡ noted Peer perf.now payload.now self.old) }
+    fn note_theirs(&mut self, perf: &Perf, payload: &Bytes) -> Result<Option<Part>, AllocError>
+        ensures link { OnOk result (self.new ≡ noted Peer perf.now payload.now self.old) }
+        ensures part { IfOk result (λ p. p ≡ part_noted Peer perf.now payload.now self.old) }
     {
         match perf {
-            Perf::Flow(flow) => self.on_their_flow(flow),
-            Perf::Transfer(transfer) => self.on_their_transfer(transfer, payload)?,
-            _ => {}
+            Perf::Flow(flow) => {
+                self.on_their_flow(flow);
+                Ok(None)
+            }
+            Perf::Transfer(transfer) => self.on_their_transfer(transfer, payload),
+            _ => Ok(None),
         }
-        Ok(())
     }
 
     /// Notes a performative of the router.
@@ -181,21 +283,20 @@ impl Link {
         self.owes_drain = flow.drain;
     }
 
-    /// Takes a transfer of the peer and what it carries. Where memory is refused nothing can be said of the link.
+    /// Takes a transfer of the peer and what it carries, and gives what it makes of its delivery, where the peer sends. Where
+    /// memory is refused nothing can be said of the link.
     pub fn on_their_transfer(
         &mut self,
         transfer: &Transfer,
         payload: &Bytes,
-    ) -> Result<(), AllocError>
-        ensures { OnOk result (self.new ≡ behind_their_transfer transfer.now payload.now self.old) }
+    ) -> Result<Option<Part>, AllocError>
+        ensures link { OnOk result (self.new ≡ behind_their_transfer transfer.now payload.now self.old) }
+        ensures part { IfOk result (λ p. p ≡ given_at transfer.now payload.now self.old.end) }
     {
         match &mut self.end {
-            LinkEnd::Sends(_) => {}
-            LinkEnd::Receives(end) => {
-                let _ = end.on_transfer(transfer, payload.clone()?)?;
-            }
+            LinkEnd::Sends(_) => Ok(None),
+            LinkEnd::Receives(end) => Ok(Some(end.on_transfer(transfer, payload.clone()?)?)),
         }
-        Ok(())
     }
 
     /// Notes a flow of the router: the count that it tells, or what it grants; and a drain that it tells.
@@ -217,6 +318,16 @@ impl Link {
             note_start(end, self.going_on);
         }
         self.going_on = transfer.more && !transfer.aborted;
+    }
+}
+
+/// Whether there is a delivery, and it isn't resumed.
+fn is_new(delivery: Option<&Delivery>) -> bool
+    ensures { result ≡ is_new (option_map (λ d. d.now) delivery.entry) }
+{
+    match delivery {
+        None => false,
+        Some(delivery) => !delivery.resume,
     }
 }
 

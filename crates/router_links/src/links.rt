@@ -1,15 +1,21 @@
 //! The table of links.
-ghost use Rattle.std.specs.Prelude.{◌≡◌, ◌∷◌, [], List, ℕ, Bool, false, OnOk};
+ghost use Rattle.std.specs.Prelude.{◌≡◌, ◌∷◌, [], List, ℕ, Bool, false, IfOk, OnOk};
 ghost use Rattle.amqp_frames.specs.declared.item.Item.TheVariants as item;
 ghost use Rattle.router_trace.specs.Trace.{Entry, Out, did};
 ghost use Rattle.router_trace.specs.Sessions.{is_channel, maps, theirs};
 ghost use Rattle.router_trace.specs.Links.{link, link_place, found_link, free_handle, holder, place_of};
+ghost use Rattle.router_trace.specs.Settling.{part_at, middle_on};
+ghost use Rattle.router_links.specs.Ends.{link_of};
+ghost use Rattle.router_links.specs.Looking.{attachment_on};
+ghost use Rattle.std.specs.Option.{option_map};
 ghost use Rattle.router_trace.specs.declared.event.Event.TheVariants as event;
 ghost use Rattle.router_links.specs.Fits.{LinksFit, owes_drain, key_in, key_by, channel_of};
 
 use crate::handles::HandleTable;
+use crate::link::Link;
 use crate::table::LinkTable;
 use amqp_frames::Item;
+use amqp_link::{Delivery, Part};
 use amqp_perf::Perf;
 use book_core::LinkKey;
 use bytes::Bytes;
@@ -43,6 +49,31 @@ impl Links {
             Some(PeerHandle::Detaching) => LinkAt::Detaching,
             Some(PeerHandle::Mapped(handle)) => self.table.found(conn, own, handle),
         }
+    }
+
+    /// What is told of the delivery in the middle of the link on a handle of the peer, on the session on a channel of the
+    /// router.
+    #[tactic(auto, using(crate::proofs::Looks::middle_follows))]
+    pub fn middle(&self, conn: u64, own: u16, handle: u32) -> Option<&Delivery>
+        ensures { (t : List Entry) → LinksFit self.now t → option_map (λ d. d.now) result ≡ middle_on (link_place t conn own handle) }
+    {
+        let handle = self.handles.mapped(conn, own, handle);
+        self.table.middle(conn, own, handle)
+    }
+
+    /// The link at the place of an attachment; whether it is that attachment's its number says.
+    pub fn link(&self, place: Attachment) -> Option<&Link>
+        ensures { (t : List Entry) → LinksFit self.now t → option_map (λ l. l.now) result ≡ option_map link_of (link t place.conn.0 place.channel place.handle) }
+    {
+        self.table.link(place.conn.0, place.channel, place.handle)
+    }
+
+    /// The attachment of the link on a handle of the router, of the session on a channel of the router.
+    #[tactic(auto, using(crate::proofs::Looks::attachment_follows))]
+    pub fn attachment(&self, conn: u64, own: u16, handle: u32) -> Option<Attachment>
+        ensures { (t : List Entry) → LinksFit self.now t → result ≡ attachment_on conn own handle (link t conn own handle) }
+    {
+        self.table.attachment(conn, own, handle)
     }
 
     /// The lowest handle of the router, of 64, that the peer of a session takes too and on which nothing is attached.
@@ -88,15 +119,17 @@ impl Links {
         self.table.down(conn);
     }
 
-    /// An item came on a connection, on the session on this channel of the router, where its channel has one.
+    /// An item came on a connection, on the session on this channel of the router, where its channel has one. Gives what a
+    /// transfer gives on the link that it finds.
     pub fn hear(
         &mut self,
         conn: ConnectionId,
         own: Option<u16>,
         item: &Item,
-    ) -> Result<(), AllocError>
-        ensures { OnOk result ((t : List Entry) → ((o : ℕ) → is_channel own o ≡ maps (theirs t conn.0 (channel_of item.now)) o)
+    ) -> Result<Option<Part>, AllocError>
+        ensures fits { OnOk result ((t : List Entry) → ((o : ℕ) → is_channel own o ≡ maps (theirs t conn.0 (channel_of item.now)) o)
             → LinksFit self.old t → LinksFit self.new (did (event.Item conn item.now) ∷ t)) }
+        ensures part { (t : List Entry) → LinksFit self.old t → IfOk result (λ p. p ≡ part_at t conn.0 own item.now) }
     {
         match item {
             Item::Frame {
@@ -105,13 +138,14 @@ impl Links {
                 payload,
                 ..
             } => {
-                if !*sasl {
-                    self.hear_perf(conn, own, perf, payload)?;
+                if *sasl {
+                    return Ok(None);
                 }
+                let part = self.hear_perf(conn, own, perf, payload)?;
+                Ok(part)
             }
-            _ => {}
+            _ => Ok(None),
         }
-        Ok(())
     }
 
     /// A performative came on a connection.
@@ -121,14 +155,16 @@ impl Links {
         own: Option<u16>,
         perf: &Perf,
         payload: &Bytes,
-    ) -> Result<(), AllocError>
-        ensures { OnOk result ((t : List Entry) (channel : ℕ) → ((o : ℕ) → is_channel own o ≡ maps (theirs t conn.0 channel) o)
+    ) -> Result<Option<Part>, AllocError>
+        ensures fits { OnOk result ((t : List Entry) (channel : ℕ) → ((o : ℕ) → is_channel own o ≡ maps (theirs t conn.0 channel) o)
             → LinksFit self.old t → LinksFit self.new (did (event.Item conn (item.Frame false channel perf.now payload.now)) ∷ t)) }
+        ensures part { (t : List Entry) (channel : ℕ) → LinksFit self.old t
+            → IfOk result (λ p. p ≡ part_at t conn.0 own (item.Frame false channel perf.now payload.now)) }
     {
         let handle = self.handles.named(conn.0, own, perf);
-        self.table.hear(conn, own, handle, perf, payload)?;
+        let part = self.table.hear(conn, own, handle, perf, payload)?;
         self.handles.hear(conn, own, perf)?;
-        Ok(())
+        Ok(part)
     }
 
     /// An item is put in the outbox of a connection; an attach comes with its key. Fails where memory is refused, where

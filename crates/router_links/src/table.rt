@@ -14,8 +14,10 @@ ghost use Rattle.router_trace.specs.Trace.{Entry, Out, did};
 ghost use Rattle.router_trace.specs.Sessions.{is_channel, maps, theirs};
 ghost use Rattle.router_trace.specs.Links.{is_handle, their_handle, asked, initial_of, key_at, is_attached, if_attached, holder, place_of};
 ghost use Rattle.router_trace.specs.declared.event.Event.TheVariants as event;
-ghost use Rattle.router_links.specs.declared.link.Side.TheVariants.{Peer};
+ghost use Rattle.router_links.specs.declared.link.Side.TheVariants.{Peer, Router};
 ghost use Rattle.router_links.specs.Ends.{begun, noted};
+ghost use Rattle.router_links.specs.Giving.{part_named};
+ghost use Rattle.router_links.specs.Looking.{middle_named, attachment_of};
 ghost use Rattle.router_links.specs.Fits.{TableFit, with_mark, asks_drain, names_in, key_in, found_at, attachment, IsNoted};
 ghost use Rattle.router_links.specs.Naming.{on_conn, on_session, on_handle, Thinned};
 ghost use Rattle.router_links.specs.Places.{at};
@@ -23,6 +25,7 @@ ghost use Rattle.router_links.specs.Places.{at};
 use crate::by_handle::ByHandle;
 use crate::link::{Link, LinkEnd, Side, address_of};
 use crate::names::Names;
+use amqp_link::{Delivery, Part};
 use amqp_perf::{Attach, Detach, Perf, Text};
 use book_core::LinkKey;
 use bytes::Bytes;
@@ -71,6 +74,41 @@ impl LinkTable {
                     unused: end.unused(),
                 },
             },
+        }
+    }
+
+    /// The link on a handle of the router.
+    pub fn link(&self, conn: u64, own: u16, handle: u32) -> Option<&Link>
+        ensures { option_map (λ l. l.now) result ≡ at self.now.links conn own handle }
+    {
+        self.links.get(conn, own, handle)
+    }
+
+    /// What is told of the delivery in the middle of the link on a handle of the router, where there is such.
+    pub fn middle(&self, conn: u64, own: u16, handle: Option<u32>) -> Option<&Delivery>
+        ensures { option_map (λ d. d.now) result ≡ middle_named handle (at self.now.links conn own) }
+    {
+        match handle {
+            None => None,
+            Some(handle) => match self.links.get(conn, own, handle) {
+                None => None,
+                Some(link) => link.middle(),
+            },
+        }
+    }
+
+    /// The attachment of the link on a handle of the router.
+    pub fn attachment(&self, conn: u64, own: u16, handle: u32) -> Option<Attachment>
+        ensures { result ≡ option_map (attachment_of conn own handle) (at self.now.links conn own handle) }
+    {
+        match self.links.get(conn, own, handle) {
+            None => None,
+            Some(link) => Some(Attachment {
+                number: link.number,
+                conn: ConnectionId(conn),
+                channel: own,
+                handle,
+            }),
         }
     }
 
@@ -135,7 +173,7 @@ impl LinkTable {
     }
 
     /// A performative of the peer came on the session on this channel of the router, for the link on this handle of the
-    /// router, where there are such.
+    /// router, where there are such. Gives what a transfer gives.
     pub fn hear(
         &mut self,
         conn: ConnectionId,
@@ -143,13 +181,14 @@ impl LinkTable {
         handle: Option<u32>,
         perf: &Perf,
         payload: &Bytes,
-    ) -> Result<(), AllocError>
-        ensures { OnOk result ((t : List Entry) (channel : ℕ) → ((o : ℕ) → is_channel own o ≡ maps (theirs t conn.0 channel) o)
+    ) -> Result<Option<Part>, AllocError>
+        ensures fits { OnOk result ((t : List Entry) (channel : ℕ) → ((o : ℕ) → is_channel own o ≡ maps (theirs t conn.0 channel) o)
             → ((o h : ℕ) → is_channel own o ≡ true → is_handle handle h ≡ names_in perf.now (their_handle t conn.0 o) h)
             → TableFit self.old t → TableFit self.new (did (event.Item conn (item.Frame false channel perf.now payload.now)) ∷ t)) }
+        ensures part { IfOk result (λ p. p ≡ part_named Peer perf.now payload.now own handle (at self.old.links conn.0)) }
     {
         mark(&mut self.owing, conn.0, asks_drain(perf))?;
-        note(
+        let part = note(
             &mut self.links,
             conn.0,
             own,
@@ -158,7 +197,7 @@ impl LinkTable {
             perf,
             payload,
         )?;
-        Ok(())
+        Ok(part)
     }
 
     /// A performative is put in the outbox of a connection, on a channel of the router. An attach comes with its key, and with
@@ -268,15 +307,7 @@ impl LinkTable {
         ensures { OnOk result ((t : List Entry) (sasl : Bool) → IsNoted perf.now handle
             → TableFit self.old t → TableFit self.new (Out conn (item.Frame sasl own perf.now payload.now) ∷ t)) }
     {
-        note(
-            &mut self.links,
-            conn,
-            Some(own),
-            handle,
-            Side::Router,
-            perf,
-            payload,
-        )
+        note_ours(&mut self.links, conn, own, handle, perf, payload)
     }
 
     /// The router's detach.
@@ -321,7 +352,7 @@ fn leave(links: &mut ByHandle<Link>, names: &mut Names, conn: u64, own: u16, han
     }
 }
 
-/// Notes a performative of one side on a link, where there is one.
+/// Notes a performative of one side on a link, where there is one, and gives what a transfer of the peer gives.
 fn note(
     links: &mut ByHandle<Link>,
     conn: u64,
@@ -330,14 +361,31 @@ fn note(
     side: Side,
     perf: &Perf,
     payload: &Bytes,
-) -> Result<(), AllocError>
-    ensures { OnOk result ((c o h : ℕ) → at links.new c o h
+) -> Result<Option<Part>, AllocError>
+    ensures links { OnOk result ((c o h : ℕ) → at links.new c o h
         ≡ (if conn == c then (if is_channel own o then (if is_handle handle h then option_map (noted side perf.now payload.now) (at links.old c o h) else at links.old c o h) else at links.old c o h) else at links.old c o h)) }
+    ensures part { IfOk result (λ p. p ≡ part_named side perf.now payload.now own handle (at links.old conn)) }
 {
     let (Some(own), Some(handle)) = (own, handle) else {
-        return Ok(());
+        return Ok(None);
     };
     links.note(conn, own, handle, side, perf, payload)
+}
+
+/// Notes a performative of the router on a link, where there is one.
+fn note_ours(
+    links: &mut ByHandle<Link>,
+    conn: u64,
+    own: u16,
+    handle: Option<u32>,
+    perf: &Perf,
+    payload: &Bytes,
+) -> Result<(), AllocError>
+    ensures { OnOk result ((c o h : ℕ) → at links.new c o h
+        ≡ (if conn == c then (if own == o then (if is_handle handle h then option_map (noted Router perf.now payload.now) (at links.old c o h) else at links.old c o h) else at links.old c o h) else at links.old c o h)) }
+{
+    let _ = note(links, conn, Some(own), handle, Side::Router, perf, payload)?;
+    Ok(())
 }
 
 /// Whether a performative asks for a drain.

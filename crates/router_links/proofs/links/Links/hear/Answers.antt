@@ -7,9 +7,9 @@ use Rattle.router_links.specs.Fits.{LinksFit, channel_of}
 use Rattle.router_trace.specs.declared.event.Event.TheVariants as event
 use Rattle.router_links.proofs.links.Links.hear.Goals as goal
 
-pub returns-in_ok-hear_perf-in-Frame : goal.returns-in_ok-hear_perf-in-Frame
-returns-in_ok-hear_perf-in-Frame c = λ t here fit.
+pub returns-in_ok-part-in-Frame-clause-fits : goal.returns-in_ok-part-in-Frame-clause-fits
+returns-in_ok-part-in-Frame-clause-fits c = λ t here fit.
     let it = c.in-Frame in
     subst (λ (i : Item). LinksFit c.hear_perf.new.self (did (event.Item c.args.conn i) ∷ t)) (sym it.is)
-    (subst (λ (b : Bool). LinksFit c.hear_perf.new.self (did (event.Item c.args.conn (item.Frame b it.channel it.perf it.payload)) ∷ t)) (sym c.if-not-sasl.true)
-    (c.in_ok-hear_perf-in-Frame.ensures t it.channel (λ o. here o ∙ ap (λ (i : Item). maps (theirs t c.args.conn.0 (channel_of i)) o) it.is) fit))
+    (subst (λ (b : Bool). LinksFit c.hear_perf.new.self (did (event.Item c.args.conn (item.Frame b it.channel it.perf it.payload)) ∷ t)) (sym c.if-sasl.false)
+    (c.in_ok-part-in-Frame.ensures.fits t it.channel (λ o. here o ∙ ap (λ (i : Item). maps (theirs t c.args.conn.0 (channel_of i)) o) it.is) fit))

@@ -1,0 +1,74 @@
+-- What is looked up of a link: its figures, what it is in the middle of, and its attachment.
+use Rattle.std.specs.Prelude.{ℕ, Bool, true, false, not, Option, Some, None, option_map}
+use Rattle.amqp_link.specs.declared.part.Delivery.{Delivery as Told}
+use Rattle.amqp_link.specs.Credit as credit
+use Rattle.amqp_link.specs.Figures.{left_at, unused_at}
+use Rattle.amqp_link.specs.Receiving as receiving
+use Rattle.router_trace.specs.declared.handle.Attachment.{Attachment}
+use Rattle.router_trace.specs.Links.{Link as View, Happened, sends, receives}
+use Rattle.router_trace.specs.Settling.{middle_by}
+use Rattle.router_links.specs.declared.link.Link.{Link}
+use Rattle.router_links.specs.declared.link.LinkEnd.{LinkEnd}
+use Rattle.router_links.specs.declared.link.LinkEnd.TheVariants as ends
+use Rattle.router_links.specs.Fits.{attachment}
+
+-- the credit left, where the router sends
+abbrev pub credit_on : Happened → ℕ
+credit_on (sends list) = credit.credit list
+credit_on (receives list) = 0
+
+abbrev pub credit_at : LinkEnd → ℕ
+credit_at (ends.Sends e) = left_at e
+credit_at (ends.Receives e) = 0
+
+-- the credit that the peer was granted and hasn't used, where it sends
+abbrev pub unused_on : Happened → ℕ
+unused_on (sends list) = 0
+unused_on (receives list) = receiving.unused list
+
+abbrev pub unused_end : LinkEnd → ℕ
+unused_end (ends.Sends e) = 0
+unused_end (ends.Receives e) = unused_at e
+
+-- the delivery-count of the one that sends
+abbrev pub count_on : Happened → ℕ
+count_on (sends list) = credit.count list
+count_on (receives list) = receiving.delivery_count list
+
+abbrev pub count_at : LinkEnd → ℕ
+count_at (ends.Sends e) = e.count
+count_at (ends.Receives e) = e.count
+
+-- the router sends
+abbrev pub sends_at : LinkEnd → Bool
+sends_at (ends.Sends e) = true
+sends_at (ends.Receives e) = false
+
+-- what is told of the delivery in the middle, where the peer sends
+abbrev pub middle_at : LinkEnd → Option Told
+middle_at (ends.Sends e) = None
+middle_at (ends.Receives e) = option_map (λ g. g.delivery) e.middle
+
+abbrev pub middle_here : Option Link → Option Told
+middle_here None = None
+middle_here (Some l) = middle_at l.end
+
+abbrev pub middle_named : Option ℕ → (ℕ → Option Link) → Option Told
+middle_named None known = None
+middle_named (Some h) known = middle_here (known h)
+
+-- one that isn't resumed is in the middle
+abbrev pub is_new : Option Told → Bool
+is_new None = false
+is_new (Some d) = not d.resume
+
+abbrev pub is_in_middle : View → Bool
+is_in_middle l = is_new (middle_by l.happened)
+
+-- the attachment of the link at a place
+abbrev pub attachment_of : ℕ → ℕ → ℕ → Link → Attachment
+attachment_of c o h l = attachment l.number c o h
+
+abbrev pub attachment_on : ℕ → ℕ → ℕ → Option View → Option Attachment
+attachment_on c o h None = None
+attachment_on c o h (Some l) = Some (attachment l.number c o h)
