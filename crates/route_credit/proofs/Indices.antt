@@ -1,5 +1,5 @@
 -- How the index of links follows what is known of one.
-use Rattle.std.proofs.Common.{◌≡◌, ◌∙◌, sym, ap, refl, ℕ, Bool, true, false, cond, ◌+◌, ◌-◌, ◌<◌, ◌≤◌, Option, Some, None, arith}
+use Rattle.std.proofs.Common.{◌≡◌, ◌∙◌, sym, ap, refl, subst, ℕ, Bool, true, false, cond, ◌+◌, ◌-◌, ◌<◌, ◌≤◌, Option, Some, None, arith}
 use Rattle.std.specs.Prelude.{◌==◌, nat_lt, if◌then◌else◌, option_and_then}
 use Rattle.std.specs.BTreeMap.{get, is_at}
 use Rattle.std.specs.Map.{keys_of, remove_entry}
@@ -32,10 +32,12 @@ module _ {X : Type 0} (rank : X → Option ℕ) (amount : X → ℕ) where
       → new.rows.entries ≡ with_link old.rows.entries id link
       → ((q : ℕ) → get nat_cmp new.rows q ≡ cond (is_at (nat_cmp id) q) (Some link) (get nat_cmp old.rows q))
       → new.total ≡ old.total - amount_at amount (link_at old.rows.entries id) + amount link
+      → IsStrictlySortedBy nat_cmp (keys_of new.rows.entries)
       → IsIndexed rank amount new
-  indexed_set old new id link after is_after sorted is ranks rows found sum = record {
+  indexed_set old new id link after is_after sorted is ranks rows found sum ordered = record {
     ranks = ranks_agree new.ranking _ _ ranks (λ q. sym (ap (option_and_then rank) (found q ∙ ap (λ b. cond b (Some link) (get nat_cmp old.rows q)) (same_test id q)) ∙ inside (id == q) (get nat_cmp old.rows q)));
     total = summed;
+    ordered = ordered;
   }
     where
       inside : (b : Bool) (x : Option X) → option_and_then rank (cond b (Some link) x) ≡ (if b then after else option_and_then rank x)
@@ -55,10 +57,12 @@ module _ {X : Type 0} (rank : X → Option ℕ) (amount : X → ℕ) where
       → new.rows.entries ≡ remove_entry (is_at (nat_cmp id)) old.rows.entries
       → ((q : ℕ) → get nat_cmp new.rows q ≡ cond (is_at (nat_cmp id) q) None (get nat_cmp old.rows q))
       → new.total ≡ old.total - amount_at amount (link_at old.rows.entries id)
+      → IsStrictlySortedBy nat_cmp (keys_of new.rows.entries)
       → IsIndexed rank amount new
-  indexed_less old new id is ranks rows found sum = record {
+  indexed_less old new id is ranks rows found sum ordered = record {
     ranks = ranks_agree new.ranking _ _ ranks (λ q. sym (ap (option_and_then rank) (found q ∙ ap (λ b. cond b None (get nat_cmp old.rows q)) (same_test id q)) ∙ inside (id == q) (get nat_cmp old.rows q)));
     total = summed;
+    ordered = ordered;
   }
     where
       inside : (b : Bool) (x : Option X) → option_and_then rank (cond b None x) ≡ (if b then None else option_and_then rank x)
@@ -81,6 +85,7 @@ module _ {X : Type 0} (rank : X → Option ℕ) (amount : X → ℕ) where
         (λ e. rw e (sym (ap (λ es. rank_at rank es q) rows ∙ ap (λ k. rank_at rank old.rows.entries k) (sym (eqb-true id q e)) ∙ ap (option_and_then rank) none)))
         (λ e. rw e (sym (ap (λ es. rank_at rank es q) rows))));
     total = sum ∙ is.total ∙ ap (total amount) (sym rows);
+    ordered = subst (λ es. IsStrictlySortedBy nat_cmp (keys_of es)) (sym rows) is.ordered;
   }
 
 pub ranked_here : (ranks : ℕ → Option ℕ) (id : ℕ) (rank : Option ℕ) → ranked ranks id rank id ≡ rank

@@ -14,7 +14,7 @@ use Rattle.route_credit.proofs.Moved.{by_test}
 none_some : {P : Type 0} (n : ℕ) → None ≡ Some n → P
 none_some n h = absurd cc
 
-least_is_one : (figure : ℕ → Option ℕ) (one other : Option ℕ) → IsLeast figure one → IsLeast figure other → one ≡ other
+pub least_is_one : (figure : ℕ → Option ℕ) (one other : Option ℕ) → IsLeast figure one → IsLeast figure other → one ≡ other
 least_is_one figure None None a b = refl
 least_is_one figure None (Some y) a b = none_some b.0 (sym (a y) ∙ b.1)
 least_is_one figure (Some x) None a b = none_some a.0 (sym (b x) ∙ a.1)

@@ -1,7 +1,11 @@
 pub mod Choices
+pub mod Entries
 pub mod Firsts
+pub mod Gains
+pub mod Grants
 pub mod Indices
 pub mod Lawful
+pub mod Leasts
 pub mod Lookups
 pub mod Moved
 pub mod Steps

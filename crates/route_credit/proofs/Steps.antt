@@ -5,7 +5,8 @@ use Rattle.std.specs.Map.{keys_of}
 use Rattle.std.specs.List.Sorted.{IsStrictlySortedBy}
 use Rattle.std.specs.Ordering.{nat_cmp}
 use Rattle.std.proofs.lemmas.Bool.{eqb-true, ltb-true, leb-true}
-use Rattle.route_credit.specs.Giving.{IsGiving, room}
+use Rattle.route_credit.specs.Giving.{IsGiving}
+use Rattle.route_credit.specs.Granting.{all_granted, room}
 use Rattle.route_credit.specs.Links.{amount_at, link_at, with_link, total}
 use Rattle.route_credit.specs.Pool.{Sharing, Granted, given, need_of, is_short, IsNext, IsNextIf, free, lent, lent_at, part_of, short_by, WithinFree}
 use Rattle.route_credit.specs.Pool.Granted.{none, more}
@@ -100,9 +101,12 @@ pub giving_more : (old now after : Sharing) (id part : ℕ) (sums sums_after : L
     → ((demand : Demand) → link_at now.producers id ≡ Some demand → part ≡ part_of now.distribution demand)
     → ((q : ℕ) → link_at sums_after q ≡ (if id == q then Some (amount_at (λ n. n) (link_at sums id) + part) else link_at sums q))
     → ((demand : Demand) → link_at now.producers id ≡ Some demand → IsStrictlySortedBy nat_cmp (keys_of now.producers))
+    → all_granted after ≡ all_granted old → keys_of after.producers ≡ keys_of old.producers
     → IsGiving old after sums_after
-giving_more old now after id part sums sums_after is next gives parts adds ordered =
+giving_more old now after id part sums sums_after is next gives parts adds ordered all keys =
     record {
+      all = all;
+      keys = keys;
       granted = subst (λ p. Granted old p) (sym (gives demand there)) (more now id demand is.granted next there);
       within = inr (within_more now after id next gives ordered);
       some = λ q n h. by_test (id == q)
@@ -173,6 +177,8 @@ less_room now after id next gives ordered =
 pub giving_none : (pool : Sharing) (sums : List (ℕ × ℕ)) → sums ≡ [] → IsGiving pool pool sums
 giving_none pool sums is = record {
   granted = none;
+  all = refl;
+  keys = refl;
   within = inl refl;
   some = λ id n h. absurd (none_some n (sym (ap (λ s. link_at s id) is) ∙ h));
   raised = λ id. let e : amount_at (λ n. n) (link_at sums id) ≡ 0 = ap (λ s. amount_at (λ n. n) (link_at s id)) is in omega (arith, e);

@@ -1,6 +1,8 @@
 -- How far the grants of a pool have come.
-use Rattle.std.specs.Prelude.{◌≡◌, ◌+◌, ◌-◌, ◌<◌, ◌⊎◌, ℕ, Some, List}
-use Rattle.route_credit.specs.Links.{amount_at, link_at, total}
+use Rattle.std.specs.Prelude.{◌≡◌, ◌+◌, ◌<◌, ◌⊎◌, ℕ, Some, List}
+use Rattle.std.specs.Map.{keys_of}
+use Rattle.route_credit.specs.Granting.{all_granted}
+use Rattle.route_credit.specs.Links.{amount_at, link_at}
 use Rattle.route_credit.specs.Pool.{free, Granted, lent, lent_at, Sharing, WithinFree}
 
 -- these sums were given between two pools
@@ -8,8 +10,6 @@ pub record IsGiving (old now : Sharing) (sums : List (ℕ × ℕ)) : Type 0 wher
   pub granted : Granted old now
   pub within : (now ≡ old) ⊎ WithinFree now.distribution (lent now) (free now)
   pub some : (id n : ℕ) → link_at sums id ≡ Some n → 0 < n
+  pub all : all_granted now ≡ all_granted old
+  pub keys : keys_of now.producers ≡ keys_of old.producers
   pub raised : (id : ℕ) → lent_at now id ≡ lent_at old id + amount_at (λ n. n) (link_at sums id)
-
--- how much could be lent at most
-abbrev pub room : Sharing → ℕ
-room pool = total (λ demand. 64 - demand.lent) pool.producers

@@ -1,5 +1,9 @@
 -- Laws of choices and grants.
-use Rattle.std.specs.Prelude.{◌≡◌, ◌+◌, ◌<◌, ◌≤◌, ◌⊎◌, ◌↔◌, ℕ, Option, None, Some}
+use Rattle.std.specs.Prelude.{◌≡◌, ◌+◌, ◌<◌, ◌≤◌, ◌⊎◌, ◌↔◌, ℕ, Option, None, Some, []}
+use Rattle.std.specs.List.Sorted.{IsStrictlySortedBy}
+use Rattle.std.specs.Map.{keys_of}
+use Rattle.std.specs.Ordering.{nat_cmp}
+use Rattle.route_credit.specs.Granting.{all_granted, grants_of}
 use Rattle.route_credit.specs.Links.{link_at}
 use Rattle.route_credit.specs.Pool.{free, IsChoice, IsNext, lent, Sharing}
 use Rattle.route_credit.specs.declared.demand.Demand.{Demand}
@@ -36,3 +40,15 @@ NothingLeft Multicast pool = EachProducer (λ demand. 32 < demand.lent + demand.
 
 abbrev pub GrantsAreEnough : Type 0
 GrantsAreEnough = (pool : Sharing) → IsNext pool None → NothingLeft pool.distribution pool
+
+-- a pool whose producers stand in order of attach
+abbrev pub InOrder : Sharing → Type 0
+InOrder pool = IsStrictlySortedBy nat_cmp (keys_of pool.producers)
+
+-- behind all grants nothing is granted
+abbrev pub GrantsLeaveNone : Type 0
+GrantsLeaveNone = (pool : Sharing) → InOrder pool → grants_of (all_granted pool) ≡ []
+
+-- whom the last delivery went to says nothing of grants
+abbrev pub GrantsButLast : Type 0
+GrantsButLast = (pool : Sharing) (last : ℕ) → grants_of (record pool { last = last }) ≡ grants_of pool

@@ -1,4 +1,5 @@
 pub mod Giving
+pub mod Granting
 pub mod Indexed
 pub mod Laws
 pub mod Links

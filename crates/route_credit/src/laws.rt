@@ -1,5 +1,5 @@
 //! Laws of choices and grants. Nothing runs here: each function is a theorem on the definitions that the contracts cite.
-ghost use Rattle.route_credit.specs.Laws.{ChoiceIsOne, ChosenIsFree, GrantsAreEnough, NobodyWhereNoneIsFree};
+ghost use Rattle.route_credit.specs.Laws.{ChoiceIsOne, ChosenIsFree, GrantsAreEnough, GrantsButLast, GrantsLeaveNone, NobodyWhereNoneIsFree};
 
 /// There is one choice at most.
 pub fn choice_is_one()
@@ -20,4 +20,14 @@ pub fn nobody_where_none_is_free()
 /// 64; on a multicast address each producer has more than 32 unused.
 pub fn grants_are_enough()
     ensures { GrantsAreEnough }
+{}
+
+/// Behind all grants nothing is granted.
+pub fn grants_leave_none()
+    ensures { GrantsLeaveNone }
+{}
+
+/// Whom the last delivery went to says nothing of grants.
+pub fn grants_but_last()
+    ensures { GrantsButLast }
 {}

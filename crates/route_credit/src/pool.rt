@@ -4,6 +4,7 @@ ghost use Rattle.std.specs.BTreeMap.{get};
 ghost use Rattle.std.specs.List.Sorted.{IsStrictlySortedBy};
 ghost use Rattle.std.specs.Map.{keys_of};
 ghost use Rattle.std.specs.Ordering.{nat_cmp};
+ghost use Rattle.route_credit.specs.Granting.{all_granted, choice, grants_of};
 ghost use Rattle.route_credit.specs.Links.{amount_at, link_at};
 ghost use Rattle.route_credit.specs.Pool.{by_id, chose, given, Granted, IsChoice, IsNext, IsTold, free, is_short, lent, no_links, offered, part_of, wanted, without_consumer, without_producer, WithinFree};
 ghost use Rattle.route_credit.specs.declared.demand.Demand.{Demand};
@@ -103,8 +104,10 @@ impl Pool {
 
     /// Chooses the consumer of the next delivery and notes that it was chosen; none where no consumer has free credit.
     /// A multicast address chooses nobody. It takes no memory.
+    #[tactic(auto, using(crate::proofs::Leasts::choice_is))]
     pub fn choose(&mut self) -> Option<ConsumerId>
         ensures choice { IsChoice self.old (option_map (λ c. c.0) result) }
+        ensures chosen { option_map (λ c. c.0) result ≡ choice self.old }
         ensures noted { self.new ≡ chose self.old (option_map (λ c. c.0) result) }
     {
         match self.next_consumer() {
@@ -123,6 +126,8 @@ impl Pool {
         ensures done { OnOk result (IsNext self.new None) }
         ensures within { (self.new ≡ self.old) ⊎ WithinFree self.new.distribution (lent self.new) (free self.new) }
         ensures told { IfOk result (λ sums. IsTold self.old self.new sums.items) }
+        ensures filled { OnOk result (self.new ≡ all_granted self.old) }
+        ensures sums { IfOk result (λ sums. by_id sums.items ≡ grants_of self.old) }
     {
         let mut sums = BTreeMap::new(self.alloc);
         while let Some(id) = self.next_producer() {
@@ -134,7 +139,8 @@ impl Pool {
 
     /// The consumer whose turn is first.
     fn next_consumer(&self) -> Option<u64>
-        ensures { IsChoice self.now result }
+        ensures choice { IsChoice self.now result }
+        ensures ordered { IsStrictlySortedBy nat_cmp (keys_of self.now.consumers) }
     {
         match self.distribution {
             Distribution::Balanced | Distribution::Multicast => self.consumers.first(),
@@ -147,7 +153,8 @@ impl Pool {
 
     /// Whether any credit is to be given.
     fn is_short(&self) -> bool
-        ensures { result ≡ is_short self.now }
+        ensures short { result ≡ is_short self.now }
+        ensures ordered { IsStrictlySortedBy nat_cmp (keys_of self.now.producers) }
     {
         match self.distribution {
             Distribution::Balanced | Distribution::Closest => {
@@ -159,7 +166,8 @@ impl Pool {
 
     /// The producer that is given credit next.
     fn next_producer(&self) -> Option<u64>
-        ensures { IsNext self.now result }
+        ensures next { IsNext self.now result }
+        ensures ordered { IsStrictlySortedBy nat_cmp (keys_of self.now.producers) }
     {
         if !self.is_short() {
             return None;

@@ -12,7 +12,7 @@ returns-clause-whole g c is =
     let ranks = rank_at rank c.args.self.now.rows.entries in
     let before = sym (c.rank_of.ensures ∙ ap (option_and_then rank) c.get-old.ensures) in
     indexed_less rank g.T.Weigh.amount c.args.self.now _ c.args.id is
-    (c.unset.ensures ranks is.ranks before) c.remove.ensures.entries c.remove.ensures.updates.0 (c.saturating_sub-self.ensures ∙ ap (λ n. c.args.self.now.total - n) (c.amount_of.ensures ∙ ap (amount_at g.T.Weigh.amount) c.get-old.ensures))
+    (c.unset.ensures ranks is.ranks before) c.remove.ensures.entries c.remove.ensures.updates.0 (c.saturating_sub-self.ensures ∙ ap (λ n. c.args.self.now.total - n) (c.amount_of.ensures ∙ ap (amount_at g.T.Weigh.amount) c.get-old.ensures)) c.remove.ensures.ordered
 
 pub returns-clause-removed : goal.returns-clause-removed
 returns-clause-removed g c = c.remove.ensures.entries ∙ without_first c.args.self.now.rows.entries c.args.id (ap (λ es. link_at es c.args.id) (sym c.remove.ensures.entries) ∙ c.remove.ensures.updates.1)

@@ -1,4 +1,5 @@
-use Rattle.route_credit.specs.Giving.{IsGiving, room}
+use Rattle.route_credit.specs.Giving.{IsGiving}
+use Rattle.route_credit.specs.Granting.{room}
 use Rattle.route_credit.proofs.pool.Pool.grants.Given as goal
 
 abbrev pub invariant-loop-id : goal.invariant-loop-id
