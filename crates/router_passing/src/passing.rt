@@ -1,0 +1,105 @@
+//! Links, the deliveries on them and the pools of their addresses.
+ghost use Rattle.std.specs.Prelude.{◌≡◌, ℕ, List, [], ◌∷◌, OnOk, IfOk};
+ghost use Rattle.router_trace.specs.Trace.{Entry, Out, did};
+ghost use Rattle.router_trace.specs.Sessions.{is_channel, maps, theirs};
+ghost use Rattle.router_trace.specs.Settling.{part_at};
+ghost use Rattle.router_trace.specs.declared.event.Event.TheVariants as event;
+ghost use Rattle.router_deliveries.specs.Claiming.{ClaimsFit};
+ghost use Rattle.router_deliveries.specs.Fits.{DeliveriesFit};
+ghost use Rattle.router_links.specs.Fits.{LinksFit, key_by, channel_of};
+ghost use Rattle.router_passing.specs.Fits.{PassingFit};
+
+use crate::hearing::receiving;
+use amqp_frames::Item;
+use amqp_link::Part;
+use book_core::LinkKey;
+use router_deliveries::{Claims, Deliveries};
+use router_links::Links;
+use router_pools::Pools;
+use router_trace::ConnectionId;
+use std::alloc::{AllocError, Global};
+
+/// Links, the deliveries on them, what peers have not settled, and the pools of addresses. Behind a refused growth nothing can be said of
+/// them.
+#[derive(Debug, Drop)]
+pub struct Passing {
+    pub(crate) alloc: Global,
+    pub(crate) links: Links,
+    pub(crate) deliveries: Deliveries,
+    pub(crate) claims: Claims,
+    pub(crate) pools: Pools,
+}
+
+impl Passing {
+    /// No links.
+    pub fn new(alloc: Global) -> Passing
+        ensures { PassingFit result [] }
+    {
+        Passing {
+            alloc,
+            links: Links::new(alloc),
+            deliveries: Deliveries::new(alloc),
+            claims: Claims::new(alloc),
+            pools: Pools::new(alloc),
+        }
+    }
+
+    /// The links.
+    pub fn links(&self) -> &Links
+        ensures { (t : List Entry) → PassingFit self.now t → LinksFit result.now t }
+    {
+        &self.links
+    }
+
+    /// The deliveries.
+    pub fn deliveries(&self) -> &Deliveries
+        ensures { (t : List Entry) → PassingFit self.now t → DeliveriesFit result.now t }
+    {
+        &self.deliveries
+    }
+
+    /// What peers have not settled.
+    pub fn claims(&self) -> &Claims
+        ensures { (t : List Entry) → PassingFit self.now t → ClaimsFit result.now t }
+    {
+        &self.claims
+    }
+
+    /// A connection is lost.
+    pub fn down(&mut self, conn: ConnectionId) -> Result<(), AllocError>
+        ensures { OnOk result ((t : List Entry) → PassingFit self.old t → PassingFit self.new (did (event.Down conn) ∷ t)) }
+    {
+        self.links.down(conn)?;
+        self.deliveries.down(conn)?;
+        self.claims.down(conn);
+        Ok(())
+    }
+
+    /// An item came on a connection, on the session on this channel of the router, where its channel has one: what a transfer gives on its link.
+    pub fn hear(
+        &mut self,
+        conn: ConnectionId,
+        own: Option<u16>,
+        item: &Item,
+    ) -> Result<Option<Part>, AllocError>
+        ensures part { IfOk result (λ part. (t : List Entry) → PassingFit self.old t → part ≡ part_at t conn.0 own item.now) }
+        ensures fits { OnOk result ((t : List Entry) → ((o : ℕ) → is_channel own o ≡ maps (theirs t conn.0 (channel_of item.now)) o)
+            → PassingFit self.old t → PassingFit self.new (did (event.Item conn item.now) ∷ t)) }
+    {
+        let found = receiving(&self.links, conn.0, own, item);
+        self.claims.hear(conn, own, item, found)?;
+        self.deliveries.hear(conn, own, item)?;
+        self.links.hear(conn, own, item)
+    }
+
+    /// An item is put in the outbox of a connection; an attach comes with its key. Fails where memory is refused, and where attachments can't be
+    /// numbered any more.
+    pub fn put(&mut self, conn: u64, item: &Item, key: Option<LinkKey>) -> Result<(), AllocError>
+        ensures { OnOk result ((t : List Entry) → key ≡ key_by t conn item.now → PassingFit self.old t → PassingFit self.new (Out conn item.now ∷ t)) }
+    {
+        self.claims.put(conn, item)?;
+        self.deliveries.put(conn, item)?;
+        self.links.put(conn, item, key)?;
+        Ok(())
+    }
+}

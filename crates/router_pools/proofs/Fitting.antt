@@ -1,0 +1,182 @@
+-- How the pools follow what each link has.
+use Rattle.std.proofs.Common.{◌≡◌, ◌∙◌, sym, ap, refl, subst, ℕ, Bool, true, false, true≢false, ◌||◌, ◌&&◌, not, cond, if◌then◌else◌, Option, Some, None, List, [], ◌∷◌}
+use Rattle.std.specs.Prelude.{◌==◌}
+use Rattle.std.specs.Str.{bytes_eq}
+use Rattle.std.proofs.lemmas.Bool.{eqb-true, eq-eqb}
+use Rattle.route_credit.specs.Granting.{all_granted, grants_of}
+use Rattle.route_credit.specs.Links.{link_at, with_link, without_link}
+use Rattle.route_credit.specs.Pool.{chose, demand_of, offered, Sharing, wanted, without_consumer, without_producer}
+use Rattle.route_credit.specs.declared.demand.Demand.{Demand}
+use Rattle.route_credit.specs.declared.offer.Offer.{Offer}
+use Rattle.route_credit.proofs.Entries.{InOrder, with_ordered, without_ordered}
+use Rattle.route_credit.proofs.Gains.{grants_but_last, kept_producer, no_more_grants}
+use Rattle.route_credit.proofs.Grants.{all_consumers, all_distribution, all_last, all_ordered, none_by_all}
+use Rattle.route_credit.proofs.Lookups.{link_with, link_without}
+use Rattle.router_pools.specs.Addresses.{with_pool, without}
+use Rattle.router_pools.specs.Fits.{AgreeBut, chosen_at, Fits, is_place, or_last}
+use Rattle.router_pools.specs.Sharing.{demand_at, distribution_of, Figure, offer_at}
+use Rattle.router_pools.specs.Sharing.Figure.{consumer, producer}
+use Rattle.router_pools.proofs.AtAddress.{by_test, equal_bytes, same_bytes}
+
+module _ (apart : ℕ → Bool) (pools : List ℕ → Sharing) (place : ℕ → Option (List ℕ)) (due : List ℕ → Bool) (known : ℕ → Option Figure) (last : List ℕ → ℕ) (fits : Fits apart pools place due known last) where
+  -- more may be apart, of which other things may be known, and more may be due
+  pub widened : (apart' : ℕ → Bool) (due' : List ℕ → Bool) (known' : ℕ → Option Figure)
+      → ((n : ℕ) → apart' n ≡ false → (apart n ≡ false) × (known' n ≡ known n)) → ((a : List ℕ) → due' a ≡ false → due a ≡ false)
+      → Fits apart' pools place due' known' last
+  widened apart' due' known' more later = record {
+    consumers = λ n a is. fits.consumers n a (more n is).0 ∙ ap (offer_at a) (sym (more n is).1);
+    producers = λ n a is. fits.producers n a (more n is).0 ∙ ap (demand_at a) (sym (more n is).1);
+    no_consumer = fits.no_consumer;
+    no_producer = fits.no_producer;
+    distribution = fits.distribution;
+    chosen = fits.chosen;
+    consumers_rise = fits.consumers_rise;
+    producers_rise = fits.producers_rise;
+    quiet = λ a is. fits.quiet a (later a is);
+  }
+
+  -- One pool changes, and with it one link. Its address is due.
+  module _ (pools' : List ℕ → Sharing) (q : List ℕ) (change : Sharing → Sharing) (changes : (a : List ℕ) → pools' a ≡ with_pool pools q change a) where
+    -- a property of the pools that the change keeps
+    keeps : (P : List ℕ → Sharing → Type 0) → ((a : List ℕ) → bytes_eq q a ≡ true → P a (change (pools a))) → ((a : List ℕ) → bytes_eq q a ≡ false → P a (pools a)) → (a : List ℕ) → P a (pools' a)
+    keeps P one other a = subst (P a) (sym (changes a)) (by_test (bytes_eq q a)
+        (λ e. subst (λ b. P a (if b then change (pools a) else pools a)) (sym e) (one a e))
+        (λ e. subst (λ b. P a (if b then change (pools a) else pools a)) (sym e) (other a e)))
+
+    -- an address that is elsewhere has its pool
+    elsewhere : (a : List ℕ) → bytes_eq q a ≡ false → pools' a ≡ pools a
+    elsewhere a e = changes a ∙ ap (λ b. if b then change (pools a) else pools a) e
+
+    quiet_still : (due' : List ℕ → Bool) → due' q ≡ true → ((a : List ℕ) → due' a ≡ false → due a ≡ false) → (a : List ℕ) → due' a ≡ false → grants_of (pools' a) ≡ []
+    quiet_still due' is_due later a none = by_test (bytes_eq q a)
+        (λ e. absurd (true≢false (sym is_due ∙ ap due' (same_bytes q a e) ∙ none)))
+        (λ e. ap grants_of (elsewhere a e) ∙ fits.quiet a (later a none))
+
+    -- A link is taken out of the pool that it stands in.
+    module _ (n : ℕ) (change_is : (pool : Sharing) → change pool ≡ without pool n) (at : place n ≡ Some q) (is_apart : apart n ≡ true)
+        (place' : ℕ → Option (List ℕ)) (moves : (m : ℕ) → place' m ≡ (if n == m then None else place m))
+        (due' : List ℕ → Bool) (is_due : due' q ≡ true) (later : (a : List ℕ) → due' a ≡ false → due a ≡ false) where
+      consumer_out : (m : ℕ) (a : List ℕ) → link_at (change (pools a)).consumers m ≡ cond (n == m) None (link_at (pools a).consumers m)
+      consumer_out m a = ap (λ p. link_at p.consumers m) (change_is (pools a)) ∙ link_without (pools a).consumers n m
+
+      producer_out : (m : ℕ) (a : List ℕ) → link_at (change (pools a)).producers m ≡ cond (n == m) None (link_at (pools a).producers m)
+      producer_out m a = ap (λ p. link_at p.producers m) (change_is (pools a)) ∙ link_without (pools a).producers n m
+
+      not_n : (m : ℕ) → apart m ≡ false → (n == m) ≡ false
+      not_n m is = by_test (n == m) (λ e. absurd (true≢false (sym is_apart ∙ ap apart (eqb-true n m e) ∙ is))) (λ e. e)
+
+      place_before : (m : ℕ) (a : List ℕ) → is_place (place' m) a ≡ false → (n == m) ≡ false → is_place (place m) a ≡ false
+      place_before m a none e = sym (ap (λ p. is_place p a) (moves m ∙ ap (λ b. if b then None else place m) e)) ∙ none
+
+      place_here : (m : ℕ) (a : List ℕ) → bytes_eq q a ≡ false → (n == m) ≡ true → is_place (place m) a ≡ false
+      place_here m a other e = ap (λ k. is_place (place k) a) (sym (eqb-true n m e)) ∙ ap (λ p. is_place p a) at ∙ other
+
+      pub taken : Fits apart pools' place' due' known last
+      taken = record {
+        consumers = λ m a is. keeps (λ a p. link_at p.consumers m ≡ offer_at a (known m))
+            (λ a e. consumer_out m a ∙ ap (λ b. cond b None (link_at (pools a).consumers m)) (not_n m is) ∙ fits.consumers m a is) (λ a e. fits.consumers m a is) a;
+        producers = λ m a is. keeps (λ a p. link_at p.producers m ≡ demand_at a (known m))
+            (λ a e. producer_out m a ∙ ap (λ b. cond b None (link_at (pools a).producers m)) (not_n m is) ∙ fits.producers m a is) (λ a e. fits.producers m a is) a;
+        no_consumer = λ m a none. by_test (n == m)
+            (λ e. keeps (λ a p. link_at p.consumers m ≡ None) (λ a f. consumer_out m a ∙ ap (λ b. cond b None (link_at (pools a).consumers m)) e) (λ a f. fits.no_consumer m a (place_here m a f e)) a)
+            (λ e. by_test (bytes_eq q a)
+            (λ f. ap (λ p. link_at p.consumers m) (changes a ∙ ap (λ b. if b then change (pools a) else pools a) f) ∙ consumer_out m a ∙ ap (λ b. cond b None (link_at (pools a).consumers m)) e ∙ fits.no_consumer m a (place_before m a none e))
+            (λ f. ap (λ p. link_at p.consumers m) (elsewhere a f) ∙ fits.no_consumer m a (place_before m a none e)));
+        no_producer = λ m a none. by_test (n == m)
+            (λ e. keeps (λ a p. link_at p.producers m ≡ None) (λ a f. producer_out m a ∙ ap (λ b. cond b None (link_at (pools a).producers m)) e) (λ a f. fits.no_producer m a (place_here m a f e)) a)
+            (λ e. by_test (bytes_eq q a)
+            (λ f. ap (λ p. link_at p.producers m) (changes a ∙ ap (λ b. if b then change (pools a) else pools a) f) ∙ producer_out m a ∙ ap (λ b. cond b None (link_at (pools a).producers m)) e ∙ fits.no_producer m a (place_before m a none e))
+            (λ f. ap (λ p. link_at p.producers m) (elsewhere a f) ∙ fits.no_producer m a (place_before m a none e)));
+        distribution = keeps (λ a p. p.distribution ≡ distribution_of a) (λ a e. ap (λ p. p.distribution) (change_is (pools a)) ∙ fits.distribution a) (λ a e. fits.distribution a);
+        chosen = keeps (λ a p. p.last ≡ last a) (λ a e. ap (λ p. p.last) (change_is (pools a)) ∙ fits.chosen a) (λ a e. fits.chosen a);
+        consumers_rise = keeps (λ a p. InOrder p.consumers) (λ a e. subst (λ p. InOrder p.consumers) (sym (change_is (pools a))) (without_ordered (pools a).consumers n (fits.consumers_rise a))) (λ a e. fits.consumers_rise a);
+        producers_rise = keeps (λ a p. InOrder p.producers) (λ a e. subst (λ p. InOrder p.producers) (sym (change_is (pools a))) (without_ordered (pools a).producers n (fits.producers_rise a))) (λ a e. fits.producers_rise a);
+        quiet = quiet_still due' is_due later;
+      }
+
+    -- A link has other figures at the place where it stands.
+    module _ (n : ℕ) (at : place n ≡ Some q) (is_due : due q ≡ true)
+        (apart' : ℕ → Bool) (less : (m : ℕ) → apart' m ≡ false → (n == m) ≡ false → apart m ≡ false)
+        (known' : ℕ → Option Figure) (others : (m : ℕ) → (n == m) ≡ false → known' m ≡ known m)
+        (consumer_there : (m : ℕ) (a : List ℕ) → link_at (change (pools a)).consumers m ≡ cond (n == m) (offer_at q (known' n)) (link_at (pools a).consumers m))
+        (producer_there : (m : ℕ) (a : List ℕ) → link_at (change (pools a)).producers m ≡ cond (n == m) (demand_at q (known' n)) (link_at (pools a).producers m))
+        (offer_elsewhere : (a : List ℕ) → bytes_eq q a ≡ false → offer_at a (known' n) ≡ None) (demand_elsewhere : (a : List ℕ) → bytes_eq q a ≡ false → demand_at a (known' n) ≡ None)
+        (same_distribution : (a : List ℕ) → (change (pools a)).distribution ≡ (pools a).distribution) (same_last : (a : List ℕ) → (change (pools a)).last ≡ (pools a).last)
+        (consumers_ordered : (a : List ℕ) → InOrder (pools a).consumers → InOrder (change (pools a)).consumers)
+        (producers_ordered : (a : List ℕ) → InOrder (pools a).producers → InOrder (change (pools a)).producers) where
+      not_there : (a : List ℕ) → bytes_eq q a ≡ false → is_place (place n) a ≡ false
+      not_there a other = ap (λ p. is_place p a) at ∙ other
+
+      not_place : (m : ℕ) (a : List ℕ) → is_place (place m) a ≡ false → bytes_eq q a ≡ true → (n == m) ≡ false
+      not_place m a none here = by_test (n == m)
+          (λ e. absurd (true≢false (sym here ∙ sym (ap (λ p. is_place p a) at) ∙ ap (λ k. is_place (place k) a) (eqb-true n m e) ∙ none)))
+          (λ e. e)
+
+      pub changed : Fits apart' pools' place due known' last
+      changed = record {
+        consumers = λ m a is. by_test (n == m)
+            (λ e. let same : n ≡ m = eqb-true n m e in keeps (λ a p. link_at p.consumers m ≡ offer_at a (known' m))
+            (λ a f. consumer_there m a ∙ ap (λ b. cond b (offer_at q (known' n)) (link_at (pools a).consumers m)) e ∙ ap (λ k. offer_at q (known' k)) same ∙ ap (λ b. offer_at b (known' m)) (same_bytes q a f))
+            (λ a f. ap (link_at (pools a).consumers) (sym same) ∙ fits.no_consumer n a (not_there a f) ∙ sym (offer_elsewhere a f) ∙ ap (λ k. offer_at a (known' k)) same) a)
+            (λ e. keeps (λ a p. link_at p.consumers m ≡ offer_at a (known' m))
+            (λ a f. consumer_there m a ∙ ap (λ b. cond b (offer_at q (known' n)) (link_at (pools a).consumers m)) e ∙ fits.consumers m a (less m is e) ∙ ap (offer_at a) (sym (others m e)))
+            (λ a f. fits.consumers m a (less m is e) ∙ ap (offer_at a) (sym (others m e))) a);
+        producers = λ m a is. by_test (n == m)
+            (λ e. let same : n ≡ m = eqb-true n m e in keeps (λ a p. link_at p.producers m ≡ demand_at a (known' m))
+            (λ a f. producer_there m a ∙ ap (λ b. cond b (demand_at q (known' n)) (link_at (pools a).producers m)) e ∙ ap (λ k. demand_at q (known' k)) same ∙ ap (λ b. demand_at b (known' m)) (same_bytes q a f))
+            (λ a f. ap (link_at (pools a).producers) (sym same) ∙ fits.no_producer n a (not_there a f) ∙ sym (demand_elsewhere a f) ∙ ap (λ k. demand_at a (known' k)) same) a)
+            (λ e. keeps (λ a p. link_at p.producers m ≡ demand_at a (known' m))
+            (λ a f. producer_there m a ∙ ap (λ b. cond b (demand_at q (known' n)) (link_at (pools a).producers m)) e ∙ fits.producers m a (less m is e) ∙ ap (demand_at a) (sym (others m e)))
+            (λ a f. fits.producers m a (less m is e) ∙ ap (demand_at a) (sym (others m e))) a);
+        no_consumer = λ m a none. by_test (bytes_eq q a)
+            (λ f. ap (λ p. link_at p.consumers m) (changes a ∙ ap (λ b. if b then change (pools a) else pools a) f) ∙ consumer_there m a
+            ∙ ap (λ b. cond b (offer_at q (known' n)) (link_at (pools a).consumers m)) (not_place m a none f) ∙ fits.no_consumer m a none)
+            (λ f. ap (λ p. link_at p.consumers m) (elsewhere a f) ∙ fits.no_consumer m a none);
+        no_producer = λ m a none. by_test (bytes_eq q a)
+            (λ f. ap (λ p. link_at p.producers m) (changes a ∙ ap (λ b. if b then change (pools a) else pools a) f) ∙ producer_there m a
+            ∙ ap (λ b. cond b (demand_at q (known' n)) (link_at (pools a).producers m)) (not_place m a none f) ∙ fits.no_producer m a none)
+            (λ f. ap (λ p. link_at p.producers m) (elsewhere a f) ∙ fits.no_producer m a none);
+        distribution = keeps (λ a p. p.distribution ≡ distribution_of a) (λ a e. same_distribution a ∙ fits.distribution a) (λ a e. fits.distribution a);
+        chosen = keeps (λ a p. p.last ≡ last a) (λ a e. same_last a ∙ fits.chosen a) (λ a e. fits.chosen a);
+        consumers_rise = keeps (λ a p. InOrder p.consumers) (λ a e. consumers_ordered a (fits.consumers_rise a)) (λ a e. fits.consumers_rise a);
+        producers_rise = keeps (λ a p. InOrder p.producers) (λ a e. producers_ordered a (fits.producers_rise a)) (λ a e. fits.producers_rise a);
+        quiet = quiet_still due is_due (λ a none. none);
+      }
+
+  -- a link that stands nowhere is given a place
+  pub placed : (n : ℕ) (q : List ℕ) → place n ≡ None → (place' : ℕ → Option (List ℕ)) → ((m : ℕ) → place' m ≡ (if n == m then Some q else place m)) → Fits apart pools place' due known last
+  placed n q none place' moves = record {
+    consumers = fits.consumers;
+    producers = fits.producers;
+    no_consumer = λ m a is. fits.no_consumer m a (before m a is);
+    no_producer = λ m a is. fits.no_producer m a (before m a is);
+    distribution = fits.distribution;
+    chosen = fits.chosen;
+    consumers_rise = fits.consumers_rise;
+    producers_rise = fits.producers_rise;
+    quiet = fits.quiet;
+  }
+    where
+      before : (m : ℕ) (a : List ℕ) → is_place (place' m) a ≡ false → is_place (place m) a ≡ false
+      before m a is = by_test (n == m)
+          (λ e. ap (λ k. is_place (place k) a) (sym (eqb-true n m e)) ∙ ap (λ p. is_place p a) none)
+          (λ e. sym (ap (λ p. is_place p a) (moves m ∙ ap (λ b. if b then Some q else place m) e)) ∙ is)
+
+  -- a link that stands nowhere has nothing
+  pub gone : (n : ℕ) → place n ≡ None → (apart' : ℕ → Bool) → ((m : ℕ) → apart' m ≡ false → (n == m) ≡ false → apart m ≡ false)
+      → (known' : ℕ → Option Figure) → known' n ≡ None → ((m : ℕ) → (n == m) ≡ false → known' m ≡ known m) → Fits apart' pools place due known' last
+  gone n none apart' less known' nothing others = record {
+    consumers = λ m a is. by_test (n == m)
+        (λ e. let same : n ≡ m = eqb-true n m e in ap (link_at (pools a).consumers) (sym same) ∙ fits.no_consumer n a (ap (λ p. is_place p a) none) ∙ sym (ap (offer_at a) (ap known' (sym same) ∙ nothing)))
+        (λ e. fits.consumers m a (less m is e) ∙ ap (offer_at a) (sym (others m e)));
+    producers = λ m a is. by_test (n == m)
+        (λ e. let same : n ≡ m = eqb-true n m e in ap (link_at (pools a).producers) (sym same) ∙ fits.no_producer n a (ap (λ p. is_place p a) none) ∙ sym (ap (demand_at a) (ap known' (sym same) ∙ nothing)))
+        (λ e. fits.producers m a (less m is e) ∙ ap (demand_at a) (sym (others m e)));
+    no_consumer = fits.no_consumer;
+    no_producer = fits.no_producer;
+    distribution = fits.distribution;
+    chosen = fits.chosen;
+    consumers_rise = fits.consumers_rise;
+    producers_rise = fits.producers_rise;
+    quiet = fits.quiet;
+  }

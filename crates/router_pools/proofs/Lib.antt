@@ -1,0 +1,5 @@
+pub mod Among
+pub mod AtAddress
+pub mod Fitting
+pub mod Listed
+pub mod Written

@@ -1,0 +1,86 @@
+-- The pools behind a change of one.
+use Rattle.std.proofs.Common.{◌≡◌, ◌∙◌, sym, ap, refl, ℕ, Bool, true, false, true≢false, cond, if◌then◌else◌, Result, Ok, Err, OnOk, IfOk, Option, Some, None, option_map, is_some, List, [], ◌∷◌}
+use Rattle.std.specs.BTreeMap.{insert_entry}
+use Rattle.std.specs.Cmp.Lexicographic.{slice_cmp}
+use Rattle.std.specs.Map.{lookup, set_value}
+use Rattle.std.specs.Ordering.{nat_cmp, is_eq}
+use Rattle.std.specs.Str.{bytes_eq}
+use Rattle.route_credit.specs.Pool.{no_links, Sharing}
+use Rattle.router_pools.specs.Addresses.{at_address, pool_or, with_pool}
+use Rattle.router_pools.specs.Sharing.{distribution_of}
+use Rattle.router_pools.proofs.AtAddress.{by_test, equal_bytes, insert_at, lookup_is, same_bytes, set_at}
+
+module _ {K : Type 0} (read : K → List ℕ) (es : List (K × Sharing)) (q : List ℕ) where
+  abbrev found : Option Sharing
+  found = lookup (λ k. is_eq (slice_cmp nat_cmp q (read k))) es
+
+  -- the pools of a map
+  abbrev pub pools_of : List (K × Sharing) → List ℕ → Sharing
+  pools_of fs a = pool_or a (at_address fs read a)
+
+  pub here : (pool : Sharing) → Some pool ≡ found → pools_of es q ≡ pool
+  here pool is = ap (pool_or q) (sym (lookup_is read es q) ∙ sym is)
+
+  pub nowhere : None ≡ found → pools_of es q ≡ no_links (distribution_of q)
+  nowhere is = ap (pool_or q) (sym (lookup_is read es q) ∙ sym is)
+
+  -- one was written
+  pub written : (fs : List (K × Sharing)) (pool new : Sharing) (change : Sharing → Sharing) → Some pool ≡ found → fs ≡ set_value (λ k. is_eq (slice_cmp nat_cmp q (read k))) es new → new ≡ change pool
+      → (a : List ℕ) → pools_of fs a ≡ with_pool (pools_of es) q change a
+  written fs pool new change is set changed a =
+      ap (λ l. pool_or a (at_address l read a)) set ∙ ap (pool_or a) (set_at read es q a new) ∙ by_test (bytes_eq q a)
+      (λ e. let same : q ≡ a = same_bytes q a e in
+      let at : at_address es read a ≡ Some pool = ap (at_address es read) (sym same) ∙ sym (lookup_is read es q) ∙ sym is in
+      rw (e, at) changed)
+      (λ e. rw e refl)
+
+  -- none was there to be written
+  pub unwritten : (fs : List (K × Sharing)) → fs ≡ es → (change : Sharing → Sharing) → change (no_links (distribution_of q)) ≡ no_links (distribution_of q) → None ≡ found → (a : List ℕ) → pools_of fs a ≡ with_pool (pools_of es) q change a
+  unwritten fs unchanged change kept is a = ap (λ l. pools_of l a) unchanged ∙ by_test (bytes_eq q a)
+      (λ e. let same : q ≡ a = same_bytes q a e in
+      let at : at_address es read a ≡ None = ap (at_address es read) (sym same) ∙ sym (lookup_is read es q) ∙ sym is in
+      rw (e, at) (sym kept))
+      (λ e. rw e refl)
+
+  -- one of no links came
+  pub come : (fs : List (K × Sharing)) (k : K) (pool : Sharing) → read k ≡ q → pool ≡ no_links (distribution_of q) → None ≡ found
+      → fs ≡ insert_entry (λ x y. slice_cmp nat_cmp (read x) (read y)) es k pool → (a : List ℕ) → pools_of fs a ≡ pools_of es a
+  come fs k pool is new none set a =
+      ap (λ l. pool_or a (at_address l read a)) set ∙ ap (pool_or a) (insert_at read es k pool a) ∙ by_test (bytes_eq (read k) a)
+      (λ e. let same : q ≡ a = sym is ∙ same_bytes (read k) a e in
+      let at : at_address es read a ≡ None = ap (at_address es read) (sym same) ∙ sym (lookup_is read es q) ∙ sym none in
+      rw (e, at) new)
+      (λ e. rw e refl)
+
+  pub there : (fs : List (K × Sharing)) (k : K) (pool : Sharing) → read k ≡ q → fs ≡ insert_entry (λ x y. slice_cmp nat_cmp (read x) (read y)) es k pool → is_some (at_address fs read q) ≡ true
+  there fs k pool is set = ap (λ l. is_some (at_address l read q)) set ∙ ap is_some (insert_at read es k pool q) ∙ ap (λ b. is_some (cond b (Some pool) (at_address es read q))) (yes_is is)
+    where
+      yes_is : read k ≡ q → bytes_eq (read k) q ≡ true
+      yes_is same = equal_bytes (read k) q same
+
+  -- a test that found one, or none
+  pub present : (r : Bool) → r ≡ is_some found → r ≡ true → is_some (at_address es read q) ≡ true
+  present r test is = ap is_some (sym (lookup_is read es q)) ∙ sym test ∙ is
+
+  pub absent : (r : Bool) → r ≡ is_some found → r ≡ false → None ≡ found
+  absent r test is = by_found found (sym test ∙ is)
+    where
+      by_found : (x : Option Sharing) → is_some x ≡ false → None ≡ x
+      by_found None h = refl
+      by_found (Some x) h = absurd cc
+
+  pub missing : None ≡ found → is_some (at_address es read q) ≡ true → ⊥
+  missing none there = true≢false (sym there ∙ ap is_some (sym (lookup_is read es q) ∙ sym none))
+
+-- pools that are the same everywhere
+pub same_elsewhere : (one other : List ℕ → Sharing) (q : List ℕ) (change : Sharing → Sharing) → ((a : List ℕ) → one a ≡ other a) → (a : List ℕ) → with_pool one q change a ≡ with_pool other q change a
+same_elsewhere one other q change same a = ap (λ pool. if bytes_eq q a then change pool else pool) (same a)
+
+-- what a call ends with
+pub on_ok_then : {T E : Type 0} (r : Result T E) (P Q : Type 0) → OnOk r P → (P → Q) → OnOk r Q
+on_ok_then (Ok x) P Q is f = f is
+on_ok_then (Err e) P Q is f = tt
+
+pub told_is : {T E X : Type 0} (r : Result T E) (shown : T → X) (one other : X) → IfOk r (λ t. shown t ≡ one) → one ≡ other → IfOk r (λ t. shown t ≡ other)
+told_is (Ok x) shown one other is same = is ∙ same
+told_is (Err e) shown one other is same = tt

@@ -1,0 +1,74 @@
+-- When the pools are those of what each link has.
+use Rattle.std.specs.Prelude.{◌≡◌, ◌==◌, ◌||◌, ℕ, Bool, false, List, [], Option, None, Some, option_map, if◌then◌else◌}
+use Rattle.std.specs.BTreeMap.{get}
+use Rattle.std.specs.BTreeSet.{contains}
+use Rattle.std.specs.List.Sorted.{IsStrictlySortedBy}
+use Rattle.std.specs.Map.{keys_of}
+use Rattle.std.specs.Ordering.{nat_cmp}
+use Rattle.std.specs.Str.{bytes_eq}
+use Rattle.route_credit.specs.Granting.{grants_of}
+use Rattle.route_credit.specs.Links.{link_at}
+use Rattle.route_credit.specs.Pool.{Sharing}
+use Rattle.router_pools.specs.Addresses.{among, at_address, pool_or}
+use Rattle.router_pools.specs.Sharing.{demand_at, distribution_of, Figure, offer_at}
+use Rattle.router_pools.specs.declared.by_address.ByAddress.{ByAddress}
+use Rattle.router_pools.specs.declared.pools.Pools.{Pools}
+
+-- the pool of an address
+abbrev pub pool_in : ByAddress → List ℕ → Sharing
+pool_in pools address = pool_or address (at_address pools.pools.entries (λ k. k.items) address)
+
+abbrev pub pool_at : Pools → List ℕ → Sharing
+pool_at pools address = pool_in pools.pools address
+
+-- whether the figures of a link may have changed
+abbrev pub is_touched : Pools → ℕ → Bool
+is_touched pools number = contains nat_cmp pools.touched number
+
+-- whether an address may have grants
+abbrev pub is_due : Pools → List ℕ → Bool
+is_due pools address = among pools.due.addresses.keys (λ k. k.items) address
+
+-- the address that a link stands at
+abbrev pub place_of : Pools → ℕ → Option (List ℕ)
+place_of pools number = option_map (λ place. place.items) (get nat_cmp pools.places number)
+
+abbrev pub is_place : Option (List ℕ) → List ℕ → Bool
+is_place None address = false
+is_place (Some place) address = bytes_eq place address
+
+-- Pools say of each link, but for those apart, what it has, and of each address the consumer last chosen; a link stands at its place only, and an address that isn't due has no grants.
+pub record Fits (apart : ℕ → Bool) (pools : List ℕ → Sharing) (place : ℕ → Option (List ℕ)) (due : List ℕ → Bool) (known : ℕ → Option Figure) (last : List ℕ → ℕ) : Type 0 where
+  pub consumers : (n : ℕ) (address : List ℕ) → apart n ≡ false → link_at (pools address).consumers n ≡ offer_at address (known n)
+  pub producers : (n : ℕ) (address : List ℕ) → apart n ≡ false → link_at (pools address).producers n ≡ demand_at address (known n)
+  pub no_consumer : (n : ℕ) (address : List ℕ) → is_place (place n) address ≡ false → link_at (pools address).consumers n ≡ None
+  pub no_producer : (n : ℕ) (address : List ℕ) → is_place (place n) address ≡ false → link_at (pools address).producers n ≡ None
+  pub distribution : (address : List ℕ) → (pools address).distribution ≡ distribution_of address
+  pub chosen : (address : List ℕ) → (pools address).last ≡ last address
+  pub consumers_rise : (address : List ℕ) → IsStrictlySortedBy nat_cmp (keys_of (pools address).consumers)
+  pub producers_rise : (address : List ℕ) → IsStrictlySortedBy nat_cmp (keys_of (pools address).producers)
+  pub quiet : (address : List ℕ) → due address ≡ false → grants_of (pools address) ≡ []
+
+-- the pools are those of what each link has, but for the links that are touched
+abbrev pub PoolsFit : Pools → (ℕ → Option Figure) → (List ℕ → ℕ) → Type 0
+PoolsFit pools known last = Fits (is_touched pools) (pool_at pools) (place_of pools) (is_due pools) known last
+
+-- the same, but for one link more
+abbrev pub PoolsFitBut : ℕ → Pools → (ℕ → Option Figure) → (List ℕ → ℕ) → Type 0
+PoolsFitBut number pools known last = Fits (λ n. number == n || is_touched pools n) (pool_at pools) (place_of pools) (is_due pools) known last
+
+-- two say the same of each link but one
+abbrev pub AgreeBut : ℕ → (ℕ → Option Figure) → (ℕ → Option Figure) → Type 0
+AgreeBut number one other = (n : ℕ) → (number == n) ≡ false → one n ≡ other n
+
+-- no link is touched
+abbrev pub NoneTouched : Pools → Type 0
+NoneTouched pools = (n : ℕ) → is_touched pools n ≡ false
+
+-- what was chosen last, behind a choice at an address
+abbrev pub or_last : Option ℕ → ℕ → ℕ
+or_last None last = last
+or_last (Some id) last = id
+
+abbrev pub chosen_at : List ℕ → Option ℕ → (List ℕ → ℕ) → List ℕ → ℕ
+chosen_at address chosen last other = if bytes_eq address other then or_last chosen (last other) else last other

@@ -1,0 +1,53 @@
+-- The pool of an address, from what each link has.
+use Rattle.std.specs.Prelude.{◌≡◌, ◌<◌, ℕ, zero, suc, List, [], ◌∷◌, ◌++◌, Option, None, Some, if◌then◌else◌}
+use Rattle.std.specs.Str.{bytes_eq}
+use Rattle.route_credit.specs.Pool.{demand_of, Sharing}
+use Rattle.route_credit.specs.declared.demand.Demand.{Demand}
+use Rattle.route_credit.specs.declared.offer.Offer.{Offer}
+use Rattle.route_table.specs.declared.sections.Distribution.{Distribution}
+use Rattle.route_table.specs.declared.sections.Distribution.TheVariants.{Balanced}
+
+-- What a link has: of a consumer its address, its free credit and its undecided deliveries; of a producer its address, its unused credit and its deliveries held.
+pub data Figure : Type 0 where
+  consumer : (address : List ℕ) (free undecided : ℕ) → Figure
+  producer : (address : List ℕ) (unused held : ℕ) → Figure
+
+-- how the links of an address share it
+abbrev pub distribution_of : List ℕ → Distribution
+distribution_of address = Balanced
+
+-- what a link offers to an address
+abbrev pub offer_at : List ℕ → Option Figure → Option Offer
+offer_at address None = None
+offer_at address (Some (consumer at free undecided)) = if bytes_eq at address then Some (record { free = free; undecided = undecided }) else None
+offer_at address (Some (producer at unused held)) = None
+
+-- and what it wants of it
+abbrev pub demand_at : List ℕ → Option Figure → Option Demand
+demand_at address None = None
+demand_at address (Some (consumer at free undecided)) = None
+demand_at address (Some (producer at unused held)) = if bytes_eq at address then Some (demand_of unused 0 held) else None
+
+-- a number with what it has
+abbrev pub entry : {X : Type 0} → ℕ → Option X → List (ℕ × X)
+entry n None = []
+entry n (Some x) = (n, x) ∷ []
+
+-- the numbers from 1 to n that have something, in order
+abbrev pub listed : {X : Type 0} → (ℕ → Option X) → ℕ → List (ℕ × X)
+listed known zero = []
+listed known (suc n) = listed known n ++ entry (suc n) (known (suc n))
+
+-- the pool of an address, where so many links were ever attached, and this one was chosen last
+abbrev pub sharing : (ℕ → Option Figure) → ℕ → ℕ → List ℕ → Sharing
+sharing known count last address = record {
+  distribution = distribution_of address;
+  consumers = listed (λ n. offer_at address (known n)) count;
+  producers = listed (λ n. demand_at address (known n)) count;
+  last = last;
+}
+
+-- no link but those from 1 to n has anything
+pub record AreNumbered (known : ℕ → Option Figure) (n : ℕ) : Type 0 where
+  pub first : known 0 ≡ None
+  pub most : (m : ℕ) → n < m → known m ≡ None

@@ -1,0 +1,51 @@
+//! A set of addresses, in the order of their bytes.
+ghost use Rattle.std.specs.Prelude.{◌≡◌, ◌||◌, ℕ, List, Bool, true, false, None, Some, OnOk, IfNone, IfSome};
+ghost use Rattle.std.specs.Cmp.Lexicographic.{slice_cmp};
+ghost use Rattle.std.specs.Ordering.{nat_cmp};
+ghost use Rattle.std.specs.declared.cmp.Ordering.TheVariants.{Less};
+ghost use Rattle.std.specs.Str.{bytes_eq};
+ghost use Rattle.router_pools.specs.Addresses.{among};
+
+use std::alloc::{AllocError, Global};
+use std::collections::BTreeSet;
+
+/// Addresses, in the order of their bytes.
+#[derive(Debug, Drop)]
+pub(crate) struct Addresses {
+    alloc: Global,
+    addresses: BTreeSet<Vec<u8>>,
+}
+
+impl Addresses {
+    pub(crate) fn new(alloc: Global) -> Addresses
+        ensures { (a : List ℕ) → among result.addresses.keys (λ k. k.items) a ≡ false }
+    {
+        Addresses {
+            alloc,
+            addresses: BTreeSet::new(alloc),
+        }
+    }
+
+    /// Puts an address in.
+    pub(crate) fn add(&mut self, address: &[u8]) -> Result<(), AllocError>
+        ensures added { OnOk result (among self.new.addresses.keys (λ k. k.items) address.now ≡ true) }
+        ensures others { OnOk result ((a : List ℕ) → among self.new.addresses.keys (λ k. k.items) a ≡ false → among self.old.addresses.keys (λ k. k.items) a ≡ false) }
+    {
+        if self.addresses.contains(address) {
+            return Ok(());
+        }
+        let key = address.to_vec(self.alloc)?;
+        let _ = self.addresses.insert(key)?;
+        Ok(())
+    }
+
+    /// Takes the first address out.
+    pub(crate) fn pop(&mut self) -> Option<Vec<u8>>
+        ensures none { IfNone result ((a : List ℕ) → among self.old.addresses.keys (λ k. k.items) a ≡ false) }
+        ensures kept { IfNone result ((a : List ℕ) → among self.new.addresses.keys (λ k. k.items) a ≡ false) }
+        ensures first { IfSome result (λ first. (a : List ℕ) → slice_cmp nat_cmp a first.items ≡ Less → among self.old.addresses.keys (λ k. k.items) a ≡ false) }
+        ensures others { IfSome result (λ first. (a : List ℕ) → bytes_eq first.items a ≡ false → among self.new.addresses.keys (λ k. k.items) a ≡ false → among self.old.addresses.keys (λ k. k.items) a ≡ false) }
+    {
+        self.addresses.pop_first()
+    }
+}

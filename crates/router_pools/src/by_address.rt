@@ -1,0 +1,117 @@
+//! Pools by the bytes of their addresses.
+ghost use Rattle.std.specs.Prelude.{◌≡◌, ℕ, List, Bool, true, None, Some, OnOk, IfOk, option_map, is_some};
+ghost use Rattle.route_credit.specs.Granting.{all_granted, choice, grants_of};
+ghost use Rattle.route_credit.specs.Pool.{by_id, chose, no_links, offered, wanted, without_consumer, without_producer};
+ghost use Rattle.router_pools.specs.Addresses.{at_address, with_pool, without};
+ghost use Rattle.router_pools.specs.Fits.{pool_in};
+ghost use Rattle.router_pools.specs.Sharing.{distribution_of};
+
+use route_credit::{ConsumerId, Pool, ProducerId};
+use route_table::Distribution;
+use std::alloc::{AllocError, Global};
+use std::collections::BTreeMap;
+
+/// Pools by the bytes of their addresses. One without links stays: it has the consumer that was chosen last.
+#[derive(Debug, Drop)]
+pub(crate) struct ByAddress {
+    alloc: Global,
+    pools: BTreeMap<Vec<u8>, Pool>,
+}
+
+impl ByAddress {
+    pub(crate) fn new(alloc: Global) -> ByAddress
+        ensures { (a : List ℕ) → pool_in result a ≡ no_links (distribution_of a) }
+    {
+        ByAddress {
+            alloc,
+            pools: BTreeMap::new(alloc),
+        }
+    }
+
+    /// Sees to it that there is a pool at an address.
+    fn found(&mut self, address: &[u8]) -> Result<(), AllocError>
+        ensures same { OnOk result ((a : List ℕ) → pool_in self.new a ≡ pool_in self.old a) }
+        ensures there { OnOk result (is_some (at_address self.new.pools.entries (λ k. k.items) address.now) ≡ true) }
+    {
+        if self.pools.contains_key(address) {
+            return Ok(());
+        }
+        let key = address.to_vec(self.alloc)?;
+        match self.pools.insert(key, Pool::new(self.alloc, Distribution::Balanced)) {
+            Ok(_) => Ok(()),
+            Err(_) => Err(AllocError),
+        }
+    }
+
+    /// What a consumer offers to an address. It is no producer of it.
+    pub(crate) fn offer(
+        &mut self,
+        address: &[u8],
+        number: u64,
+        free: u64,
+        undecided: u64,
+    ) -> Result<(), AllocError>
+        ensures { OnOk result ((a : List ℕ) → pool_in self.new a ≡ with_pool (pool_in self.old) address.now (λ pool. offered (without_producer pool number) number free undecided) a) }
+    {
+        self.found(address)?;
+        match self.pools.get_mut(address) {
+            None => Ok(()),
+            Some(pool) => {
+                pool.drop_producer(ProducerId(number));
+                pool.offer(ConsumerId(number), free, undecided)
+            }
+        }
+    }
+
+    /// What a producer wants of an address. It is no consumer of it.
+    pub(crate) fn want(
+        &mut self,
+        address: &[u8],
+        number: u64,
+        unused: u32,
+        held: u32,
+    ) -> Result<(), AllocError>
+        ensures { OnOk result ((a : List ℕ) → pool_in self.new a ≡ with_pool (pool_in self.old) address.now (λ pool. wanted (without_consumer pool number) number unused 0 held) a) }
+    {
+        self.found(address)?;
+        match self.pools.get_mut(address) {
+            None => Ok(()),
+            Some(pool) => {
+                pool.drop_consumer(ConsumerId(number));
+                pool.want(ProducerId(number), unused, 0, held)
+            }
+        }
+    }
+
+    /// Takes a link out of the pool of an address.
+    pub(crate) fn leave(&mut self, address: &[u8], number: u64)
+        ensures { (a : List ℕ) → pool_in self.new a ≡ with_pool (pool_in self.old) address.now (λ pool. without pool number) a }
+    {
+        if let Some(pool) = self.pools.get_mut(address) {
+            pool.drop_consumer(ConsumerId(number));
+            pool.drop_producer(ProducerId(number));
+        }
+    }
+
+    /// Chooses the consumer of the next delivery of an address.
+    pub(crate) fn choose(&mut self, address: &[u8]) -> Option<ConsumerId>
+        ensures chosen { option_map (λ c. c.0) result ≡ choice (pool_in self.old address.now) }
+        ensures noted { (a : List ℕ) → pool_in self.new a ≡ with_pool (pool_in self.old) address.now (λ pool. chose pool (option_map (λ c. c.0) result)) a }
+    {
+        match self.pools.get_mut(address) {
+            None => None,
+            Some(pool) => pool.choose(),
+        }
+    }
+
+    /// The grants of an address.
+    pub(crate) fn grants(&mut self, address: &[u8]) -> Result<Vec<(ProducerId, u32)>, AllocError>
+        ensures sums { IfOk result (λ sums. by_id sums.items ≡ grants_of (pool_in self.old address.now)) }
+        ensures filled { OnOk result ((a : List ℕ) → pool_in self.new a ≡ with_pool (pool_in self.old) address.now all_granted a) }
+    {
+        match self.pools.get_mut(address) {
+            None => Ok(Vec::new(self.alloc)),
+            Some(pool) => pool.grants(),
+        }
+    }
+}
