@@ -1,6 +1,5 @@
 -- What a table's indexes have is what the trace says.
-use Rattle.std.proofs.Common.{◌≡◌, ◌∙◌, ◌≤◌, ℕ, Bool, true, false, refl, sym, ap, Option, Some, None}
-use Rattle.std.specs.Prelude.{◌&&◌, nat_lt}
+use Rattle.std.proofs.Common.{◌≡◌, ◌∙◌, ℕ, Bool, sym, ap, Option, Some, None}
 use Rattle.std.specs.Ordering.{nat_cmp}
 use Rattle.std.specs.BTreeMap.{get}
 use Rattle.std.specs.BTreeSet.{contains}
@@ -8,7 +7,7 @@ use Rattle.router_trace.specs.Trace.{Trace}
 use Rattle.router_trace.specs.Deliveries.{delivery, waits_on, undecided_on, held_from, is_to_tell}
 use Rattle.router_trace.specs.Following.{is_unsent_on}
 use Rattle.router_deliveries.specs.declared.store.Store.{Store}
-use Rattle.router_deliveries.specs.Finding.{IsFirstLink, is_above}
+use Rattle.router_deliveries.specs.Finding.{IsFirstLink}
 use Rattle.router_deliveries.specs.Fits.{StoreFit}
 use Rattle.router_deliveries.specs.Indexing.{in_group}
 use Rattle.router_deliveries.proofs.Found.{waits_is, unsent_is, undecided_is, held_is, to_tell_is}

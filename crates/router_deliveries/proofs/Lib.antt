@@ -9,7 +9,10 @@ mod Heard
 mod Reindexed
 mod Found
 mod Claimed
-mod Numbers
+pub mod Numbers
 mod Asked
-mod Touching
+pub mod Touching
 mod Above
+mod Ranges
+mod Opened
+pub mod Listed

@@ -4,10 +4,9 @@ use Rattle.std.specs.Prelude.{◌==◌, if◌then◌else◌}
 use Rattle.std.specs.Ordering.{nat_cmp}
 use Rattle.std.specs.BTreeMap.{get}
 use Rattle.std.proofs.lemmas.Bool.{eqb-true}
-use Rattle.router_trace.specs.Deliveries.{Delivery, is_number, waits_on, undecided_on, held_from}
+use Rattle.router_trace.specs.Deliveries.{Delivery, waits_on, undecided_on, held_from}
 use Rattle.router_deliveries.specs.declared.index.Keys.{Keys}
 use Rattle.router_deliveries.specs.declared.store.Store.{Store}
-use Rattle.router_deliveries.specs.declared.touched.Touched.{Touched}
 use Rattle.router_deliveries.specs.Indexing.{standing}
 use Rattle.router_deliveries.specs.Touching.{is_touched_in, IsSameOn, StandsSame, StoreTouches}
 use Rattle.router_deliveries.proofs.Found.{waits_is, undecided_is, held_is}

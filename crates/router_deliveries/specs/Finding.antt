@@ -2,6 +2,8 @@
 use Rattle.std.specs.Prelude.{◌≡◌, ◌≤◌, ◌+◌, ℕ, Bool, true, false, nat_lt, List, length, Option, Some, None}
 use Rattle.std.specs.List.Sorted.{IsStrictlySortedBy}
 use Rattle.std.specs.Ordering.{nat_cmp}
+use Rattle.std.specs.Map.{keys_of, values_of, lookup}
+use Rattle.std.specs.BTreeMap.{is_at}
 use Rattle.amqp_session.specs.Ranges.{has}
 use Rattle.router_trace.specs.Trace.{Trace}
 use Rattle.router_trace.specs.Deliveries.{Delivery, bindings, delivery}
@@ -33,3 +35,10 @@ abbrev pub IsFirstLink : (ℕ → ℕ → Bool) → Option ℕ → Option ℕ �
 IsFirstLink passes above None = (k n : ℕ) → is_above above k ≡ true → passes k n ≡ false
 IsFirstLink passes above (Some k) =
     (is_above above k ≡ true) × ((n : ℕ) × (passes k n ≡ true)) × ((j n : ℕ) → is_above above j ≡ true → passes j n ≡ true → k ≤ j)
+
+-- Numbers in order of their handles: those of a list by which each handle has the number that is known.
+pub record IsListed (known : ℕ → Option ℕ) (numbers : List ℕ) : Type 0 where
+  pub entries : List (ℕ × ℕ)
+  pub rise : IsStrictlySortedBy nat_cmp (keys_of entries)
+  pub found : (h : ℕ) → lookup (is_at (nat_cmp h)) entries ≡ known h
+  pub are : values_of entries ≡ numbers

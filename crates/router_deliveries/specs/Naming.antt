@@ -6,6 +6,7 @@ use Rattle.amqp_frames.specs.declared.item.Item.{Item}
 use Rattle.amqp_frames.specs.declared.item.Item.TheVariants as item
 use Rattle.router_trace.specs.Trace.{Trace}
 use Rattle.router_trace.specs.Deliveries.{Delivery, is_undecided, bindings, delivery, named, last_of}
+use Rattle.router_trace.specs.Settling.{is_open_as}
 use Rattle.router_deliveries.specs.declared.names.Names.{Names}
 use Rattle.router_deliveries.specs.Places.{at_id}
 
@@ -56,3 +57,12 @@ detached_in_body _ own = None
 abbrev pub detached_in : Item → Option ℕ
 detached_in (item.Frame sasl own body payload) = detached_in_body body own
 detached_in _ = None
+
+-- whether a name is that of an undecided delivery, and of one of a session that has this id
+abbrev pub uses : (ℕ → Option Delivery) → Option ℕ → Bool
+uses known None = false
+uses known (Some n) = is_open (known n)
+
+abbrev pub opens : (ℕ → Option Delivery) → ℕ → ℕ → ℕ → Option ℕ → Bool
+opens known c o id None = false
+opens known c o id (Some n) = is_open_as c o id (known n)

@@ -45,6 +45,16 @@ impl<V: Drop> ByHandle<V> {
         }
     }
 
+    /// The values of a session.
+    pub(crate) fn session(&self, conn: u64, own: u16) -> Option<&InSession<V>>
+        ensures { option_map (λ m. m.now) result ≡ in_map (get nat_cmp self.now.rows conn) own }
+    {
+        match self.rows.get(&conn) {
+            None => None,
+            Some(sessions) => sessions.get(&own),
+        }
+    }
+
     /// Puts a value at a place, for the one that stood there.
     pub(crate) fn insert(
         &mut self,

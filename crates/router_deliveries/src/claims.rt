@@ -3,6 +3,7 @@ ghost use Rattle.std.specs.Prelude.{◌≡◌, ◌==◌, ◌∷◌, [], List, �
 ghost use Rattle.std.specs.Option.{option_map};
 ghost use Rattle.router_trace.specs.Trace.{Entry, Out, did};
 ghost use Rattle.router_trace.specs.Claims.{claims, claim, claim_behind_in};
+ghost use Rattle.router_trace.specs.Settling.{is_claimed};
 ghost use Rattle.router_trace.specs.Sessions.{theirs, maps, is_channel};
 ghost use Rattle.router_trace.specs.Links.{their_handle, link};
 ghost use Rattle.router_deliveries.specs.Fits.{channel_of};
@@ -77,6 +78,13 @@ impl Claims {
         ensures { (t : List Entry) → ClaimsFit self.now t → option_map (λ c. c.now) result ≡ claims t conn own id }
     {
         self.ids.get(conn, own, id)
+    }
+
+    /// Whether a peer has not settled the delivery of an id of its own.
+    pub fn is_claimed(&self, conn: u64, own: u16, id: u32) -> bool
+        ensures { (t : List Entry) → ClaimsFit self.now t → result ≡ is_claimed t conn own id }
+    {
+        self.ids.get(conn, own, id).is_some()
     }
 
     /// A connection is lost.

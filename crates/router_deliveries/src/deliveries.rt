@@ -1,5 +1,5 @@
 //! The table of deliveries.
-ghost use Rattle.std.specs.Prelude.{◌≡◌, ◌==◌, ◌&&◌, ◌∷◌, [], List, ℕ, OnOk, false, if◌then◌else◌, nat_lt};
+ghost use Rattle.std.specs.Prelude.{◌≡◌, ◌==◌, ◌&&◌, ◌∷◌, [], List, ℕ, OnOk, IfOk, false, if◌then◌else◌, nat_lt};
 ghost use Rattle.std.specs.Option.{option_map, is_some};
 ghost use Rattle.std.specs.Ordering.{nat_cmp};
 ghost use Rattle.std.specs.BTreeMap.{get};
@@ -7,8 +7,9 @@ ghost use Rattle.router_trace.specs.Trace.{Entry, Out, Bound, did};
 ghost use Rattle.router_trace.specs.declared.event.Event.TheVariants as event;
 ghost use Rattle.router_trace.specs.Deliveries.{delivery, next_id, sending, named, waits_on, undecided_on, held_from, is_to_tell};
 ghost use Rattle.router_trace.specs.Sessions.{theirs, maps, is_channel};
-ghost use Rattle.router_trace.specs.Following.{first_delivery, is_unsent_on};
-ghost use Rattle.router_deliveries.specs.Finding.{IsFirst, IsCount, IsFirstLink, count_deliveries};
+ghost use Rattle.router_trace.specs.Following.{first_delivery, is_unsent_on, is_used};
+ghost use Rattle.router_trace.specs.Settling.{open_ids};
+ghost use Rattle.router_deliveries.specs.Finding.{IsFirst, IsCount, IsFirstLink, IsListed, count_deliveries};
 ghost use Rattle.router_deliveries.specs.Naming.{Remembers};
 ghost use Rattle.router_deliveries.specs.Fits.{DeliveriesFit, channel_of};
 ghost use Rattle.router_deliveries.specs.Touching.{is_touched, Touches};
@@ -27,6 +28,7 @@ use std::alloc::{AllocError, Global};
 /// The deliveries that the router passes on. Behind an error nothing can be said of the table.
 #[derive(Debug, Drop)]
 pub struct Deliveries {
+    alloc: Global,
     // so many messages were bound
     bindings: u64,
     store: Store,
@@ -41,6 +43,7 @@ impl Deliveries {
         ensures { DeliveriesFit result [] }
     {
         Deliveries {
+            alloc,
             bindings: 0,
             store: Store::new(alloc),
             sending: Sending::new(alloc),
@@ -152,6 +155,34 @@ impl Deliveries {
         ensures { (t : List Entry) → DeliveriesFit self.now t → Remembers t result (named t conn own id) }
     {
         self.names.get(conn, own, id)
+    }
+
+    /// Whether an id names an undecided delivery, on a session of the router's.
+    pub fn is_used(&self, conn: u64, own: u16, id: u32) -> bool
+        ensures { (t : List Entry) → DeliveriesFit self.now t → result ≡ is_used t (named t conn own id) }
+    {
+        self.names.is_used(&self.store, conn, own, id)
+    }
+
+    /// The ids of a disposition's range that name undecided deliveries of a session of the router's, in its order. It looks at the
+    /// deliveries that are there alone, and never at the ids of the range.
+    pub fn open_ids(
+        &self,
+        conn: u64,
+        own: u16,
+        first: u32,
+        last: u32,
+    ) -> Result<Vec<u32>, AllocError>
+        ensures { IfOk result (λ ids. (t : List Entry) → DeliveriesFit self.now t → ids.items ≡ open_ids t conn own first last) }
+    {
+        Ok(self.names.open_ids(&self.store, conn, own, first, last)?)
+    }
+
+    /// The numbers of the deliveries of which more frames are to go on the handles of a session of the router, in order of the handles.
+    pub fn sending_on(&self, conn: u64, own: u16) -> Result<Vec<u64>, AllocError>
+        ensures { IfOk result (λ numbers. (t : List Entry) → DeliveriesFit self.now t → IsListed (sending t conn own) numbers.items) }
+    {
+        Ok(self.sending.all_on(self.alloc, conn, own)?)
     }
 
     /// A message is bound to the link of a consumer. Fails where memory is refused, and where bindings can't be numbered any more.

@@ -1,5 +1,6 @@
 //! Deliveries, as the table has them.
-ghost use Rattle.std.specs.Prelude.{◌≡◌, OnOk, if◌then◌else◌};
+ghost use Rattle.std.specs.Prelude.{◌≡◌, OnOk, Some, if◌then◌else◌};
+ghost use Rattle.router_trace.specs.Settling.{is_open_as};
 ghost use Rattle.router_trace.specs.Deliveries.{bound, is_over, is_undecided, behind_frame, untold, ended, behind_ends};
 ghost use Rattle.router_deliveries.specs.Stepping.{is_gone, is_decided_by, comes_with_id, changed};
 
@@ -82,6 +83,14 @@ impl Delivery {
         ensures { result ≡ is_undecided self.now }
     {
         self.outcome.is_none() && !self.presettled
+    }
+
+    /// Whether it is undecided, and has this id on a session of the router's.
+    pub(crate) fn is_open_as(&self, conn: u64, own: u16, id: u32) -> bool
+        ensures { result ≡ is_open_as conn own id (Some self.now) }
+    {
+        self.is_undecided()
+            && ((self.link.conn.0 == conn && self.link.channel == own) && self.id == Some(id))
     }
 
     /// Notes a transfer that carries so many bytes of it. Fails where its bytes can't be counted any more.

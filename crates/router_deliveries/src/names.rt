@@ -12,7 +12,9 @@ ghost use Rattle.router_deliveries.specs.Places.{at_id};
 ghost use Rattle.router_deliveries.specs.Fits.{StoreFit};
 ghost use Rattle.amqp_session.specs.Ranges.{has};
 ghost use Rattle.router_deliveries.specs.Hearing.{id_of, picks, is_named_in};
-ghost use Rattle.router_deliveries.specs.Naming.{NamesFit, AreSmall, kept_name, decided_in, detached_in};
+ghost use Rattle.router_deliveries.specs.Naming.{NamesFit, AreSmall, kept_name, decided_in, detached_in, uses, opens};
+ghost use Rattle.router_trace.specs.Settling.{ids_between};
+ghost use Rattle.std.specs.List.{filter};
 
 use crate::by_session::BySession;
 use crate::store::Store;
@@ -58,6 +60,49 @@ impl Names {
         } else {
             None
         }
+    }
+
+    /// Whether an id names an undecided delivery.
+    pub(crate) fn is_used(&self, store: &Store, conn: u64, own: u16, id: u32) -> bool
+        ensures { result ≡ uses (get nat_cmp store.now.deliveries) (at_id self.now.ids conn own id) }
+    {
+        match self.get(conn, own, id) {
+            None => false,
+            Some(number) => store.is_open(number),
+        }
+    }
+
+    /// Whether an id names an undecided delivery of its session that has this id.
+    fn names_open(&self, store: &Store, conn: u64, own: u16, id: u32) -> bool
+        ensures { result ≡ opens (get nat_cmp store.now.deliveries) conn own id (at_id self.now.ids conn own id) }
+    {
+        match self.get(conn, own, id) {
+            None => false,
+            Some(number) => store.is_open_as(number, conn, own, id),
+        }
+    }
+
+    /// The ids of a disposition's range that name undecided deliveries of the session, in its order.
+    pub(crate) fn open_ids(
+        &self,
+        store: &Store,
+        conn: u64,
+        own: u16,
+        first: u32,
+        last: u32,
+    ) -> Result<Vec<u32>, AllocError>
+        ensures { IfOk result (λ found. AreSmall (at_id self.now.ids)
+            → found.items ≡ filter (λ id. opens (get nat_cmp store.now.deliveries) conn own id (at_id self.now.ids conn own id)) (ids_between first last)) }
+    {
+        let mut found = Vec::new(self.alloc);
+        let ids = self.ids.in_range(conn, own, first, last)?;
+        for id in &ids {
+            let id = id.number();
+            if self.names_open(store, conn, own, id) {
+                found.push(id)?;
+            }
+        }
+        Ok(found)
     }
 
     /// The numbers of the deliveries that the ids of a disposition's range name, in its order.

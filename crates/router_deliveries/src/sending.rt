@@ -1,5 +1,9 @@
 //! The deliveries of which more frames are to go, by the router's handles.
-ghost use Rattle.std.specs.Prelude.{◌≡◌, ◌∷◌, [], List, ℕ, Bool, None, if◌then◌else◌, OnOk};
+ghost use Rattle.std.specs.Prelude.{◌≡◌, ◌∷◌, [], List, ℕ, Bool, None, if◌then◌else◌, OnOk, IfOk};
+ghost use Rattle.std.specs.Ordering.{nat_cmp};
+ghost use Rattle.std.specs.Map.{values_of};
+ghost use Rattle.std.specs.BTreeMap.{IsOrdered};
+ghost use Rattle.router_deliveries.specs.Finding.{IsListed};
 ghost use Rattle.amqp_perf.specs.declared.perf.Perf.TheVariants as perf;
 ghost use Rattle.amqp_frames.specs.declared.item.Item.TheVariants as item;
 ghost use Rattle.router_trace.specs.Trace.{Entry, Out, did};
@@ -8,7 +12,7 @@ ghost use Rattle.router_trace.specs.Deliveries.{carried, tag_in};
 ghost use Rattle.router_deliveries.specs.Places.{at};
 ghost use Rattle.router_deliveries.specs.Fits.{SendingFit, carried_in, carried_by};
 
-use crate::by_handle::ByHandle;
+use crate::by_handle::{ByHandle, InSession};
 use crate::tag::carried;
 use amqp_frames::Item;
 use amqp_perf::{Perf, Transfer};
@@ -36,6 +40,16 @@ impl Sending {
         ensures { result ≡ at self.now.numbers conn own handle }
     {
         self.numbers.get(conn, own, handle).copied()
+    }
+
+    /// The numbers of the deliveries of which more frames are to go on the handles of a session, in order of the handles.
+    pub(crate) fn all_on(&self, alloc: Global, conn: u64, own: u16) -> Result<Vec<u64>, AllocError>
+        ensures { IfOk result (λ numbers. IsListed (at self.now.numbers conn own) numbers.items) }
+    {
+        match self.numbers.session(conn, own) {
+            None => Ok(Vec::new(alloc)),
+            Some(handles) => Ok(values(alloc, handles)?),
+        }
     }
 
     /// A connection is lost.
@@ -122,4 +136,16 @@ impl Sending {
             None
         }
     }
+}
+
+/// The numbers of a session, in order of their handles.
+fn values(alloc: Global, handles: &InSession<u64>) -> Result<Vec<u64>, AllocError>
+    ensures values { IfOk result (λ numbers. numbers.items ≡ values_of handles.now.entries) }
+    ensures ordered { IsOrdered nat_cmp handles.now }
+{
+    let mut numbers = Vec::new(alloc);
+    for (_, number) in handles {
+        numbers.push(*number)?;
+    }
+    Ok(numbers)
 }

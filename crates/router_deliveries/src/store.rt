@@ -6,6 +6,7 @@ ghost use Rattle.std.specs.Map.{keys_of};
 ghost use Rattle.std.specs.BTreeMap.{get};
 ghost use Rattle.amqp_session.specs.Ranges.{has};
 ghost use Rattle.router_trace.specs.Deliveries.{unless_over, bound, behind_frame, is_number, is_id, sending};
+ghost use Rattle.router_trace.specs.Settling.{is_open_as};
 ghost use Rattle.router_trace.specs.Trace.{Entry, Out, did};
 ghost use Rattle.amqp_frames.specs.declared.item.Item.TheVariants as item;
 ghost use Rattle.router_trace.specs.declared.event.Event.TheVariants as event;
@@ -150,6 +151,16 @@ impl Store {
         match self.deliveries.get(&number) {
             None => false,
             Some(delivery) => delivery.id == Some(id),
+        }
+    }
+
+    /// Whether the delivery of a number is undecided, of a session, and has this id.
+    pub(crate) fn is_open_as(&self, number: u64, conn: u64, own: u16, id: u32) -> bool
+        ensures { result ≡ is_open_as conn own id (get nat_cmp self.now.deliveries number) }
+    {
+        match self.deliveries.get(&number) {
+            None => false,
+            Some(delivery) => delivery.is_open_as(conn, own, id),
         }
     }
 
