@@ -1,5 +1,5 @@
 -- What each link offers and wants, of a trace (AMQP 1.0 part 2, section 2.6.7): the free credit of consumers, the credit that producers have.
-use Rattle.std.specs.Prelude.{ℕ, ◌+◌, ◌-◌, ◌==◌, min, if◌then◌else◌, List, Option, Some, None}
+use Rattle.std.specs.Prelude.{ℕ, Bool, ◌+◌, ◌-◌, ◌==◌, min, if◌then◌else◌, List, Option, Some, None}
 use Rattle.amqp_link.specs.declared.part.Delivery.{Delivery as Told}
 use Rattle.amqp_link.specs.Credit as credit
 use Rattle.amqp_link.specs.Receiving as receiving
@@ -24,8 +24,11 @@ abbrev pub held : Trace → ℕ → ℕ
 held t number = count_below (bindings t + 1) (λ n. held_from number (delivery t n))
 
 -- Free credit: what is left less the deliveries that wait, up to 64 undecided ones; none while the link drains.
+abbrev pub free_of : Bool → ℕ → ℕ → ℕ → ℕ
+free_of drains left waits open = if drains then 0 else min (left - waits) (64 - open)
+
 abbrev pub free_credit : Trace → Link → credit.Link → ℕ
-free_credit t l list = if l.drains then 0 else min (credit.credit list - waiting t l.number) (64 - undecided t l.number)
+free_credit t l list = free_of l.drains (credit.credit list) (waiting t l.number) (undecided t l.number)
 
 -- A delivery in the middle that isn't resumed has used its credit for its producer, but isn't any consumer's yet: it counts as one unused.
 abbrev pub begun_credit : Option Told → ℕ

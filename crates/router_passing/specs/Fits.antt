@@ -1,6 +1,6 @@
 -- When links, deliveries, claims and pools are those that a trace gives.
 use Rattle.std.specs.Prelude.{◌≡◌, ℕ, false, List, Option}
-use Rattle.router_pools.specs.Fits.{PoolsFit}
+use Rattle.router_pools.specs.Fits.{PoolsFit, NoneTouched}
 use Rattle.router_pools.specs.Sharing.{Figure}
 use Rattle.router_trace.specs.Trace.{Trace}
 use Rattle.router_deliveries.specs.Claiming.{ClaimsFit}
@@ -24,3 +24,9 @@ pub record PassingFit (s : Passing) (t : Trace) : Type 0 where
   pub deliveries : DeliveriesFit s.deliveries t
   pub claims : ClaimsFit s.claims t
   pub pools : PoolsKnow s t
+
+-- what all links have was told to the pools
+pub record Untouched (s : Passing) : Type 0 where
+  pub pools : NoneTouched s.pools
+  pub links : (n : ℕ) → links.is_touched s.links n ≡ false
+  pub deliveries : (n : ℕ) → deliveries.is_touched s.deliveries n ≡ false

@@ -1,5 +1,5 @@
 -- Messages that go from a producer to a consumer of its address, and the credit that producers are granted.
-use Rattle.std.specs.Prelude.{ℕ, zero, suc, ◌+◌, if◌then◌else◌, List, [], ◌∷◌, ◌++◌, bytes_eq, Option, Some, None, option_and_then, option_map}
+use Rattle.std.specs.Prelude.{ℕ, zero, suc, ◌+◌, ◌==◌, ◌&&◌, if◌then◌else◌, List, [], ◌∷◌, ◌++◌, bytes_eq, Option, Some, None, option_and_then, option_map}
 use Rattle.std.specs.BTreeMap.{is_at}
 use Rattle.std.specs.Cmp.Lexicographic.{slice_cmp}
 use Rattle.std.specs.Ordering.{nat_cmp}
@@ -72,17 +72,17 @@ grant_by a amount (sends list) = []
 grant_by a amount (receives list) =
     record { at = a; state = record { handle = a.handle; count = receiving.delivery_count list; credit = receiving.unused list + amount; drain = false } } ∷ []
 
-abbrev pub grant_on : Attachment → ℕ → Option Link → List LinkGrant
-grant_on a amount None = []
-grant_on a amount (Some l) = grant_by a amount l.happened
+abbrev pub grant_on : ℕ → Attachment → ℕ → Option Link → List LinkGrant
+grant_on number a amount None = []
+grant_on number a amount (Some l) = if l.number == number then grant_by a amount l.happened else []
 
-abbrev pub grant_at : Trace → ℕ → Option Attachment → List LinkGrant
-grant_at t amount None = []
-grant_at t amount (Some a) = grant_on a amount (link_of t a)
+abbrev pub grant_at : Trace → ℕ → ℕ → Option Attachment → List LinkGrant
+grant_at t number amount None = []
+grant_at t number amount (Some a) = grant_on number a amount (link_of t a)
 
 abbrev pub grants_on : Trace → List (ℕ × ℕ) → List LinkGrant
 grants_on t [] = []
-grants_on t (sum ∷ sums) = grant_at t sum.1 (numbered t sum.0) ++ grants_on t sums
+grants_on t (sum ∷ sums) = grant_at t sum.0 sum.1 (numbered t sum.0) ++ grants_on t sums
 
 -- The address whose grants come first: of those of producers' links that have any, the lowest in byte order.
 abbrev pub if_some : List (ℕ × ℕ) → List ℕ → Option (List ℕ)

@@ -2,9 +2,10 @@
 ghost use Rattle.std.specs.Prelude.{◌≡◌, ◌++◌, ◌∷◌, [], ℕ, List, Option, Some, None, IfOk, IfNone, OnOk, is_some, option_map};
 ghost use Rattle.router_trace.specs.Trace.{Entry};
 ghost use Rattle.router_trace.specs.Following.{link_of};
+ghost use Rattle.router_trace.specs.Links.{numbered};
 ghost use Rattle.router_links.specs.Fits.{LinksFit};
 ghost use Rattle.route_credit.specs.Pool.{by_id};
-ghost use Rattle.router_passing.specs.Fits.{PassingFit, PoolsExact, Untouched};
+ghost use Rattle.router_passing.specs.Fits.{PassingFit, Untouched, Noted};
 ghost use Rattle.router_passing.specs.Passing.{consumer_of, passing, with_bound, grants, grants_on, grant_at};
 
 use crate::figures::tell;
@@ -76,6 +77,17 @@ impl Passing {
         Ok(true)
     }
 
+    /// The consumer that is chosen for a message of a producer's link, once the pools know what all links have; it is noted as the last one.
+    fn choose(&mut self, from: Attachment) -> Option<Attachment>
+        ensures chosen { (t : List Entry) → Untouched self.old → PassingFit self.old t → result ≡ consumer_of t (link_of t from) }
+        ensures noted { Noted self.old self.new from result }
+    {
+        let link = self.links.link(from)?;
+        let address = link.address.as_str().as_bytes();
+        let chosen = self.pools.choose(address)?;
+        self.links.place_of(chosen.0)
+    }
+
     /// The grants that the producers of an address are due; none where no producer is due any.
     pub fn grants(&mut self) -> Result<Vec<LinkGrant>, AllocError>
         ensures due { IfOk result (λ due. (t : List Entry) → PassingFit self.old t → due.items ≡ grants t) }
@@ -116,10 +128,28 @@ fn add_grant(
     number: u64,
     amount: u32,
 ) -> Result<(), AllocError>
-    ensures { OnOk result ((t : List Entry) → LinksFit links.now t → told.new.items ≡ told.old.items ++ grant_at t amount (numbered t number)) }
+    ensures { OnOk result ((t : List Entry) → LinksFit links.now t → told.new.items ≡ told.old.items ++ grant_at t number amount (numbered t number)) }
 {
     let Some(at) = links.place_of(number) else {
         return Ok(());
     };
-    ...
+    let Some(link) = links.link(at) else {
+        return Ok(());
+    };
+    if link.is_consumer() {
+        return Ok(());
+    }
+    let Some(credit) = link.unused().checked_add(amount) else {
+        return Err(AllocError);
+    };
+    let state = LinkState {
+        handle: at.handle,
+        count: link.count(),
+        credit,
+        drain: false,
+    };
+    match told.push(LinkGrant { at, state }) {
+        Ok(()) => Ok(()),
+        Err(_) => Err(AllocError),
+    }
 }
