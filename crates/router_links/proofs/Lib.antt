@@ -6,3 +6,5 @@ pub mod Rows
 pub mod Free
 pub mod Gives
 pub mod Looks
+pub mod Putting
+pub mod Touches

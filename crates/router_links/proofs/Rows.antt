@@ -32,7 +32,7 @@ heard_where_named (perf.Flow f) payload h known v = refl
 heard_where_named (perf.Transfer x) payload h known v = refl
 heard_where_named _ payload h known v = refl
 
-mapped : (f : Link → Link) (g : view.Link → view.Link) (old : Option Link) (v : Option view.Link)
+pub mapped : (f : Link → Link) (g : view.Link → view.Link) (old : Option Link) (v : Option view.Link)
     → ((l : view.Link) → f (link_of l) ≡ link_of (g l)) → old ≡ option_map link_of v → option_map f old ≡ option_map link_of (option_map g v)
 mapped f g old None follows is = ap (option_map f) is
 mapped f g old (Some l) follows is = ap (option_map f) is ∙ ap Some (follows l)

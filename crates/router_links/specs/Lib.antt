@@ -5,6 +5,7 @@ pub mod Fits
 pub mod Handled
 pub mod Looking
 pub mod Naming
+pub mod Touching
 pub use Rattle.router_trace.specs.Trace
 pub use Rattle.router_trace.specs.Sessions
 pub use Rattle.router_trace.specs.Links

@@ -88,7 +88,8 @@ impl<V: Drop> ByHandle<V> {
 
     /// Takes all values of a session away.
     pub(crate) fn end(&mut self, conn: u64, own: u16) -> Option<InSession<V>>
-        ensures { (c o h : ℕ) → at self.new c o h ≡ (if conn == c then (if own == o then None else at self.old c o h) else at self.old c o h) }
+        ensures gives { result ≡ in_map (get nat_cmp self.old.rows conn) own }
+        ensures gone { (c o h : ℕ) → at self.new c o h ≡ (if conn == c then (if own == o then None else at self.old c o h) else at self.old c o h) }
     {
         match self.rows.get_mut(&conn) {
             None => None,
@@ -98,7 +99,8 @@ impl<V: Drop> ByHandle<V> {
 
     /// Takes all values of a connection away.
     pub(crate) fn forget(&mut self, conn: u64) -> Option<InConnection<V>>
-        ensures { (c o h : ℕ) → at self.new c o h ≡ (if conn == c then None else at self.old c o h) }
+        ensures gives { result ≡ get nat_cmp self.old.rows conn }
+        ensures gone { (c o h : ℕ) → at self.new c o h ≡ (if conn == c then None else at self.old c o h) }
     {
         self.rows.remove(&conn)
     }

@@ -7,6 +7,7 @@ mod link;
 mod links;
 mod names;
 mod table;
+mod touched;
 
 pub use link::{Link, LinkEnd, Side};
 pub use links::Links;

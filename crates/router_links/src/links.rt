@@ -1,5 +1,5 @@
 //! The table of links.
-ghost use Rattle.std.specs.Prelude.{◌≡◌, ◌∷◌, [], List, ℕ, Bool, false, IfOk, OnOk};
+ghost use Rattle.std.specs.Prelude.{◌≡◌, ◌==◌, ◌∷◌, [], List, ℕ, Bool, false, if◌then◌else◌, IfOk, OnOk};
 ghost use Rattle.amqp_frames.specs.declared.item.Item.TheVariants as item;
 ghost use Rattle.router_trace.specs.Trace.{Entry, Out, did};
 ghost use Rattle.router_trace.specs.Sessions.{is_channel, maps, theirs};
@@ -7,6 +7,7 @@ ghost use Rattle.router_trace.specs.Links.{link, link_place, found_link, free_ha
 ghost use Rattle.router_trace.specs.Settling.{part_at, middle_on};
 ghost use Rattle.router_links.specs.Ends.{link_of};
 ghost use Rattle.router_links.specs.Looking.{attachment_on};
+ghost use Rattle.router_links.specs.Touching.{Touches, is_touched, IsLowest};
 ghost use Rattle.std.specs.Option.{option_map};
 ghost use Rattle.router_trace.specs.declared.event.Event.TheVariants as event;
 ghost use Rattle.router_links.specs.Fits.{LinksFit, owes_drain, key_in, key_by, channel_of};
@@ -32,7 +33,8 @@ pub struct Links {
 impl Links {
     /// No links.
     pub fn new(alloc: Global) -> Links
-        ensures { LinksFit result [] }
+        ensures fits { LinksFit result [] }
+        ensures untouched { (k : ℕ) → is_touched result k ≡ false }
     {
         Links {
             handles: HandleTable::new(alloc),
@@ -111,12 +113,30 @@ impl Links {
         self.table.place_of(number)
     }
 
+    /// The lowest number of a link that may have changed since its number was forgotten.
+    pub fn touched(&self) -> Option<u64>
+        ensures { IsLowest (is_touched self.now) result }
+    {
+        self.table.touched()
+    }
+
+    /// Forgets that the link of a number may have changed.
+    pub fn forget_touched(&mut self, number: u64)
+        ensures fits { (t : List Entry) → LinksFit self.old t → LinksFit self.new t }
+        ensures gone { (k : ℕ) → is_touched self.new k ≡ (if number == k then false else is_touched self.old k) }
+        ensures links { self.new.table.links ≡ self.old.table.links }
+        ensures names { self.new.table.names ≡ self.old.table.names }
+    {
+        self.table.forget_touched(number);
+    }
+
     /// A connection is lost.
-    pub fn down(&mut self, conn: ConnectionId)
-        ensures { (t : List Entry) → LinksFit self.old t → LinksFit self.new (did (event.Down conn) ∷ t) }
+    pub fn down(&mut self, conn: ConnectionId) -> Result<(), AllocError>
+        ensures fits { (t : List Entry) → LinksFit self.old t → LinksFit self.new (did (event.Down conn) ∷ t) }
+        ensures touches { OnOk result (Touches self.old self.new) }
     {
         self.handles.down(conn);
-        self.table.down(conn);
+        self.table.down(conn)
     }
 
     /// An item came on a connection, on the session on this channel of the router, where its channel has one. Gives what a
@@ -130,6 +150,7 @@ impl Links {
         ensures fits { OnOk result ((t : List Entry) → ((o : ℕ) → is_channel own o ≡ maps (theirs t conn.0 (channel_of item.now)) o)
             → LinksFit self.old t → LinksFit self.new (did (event.Item conn item.now) ∷ t)) }
         ensures part { (t : List Entry) → LinksFit self.old t → IfOk result (λ p. p ≡ part_at t conn.0 own item.now) }
+        ensures touches { OnOk result (Touches self.old self.new) }
     {
         match item {
             Item::Frame {
@@ -160,6 +181,7 @@ impl Links {
             → LinksFit self.old t → LinksFit self.new (did (event.Item conn (item.Frame false channel perf.now payload.now)) ∷ t)) }
         ensures part { (t : List Entry) (channel : ℕ) → LinksFit self.old t
             → IfOk result (λ p. p ≡ part_at t conn.0 own (item.Frame false channel perf.now payload.now)) }
+        ensures touches { OnOk result (Touches self.old self.new) }
     {
         let handle = self.handles.named(conn.0, own, perf);
         let part = self.table.hear(conn, own, handle, perf, payload)?;
@@ -170,7 +192,8 @@ impl Links {
     /// An item is put in the outbox of a connection; an attach comes with its key. Fails where memory is refused, where
     /// attachments can't be numbered any more, and for an attach without its key.
     pub fn put(&mut self, conn: u64, item: &Item, key: Option<LinkKey>) -> Result<(), AllocError>
-        ensures { OnOk result ((t : List Entry) → key ≡ key_by t conn item.now → LinksFit self.old t → LinksFit self.new (Out conn item.now ∷ t)) }
+        ensures fits { OnOk result ((t : List Entry) → key ≡ key_by t conn item.now → LinksFit self.old t → LinksFit self.new (Out conn item.now ∷ t)) }
+        ensures touches { OnOk result (Touches self.old self.new) }
     {
         match item {
             Item::Frame {
@@ -193,8 +216,9 @@ impl Links {
         payload: &Bytes,
         key: Option<LinkKey>,
     ) -> Result<(), AllocError>
-        ensures { OnOk result ((t : List Entry) (sasl : Bool) → key ≡ key_in t conn perf.now → LinksFit self.old t
+        ensures fits { OnOk result ((t : List Entry) (sasl : Bool) → key ≡ key_in t conn perf.now → LinksFit self.old t
             → LinksFit self.new (Out conn (item.Frame sasl own perf.now payload.now) ∷ t)) }
+        ensures touches { OnOk result (Touches self.old self.new) }
     {
         let last = self.handles.asked(conn);
         self.table.put(conn, own, perf, payload, key, last)?;

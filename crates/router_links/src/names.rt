@@ -1,10 +1,11 @@
 //! The attachments of keys and of numbers.
-ghost use Rattle.std.specs.Prelude.{◌≡◌, ◌==◌, ℕ, Some, None, if◌then◌else◌, OnOk};
+ghost use Rattle.std.specs.Prelude.{◌≡◌, ◌==◌, ℕ, Some, None, false, if◌then◌else◌, OnOk};
 ghost use Rattle.std.specs.Ordering.{nat_cmp, is_eq};
 ghost use Rattle.std.specs.BTreeMap.{get};
 ghost use Rattle.book_core.specs.Keys.{key_cmp};
 ghost use Rattle.book_core.specs.declared.terminus.LinkKey.{LinkKey as AKey};
 ghost use Rattle.router_links.specs.Naming.{on_conn, on_session, on_handle, unless, Thinned};
+ghost use Rattle.router_links.specs.Touching.{in_session, in_connection};
 
 use crate::by_handle::{InConnection, InSession};
 use crate::link::Link;
@@ -111,7 +112,8 @@ impl Names {
 
     /// Takes its names from a link that goes.
     pub(crate) fn forget(&mut self, conn: u64, own: u16, handle: u32, link: &Link)
-        ensures { Thinned (on_handle conn own handle) self.old self.new }
+        ensures thinned { Thinned (on_handle conn own handle) self.old self.new }
+        ensures others { (k : ℕ) → (link.now.number == k) ≡ false → get nat_cmp self.old.numbers.entries k ≡ get nat_cmp self.new.numbers.entries k }
     {
         self.keys.forget(&link.key, conn, own, handle);
         self.numbers.forget(&link.number, conn, own, handle);
@@ -119,7 +121,8 @@ impl Names {
 
     /// Takes their names from the links of a session that goes.
     pub(crate) fn forget_session(&mut self, conn: u64, own: u16, handles: &InSession<Link>)
-        ensures { Thinned (on_session conn own) self.old self.new }
+        ensures thinned { Thinned (on_session conn own) self.old self.new }
+        ensures others { (k : ℕ) → in_session k handles.now ≡ false → get nat_cmp self.old.numbers.entries k ≡ get nat_cmp self.new.numbers.entries k }
     {
         for (handle, link) in handles {
             self.forget(conn, own, *handle, link);
@@ -128,7 +131,8 @@ impl Names {
 
     /// Takes their names from the links of a connection that goes.
     pub(crate) fn forget_connection(&mut self, conn: u64, sessions: &InConnection<Link>)
-        ensures { Thinned (on_conn conn) self.old self.new }
+        ensures thinned { Thinned (on_conn conn) self.old self.new }
+        ensures others { (k : ℕ) → in_connection k sessions.now ≡ false → get nat_cmp self.old.numbers.entries k ≡ get nat_cmp self.new.numbers.entries k }
     {
         for (own, handles) in sessions {
             self.forget_session(conn, *own, handles);

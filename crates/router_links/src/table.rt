@@ -1,5 +1,5 @@
 //! The links that the router took, with their keys and numbers.
-ghost use Rattle.std.specs.Prelude.{◌≡◌, ◌==◌, ◌+◌, ◌∷◌, [], List, ℕ, Bool, Some, None, true, false, if◌then◌else◌, IfOk, OnOk};
+ghost use Rattle.std.specs.Prelude.{◌≡◌, ◌==◌, ◌+◌, ◌||◌, ◌∷◌, [], List, ℕ, Bool, Some, None, true, false, if◌then◌else◌, IfOk, OnOk};
 ghost use Rattle.std.specs.Option.{option_map};
 ghost use Rattle.std.specs.Ordering.{nat_cmp, is_eq};
 ghost use Rattle.std.specs.BTreeMap.{get};
@@ -21,10 +21,12 @@ ghost use Rattle.router_links.specs.Looking.{middle_named, attachment_of};
 ghost use Rattle.router_links.specs.Fits.{TableFit, with_mark, asks_drain, names_in, key_in, found_at, attachment, IsNoted};
 ghost use Rattle.router_links.specs.Naming.{on_conn, on_session, on_handle, Thinned};
 ghost use Rattle.router_links.specs.Places.{at};
+ghost use Rattle.router_links.specs.Touching.{is_numbered, in_session, in_connection, Touched, IsLowest};
 
-use crate::by_handle::ByHandle;
+use crate::by_handle::{ByHandle, InConnection, InSession};
 use crate::link::{Link, LinkEnd, Side, address_of};
 use crate::names::Names;
+use crate::touched::{touch, touch_at, touch_connection, touch_session};
 use amqp_link::{Delivery, Part};
 use amqp_perf::{Attach, Detach, Perf, Text};
 use book_core::LinkKey;
@@ -44,12 +46,15 @@ pub struct LinkTable {
     count: u64,
     // the connections that may have a link that owes a drain
     owing: BTreeSet<u64>,
+    // the numbers of links that may have changed
+    touched: BTreeSet<u64>,
 }
 
 impl LinkTable {
     /// No links.
     pub fn new(alloc: Global) -> LinkTable
-        ensures { TableFit result [] }
+        ensures fits { TableFit result [] }
+        ensures untouched { (k : ℕ) → contains nat_cmp result.touched k ≡ false }
     {
         LinkTable {
             alloc,
@@ -57,6 +62,7 @@ impl LinkTable {
             names: Names::new(alloc),
             count: 0,
             owing: BTreeSet::new(alloc),
+            touched: BTreeSet::new(alloc),
         }
     }
 
@@ -165,11 +171,27 @@ impl LinkTable {
         self.owing.contains(&conn)
     }
 
-    /// A connection is lost.
-    pub fn down(&mut self, conn: ConnectionId)
-        ensures { (t : List Entry) → TableFit self.old t → TableFit self.new (did (event.Down conn) ∷ t) }
+    /// The lowest number of a link that may have changed since its number was forgotten.
+    pub fn touched(&self) -> Option<u64>
+        ensures { IsLowest (contains nat_cmp self.now.touched) result }
     {
-        self.forget(conn.0);
+        self.touched.first().copied()
+    }
+
+    /// Forgets that the link of a number may have changed.
+    pub fn forget_touched(&mut self, number: u64)
+        ensures rest { self.new ≡ record self.old { touched = self.new.touched } }
+        ensures gone { (k : ℕ) → contains nat_cmp self.new.touched k ≡ (if number == k then false else contains nat_cmp self.old.touched k) }
+    {
+        let _ = self.touched.remove(&number);
+    }
+
+    /// A connection is lost.
+    pub fn down(&mut self, conn: ConnectionId) -> Result<(), AllocError>
+        ensures fits { (t : List Entry) → TableFit self.old t → TableFit self.new (did (event.Down conn) ∷ t) }
+        ensures touches { OnOk result (Touched self.old self.new) }
+    {
+        self.forget(conn.0)
     }
 
     /// A performative of the peer came on the session on this channel of the router, for the link on this handle of the
@@ -186,8 +208,10 @@ impl LinkTable {
             → ((o h : ℕ) → is_channel own o ≡ true → is_handle handle h ≡ names_in perf.now (their_handle t conn.0 o) h)
             → TableFit self.old t → TableFit self.new (did (event.Item conn (item.Frame false channel perf.now payload.now)) ∷ t)) }
         ensures part { IfOk result (λ p. p ≡ part_named Peer perf.now payload.now own handle (at self.old.links conn.0)) }
+        ensures touches { OnOk result (Touched self.old self.new) }
     {
         mark(&mut self.owing, conn.0, asks_drain(perf))?;
+        touch_at(&mut self.touched, &self.links, conn.0, own, handle)?;
         let part = note(
             &mut self.links,
             conn.0,
@@ -211,8 +235,9 @@ impl LinkTable {
         key: Option<LinkKey>,
         last: Option<Asked>,
     ) -> Result<(), AllocError>
-        ensures { OnOk result ((t : List Entry) (sasl : Bool) → key ≡ key_in t conn perf.now → last ≡ asked t conn
+        ensures fits { OnOk result ((t : List Entry) (sasl : Bool) → key ≡ key_in t conn perf.now → last ≡ asked t conn
             → TableFit self.old t → TableFit self.new (Out conn (item.Frame sasl own perf.now payload.now) ∷ t)) }
+        ensures touches { OnOk result (Touched self.old self.new) }
     {
         match perf {
             Perf::Attach(attach) => self.put_attach(conn, own, attach, key, last)?,
@@ -224,9 +249,9 @@ impl LinkTable {
                 perf,
                 payload,
             )?,
-            Perf::Detach(detach) => self.put_detach(conn, own, detach),
-            Perf::End(_) => self.put_end(conn, own),
-            Perf::Close(_) => self.forget(conn),
+            Perf::Detach(detach) => self.put_detach(conn, own, detach)?,
+            Perf::End(_) => self.put_end(conn, own)?,
+            Perf::Close(_) => self.forget(conn)?,
             _ => {}
         }
         Ok(())
@@ -241,9 +266,17 @@ impl LinkTable {
         key: Option<LinkKey>,
         last: Option<Asked>,
     ) -> Result<(), AllocError>
-        ensures { OnOk result ((t : List Entry) (sasl : Bool) (payload : List ℕ) → key ≡ Some (key_at t conn attach.now) → last ≡ asked t conn
+        ensures fits { OnOk result ((t : List Entry) (sasl : Bool) (payload : List ℕ) → key ≡ Some (key_at t conn attach.now) → last ≡ asked t conn
             → TableFit self.old t → TableFit self.new (Out conn (item.Frame sasl own (perf.Attach attach.now) payload) ∷ t)) }
+        ensures touches { OnOk result (Touched self.old self.new) }
     {
+        touch_at(
+            &mut self.touched,
+            &self.links,
+            conn,
+            Some(own),
+            Some(attach.handle),
+        )?;
         leave(&mut self.links, &mut self.names, conn, own, attach.handle);
         let Some(address) = address_of(attach) else {
             return Ok(());
@@ -273,10 +306,12 @@ impl LinkTable {
         ensures numbers { OnOk result ((n : ℕ) → get nat_cmp self.new.names.numbers.entries n
             ≡ (if self.old.count + 1 == n then Some (attachment (self.old.count + 1) conn own attach.now.handle) else get nat_cmp self.old.names.numbers.entries n)) }
         ensures owing { self.new.owing ≡ self.old.owing }
+        ensures touched { OnOk result ((k : ℕ) → contains nat_cmp self.new.touched k ≡ (if self.old.count + 1 == k then true else contains nat_cmp self.old.touched k)) }
     {
         let Some(number) = self.count.checked_add(1) else {
             return Err(AllocError);
         };
+        touch(&mut self.touched, number)?;
         let theirs = initial_of(last);
         let address = address.clone()?;
         let kept = copy(&key)?;
@@ -304,40 +339,56 @@ impl LinkTable {
         perf: &Perf,
         payload: &Bytes,
     ) -> Result<(), AllocError>
-        ensures { OnOk result ((t : List Entry) (sasl : Bool) → IsNoted perf.now handle
+        ensures fits { OnOk result ((t : List Entry) (sasl : Bool) → IsNoted perf.now handle
             → TableFit self.old t → TableFit self.new (Out conn (item.Frame sasl own perf.now payload.now) ∷ t)) }
+        ensures touches { OnOk result (Touched self.old self.new) }
     {
-        note_ours(&mut self.links, conn, own, handle, perf, payload)
+        touch_at(&mut self.touched, &self.links, conn, Some(own), handle)?;
+        note_ours(&mut self.links, conn, own, handle, perf, payload)?;
+        Ok(())
     }
 
     /// The router's detach.
-    fn put_detach(&mut self, conn: u64, own: u16, detach: &Detach)
-        ensures { (t : List Entry) (sasl : Bool) (payload : List ℕ) → TableFit self.old t
-            → TableFit self.new (Out conn (item.Frame sasl own (perf.Detach detach.now) payload) ∷ t) }
+    fn put_detach(&mut self, conn: u64, own: u16, detach: &Detach) -> Result<(), AllocError>
+        ensures fits { OnOk result ((t : List Entry) (sasl : Bool) (payload : List ℕ) → TableFit self.old t
+            → TableFit self.new (Out conn (item.Frame sasl own (perf.Detach detach.now) payload) ∷ t)) }
+        ensures touches { OnOk result (Touched self.old self.new) }
     {
+        touch_at(
+            &mut self.touched,
+            &self.links,
+            conn,
+            Some(own),
+            Some(detach.handle),
+        )?;
         leave(&mut self.links, &mut self.names, conn, own, detach.handle);
+        Ok(())
     }
 
     /// The router's end.
-    fn put_end(&mut self, conn: u64, own: u16)
-        ensures { (t : List Entry) (sasl : Bool) (payload : List ℕ) (x : End) → TableFit self.old t
+    fn put_end(&mut self, conn: u64, own: u16) -> Result<(), AllocError>
+        ensures fits { (t : List Entry) (sasl : Bool) (payload : List ℕ) (x : End) → TableFit self.old t
             → TableFit self.new (Out conn (item.Frame sasl own (perf.End x) payload) ∷ t) }
+        ensures touches { OnOk result (Touched self.old self.new) }
     {
-        if let Some(handles) = self.links.end(conn, own) {
-            self.names.forget_session(conn, own, &handles);
+        match self.links.end(conn, own) {
+            None => Ok(()),
+            Some(handles) => leave_session(&mut self.names, &mut self.touched, conn, own, handles),
         }
     }
 
     /// Nothing is known of the links of a connection any more.
-    fn forget(&mut self, conn: u64)
+    fn forget(&mut self, conn: u64) -> Result<(), AllocError>
         ensures down { (t : List Entry) → TableFit self.old t → TableFit self.new (did (event.Down (record { 0 = conn })) ∷ t) }
         ensures closed { (t : List Entry) (sasl : Bool) (own : ℕ) (payload : List ℕ) (x : Close) → TableFit self.old t
             → TableFit self.new (Out conn (item.Frame sasl own (perf.Close x) payload) ∷ t) }
+        ensures touches { OnOk result (Touched self.old self.new) }
     {
-        if let Some(sessions) = self.links.forget(conn) {
-            self.names.forget_connection(conn, &sessions);
-        }
         let _ = self.owing.remove(&conn);
+        match self.links.forget(conn) {
+            None => Ok(()),
+            Some(sessions) => leave_connection(&mut self.names, &mut self.touched, conn, sessions),
+        }
     }
 }
 
@@ -346,10 +397,42 @@ fn leave(links: &mut ByHandle<Link>, names: &mut Names, conn: u64, own: u16, han
     ensures links { (c o h : ℕ) → at links.new c o h
         ≡ (if conn == c then (if own == o then (if handle == h then None else at links.old c o h) else at links.old c o h) else at links.old c o h) }
     ensures names { Thinned (on_handle conn own handle) names.old names.new }
+    ensures others { (k : ℕ) → is_numbered k (at links.old conn own handle) ≡ false → get nat_cmp names.old.numbers.entries k ≡ get nat_cmp names.new.numbers.entries k }
 {
     if let Some(link) = links.remove(conn, own, handle) {
         names.forget(conn, own, handle, &link);
     }
+}
+
+/// Takes their names from the links of a session that went, and touches them.
+fn leave_session(
+    names: &mut Names,
+    touched: &mut BTreeSet<u64>,
+    conn: u64,
+    own: u16,
+    handles: InSession<Link>,
+) -> Result<(), AllocError>
+    ensures names { Thinned (on_session conn own) names.old names.new }
+    ensures others { (k : ℕ) → in_session k handles ≡ false → get nat_cmp names.old.numbers.entries k ≡ get nat_cmp names.new.numbers.entries k }
+    ensures touched { OnOk result ((k : ℕ) → contains nat_cmp touched.new k ≡ (in_session k handles || contains nat_cmp touched.old k)) }
+{
+    names.forget_session(conn, own, &handles);
+    touch_session(touched, &handles)
+}
+
+/// Takes their names from the links of a connection that went, and touches them.
+fn leave_connection(
+    names: &mut Names,
+    touched: &mut BTreeSet<u64>,
+    conn: u64,
+    sessions: InConnection<Link>,
+) -> Result<(), AllocError>
+    ensures names { Thinned (on_conn conn) names.old names.new }
+    ensures others { (k : ℕ) → in_connection k sessions ≡ false → get nat_cmp names.old.numbers.entries k ≡ get nat_cmp names.new.numbers.entries k }
+    ensures touched { OnOk result ((k : ℕ) → contains nat_cmp touched.new k ≡ (in_connection k sessions || contains nat_cmp touched.old k)) }
+{
+    names.forget_connection(conn, &sessions);
+    touch_connection(touched, &sessions)
 }
 
 /// Notes a performative of one side on a link, where there is one, and gives what a transfer of the peer gives.

@@ -6,25 +6,25 @@ use Rattle.router_trace.specs.Trace.{Out}
 use Rattle.router_links.specs.Fits.{TableFit, IsNoted, key_in}
 use Rattle.router_links.proofs.table.LinkTable.put.Goals as goal
 
-pub returns-in_ok-put_attach-in-Attach : goal.returns-in_ok-put_attach-in-Attach
-returns-in_ok-put_attach-in-Attach c = λ t sasl key last fit.
+pub returns-in_ok-put_attach-in-Attach-clause-fits : goal.returns-in_ok-put_attach-in-Attach-clause-fits
+returns-in_ok-put_attach-in-Attach-clause-fits c = λ t sasl key last fit.
     subst (λ (p : Perf). TableFit c.put_attach.new.self (Out c.args.conn (item.Frame sasl c.args.own p c.args.payload.now) ∷ t)) (sym c.in-Attach.is)
-    (c.in_ok-put_attach-in-Attach.ensures t sasl c.args.payload.now (key ∙ ap (λ (p : Perf). key_in t c.args.conn p) c.in-Attach.is) last fit)
+    (c.in_ok-put_attach-in-Attach.ensures.fits t sasl c.args.payload.now (key ∙ ap (λ (p : Perf). key_in t c.args.conn p) c.in-Attach.is) last fit)
 
-pub returns-in_ok-put_note-in-Flow : goal.returns-in_ok-put_note-in-Flow
-returns-in_ok-put_note-in-Flow c = λ t sasl key last fit.
-    c.in_ok-put_note-in-Flow.ensures t sasl (subst (λ (p : Perf). IsNoted p c.in-Flow.flow.handle) (sym c.in-Flow.is) refl) fit
+pub returns-in_ok-put_note-in-Flow-clause-fits : goal.returns-in_ok-put_note-in-Flow-clause-fits
+returns-in_ok-put_note-in-Flow-clause-fits c = λ t sasl key last fit.
+    c.in_ok-put_note-in-Flow.ensures.fits t sasl (subst (λ (p : Perf). IsNoted p c.in-Flow.flow.handle) (sym c.in-Flow.is) refl) fit
 
-pub returns-in_ok-put_note-in-Transfer : goal.returns-in_ok-put_note-in-Transfer
-returns-in_ok-put_note-in-Transfer c = λ t sasl key last fit.
-    c.in_ok-put_note-in-Transfer.ensures t sasl (subst (λ (p : Perf). IsNoted p (Some c.in-Transfer.transfer.handle)) (sym c.in-Transfer.is) refl) fit
+pub returns-in_ok-put_note-in-Transfer-clause-fits : goal.returns-in_ok-put_note-in-Transfer-clause-fits
+returns-in_ok-put_note-in-Transfer-clause-fits c = λ t sasl key last fit.
+    c.in_ok-put_note-in-Transfer.ensures.fits t sasl (subst (λ (p : Perf). IsNoted p (Some c.in-Transfer.transfer.handle)) (sym c.in-Transfer.is) refl) fit
 
-pub returns-in-Detach : goal.returns-in-Detach
-returns-in-Detach c = λ t sasl key last fit.
+pub returns-in_ok-put_detach-in-Detach-clause-fits : goal.returns-in_ok-put_detach-in-Detach-clause-fits
+returns-in_ok-put_detach-in-Detach-clause-fits c = λ t sasl key last fit.
     subst (λ (p : Perf). TableFit c.put_detach.new.self (Out c.args.conn (item.Frame sasl c.args.own p c.args.payload.now) ∷ t)) (sym c.in-Detach.is)
-    (c.put_detach.ensures t sasl c.args.payload.now fit)
+    (c.in_ok-put_detach-in-Detach.ensures.fits t sasl c.args.payload.now fit)
 
-pub returns-in-End : goal.returns-in-End
-returns-in-End c = λ t sasl key last fit.
+pub returns-in_ok-put_end-in-End-clause-fits : goal.returns-in_ok-put_end-in-End-clause-fits
+returns-in_ok-put_end-in-End-clause-fits c = λ t sasl key last fit.
     subst (λ (p : Perf). TableFit c.put_end.new.self (Out c.args.conn (item.Frame sasl c.args.own p c.args.payload.now) ∷ t)) (sym c.in-End.is)
-    (c.put_end.ensures t sasl c.args.payload.now _ fit)
+    (c.put_end.ensures.fits t sasl c.args.payload.now _ fit)

@@ -14,10 +14,11 @@ use Rattle.router_links.specs.Naming.{on_handle}
 use Rattle.router_links.specs.Places.{at}
 use Rattle.router_links.proofs.Attached.{names_put, names_taken, attach_goes}
 use Rattle.router_links.proofs.Rows.{attached_row, over, none_at, begun_there, counted, uncounted, set_owes, same_key_of}
+use Rattle.router_links.proofs.Touches.{left_touches, joined_touches}
 use Rattle.router_links.proofs.table.LinkTable.put_attach.Goals as goal
 
-pub returns-in_default : goal.returns-in_default
-returns-in_default c = λ t sasl payload key last fit.
+pub returns-in_default-clause-fits : goal.returns-in_default-clause-fits
+returns-in_default-clause-fits c = λ t sasl payload key last fit.
     let a = c.args.attach.now in
     let conn = c.args.conn in
     let own = c.args.own in
@@ -32,8 +33,8 @@ returns-in_default c = λ t sasl payload key last fit.
       owing = λ d o h e. set_owes (conn == d) (own == o) (a.handle == h) None _ (at c.args.self.now.links d o h) (c.leave.ensures.links d o h) refl (fit.owing d o h e);
     }
 
-pub returns : goal.returns
-returns c = λ t sasl payload key last fit.
+pub returns-clause-fits : goal.returns-clause-fits
+returns-clause-fits c = λ t sasl payload key last fit.
     let a = c.args.attach.now in
     let conn = c.args.conn in
     let own = c.args.own in
@@ -58,3 +59,17 @@ returns c = λ t sasl payload key last fit.
           (over (conn == d) (own == o) (a.handle == h) n _ _ (at c.args.self.now.links d o h) (c.in_ok-join.ensures.links d o h) (c.leave.ensures.links d o h))
           refl (fit.owing d o h (ap (λ s. contains nat_cmp s d) (sym c.join.ensures.owing) ∙ e));
     }
+
+pub returns-in_default-clause-touches : goal.returns-in_default-clause-touches
+returns-in_default-clause-touches c = left_touches c.args.conn c.args.own c.args.attach.now.handle _ _ c.in_ok-touch_at.ensures c.leave.ensures.links c.leave.ensures.others
+
+pub returns-clause-touches : goal.returns-clause-touches
+returns-clause-touches c =
+    let a = c.args.attach.now in
+    let count = c.args.self.now.count in
+    let n = begun (count + 1) c.in-Some-key.key a (initial_of c.args.last) c.in-Some.address.now in
+    joined_touches c.args.conn c.args.own a.handle n (attachment (count + 1) c.args.conn c.args.own a.handle) _ _
+    (contains nat_cmp c.touch_at.new.touched) (get nat_cmp c.leave.new.names.numbers.entries)
+    c.in_ok-touch_at.ensures c.in_ok-join.ensures.touched
+    (λ d o h. over (c.args.conn == d) (c.args.own == o) (a.handle == h) (Some n) _ _ (at c.args.self.now.links d o h) (c.in_ok-join.ensures.links d o h) (c.leave.ensures.links d o h))
+    c.leave.ensures.others c.in_ok-join.ensures.numbers

@@ -1,0 +1,8 @@
+use Rattle.std.proofs.Common.{◌∙◌, sym, Some}
+use Rattle.router_links.proofs.Touches.{then_ok, lost_touches}
+use Rattle.router_links.proofs.table.LinkTable.forget.Goals as goal
+
+pub returns-in-Some-clause-touches : goal.returns-in-Some-clause-touches
+returns-in-Some-clause-touches c =
+    then_ok _ (λ touched. lost_touches c.args.conn (Some c.in-Some.sessions) _ _ (sym c.in-Some.is ∙ c.forget.ensures.gives) touched c.forget.ensures.gone c.leave_connection.ensures.others)
+    c.leave_connection.ensures.touched
