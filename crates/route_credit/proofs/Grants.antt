@@ -203,3 +203,7 @@ kept_by_all pool q ordered none = by_link (link_at pool.producers q) (link_at (a
         let lent : amount_at (λ (demand : Demand). demand.lent) new ≡ before.lent + is.0 = ap (amount_at (λ demand. demand.lent)) is.1 in
         let zero_is : is.0 ≡ 0 = omega (arith, lent, none) in
         is.1 ∙ ap (λ n. raised_by n (Some before)) zero_is ∙ sym (raised_none (Some before))
+
+-- and who isn't there doesn't come
+pub none_by_all : (pool : Sharing) (q : ℕ) → InOrder pool.producers → link_at pool.producers q ≡ None → link_at (all_granted pool).producers q ≡ None
+none_by_all pool q ordered none = let raised = all_raised pool q ordered in raised.1 ∙ ap (raised_by raised.0) none

@@ -1,6 +1,8 @@
 -- How the pools follow what each link has.
-use Rattle.std.proofs.Common.{◌≡◌, ◌∙◌, sym, ap, refl, subst, ℕ, Bool, true, false, true≢false, ◌||◌, ◌&&◌, not, cond, if◌then◌else◌, Option, Some, None, List, [], ◌∷◌}
+use Rattle.std.proofs.Common.{◌≡◌, ◌∙◌, sym, ap, refl, subst, ℕ, Bool, true, false, true≢false, ◌||◌, ◌&&◌, not, cond, if◌then◌else◌, Option, Some, None, option_map, is_some, List, [], ◌∷◌}
 use Rattle.std.specs.Prelude.{◌==◌}
+use Rattle.std.specs.BTreeMap.{is_at}
+use Rattle.std.specs.Ordering.{nat_cmp}
 use Rattle.std.specs.Str.{bytes_eq}
 use Rattle.std.proofs.lemmas.Bool.{eqb-true, eq-eqb}
 use Rattle.route_credit.specs.Granting.{all_granted, grants_of}
@@ -11,6 +13,7 @@ use Rattle.route_credit.specs.declared.offer.Offer.{Offer}
 use Rattle.route_credit.proofs.Entries.{InOrder, with_ordered, without_ordered}
 use Rattle.route_credit.proofs.Gains.{grants_but_last, kept_producer, no_more_grants}
 use Rattle.route_credit.proofs.Grants.{all_consumers, all_distribution, all_last, all_ordered, none_by_all}
+use Rattle.route_credit.proofs.Indices.{same_test}
 use Rattle.route_credit.proofs.Lookups.{link_with, link_without}
 use Rattle.router_pools.specs.Addresses.{with_pool, without}
 use Rattle.router_pools.specs.Fits.{AgreeBut, chosen_at, Fits, is_place, or_last}
@@ -180,3 +183,145 @@ module _ (apart : ℕ → Bool) (pools : List ℕ → Sharing) (place : ℕ → 
     producers_rise = fits.producers_rise;
     quiet = fits.quiet;
   }
+
+  -- a consumer was chosen
+  pub chosen_fits : (pools' : List ℕ → Sharing) (q : List ℕ) (r : Option ℕ) → ((a : List ℕ) → pools' a ≡ with_pool pools q (λ pool. chose pool r) a) → Fits apart pools' place due known (chosen_at q r last)
+  chosen_fits pools' q r changes = record {
+    consumers = λ n a is. ap (link_at_of n) (same_consumers a) ∙ fits.consumers n a is;
+    producers = λ n a is. ap (link_at_of n) (same_producers a) ∙ fits.producers n a is;
+    no_consumer = λ n a is. ap (link_at_of n) (same_consumers a) ∙ fits.no_consumer n a is;
+    no_producer = λ n a is. ap (link_at_of n) (same_producers a) ∙ fits.no_producer n a is;
+    distribution = λ a. ap (λ p. p.distribution) (changes a) ∙ distribution_kept (bytes_eq q a) (pools a) r ∙ fits.distribution a;
+    chosen = λ a. ap (λ p. p.last) (changes a) ∙ last_kept (bytes_eq q a) (pools a) r ∙ ap (λ l. if bytes_eq q a then or_last r l else l) (fits.chosen a);
+    consumers_rise = λ a. subst (λ es. InOrder es) (sym (same_consumers a)) (fits.consumers_rise a);
+    producers_rise = λ a. subst (λ es. InOrder es) (sym (same_producers a)) (fits.producers_rise a);
+    quiet = λ a none. ap grants_of (changes a) ∙ quiet_kept (bytes_eq q a) (pools a) r ∙ fits.quiet a none;
+  }
+    where
+      link_at_of : {X : Type 0} → ℕ → List (ℕ × X) → Option X
+      link_at_of n es = link_at es n
+
+      consumers_kept : (b : Bool) (pool : Sharing) (r : Option ℕ) → (if b then chose pool r else pool).consumers ≡ pool.consumers
+      consumers_kept true pool None = refl
+      consumers_kept true pool (Some id) = refl
+      consumers_kept false pool r = refl
+
+      producers_kept : (b : Bool) (pool : Sharing) (r : Option ℕ) → (if b then chose pool r else pool).producers ≡ pool.producers
+      producers_kept true pool None = refl
+      producers_kept true pool (Some id) = refl
+      producers_kept false pool r = refl
+
+      distribution_kept : (b : Bool) (pool : Sharing) (r : Option ℕ) → (if b then chose pool r else pool).distribution ≡ pool.distribution
+      distribution_kept true pool None = refl
+      distribution_kept true pool (Some id) = refl
+      distribution_kept false pool r = refl
+
+      last_kept : (b : Bool) (pool : Sharing) (r : Option ℕ) → (if b then chose pool r else pool).last ≡ (if b then or_last r pool.last else pool.last)
+      last_kept true pool None = refl
+      last_kept true pool (Some id) = refl
+      last_kept false pool r = refl
+
+      quiet_kept : (b : Bool) (pool : Sharing) (r : Option ℕ) → grants_of (if b then chose pool r else pool) ≡ grants_of pool
+      quiet_kept true pool None = refl
+      quiet_kept true pool (Some id) = grants_but_last pool id
+      quiet_kept false pool r = refl
+
+      same_consumers : (a : List ℕ) → (pools' a).consumers ≡ (pools a).consumers
+      same_consumers a = ap (λ p. p.consumers) (changes a) ∙ consumers_kept (bytes_eq q a) (pools a) r
+
+      same_producers : (a : List ℕ) → (pools' a).producers ≡ (pools a).producers
+      same_producers a = ap (λ p. p.producers) (changes a) ∙ producers_kept (bytes_eq q a) (pools a) r
+
+  -- the grants of an address were given, and those who got some are apart
+  pub granted_fits : (pools' : List ℕ → Sharing) (q : List ℕ) → ((a : List ℕ) → pools' a ≡ with_pool pools q all_granted a)
+      → (apart' : ℕ → Bool) → ((n : ℕ) → apart' n ≡ false → (apart n ≡ false) × (link_at (grants_of (pools q)) n ≡ None))
+      → (due' : List ℕ → Bool) → ((a : List ℕ) → bytes_eq q a ≡ false → due' a ≡ false → due a ≡ false)
+      → Fits apart' pools' place due' known last
+  granted_fits pools' q changes apart' more due' later = record {
+    consumers = λ n a is. keep (λ a p. link_at p.consumers n ≡ offer_at a (known n)) (λ a e. ap (λ es. link_at es n) (all_consumers (pools a) (rise a)) ∙ fits.consumers n a (more n is).0) (λ a e. fits.consumers n a (more n is).0) a;
+    producers = λ n a is. keep (λ a p. link_at p.producers n ≡ demand_at a (known n))
+        (λ a e. kept_producer (pools a) n (rise a) (ap (λ b. link_at (grants_of (pools b)) n) (sym (same_bytes q a e)) ∙ (more n is).1) ∙ fits.producers n a (more n is).0) (λ a e. fits.producers n a (more n is).0) a;
+    no_consumer = λ n a is. by_test (bytes_eq q a)
+        (λ e. ap (λ p. link_at p.consumers n) (here a e) ∙ ap (λ es. link_at es n) (all_consumers (pools a) (rise a)) ∙ fits.no_consumer n a is)
+        (λ e. ap (λ p. link_at p.consumers n) (elsewhere pools' q all_granted changes a e) ∙ fits.no_consumer n a is);
+    no_producer = λ n a is. by_test (bytes_eq q a)
+        (λ e. ap (λ p. link_at p.producers n) (here a e) ∙ none_by_all (pools a) n (rise a) (fits.no_producer n a is))
+        (λ e. ap (λ p. link_at p.producers n) (elsewhere pools' q all_granted changes a e) ∙ fits.no_producer n a is);
+    distribution = keep (λ a p. p.distribution ≡ distribution_of a) (λ a e. all_distribution (pools a) (rise a) ∙ fits.distribution a) (λ a e. fits.distribution a);
+    chosen = keep (λ a p. p.last ≡ last a) (λ a e. all_last (pools a) (rise a) ∙ fits.chosen a) (λ a e. fits.chosen a);
+    consumers_rise = keep (λ a p. InOrder p.consumers) (λ a e. subst (λ es. InOrder es) (sym (all_consumers (pools a) (rise a))) (fits.consumers_rise a)) (λ a e. fits.consumers_rise a);
+    producers_rise = keep (λ a p. InOrder p.producers) (λ a e. all_ordered (pools a) (rise a)) (λ a e. rise a);
+    quiet = λ a none. by_test (bytes_eq q a)
+        (λ e. ap grants_of (here a e) ∙ no_more_grants (pools a) (rise a))
+        (λ e. ap grants_of (elsewhere pools' q all_granted changes a e) ∙ fits.quiet a (later a e none));
+  }
+    where
+      rise : (a : List ℕ) → InOrder (pools a).producers
+      rise = fits.producers_rise
+
+      keep : (P : List ℕ → Sharing → Type 0) → ((a : List ℕ) → bytes_eq q a ≡ true → P a (all_granted (pools a))) → ((a : List ℕ) → bytes_eq q a ≡ false → P a (pools a)) → (a : List ℕ) → P a (pools' a)
+      keep = keeps pools' q all_granted changes
+
+      here : (a : List ℕ) → bytes_eq q a ≡ true → pools' a ≡ all_granted (pools a)
+      here a e = changes a ∙ ap (λ b. if b then all_granted (pools a) else pools a) e
+
+-- a consumer's figures
+module _ (apart : ℕ → Bool) (pools : List ℕ → Sharing) (place : ℕ → Option (List ℕ)) (due : List ℕ → Bool) (known : ℕ → Option Figure) (last : List ℕ → ℕ) (fits : Fits apart pools place due known last)
+    (pools' : List ℕ → Sharing) (q : List ℕ) (n : ℕ) (at : place n ≡ Some q) (is_due : due q ≡ true)
+    (apart' : ℕ → Bool) (less : (m : ℕ) → apart' m ≡ false → (n == m) ≡ false → apart m ≡ false)
+    (known' : ℕ → Option Figure) (others : (m : ℕ) → (n == m) ≡ false → known' m ≡ known m) where
+  pub offered_fits : (free undecided : ℕ) → ((a : List ℕ) → pools' a ≡ with_pool pools q (λ pool. offered (without_producer pool n) n free undecided) a) → known' n ≡ Some (consumer q free undecided)
+      → Fits apart' pools' place due known' last
+  offered_fits free undecided changes is =
+      let offer : Offer = record { free = free; undecided = undecided } in
+      changed apart pools place due known last fits pools' q (λ pool. offered (without_producer pool n) n free undecided) changes n at is_due apart' less known' others
+      (λ m a. link_with (pools a).consumers n offer m ∙ ap (λ x. cond (n == m) x (link_at (pools a).consumers m)) (sym (ap (offer_at q) is ∙ ap (λ b. if b then Some offer else None) (equal_bytes q q refl))))
+      (λ m a. link_without (pools a).producers n m ∙ ap (λ x. cond (n == m) x (link_at (pools a).producers m)) (sym (ap (demand_at q) is)))
+      (λ a e. ap (offer_at a) is ∙ ap (λ b. if b then Some offer else None) e)
+      (λ a e. ap (demand_at a) is)
+      (λ a. refl) (λ a. refl)
+      (λ a. with_ordered (pools a).consumers n offer)
+      (λ a. without_ordered (pools a).producers n)
+
+  -- a producer's figures
+  pub wanted_fits : (unused held : ℕ) → ((a : List ℕ) → pools' a ≡ with_pool pools q (λ pool. wanted (without_consumer pool n) n unused 0 held) a) → known' n ≡ Some (producer q unused held)
+      → Fits apart' pools' place due known' last
+  wanted_fits unused held changes is =
+      let demand : Demand = demand_of unused 0 held in
+      changed apart pools place due known last fits pools' q (λ pool. wanted (without_consumer pool n) n unused 0 held) changes n at is_due apart' less known' others
+      (λ m a. link_without (pools a).consumers n m ∙ ap (λ x. cond (n == m) x (link_at (pools a).consumers m)) (sym (ap (offer_at q) is)))
+      (λ m a. link_with (pools a).producers n demand m ∙ ap (λ x. cond (n == m) x (link_at (pools a).producers m)) (sym (ap (demand_at q) is ∙ ap (λ b. if b then Some demand else None) (equal_bytes q q refl))))
+      (λ a e. ap (offer_at a) is)
+      (λ a e. ap (demand_at a) is ∙ ap (λ b. if b then Some demand else None) e)
+      (λ a. refl) (λ a. refl)
+      (λ a. without_ordered (pools a).consumers n)
+      (λ a. with_ordered (pools a).producers n demand)
+
+-- as maps and sets by number tell a change
+pub places_moved : {V : Type 0} (read : V → List ℕ) (f g : ℕ → Option V) (n : ℕ) (x : Option V) → ((q : ℕ) → g q ≡ cond (is_at (nat_cmp n) q) x (f q))
+    → (m : ℕ) → option_map read (g m) ≡ (if n == m then option_map read x else option_map read (f m))
+places_moved read f g n x moves m = ap (option_map read) (moves m ∙ ap (λ b. cond b x (f m)) (same_test n m)) ∙ inside (n == m)
+  where
+    inside : (b : Bool) → option_map read (cond b x (f m)) ≡ (if b then option_map read x else option_map read (f m))
+    inside true = refl
+    inside false = refl
+
+pub untouched : (f g : ℕ → Bool) (n : ℕ) → ((q : ℕ) → g q ≡ cond (is_at (nat_cmp n) q) false (f q)) → (m : ℕ) → g m ≡ false → (n == m) ≡ false → (n == m || f m) ≡ false
+untouched f g n less m is other = ap (λ b. b || f m) other ∙ sym (less m ∙ ap (λ b. cond b false (f m)) (same_test n m ∙ other)) ∙ is
+
+-- all but one link
+pub but_one : (n : ℕ) (f : ℕ → Bool) (known : ℕ → Option Figure) (m : ℕ) → (n == m || f m) ≡ false → (f m ≡ false) × (known m ≡ known m)
+but_one n f known m is = (right (n == m) (f m) is, refl)
+  where
+    right : (b c : Bool) → (b || c) ≡ false → c ≡ false
+    right true c h = absurd cc
+    right false c h = h
+
+pub itself : (n : ℕ) (b : Bool) → (n == n || b) ≡ true
+itself n b = ap (λ c. c || b) (eq-eqb n n refl)
+
+-- who is not touched was not, and was granted nothing
+pub more_apart : {X : Type 0} (new old : Bool) (x : Option X) → new ≡ (old || is_some x) → new ≡ false → (old ≡ false) × (x ≡ None)
+more_apart new true x is none = absurd (true≢false (sym is ∙ none))
+more_apart new false None is none = (refl, refl)
+more_apart new false (Some x) is none = absurd (true≢false (sym is ∙ none))

@@ -2,4 +2,5 @@ pub mod Among
 pub mod AtAddress
 pub mod Fitting
 pub mod Listed
+pub mod Touches
 pub mod Written

@@ -16,6 +16,13 @@ use Rattle.router_pools.specs.Fits.{Fits}
 use Rattle.router_pools.specs.Sharing.{AreNumbered, demand_at, entry, Figure, listed, offer_at, sharing}
 use Rattle.router_pools.proofs.AtAddress.{by_test}
 
+abbrev Below : ℕ → List ℕ → Type 0
+Below n ids = AllByRecursion (λ id. id < n) ids
+
+below_more : (n m : ℕ) (ids : List ℕ) → n ≤ m → Below n ids → Below m ids
+below_more n m [] l all = tt
+below_more n m (i ∷ is) l all = (let k : i < n = all.0 in omega (arith, l, k), below_more n m is l all.1)
+
 module _ {X : Type 0} where
   or_else : Option X → Option X → Option X
   or_else None y = y
@@ -45,7 +52,7 @@ module _ {X : Type 0} where
     where
       none : (q : ℕ) → false ≡ (nat_lt 0 q && nat_le q 0)
       none zero = refl
-      none (suc q) = sym (lt-leb (suc q) 0 (omega arith))
+      none (suc q) = rw (lt-ltb 0 (suc q) (omega arith), lt-leb (suc q) 0 (omega arith)) refl
   listed_in f (suc n) q =
       found_end (listed f n) (entry (suc n) (f (suc n))) q
       ∙ ap (λ x. or_else x (link_at (entry (suc n) (f (suc n))) q)) (listed_in f n q)
@@ -78,16 +85,7 @@ module _ {X : Type 0} where
           (λ e. rw (one, e) refl)
           (λ e. rw (one, e) (sym (most (suc q) (let f : n < suc q = grind (arith, e) in f))))
 
-  Below : ℕ → List ℕ → Type 0
-  Below n ids = AllByRecursion (λ id. id < n) ids
-
-  below_more : (n m : ℕ) (ids : List ℕ) → n ≤ m → Below n ids → Below m ids
-  unfolding Below
-  below_more n m [] l all = tt
-  below_more n m (i ∷ is) l all = (let k : i < n = all.0 in omega (arith, l, k), below_more n m is l all.1)
-
   below_end : (n k : ℕ) (x : Option X) (es : List (ℕ × X)) → k < n → Below n (keys_of es) → Below n (keys_of (es ++ entry k x))
-  unfolding Below
   below_end n k None [] l all = tt
   below_end n k (Some x) [] l all = (l, tt)
   below_end n k x (e ∷ es) l all = (all.0, below_end n k x es l all.1)
@@ -98,13 +96,12 @@ module _ {X : Type 0} where
   above_end i k x (e ∷ es) l all = (all.0, above_end i k x es l all.1)
 
   ordered_end : (k : ℕ) (x : Option X) (es : List (ℕ × X)) → Below k (keys_of es) → InOrder es → InOrder (es ++ entry k x)
-  unfolding Below IsStrictlySortedBy
+  unfolding IsStrictlySortedBy
   ordered_end k None [] all ordered = tt
   ordered_end k (Some x) [] all ordered = (tt, tt)
   ordered_end k x (e ∷ es) all ordered = (above_end e.0 k x es all.0 ordered.0, ordered_end k x es all.1 ordered.1)
 
   listed_below : (f : ℕ → Option X) (n : ℕ) → Below (suc n) (keys_of (listed f n))
-  unfolding Below
   listed_below f zero = tt
   listed_below f (suc n) = below_end (suc (suc n)) (suc n) (f (suc n)) (listed f n) (omega arith) (below_more (suc n) (suc (suc n)) (keys_of (listed f n)) (omega arith) (listed_below f n))
 

@@ -1,5 +1,5 @@
 -- When the pools are those of what each link has.
-use Rattle.std.specs.Prelude.{◌≡◌, ◌==◌, ◌||◌, ℕ, Bool, false, List, [], Option, None, Some, option_map, if◌then◌else◌}
+use Rattle.std.specs.Prelude.{◌≡◌, ◌==◌, ◌||◌, ℕ, Bool, false, List, [], Option, None, Some, option_map, is_some, length, if◌then◌else◌}
 use Rattle.std.specs.BTreeMap.{get}
 use Rattle.std.specs.BTreeSet.{contains}
 use Rattle.std.specs.List.Sorted.{IsStrictlySortedBy}
@@ -24,6 +24,10 @@ pool_at pools address = pool_in pools.pools address
 -- whether the figures of a link may have changed
 abbrev pub is_touched : Pools → ℕ → Bool
 is_touched pools number = contains nat_cmp pools.touched number
+
+-- how many may have changed
+abbrev pub touched_count : Pools → ℕ
+touched_count pools = length pools.touched.keys
 
 -- whether an address may have grants
 abbrev pub is_due : Pools → List ℕ → Bool
@@ -72,3 +76,8 @@ or_last (Some id) last = id
 
 abbrev pub chosen_at : List ℕ → Option ℕ → (List ℕ → ℕ) → List ℕ → ℕ
 chosen_at address chosen last other = if bytes_eq address other then or_last chosen (last other) else last other
+
+-- whether a link is among those that were granted credit
+abbrev pub is_granted : Option (List (ℕ × ℕ)) → ℕ → Bool
+is_granted None number = false
+is_granted (Some sums) number = is_some (link_at sums number)

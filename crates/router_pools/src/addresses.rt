@@ -1,5 +1,5 @@
 //! A set of addresses, in the order of their bytes.
-ghost use Rattle.std.specs.Prelude.{◌≡◌, ◌||◌, ℕ, List, Bool, true, false, None, Some, OnOk, IfNone, IfSome};
+ghost use Rattle.std.specs.Prelude.{◌≡◌, ◌||◌, ℕ, List, Bool, true, false, None, Some, OnOk, IfNone, IfSome, length, ◌<◌};
 ghost use Rattle.std.specs.Cmp.Lexicographic.{slice_cmp};
 ghost use Rattle.std.specs.Ordering.{nat_cmp};
 ghost use Rattle.std.specs.declared.cmp.Ordering.TheVariants.{Less};
@@ -45,6 +45,7 @@ impl Addresses {
         ensures kept { IfNone result ((a : List ℕ) → among self.new.addresses.keys (λ k. k.items) a ≡ false) }
         ensures first { IfSome result (λ first. (a : List ℕ) → slice_cmp nat_cmp a first.items ≡ Less → among self.old.addresses.keys (λ k. k.items) a ≡ false) }
         ensures others { IfSome result (λ first. (a : List ℕ) → bytes_eq first.items a ≡ false → among self.new.addresses.keys (λ k. k.items) a ≡ false → among self.old.addresses.keys (λ k. k.items) a ≡ false) }
+        ensures fewer { IfSome result (λ first. length self.new.addresses.keys < length self.old.addresses.keys) }
     {
         self.addresses.pop_first()
     }

@@ -37,7 +37,10 @@ impl ByAddress {
             return Ok(());
         }
         let key = address.to_vec(self.alloc)?;
-        match self.pools.insert(key, Pool::new(self.alloc, Distribution::Balanced)) {
+        match self
+            .pools
+            .insert(key, Pool::new(self.alloc, Distribution::Balanced))
+        {
             Ok(_) => Ok(()),
             Err(_) => Err(AllocError),
         }

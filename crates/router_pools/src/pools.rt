@@ -1,11 +1,27 @@
 //! The pools of all addresses.
+ghost use Rattle.std.specs.Prelude.{◌≡◌, ◌==◌, ◌||◌, ◌&&◌, ◌<◌, not, ℕ, List, [], Bool, true, false, Option, None, Some, OnOk, IfOk, IfNone, IfSome, option_map, is_some, length};
+ghost use Rattle.std.specs.Cmp.Lexicographic.{slice_cmp};
+ghost use Rattle.std.specs.Ordering.{nat_cmp};
+ghost use Rattle.std.specs.declared.cmp.Ordering.TheVariants.{Less};
+ghost use Rattle.route_credit.specs.Granting.{choice, grants_of};
+ghost use Rattle.route_credit.specs.Links.{link_at};
+ghost use Rattle.route_credit.specs.Pool.{by_id};
+ghost use Rattle.std.specs.BTreeSet.{contains};
+ghost use Rattle.router_pools.specs.Fits.{AgreeBut, chosen_at, is_due, is_touched, is_granted, NoneTouched, place_of, pool_at, PoolsFit, PoolsFitBut, touched_count};
+ghost use Rattle.router_pools.specs.Sharing.{AreNumbered, Figure, sharing};
+ghost use Rattle.router_pools.specs.Sharing.Figure.{consumer, producer};
+
 use crate::addresses::Addresses;
 use crate::by_address::ByAddress;
-use route_credit::ProducerId;
+use route_credit::{ConsumerId, ProducerId};
 use std::alloc::{AllocError, Global};
 use std::collections::{BTreeMap, BTreeSet};
 
 /// The pools of all addresses, with the links that may have changed, and the addresses that may have grants.
+///
+/// A link is named by its number, which is its order of attach. Each call costs a logarithm of the number of links, and
+/// `grants` that much for each credit that it gives. An address keeps its pool when its links are gone, since the
+/// consumer last chosen is part of it. Behind a refused growth nothing can be said of the pools.
 #[derive(Debug, Drop)]
 pub struct Pools {
     alloc: Global,
@@ -15,7 +31,7 @@ pub struct Pools {
     touched: BTreeSet<u64>,
 }
 
-/// What the producers of an address are granted.
+/// What the producers of an address are granted, in order of attach.
 #[derive(Debug, Drop)]
 pub struct Grants {
     pub address: Vec<u8>,
@@ -23,7 +39,10 @@ pub struct Grants {
 }
 
 impl Pools {
-    pub fn new(alloc: Global) -> Pools {
+    /// No links at all.
+    pub fn new(alloc: Global) -> Pools
+        ensures { (known : ℕ → Option Figure) → ((n : ℕ) → known n ≡ None) → PoolsFit result known (λ a. 0) }
+    {
         Pools {
             alloc,
             pools: ByAddress::new(alloc),
@@ -32,4 +51,184 @@ impl Pools {
             touched: BTreeSet::new(alloc),
         }
     }
+
+    /// What a link has may have changed.
+    pub fn touch(&mut self, number: u64) -> Result<(), AllocError>
+        ensures fits { OnOk result ((known other : ℕ → Option Figure) (last : List ℕ → ℕ) → PoolsFit self.old known last → AgreeBut number other known → PoolsFit self.new other last) }
+        ensures touched { OnOk result ((n : ℕ) → is_touched self.new n ≡ (number == n || is_touched self.old n)) }
+    {
+        let _ = self.touched.insert(number)?;
+        Ok(())
+    }
+
+    /// The first link that may have changed.
+    pub fn touched(&self) -> Option<u64>
+        ensures none { IfNone result (NoneTouched self.now) }
+        ensures first { IfSome result (λ first. is_touched self.now first ≡ true) }
+        ensures below { IfSome result (λ first. (n : ℕ) → n < first → is_touched self.now n ≡ false) }
+    {
+        self.touched.first().copied()
+    }
+
+    /// What a consumer has now: its free credit and its undecided deliveries, at an address.
+    pub fn offer(
+        &mut self,
+        number: u64,
+        address: &[u8],
+        free: u64,
+        undecided: u64,
+    ) -> Result<(), AllocError>
+        ensures fits { OnOk result ((known other : ℕ → Option Figure) (last : List ℕ → ℕ) → PoolsFit self.old known last
+            → other number ≡ Some (consumer address.now free undecided) → AgreeBut number other known → PoolsFit self.new other last) }
+        ensures touched { OnOk result ((n : ℕ) → is_touched self.new n ≡ (not (number == n) && is_touched self.old n)) }
+        ensures fewer { OnOk result (is_touched self.old number ≡ true → touched_count self.new < touched_count self.old) }
+    {
+        self.place(number, address)?;
+        self.pools.offer(address, number, free, undecided)?;
+        let _ = self.touched.remove(&number);
+        Ok(())
+    }
+
+    /// What a producer has now: its unused credit and the deliveries that the router holds, at an address.
+    pub fn want(
+        &mut self,
+        number: u64,
+        address: &[u8],
+        unused: u32,
+        held: u32,
+    ) -> Result<(), AllocError>
+        ensures fits { OnOk result ((known other : ℕ → Option Figure) (last : List ℕ → ℕ) → PoolsFit self.old known last
+            → other number ≡ Some (producer address.now unused held) → AgreeBut number other known → PoolsFit self.new other last) }
+        ensures touched { OnOk result ((n : ℕ) → is_touched self.new n ≡ (not (number == n) && is_touched self.old n)) }
+        ensures fewer { OnOk result (is_touched self.old number ≡ true → touched_count self.new < touched_count self.old) }
+    {
+        self.place(number, address)?;
+        self.pools.want(address, number, unused, held)?;
+        let _ = self.touched.remove(&number);
+        Ok(())
+    }
+
+    /// A link has nothing any more.
+    pub fn leave(&mut self, number: u64) -> Result<(), AllocError>
+        ensures fits { OnOk result ((known other : ℕ → Option Figure) (last : List ℕ → ℕ) → PoolsFit self.old known last
+            → other number ≡ None → AgreeBut number other known → PoolsFit self.new other last) }
+        ensures touched { OnOk result ((n : ℕ) → is_touched self.new n ≡ (not (number == n) && is_touched self.old n)) }
+        ensures fewer { OnOk result (is_touched self.old number ≡ true → touched_count self.new < touched_count self.old) }
+    {
+        self.take_out(number)?;
+        let _ = self.touched.remove(&number);
+        Ok(())
+    }
+
+    /// Chooses the consumer of the next delivery of an address, where one has free credit. It takes no memory.
+    pub fn choose(&mut self, address: &[u8]) -> Option<ConsumerId>
+        ensures chosen { (known : ℕ → Option Figure) (last : List ℕ → ℕ) (count : ℕ) → PoolsFit self.old known last → NoneTouched self.old → AreNumbered known count
+            → option_map (λ c. c.0) result ≡ choice (sharing known count (last address.now) address.now) }
+        ensures fits { (known : ℕ → Option Figure) (last : List ℕ → ℕ) → PoolsFit self.old known last → PoolsFit self.new known (chosen_at address.now (option_map (λ c. c.0) result) last) }
+        ensures touched { (n : ℕ) → is_touched self.new n ≡ is_touched self.old n }
+    {
+        self.pools.choose(address)
+    }
+
+    /// What the producers of an address are granted, of the first address in the order of bytes that has grants. None where no
+    /// address has. Those who are granted credit may have changed then. Where memory was refused, credit may be lent
+    /// that is told to nobody.
+    pub fn grants(&mut self) -> Result<Option<Grants>, AllocError>
+        ensures none { IfOk result (λ r. IfNone r ((known : ℕ → Option Figure) (last : List ℕ → ℕ) (count : ℕ) → PoolsFit self.old known last → NoneTouched self.old → AreNumbered known count
+            → (a : List ℕ) → grants_of (sharing known count (last a) a) ≡ [])) }
+        ensures sums { IfOk result (λ r. IfSome r (λ grants. (known : ℕ → Option Figure) (last : List ℕ → ℕ) (count : ℕ) → PoolsFit self.old known last → NoneTouched self.old → AreNumbered known count
+            → by_id grants.sums.items ≡ grants_of (sharing known count (last grants.address.items) grants.address.items))) }
+        ensures some { IfOk result (λ r. IfSome r (λ grants. 0 < length grants.sums.items)) }
+        ensures below { IfOk result (λ r. IfSome r (λ grants. (known : ℕ → Option Figure) (last : List ℕ → ℕ) (count : ℕ) → PoolsFit self.old known last → NoneTouched self.old → AreNumbered known count
+            → (a : List ℕ) → slice_cmp nat_cmp a grants.address.items ≡ Less → grants_of (sharing known count (last a) a) ≡ [])) }
+        ensures fits { OnOk result ((known : ℕ → Option Figure) (last : List ℕ → ℕ) → PoolsFit self.old known last → PoolsFit self.new known last) }
+        ensures touched { IfOk result (λ r. (n : ℕ) → is_touched self.new n ≡ (is_touched self.old n || is_granted (option_map (λ grants. by_id grants.sums.items) r) n)) }
+    {
+        loop {
+            match self.next_grants()? {
+                None => return Ok(None),
+                Some(grants) => {
+                    if !grants.sums.is_empty() {
+                        return Ok(Some(grants));
+                    }
+                }
+            }
+        }
+    }
+
+    /// The grants of the first address that may have some, which are none where it has none.
+    fn next_grants(&mut self) -> Result<Option<Grants>, AllocError>
+        ensures none { IfOk result (λ r. IfNone r ((known : ℕ → Option Figure) (last : List ℕ → ℕ) (count : ℕ) → PoolsFit self.old known last → NoneTouched self.old → AreNumbered known count
+            → (a : List ℕ) → grants_of (sharing known count (last a) a) ≡ [])) }
+        ensures sums { IfOk result (λ r. IfSome r (λ grants. (known : ℕ → Option Figure) (last : List ℕ → ℕ) (count : ℕ) → PoolsFit self.old known last → NoneTouched self.old → AreNumbered known count
+            → by_id grants.sums.items ≡ grants_of (sharing known count (last grants.address.items) grants.address.items))) }
+        ensures below { IfOk result (λ r. IfSome r (λ grants. (known : ℕ → Option Figure) (last : List ℕ → ℕ) (count : ℕ) → PoolsFit self.old known last → NoneTouched self.old → AreNumbered known count
+            → (a : List ℕ) → slice_cmp nat_cmp a grants.address.items ≡ Less → grants_of (sharing known count (last a) a) ≡ [])) }
+        ensures fits { OnOk result ((known : ℕ → Option Figure) (last : List ℕ → ℕ) → PoolsFit self.old known last → PoolsFit self.new known last) }
+        ensures touched { IfOk result (λ r. (n : ℕ) → is_touched self.new n ≡ (is_touched self.old n || is_granted (option_map (λ grants. by_id grants.sums.items) r) n)) }
+        ensures fewer { IfOk result (λ r. IfSome r (λ grants. length self.new.due.addresses.keys < length self.old.due.addresses.keys)) }
+    {
+        let address = match self.due.pop() {
+            None => return Ok(None),
+            Some(address) => address,
+        };
+        let place = address.as_slice();
+        let sums = self.pools.grants(place)?;
+        let granted = sums.as_slice();
+        touch_all(&mut self.touched, granted)?;
+        Ok(Some(Grants { address, sums }))
+    }
+
+    /// Takes a link from the pool where it stands, which may then have grants.
+    fn take_out(&mut self, number: u64) -> Result<(), AllocError>
+        ensures fits { OnOk result ((known : ℕ → Option Figure) (last : List ℕ → ℕ) → PoolsFitBut number self.old known last → PoolsFitBut number self.new known last) }
+        ensures nowhere { OnOk result (place_of self.new number ≡ None) }
+        ensures due { OnOk result ((a : List ℕ) → is_due self.new a ≡ false → is_due self.old a ≡ false) }
+        ensures touched { OnOk result (self.new.touched ≡ self.old.touched) }
+    {
+        match self.places.remove(&number) {
+            None => Ok(()),
+            Some(place) => {
+                let address = place.as_slice();
+                self.due.add(address)?;
+                self.pools.leave(address, number);
+                Ok(())
+            }
+        }
+    }
+
+    /// Gives a link its place at an address, which may then have grants, and takes it from where it was before.
+    fn place(&mut self, number: u64, address: &[u8]) -> Result<(), AllocError>
+        ensures fits { OnOk result ((known : ℕ → Option Figure) (last : List ℕ → ℕ) → PoolsFitBut number self.old known last → PoolsFitBut number self.new known last) }
+        ensures there { OnOk result (place_of self.new number ≡ Some address.now) }
+        ensures due { OnOk result (is_due self.new address.now ≡ true) }
+        ensures touched { OnOk result (self.new.touched ≡ self.old.touched) }
+    {
+        if !self.stands_at(number, address) {
+            self.take_out(number)?;
+            let place = address.to_vec(self.alloc)?;
+            let _ = self.places.insert(number, place)?;
+        }
+        self.due.add(address)
+    }
+
+    /// Whether a link stands at an address.
+    fn stands_at(&self, number: u64, address: &[u8]) -> bool
+        ensures { result ≡ true → place_of self.now number ≡ Some address.now }
+    {
+        match self.places.get(&number) {
+            None => false,
+            Some(place) => place.as_slice() == address,
+        }
+    }
+}
+
+/// Each link that was granted credit may have changed.
+fn touch_all(touched: &mut BTreeSet<u64>, sums: &[(ProducerId, u32)]) -> Result<(), AllocError>
+    ensures { OnOk result ((n : ℕ) → contains nat_cmp touched.new n ≡ (contains nat_cmp touched.old n || is_some (link_at (by_id sums.now) n))) }
+{
+    for sum in sums {
+        let _ = touched.insert(sum.0.0)?;
+    }
+    Ok(())
 }
