@@ -25,7 +25,7 @@ held t number = count_below (bindings t + 1) (λ n. held_from number (delivery t
 
 -- Free credit: what is left less the deliveries that wait, up to 64 undecided ones; none while the link drains.
 abbrev pub free_of : Bool → ℕ → ℕ → ℕ → ℕ
-free_of drains left waits open = if drains then 0 else min (left - waits) (64 - open)
+free_of drains left waits pending = if drains then 0 else min (left - waits) (64 - pending)
 
 abbrev pub free_credit : Trace → Link → credit.Link → ℕ
 free_credit t l list = free_of l.drains (credit.credit list) (waiting t l.number) (undecided t l.number)
@@ -37,6 +37,10 @@ begun_credit (Some d) = if d.resume then 0 else 1
 
 abbrev pub unused_credit : Received → ℕ
 unused_credit list = receiving.unused list + begun_credit (told_first (receiving.middle list))
+
+abbrev pub unused_by : Happened → ℕ
+unused_by (sends list) = 0
+unused_by (receives list) = unused_credit list
 
 abbrev pub figure_by : Trace → Link → Happened → Figure
 figure_by t l (sends list) = consumer l.address (free_credit t l list) (undecided t l.number)

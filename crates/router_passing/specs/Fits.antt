@@ -1,6 +1,7 @@
 -- When links, deliveries, claims and pools are those that a trace gives.
 use Rattle.std.specs.Prelude.{◌≡◌, ℕ, false, List, Option}
-use Rattle.router_pools.specs.Fits.{PoolsFit, NoneTouched}
+use Rattle.router_pools.specs.Fits.{AgreeBut, PoolsFit, NoneTouched}
+use Rattle.router_pools.specs.declared.pools.Pools.{Pools}
 use Rattle.router_pools.specs.Sharing.{Figure}
 use Rattle.router_trace.specs.Trace.{Trace}
 use Rattle.router_deliveries.specs.Claiming.{ClaimsFit}
@@ -12,21 +13,29 @@ use Rattle.router_passing.specs.declared.passing.Passing.{Passing}
 use Rattle.router_passing.specs.Figures.{figure}
 use Rattle.router_passing.specs.Passing.{last_chosen}
 
--- The pools have what the links had that were touched since, and what the others have.
-pub record PoolsKnow (s : Passing) (t : Trace) : Type 0 where
+-- The pools have what the links had that were touched since, and what the others have; these were last chosen.
+pub record PoolsKnow (s : Passing) (t : Trace) (last : List ℕ → ℕ) : Type 0 where
   pub known : ℕ → Option Figure
-  pub fits : PoolsFit s.pools known (λ address. last_chosen t address)
+  pub fits : PoolsFit s.pools known last
   pub same : (n : ℕ) → links.is_touched s.links n ≡ false → deliveries.is_touched s.deliveries n ≡ false → known n ≡ figure t n
 
--- all tables are those of the trace
-pub record PassingFit (s : Passing) (t : Trace) : Type 0 where
+-- all tables are those of the trace, and these consumers were last chosen
+pub record NotedFit (s : Passing) (t : Trace) (last : List ℕ → ℕ) : Type 0 where
   pub links : LinksFit s.links t
   pub deliveries : DeliveriesFit s.deliveries t
   pub claims : ClaimsFit s.claims t
-  pub pools : PoolsKnow s t
+  pub pools : PoolsKnow s t last
+
+-- all tables are those of the trace
+abbrev pub PassingFit : Passing → Trace → Type 0
+PassingFit s t = NotedFit s t (last_chosen t)
 
 -- what all links have was told to the pools
 pub record Untouched (s : Passing) : Type 0 where
   pub pools : NoneTouched s.pools
   pub links : (n : ℕ) → links.is_touched s.links n ≡ false
   pub deliveries : (n : ℕ) → deliveries.is_touched s.deliveries n ≡ false
+
+-- the pools are told what a link has now
+abbrev pub IsTold : Pools → Pools → ℕ → Option Figure → Type 0
+IsTold old new number now = (known other : ℕ → Option Figure) (last : List ℕ → ℕ) → PoolsFit old known last → other number ≡ now → AgreeBut number other known → PoolsFit new other last

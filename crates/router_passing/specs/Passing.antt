@@ -1,5 +1,5 @@
 -- Messages that go from a producer to a consumer of its address, and the credit that producers are granted.
-use Rattle.std.specs.Prelude.{ℕ, zero, suc, ◌+◌, ◌==◌, ◌&&◌, if◌then◌else◌, List, [], ◌∷◌, ◌++◌, bytes_eq, Option, Some, None, option_and_then, option_map}
+use Rattle.std.specs.Prelude.{ℕ, zero, suc, Bool, false, ◌+◌, ◌==◌, ◌&&◌, if◌then◌else◌, List, [], ◌∷◌, ◌++◌, bytes_eq, Option, Some, None, option_and_then, option_map}
 use Rattle.std.specs.BTreeMap.{is_at}
 use Rattle.std.specs.Cmp.Lexicographic.{slice_cmp}
 use Rattle.std.specs.Ordering.{nat_cmp}
@@ -23,16 +23,21 @@ use Rattle.router_passing.specs.declared.grant.LinkGrant.{LinkGrant}
 use Rattle.router_passing.specs.Figures.{figure}
 
 -- The consumer last chosen for an address, 0 before the first: the one of the last message that was bound to a link of this address.
-abbrev pub is_of : List ℕ → Option Link → Binding → Bool
-is_of address None b = false
-is_of address (Some l) b = (l.number == b.consumer.number) && bytes_eq l.address address
+abbrev pub is_of : List ℕ → Option Link → ℕ → Bool
+is_of address None number = false
+is_of address (Some l) number = (l.number == number) && bytes_eq l.address address
 
 abbrev pub last_chosen : Trace → List ℕ → ℕ
 last_chosen [] address = 0
 last_chosen (Did s ∷ t) address = last_chosen t address
 last_chosen (Out c i ∷ t) address = last_chosen t address
 last_chosen (Took c n ∷ t) address = last_chosen t address
-last_chosen (Bound b ∷ t) address = if is_of address (link_of t b.consumer) b then b.consumer.number else last_chosen t address
+last_chosen (Bound b ∷ t) address = if is_of address (link_of t b.consumer) b.consumer.number then b.consumer.number else last_chosen t address
+
+-- the same once this consumer is chosen too, if one is
+abbrev pub last_behind : Trace → Option Attachment → List ℕ → ℕ
+last_behind t None address = last_chosen t address
+last_behind t (Some a) address = if is_of address (link_of t a) a.number then a.number else last_chosen t address
 
 -- what the links of an address offer and want
 abbrev pub pool_of : Trace → List ℕ → Sharing
@@ -49,7 +54,7 @@ consumer_of t (Some l) = option_and_then (numbered t) (choice_of t l.address)
 
 -- a message of a producer's link, bound to the consumer that is chosen, if one is
 abbrev pub binding_to : Option Origin → ℕ → List ℕ → Attachment → Binding
-binding_to origin format payload consumer = record { consumer = consumer; origin = origin; format = format; payload = payload }
+binding_to origin format payload at = record { consumer = at; origin = origin; format = format; payload = payload }
 
 abbrev pub passing : Trace → Attachment → Option Origin → ℕ → List ℕ → Option Binding
 passing t from origin format payload = option_map (binding_to origin format payload) (consumer_of t (link_of t from))

@@ -1,17 +1,18 @@
 //! What each link offers and wants.
-ghost use Rattle.std.specs.Prelude.{◌≡◌, ◌==◌, ◌&&◌, ◌-◌, not, min, if◌then◌else◌, ℕ, List, Option, Some, None, OnOk, IfOk};
+ghost use Rattle.std.specs.Prelude.{◌≡◌, ℕ, List, Option, Some, OnOk, IfOk};
 ghost use Rattle.router_trace.specs.Trace.{Entry};
-ghost use Rattle.router_trace.specs.Links.{Link as View};
+ghost use Rattle.router_trace.specs.Links.{Link as View, place_of};
 ghost use Rattle.router_links.specs.Ends.{link_of};
 ghost use Rattle.router_links.specs.Fits.{LinksFit};
+ghost use Rattle.router_links.specs.Looking.{credit_on};
 ghost use Rattle.router_deliveries.specs.Fits.{DeliveriesFit};
-ghost use Rattle.router_pools.specs.Fits.{AgreeBut, PoolsFit, is_touched};
-ghost use Rattle.router_pools.specs.Sharing.{Figure};
-ghost use Rattle.router_passing.specs.Figures.{figure, figure_by, free_of, undecided, held, unused_on};
+ghost use Rattle.router_passing.specs.Fits.{IsTold};
+ghost use Rattle.router_passing.specs.Figures.{figure, figure_by, free_of, unused_by};
 
 use router_deliveries::Deliveries;
 use router_links::{Link, Links};
 use router_pools::Pools;
+use router_trace::Attachment;
 use std::alloc::AllocError;
 
 /// The most deliveries of a link that are undecided at once.
@@ -24,17 +25,31 @@ pub(crate) fn tell(
     deliveries: &Deliveries,
     number: u64,
 ) -> Result<(), AllocError>
-    ensures fits { OnOk result ((t : List Entry) (known other : ℕ → Option Figure) (last : List ℕ → ℕ) → LinksFit links.now t → DeliveriesFit deliveries.now t
-        → PoolsFit pools.old known last → other number ≡ figure t number → AgreeBut number other known → PoolsFit pools.new other last) }
-    ensures touched { OnOk result ((n : ℕ) → is_touched pools.new n ≡ (not (number == n) && is_touched pools.old n)) }
+    ensures { OnOk result ((t : List Entry) → LinksFit links.now t → DeliveriesFit deliveries.now t → IsTold pools.old pools.new number (figure t number)) }
 {
-    let Some(at) = links.place_of(number) else {
-        return pools.leave(number);
-    };
-    let Some(link) = links.link(at) else {
-        return pools.leave(number);
-    };
-    tell_link(pools, deliveries, number, link)
+    match links.place_of(number) {
+        None => pools.leave(number)?,
+        Some(at) => tell_at(pools, links, deliveries, number, at)?,
+    }
+    Ok(())
+}
+
+/// Tells the pools what a link has now whose attachment is this.
+fn tell_at(
+    pools: &mut Pools,
+    links: &Links,
+    deliveries: &Deliveries,
+    number: u64,
+    at: Attachment,
+) -> Result<(), AllocError>
+    ensures { OnOk result ((t : List Entry) → LinksFit links.now t → DeliveriesFit deliveries.now t → place_of t number ≡ Some at
+        → IsTold pools.old pools.new number (figure t number)) }
+{
+    match links.link(at) {
+        None => pools.leave(number)?,
+        Some(link) => tell_link(pools, deliveries, number, link)?,
+    }
+    Ok(())
 }
 
 /// Tells the pools what this link has now.
@@ -44,22 +59,30 @@ fn tell_link(
     number: u64,
     link: &Link,
 ) -> Result<(), AllocError>
-    ensures fits { OnOk result ((t : List Entry) (l : View) (known other : ℕ → Option Figure) (last : List ℕ → ℕ) → link.now ≡ link_of l → l.number ≡ number
-        → DeliveriesFit deliveries.now t → PoolsFit pools.old known last → other number ≡ Some (figure_by t l l.happened) → AgreeBut number other known
-        → PoolsFit pools.new other last) }
-    ensures touched { OnOk result ((n : ℕ) → is_touched pools.new n ≡ (not (number == n) && is_touched pools.old n)) }
+    ensures { OnOk result ((t : List Entry) (l : View) → link.now ≡ link_of l → l.number ≡ number → DeliveriesFit deliveries.now t
+        → IsTold pools.old pools.new number (Some (figure_by t l l.happened))) }
 {
     let address = link.address.as_str().as_bytes();
     if link.is_consumer() {
         let undecided = deliveries.undecided(number) as u64;
         let free = free(link, deliveries.waiting(number) as u64, undecided);
-        return pools.offer(number, address, free, undecided);
+        pools.offer(number, address, free, undecided)?;
+        return Ok(());
     }
     let unused = unused(link)?;
-    let Ok(held) = u32::try_from(deliveries.held(number)) else {
-        return Err(AllocError);
-    };
-    pools.want(number, address, unused, held)
+    let held = small(deliveries.held(number))?;
+    pools.want(number, address, unused, held)?;
+    Ok(())
+}
+
+/// A number in 32 bits.
+fn small(count: usize) -> Result<u32, AllocError>
+    ensures { IfOk result (λ small. small ≡ count) }
+{
+    match u32::try_from(count) {
+        Ok(small) => Ok(small),
+        Err(_) => Err(AllocError),
+    }
 }
 
 /// The free credit of a consumer's link on which so many deliveries wait and are undecided.
@@ -75,7 +98,7 @@ fn free(link: &Link, waiting: u64, undecided: u64) -> u64
 
 /// The unused credit of a producer's link, with that of a delivery in the middle.
 fn unused(link: &Link) -> Result<u32, AllocError>
-    ensures { IfOk result (λ unused. (l : View) → link.now ≡ link_of l → unused ≡ unused_on l.happened) }
+    ensures { IfOk result (λ unused. (l : View) → link.now ≡ link_of l → unused ≡ unused_by l.happened) }
 {
     if !link.is_in_middle() {
         return Ok(link.unused());

@@ -1,19 +1,24 @@
 //! The consumer that is chosen for a message, and the credit that producers are granted.
-ghost use Rattle.std.specs.Prelude.{◌≡◌, ◌++◌, ◌∷◌, [], ℕ, List, Option, Some, None, IfOk, IfNone, OnOk, is_some, option_map};
+ghost use Rattle.std.specs.Prelude.{◌≡◌, ◌++◌, ℕ, List, Option, Some, None, IfOk, IfNone, OnOk, is_some, option_and_then};
 ghost use Rattle.router_trace.specs.Trace.{Entry};
 ghost use Rattle.router_trace.specs.Following.{link_of};
-ghost use Rattle.router_trace.specs.Links.{numbered};
+ghost use Rattle.router_trace.specs.Links.{Link as View, numbered};
+ghost use Rattle.router_links.specs.Ends.{link_of as link_of_view};
 ghost use Rattle.router_links.specs.Fits.{LinksFit};
+ghost use Rattle.router_pools.specs.Fits.{NoneTouched, PoolsFit};
+ghost use Rattle.router_pools.specs.Sharing.{Figure};
 ghost use Rattle.route_credit.specs.Pool.{by_id};
-ghost use Rattle.router_passing.specs.Fits.{PassingFit, Untouched, Noted};
-ghost use Rattle.router_passing.specs.Passing.{consumer_of, passing, with_bound, grants, grants_on, grant_at};
+ghost use Rattle.router_passing.specs.Figures.{figure};
+ghost use Rattle.router_passing.specs.Fits.{NotedFit, PassingFit, Untouched};
+ghost use Rattle.router_passing.specs.Passing.{choice_of, consumer_of, grant_at, grant_by, grants, grants_on, last_behind, last_chosen, passing, with_bound};
 
 use crate::figures::tell;
 use crate::grant::LinkGrant;
 use crate::passing::Passing;
 use bytes::Bytes;
 use route_credit::ProducerId;
-use router_links::Links;
+use router_links::{Link, Links};
+use router_pools::Pools;
 use router_trace::{Attachment, Binding, LinkState, Origin};
 use std::alloc::{AllocError, Global};
 
@@ -22,10 +27,13 @@ impl Passing {
     fn touched(&self) -> Option<u64>
         ensures { IfNone result (Untouched self.now) }
     {
-        self.pools
-            .touched()
-            .or(self.links.touched())
-            .or(self.deliveries.touched())
+        match self.pools.touched() {
+            Some(number) => Some(number),
+            None => match self.links.touched() {
+                Some(number) => Some(number),
+                None => self.deliveries.touched(),
+            },
+        }
     }
 
     /// Tells the pools what a link has now.
@@ -65,27 +73,32 @@ impl Passing {
         ensures fits { OnOk result ((t : List Entry) → PassingFit self.old t → PassingFit self.new (with_bound (passing t from origin format payload) t)) }
     {
         self.tell_all()?;
-        let Some(consumer) = self.choose(from) else {
-            return Ok(false);
-        };
-        self.deliveries.bind(Binding {
-            consumer,
-            origin,
-            format,
-            payload,
-        })?;
-        Ok(true)
+        match self.choose(from) {
+            None => {
+                drop(payload);
+                Ok(false)
+            }
+            Some(consumer) => {
+                self.deliveries.bind(Binding {
+                    consumer,
+                    origin,
+                    format,
+                    payload,
+                })?;
+                Ok(true)
+            }
+        }
     }
 
     /// The consumer that is chosen for a message of a producer's link, once the pools know what all links have; it is noted as the last one.
     fn choose(&mut self, from: Attachment) -> Option<Attachment>
         ensures chosen { (t : List Entry) → Untouched self.old → PassingFit self.old t → result ≡ consumer_of t (link_of t from) }
-        ensures noted { Noted self.old self.new from result }
+        ensures fits { (t : List Entry) → Untouched self.old → PassingFit self.old t → NotedFit self.new t (last_behind t result) }
     {
-        let link = self.links.link(from)?;
-        let address = link.address.as_str().as_bytes();
-        let chosen = self.pools.choose(address)?;
-        self.links.place_of(chosen.0)
+        match self.links.link(from) {
+            None => None,
+            Some(link) => choose_of(&mut self.pools, &self.links, link.address.as_str().as_bytes()),
+        }
     }
 
     /// The grants that the producers of an address are due; none where no producer is due any.
@@ -94,15 +107,39 @@ impl Passing {
         ensures fits { OnOk result ((t : List Entry) → PassingFit self.old t → PassingFit self.new t) }
     {
         self.tell_all()?;
-        for _turn in 0..u64::MAX {
-            let Some(grants) = self.pools.grants()? else {
-                return Ok(Vec::new(self.alloc));
-            };
-            if !grants.sums.is_empty() {
-                return told(self.alloc, &self.links, &grants.sums);
-            }
+        let due = grants_due(self.alloc, &mut self.pools, &self.links)?;
+        Ok(due)
+    }
+}
+
+/// The consumer that is chosen for an address, once the pools know what all links have; it is noted as the last one.
+fn choose_of(pools: &mut Pools, links: &Links, address: &[u8]) -> Option<Attachment>
+    ensures chosen { (t : List Entry) → LinksFit links.now t → NoneTouched pools.old → PoolsFit pools.old (figure t) (last_chosen t)
+        → result ≡ option_and_then (numbered t) (choice_of t address.now) }
+    ensures fits { (t : List Entry) → LinksFit links.now t → NoneTouched pools.old → PoolsFit pools.old (figure t) (last_chosen t)
+        → PoolsFit pools.new (figure t) (last_behind t result) }
+{
+    match pools.choose(address) {
+        None => None,
+        Some(chosen) => links.place_of(chosen.0),
+    }
+}
+
+/// The grants that the producers of the first address that has some are due, once the pools know what all links have.
+fn grants_due(
+    alloc: Global,
+    pools: &mut Pools,
+    links: &Links,
+) -> Result<Vec<LinkGrant>, AllocError>
+    ensures due { IfOk result (λ due. (t : List Entry) → LinksFit links.now t → NoneTouched pools.old → PoolsFit pools.old (figure t) (last_chosen t) → due.items ≡ grants t) }
+    ensures fits { OnOk result ((known : ℕ → Option Figure) (last : List ℕ → ℕ) → PoolsFit pools.old known last → PoolsFit pools.new known last) }
+{
+    match pools.grants()? {
+        None => Ok(Vec::new(alloc)),
+        Some(grants) => {
+            let told = told(alloc, links, grants.sums.as_slice())?;
+            Ok(told)
         }
-        Err(AllocError)
     }
 }
 
@@ -130,26 +167,39 @@ fn add_grant(
 ) -> Result<(), AllocError>
     ensures { OnOk result ((t : List Entry) → LinksFit links.now t → told.new.items ≡ told.old.items ++ grant_at t number amount (numbered t number)) }
 {
-    let Some(at) = links.place_of(number) else {
-        return Ok(());
-    };
-    let Some(link) = links.link(at) else {
-        return Ok(());
-    };
+    match links.place_of(number) {
+        None => {}
+        Some(at) => match links.link(at) {
+            None => {}
+            Some(link) => add_grant_on(told, at, link, amount)?,
+        },
+    }
+    Ok(())
+}
+
+/// Adds what tells the producer of this link that it was given so much credit; nothing where the router sends on it.
+fn add_grant_on(
+    told: &mut Vec<LinkGrant>,
+    at: Attachment,
+    link: &Link,
+    amount: u32,
+) -> Result<(), AllocError>
+    ensures { OnOk result ((l : View) → link.now ≡ link_of_view l → told.new.items ≡ told.old.items ++ grant_by at amount l.happened) }
+{
     if link.is_consumer() {
         return Ok(());
     }
-    let Some(credit) = link.unused().checked_add(amount) else {
-        return Err(AllocError);
-    };
-    let state = LinkState {
-        handle: at.handle,
-        count: link.count(),
-        credit,
-        drain: false,
-    };
-    match told.push(LinkGrant { at, state }) {
-        Ok(()) => Ok(()),
-        Err(_) => Err(AllocError),
+    match link.unused().checked_add(amount) {
+        None => Err(AllocError),
+        Some(credit) => {
+            let state = LinkState {
+                handle: at.handle,
+                count: link.count(),
+                credit,
+                drain: false,
+            };
+            told.push(LinkGrant { at, state })?;
+            Ok(())
+        }
     }
 }

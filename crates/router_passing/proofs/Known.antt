@@ -1,0 +1,108 @@
+-- What the pools know of the links, behind a change of the tables.
+use Rattle.std.proofs.Common.{◌≡◌, ◌∙◌, ◌+◌, ◌<◌, ◌≤◌, ℕ, zero, suc, Bool, true, false, true≢false, refl, sym, ap, subst, Option, Some, None, List, [], ◌∷◌, arith}
+use Rattle.std.specs.Prelude.{◌==◌, if◌then◌else◌, option_map}
+use Rattle.std.specs.Ordering.{nat_cmp}
+use Rattle.std.specs.BTreeMap.{get}
+use Rattle.std.proofs.lemmas.Bool.{eq-eqb}
+use Rattle.router_trace.specs.Trace.{Trace, Entry, Did, Out, Took, Bound}
+use Rattle.router_trace.specs.declared.binding.Binding.{Binding}
+use Rattle.router_trace.specs.Numbers.{count_below}
+use Rattle.router_trace.specs.Deliveries.{Delivery, bindings, delivery, waits_on, undecided_on, held_from}
+use Rattle.router_deliveries.specs.declared.deliveries.Deliveries.{Deliveries}
+use Rattle.router_deliveries.specs.Finding.{count_deliveries}
+use Rattle.router_deliveries.specs.Fits.{DeliveriesFit}
+use Rattle.router_deliveries.specs.Touching as deliveries
+use Rattle.router_deliveries.proofs.Numbers.{none_beyond}
+use Rattle.router_links.specs.declared.links.Links.{Links}
+use Rattle.router_links.specs.Fits.{LinksFit}
+use Rattle.router_links.specs.Touching as links
+use Rattle.router_pools.specs.declared.pools.Pools.{Pools}
+use Rattle.router_pools.specs.Fits.{Fits, PoolsFit, is_touched}
+use Rattle.router_pools.specs.Sharing.{Figure, demand_at, offer_at}
+use Rattle.router_passing.specs.declared.passing.Passing.{Passing}
+use Rattle.router_passing.specs.Figures.{figure}
+use Rattle.router_passing.specs.Fits.{IsTold, NotedFit, PassingFit, PoolsKnow, Untouched}
+use Rattle.router_passing.specs.Passing.{last_chosen}
+use Rattle.router_passing.proofs.Seen.{by_test, figure_same}
+
+-- Other functions that say the same serve the pools as well.
+pub exchanged : (s : Pools) (known other : ℕ → Option Figure) (last now : List ℕ → ℕ) → ((n : ℕ) → other n ≡ known n) → ((a : List ℕ) → now a ≡ last a)
+    → PoolsFit s known last → PoolsFit s other now
+exchanged s known other last now same chosen fits = record {
+  consumers = λ n a is. fits.consumers n a is ∙ ap (offer_at a) (sym (same n));
+  producers = λ n a is. fits.producers n a is ∙ ap (demand_at a) (sym (same n));
+  no_consumer = fits.no_consumer;
+  no_producer = fits.no_producer;
+  distribution = fits.distribution;
+  chosen = λ a. fits.chosen a ∙ sym (chosen a);
+  consumers_rise = fits.consumers_rise;
+  producers_rise = fits.producers_rise;
+  quiet = fits.quiet;
+}
+
+-- once all was told the pools know all
+pub all_known : (s : Passing) (t : Trace) (last : List ℕ → ℕ) → Untouched s → PoolsKnow s t last → PoolsFit s.pools (figure t) last
+all_known s t last none know = exchanged s.pools know.known (figure t) last last (λ n. sym (know.same n (none.links n) (none.deliveries n))) (λ a. refl) know.fits
+
+-- How many deliveries pass is the same where the same ones do.
+pub count_alike : (b : ℕ) (p q : ℕ → Bool) → ((n : ℕ) → p n ≡ q n) → count_below b p ≡ count_below b q
+unfolding count_below
+count_alike zero p q same = refl
+count_alike (suc b) p q same = ap (λ k. k + (if p b then 1 else 0)) (count_alike b p q same) ∙ ap (λ v. count_below b q + (if v then 1 else 0)) (same b)
+
+more : (b : ℕ) (q : ℕ → Bool) → q b ≡ false → count_below b q ≡ count_below (b + 1) q
+unfolding count_below
+more b q none = let next : b + 1 ≡ suc b = omega arith in
+    right (count_below b q) ∙ ap (λ v. count_below b q + (if v then 1 else 0)) (sym none) ∙ ap (λ k. count_below k q) (sym next)
+  where
+    right : (k : ℕ) → k ≡ k + 0
+    right k = omega arith
+
+-- as many deliveries pass, in both traces, where each number passes in both
+abbrev pub CountSame : Trace → Trace → Type 0
+CountSame t w = (p : Option Delivery → Bool) → p None ≡ false → ((n : ℕ) → p (delivery t n) ≡ p (delivery w n)) → count_deliveries t p ≡ count_deliveries w p
+
+pub bound_counts : (b : Binding) (t : Trace) → CountSame t (Bound b ∷ t)
+bound_counts b t p none same =
+    count_alike (bindings t + 1) (λ n. p (delivery t n)) (λ n. p (delivery (Bound b ∷ t) n)) same
+    ∙ more (bindings t + 1) (λ n. p (delivery (Bound b ∷ t) n)) (sym (same (bindings t + 1)) ∙ ap p (none_beyond t (bindings t + 1) (omega arith)) ∙ none)
+
+-- Of a link that neither table has touched the figure is the same.
+pub figures_same : (s u : Links) (d e : Deliveries) (t w : Trace) → LinksFit s t → LinksFit u w → DeliveriesFit d t → DeliveriesFit e w
+    → links.Touches s u → deliveries.Touches d e → CountSame t w
+    → (n : ℕ) → links.is_touched u n ≡ false → deliveries.is_touched e n ≡ false → figure t n ≡ figure w n
+figures_same s u d e t w fit fit' stand stand' one other counts n quiet silent =
+    figure_same s u t w n fit fit' (one.numbers n quiet) (one.links n quiet)
+    (counts (waits_on n) refl (λ m. ap (waits_on n) (sym (stand.store.deliveries m)) ∙ (other.same n m silent).waits ∙ ap (waits_on n) (stand'.store.deliveries m)))
+    (counts (undecided_on n) refl (λ m. ap (undecided_on n) (sym (stand.store.deliveries m)) ∙ (other.same n m silent).undecided ∙ ap (undecided_on n) (stand'.store.deliveries m)))
+    (counts (held_from n) refl (λ m. ap (held_from n) (sym (stand.store.deliveries m)) ∙ (other.same n m silent).held ∙ ap (held_from n) (stand'.store.deliveries m)))
+
+-- So what the pools know they know behind any change that touches what it changes.
+pub knows_still : (s u : Passing) (t w : Trace) (last now : List ℕ → ℕ) → u.pools ≡ s.pools → LinksFit s.links t → LinksFit u.links w → DeliveriesFit s.deliveries t → DeliveriesFit u.deliveries w
+    → links.Touches s.links u.links → deliveries.Touches s.deliveries u.deliveries → CountSame t w → ((a : List ℕ) → now a ≡ last a) → PoolsKnow s t last → PoolsKnow u w now
+knows_still s u t w last now pools fit fit' stand stand' one other counts chosen know = record {
+  known = know.known;
+  fits = subst (λ p. PoolsFit p know.known now) (sym pools) (exchanged s.pools know.known know.known last now (λ n. refl) chosen know.fits);
+  same = λ n quiet silent. know.same n (one.before n quiet) (other.before n silent)
+      ∙ figures_same s.links u.links s.deliveries u.deliveries t w fit fit' stand stand' one other counts n quiet silent;
+}
+
+-- Behind telling what a link has, its number is forgotten.
+pub knows_told : (s u : Passing) (t : Trace) (last : List ℕ → ℕ) (n : ℕ) → IsTold s.pools u.pools n (figure t n)
+    → ((k : ℕ) → links.is_touched u.links k ≡ (if n == k then false else links.is_touched s.links k))
+    → ((k : ℕ) → deliveries.is_touched u.deliveries k ≡ (if n == k then false else deliveries.is_touched s.deliveries k))
+    → PoolsKnow s t last → PoolsKnow u t last
+knows_told s u t last n told quiet silent know = record {
+  known = other;
+  fits = told know.known other last know.fits here (λ k e. ap (λ b. if b then figure t k else know.known k) e);
+  same = λ k e f. by_test (n == k)
+      (λ is. ap (λ b. if b then figure t k else know.known k) is)
+      (λ is. ap (λ b. if b then figure t k else know.known k) is
+      ∙ know.same k (sym (quiet k ∙ ap (λ b. if b then false else links.is_touched s.links k) is) ∙ e) (sym (silent k ∙ ap (λ b. if b then false else deliveries.is_touched s.deliveries k) is) ∙ f));
+}
+  where
+    other : ℕ → Option Figure
+    other k = if n == k then figure t k else know.known k
+
+    here : other n ≡ figure t n
+    here = ap (λ b. if b then figure t n else know.known n) (eq-eqb n n refl)
