@@ -4,17 +4,25 @@ use Rattle.std.specs.Prelude.{◌==◌, if◌then◌else◌, option_map}
 use Rattle.std.specs.Ordering.{nat_cmp}
 use Rattle.std.specs.BTreeMap.{get}
 use Rattle.std.proofs.lemmas.Bool.{eq-eqb}
-use Rattle.router_trace.specs.Trace.{Trace, Entry, Did, Out, Took, Bound}
+use Rattle.amqp_frames.specs.declared.item.Item.{Item}
+use Rattle.book_core.specs.Keys.{key_cmp}
+use Rattle.router_trace.specs.declared.event.Event.{Event}
+use Rattle.router_trace.specs.declared.handle.Attachment.{Attachment}
+use Rattle.router_trace.specs.Links.{if_attached, last_of_key, numbered}
+use Rattle.router_trace.specs.Trace.{Trace, Did, Out, Took, Bound, did}
 use Rattle.router_trace.specs.declared.binding.Binding.{Binding}
 use Rattle.router_trace.specs.Numbers.{count_below}
 use Rattle.router_trace.specs.Deliveries.{Delivery, bindings, delivery, waits_on, undecided_on, held_from}
 use Rattle.router_deliveries.specs.declared.deliveries.Deliveries.{Deliveries}
+use Rattle.router_deliveries.specs.declared.claims.Claims.{Claims}
+use Rattle.router_deliveries.specs.Claiming.{ClaimsFit}
 use Rattle.router_deliveries.specs.Finding.{count_deliveries}
 use Rattle.router_deliveries.specs.Fits.{DeliveriesFit}
 use Rattle.router_deliveries.specs.Touching as deliveries
 use Rattle.router_deliveries.proofs.Numbers.{none_beyond}
 use Rattle.router_links.specs.declared.links.Links.{Links}
 use Rattle.router_links.specs.Fits.{LinksFit}
+use Rattle.router_links.specs.Naming.{Remembers}
 use Rattle.router_links.specs.Touching as links
 use Rattle.router_pools.specs.declared.pools.Pools.{Pools}
 use Rattle.router_pools.specs.Fits.{Fits, PoolsFit, is_touched}
@@ -22,7 +30,7 @@ use Rattle.router_pools.specs.Sharing.{Figure, demand_at, offer_at}
 use Rattle.router_passing.specs.declared.passing.Passing.{Passing}
 use Rattle.router_passing.specs.Figures.{figure}
 use Rattle.router_passing.specs.Fits.{IsTold, NotedFit, PassingFit, PoolsKnow, Untouched}
-use Rattle.router_passing.specs.Passing.{last_chosen}
+use Rattle.router_passing.specs.Passing.{last_behind, last_chosen}
 use Rattle.router_passing.proofs.Seen.{by_test, figure_same}
 
 -- Other functions that say the same serve the pools as well.
@@ -106,3 +114,62 @@ knows_told s u t last n told quiet silent know = record {
 
     here : other n ≡ figure t n
     here = ap (λ b. if b then figure t n else know.known n) (eq-eqb n n refl)
+
+pub put_counts : (d : ℕ) (i : Item) (t : Trace) → CountSame t (Out d i ∷ t)
+put_counts d i t p none same = count_alike (bindings t + 1) (λ n. p (delivery t n)) (λ n. p (delivery (Out d i ∷ t) n)) same
+
+pub did_counts : (x : Event) (t : Trace) → CountSame t (did x ∷ t)
+did_counts x t p none same = count_alike (bindings t + 1) (λ n. p (delivery t n)) (λ n. p (delivery (did x ∷ t) n)) same
+
+-- All tables behind such a change.
+pub moved : (s u : Passing) (t w : Trace) (last now : List ℕ → ℕ) → u.pools ≡ s.pools → LinksFit u.links w → DeliveriesFit u.deliveries w → ClaimsFit u.claims w
+    → links.Touches s.links u.links → deliveries.Touches s.deliveries u.deliveries → CountSame t w → ((a : List ℕ) → now a ≡ last a) → NotedFit s t last → NotedFit u w now
+moved s u t w last now pools fit stand claimed one other counts chosen old = record {
+  links = fit;
+  deliveries = stand;
+  claims = claimed;
+  pools = knows_still s u t w last now pools old.links fit old.deliveries stand one other counts chosen old.pools;
+}
+
+-- Behind telling.
+pub told_fits : (s u : Passing) (t : Trace) (n : ℕ) → LinksFit u.links t → DeliveriesFit u.deliveries t → u.claims ≡ s.claims → IsTold s.pools u.pools n (figure t n)
+    → ((k : ℕ) → links.is_touched u.links k ≡ (if n == k then false else links.is_touched s.links k))
+    → ((k : ℕ) → deliveries.is_touched u.deliveries k ≡ (if n == k then false else deliveries.is_touched s.deliveries k))
+    → PassingFit s t → PassingFit u t
+told_fits s u t n fit stand claimed told quiet silent old = record {
+  links = fit;
+  deliveries = stand;
+  claims = subst (λ c. ClaimsFit c t) (sym claimed) old.claims;
+  pools = knows_told s u t (last_chosen t) n told quiet silent old.pools;
+}
+
+-- A table of links says the same behind a binding and behind a take, and so do claims.
+pub links_bound : (s : Links) (b : Binding) (t : Trace) → LinksFit s t → LinksFit s (Bound b ∷ t)
+links_bound s b t fit = record {
+  handles = record { asked = fit.handles.asked; told = fit.handles.told; highest = fit.handles.highest; answered = fit.handles.answered; theirs = fit.handles.theirs };
+  table = record {
+    links = fit.table.links;
+    count = fit.table.count;
+    names = record { keys = λ k. remembers (get key_cmp s.table.names.keys.entries k) (last_of_key t k) (fit.table.names.keys k); numbers = λ n. remembers (get nat_cmp s.table.names.numbers.entries n) (numbered t n) (fit.table.names.numbers n) };
+    owing = fit.table.owing;
+  };
+}
+  where
+    attached_same : (v : Option Attachment) → if_attached t v ≡ if_attached (Bound b ∷ t) v
+    attached_same None = refl
+    attached_same (Some a) = refl
+
+    remembers : (v w : Option Attachment) → Remembers v w (if_attached t w) → Remembers v w (if_attached (Bound b ∷ t) w)
+    remembers None w e = sym (attached_same w) ∙ e
+    remembers (Some a) w e = e
+
+pub claims_bound : (s : Claims) (b : Binding) (t : Trace) → ClaimsFit s t → ClaimsFit s (Bound b ∷ t)
+claims_bound s b t fit = record { ids = fit.ids; small = fit.small; marked = fit.marked }
+
+pub bound_fits : (s u : Passing) (b : Binding) (t : Trace) → u.pools ≡ s.pools → u.links ≡ s.links → u.claims ≡ s.claims → DeliveriesFit u.deliveries (Bound b ∷ t)
+    → deliveries.Touches s.deliveries u.deliveries → NotedFit s t (last_behind t (Some b.consumer)) → PassingFit u (Bound b ∷ t)
+bound_fits s u b t pools same claimed stand other old =
+    moved s u t (Bound b ∷ t) (last_behind t (Some b.consumer)) (last_chosen (Bound b ∷ t)) pools
+    (subst (λ l. LinksFit l (Bound b ∷ t)) (sym same) (links_bound s.links b t old.links)) stand (subst (λ l. ClaimsFit l (Bound b ∷ t)) (sym claimed) (claims_bound s.claims b t old.claims))
+    (subst (λ l. links.Touches s.links l) (sym same) (record { before = λ k e. e; links = λ k e c o h. refl; numbers = λ k e. refl }))
+    other (bound_counts b t) (λ a. refl) old

@@ -1,3 +1,6 @@
 pub mod Numbered
 pub mod Seen
 pub mod Known
+pub mod Chosen
+pub mod Granted
+pub mod Telling

@@ -1,13 +1,15 @@
 -- What a link has, read from the tables.
 use Rattle.std.proofs.Common.{◌≡◌, ◌∙◌, ◌+◌, ◌<◌, ℕ, Bool, true, false, refl, sym, ap, Option, Some, None, List, [], ◌∷◌}
-use Rattle.std.specs.Prelude.{◌==◌, if◌then◌else◌, option_map}
+use Rattle.std.specs.Prelude.{◌==◌, if◌then◌else◌, option_map, unwrap_or}
 use Rattle.std.specs.Ordering.{nat_cmp}
 use Rattle.std.specs.BTreeMap.{get}
 use Rattle.std.proofs.lemmas.Bool.{eqb-true}
 use Rattle.amqp_link.specs.Deliveries.{Frame}
 use Rattle.amqp_link.specs.Gathering.{gathered}
 use Rattle.amqp_link.specs.Figures.{left_at, unused_at}
-use Rattle.amqp_link.specs.Receiving.{Received, middle}
+use Rattle.amqp_link.specs.Credit as credit
+use Rattle.amqp_link.specs.Receiving as receiving
+use Rattle.amqp_link.specs.Receiving.{middle}
 use Rattle.router_trace.specs.declared.handle.Attachment.{Attachment}
 use Rattle.router_trace.specs.Trace.{Trace}
 use Rattle.router_trace.specs.Links as view
@@ -24,7 +26,7 @@ use Rattle.router_links.specs.Naming.{Remembers}
 use Rattle.router_links.specs.Places.{at}
 use Rattle.router_links.specs.Touching.{if_number}
 use Rattle.router_pools.specs.Sharing.{AreNumbered, Figure, consumer, producer}
-use Rattle.router_passing.specs.Figures.{begun_credit, figure, figure_at, figure_by, figure_on, free_of, held, undecided, waiting}
+use Rattle.router_passing.specs.Figures.{begun_credit, figure, figure_at, figure_by, figure_on, free_of, held, undecided, unused_credit, waiting}
 use Rattle.router_passing.proofs.Numbered.{none_beyond, none_first, number_is}
 
 pub by_test : {P : Type 0} (b : Bool) → ((b ≡ true) → P) → ((b ≡ false) → P) → P
@@ -50,9 +52,10 @@ told_same (f ∷ fs) = refl
 
 end_same : (t : Trace) (n : ℕ) (l : view.Link) (h : Happened) → l.number ≡ n
     → figure_by t l h ≡ seen_end (waiting t n) (undecided t n) (held t n) (link_of l) (end_of h)
-end_same t n l (sends list) is = ap (λ k. consumer l.address (free_of l.drains _ (waiting t k) (undecided t k)) (undecided t k)) is
+end_same t n l (sends list) is = ap (λ k. consumer l.address (free_of l.drains (credit.credit list) (waiting t k) (undecided t k)) (undecided t k)) is
 end_same t n l (receives list) is =
-    ap (λ k. producer l.address _ (held t k)) is ∙ ap (λ d. producer l.address (_ + begun_credit d) (held t n)) (told_same (middle list))
+    ap (λ k. producer l.address (unused_credit list) (held t k)) is
+    ∙ ap (λ d. producer l.address (receiving.unused list + begun_credit d) (held t n)) (told_same (middle list))
 
 -- on the handle of its attachment
 on_same : (t : Trace) (n : ℕ) (v : Option view.Link)
@@ -133,3 +136,37 @@ figure_there t n a e = by_number (numbered t n) refl e
         attached : Option Attachment → Bool
         attached None = false
         attached (Some d) = is_attached t d
+
+-- where nothing is attached on the handle of an attachment, its number has nothing
+pub figure_empty : (t : Trace) (n : ℕ) (a : Attachment) (v : Option Link) → place_of t n ≡ Some a → v ≡ None → v ≡ option_map link_of (view_of t a) → figure t n ≡ None
+figure_empty t n a v place none is =
+    let there : (numbered t n ≡ Some a) × (has_number n (view_of t a) ≡ true) = figure_there t n a place in
+    ap (figure_at t n) there.0 ∙ by_view (view_of t a) (sym none ∙ is)
+  where
+    by_view : (w : Option view.Link) → None ≡ option_map link_of w → figure_on t n w ≡ None
+    by_view None e = refl
+    by_view (Some l) e = absurd cc
+
+-- and else it has what is seen of the link there
+pub record IsThere (t : Trace) (n : ℕ) (k : Link) : Type 0 where
+  pub link : view.Link
+  pub is : k ≡ link_of link
+  pub number : link.number ≡ n
+  pub figure : figure t n ≡ Some (figure_by t link link.happened)
+
+same_option : {A : Type 0} (x y : A) → Some x ≡ Some y → x ≡ y
+same_option {A = A} x y e = ap (λ (v : Option A). unwrap_or v x) e
+
+pub figure_here : (t : Trace) (n : ℕ) (a : Attachment) (k : Link) → place_of t n ≡ Some a → Some k ≡ option_map link_of (view_of t a) → IsThere t n k
+figure_here t n a k place is =
+    let there : (numbered t n ≡ Some a) × (has_number n (view_of t a) ≡ true) = figure_there t n a place in
+    by_view (view_of t a) is there.1 (ap (figure_at t n) there.0)
+  where
+    by_view : (w : Option view.Link) → Some k ≡ option_map link_of w → has_number n w ≡ true → figure t n ≡ figure_on t n w → IsThere t n k
+    by_view None e f g = absurd cc
+    by_view (Some l) e f g = record {
+      link = l;
+      is = same_option k (link_of l) e;
+      number = eqb-true l.number n f;
+      figure = g ∙ ap (λ b. if b then Some (figure_by t l l.happened) else None) f;
+    }

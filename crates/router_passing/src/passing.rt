@@ -89,7 +89,8 @@ impl Passing {
         let found = receiving(&self.links, conn.0, own, item);
         self.claims.hear(conn, own, item, found)?;
         self.deliveries.hear(conn, own, item)?;
-        self.links.hear(conn, own, item)
+        let part = self.links.hear(conn, own, item)?;
+        Ok(part)
     }
 
     /// An item is put in the outbox of a connection; an attach comes with its key. Fails where memory is refused, and where attachments can't be

@@ -1,0 +1,12 @@
+use Rattle.std.proofs.Common.{◌≡◌, refl}
+use Rattle.router_passing.proofs.Telling.{told_last, told_more}
+use Rattle.router_passing.proofs.granting.told.Goals as goal
+
+pub loop-sum-init : goal.loop-sum-init
+loop-sum-init c = λ t fit. refl
+
+pub loop-sum-preserved : goal.loop-sum-preserved
+loop-sum-preserved c = λ t fit. told_more t c.args.sums.now c.loop-sum.sum-index _ _ _ _ c.loop-sum-test.true (c.in_ok-add_grant.ensures t fit) (c.loop-sum.invariant t fit)
+
+pub returns : goal.returns
+returns c = λ t fit. told_last t c.args.sums.now c.loop-sum.sum-index _ _ c.loop-sum-test.false (c.loop-sum.invariant t fit)

@@ -1,0 +1,10 @@
+use Rattle.std.proofs.Common.{◌≡◌, ◌++◌, List, drop}
+use Rattle.route_credit.specs.Pool.{by_id}
+use Rattle.router_trace.specs.Trace.{Entry}
+use Rattle.router_links.specs.Fits.{LinksFit}
+use Rattle.router_passing.specs.Passing.{grants_on}
+use Rattle.router_passing.proofs.granting.told.Given as goal
+
+-- what was told, and what is still to be told, is all
+abbrev pub invariant-loop-sum : goal.invariant-loop-sum
+invariant-loop-sum l = (t : List Entry) → LinksFit l.links t → l.told.items ++ grants_on t (by_id (drop l.sum-index l.sums)) ≡ grants_on t (by_id l.fn.sums)
