@@ -21,24 +21,26 @@ use Rattle.router_passing.proofs.Numbered.{number_is}
 use Rattle.router_passing.proofs.Seen.{are_numbered, by_test}
 
 -- who has the least figure has one
+inside : (x y : ℕ) → Some x ≡ Some y → x ≡ y
+inside x y e = ap number e
+  where
+    number : Option ℕ → ℕ
+    number None = 0
+    number (Some k) = k
+
+sooner_has : (v w : Option ℕ) → is_sooner v w ≡ true → is_some v ≡ true
+sooner_has None w e = absurd cc
+sooner_has (Some k) w e = refl
+
+least_by : (f : ℕ → Option ℕ) (b : Bool) (x id : ℕ) (rest : Option ℕ) → (b ≡ true → is_some (f x) ≡ true) → (rest ≡ Some id → is_some (f id) ≡ true)
+    → (if b then Some x else rest) ≡ Some id → is_some (f id) ≡ true
+least_by f true x id rest one other e = ap (λ k. is_some (f k)) (sym (inside x id e)) ∙ one refl
+least_by f false x id rest one other e = other e
+
 least_has : {X : Type 0} (f : ℕ → Option ℕ) (links : List (ℕ × X)) (id : ℕ) → least f links ≡ Some id → is_some (f id) ≡ true
 least_has f [] id e = absurd cc
-least_has f (l ∷ ls) id e = by_first (is_sooner (f l.0) (option_and_then f (least f ls))) refl e
-  where
-    inside : (x y : ℕ) → Some x ≡ Some y → x ≡ y
-    inside x y e = ap (λ v. number v) e
-      where
-        number : Option ℕ → ℕ
-        number None = 0
-        number (Some k) = k
-
-    sooner : (v w : Option ℕ) → is_sooner v w ≡ true → is_some v ≡ true
-    sooner None w e = absurd cc
-    sooner (Some k) w e = refl
-
-    by_first : (b : Bool) → is_sooner (f l.0) (option_and_then f (least f ls)) ≡ b → (if b then Some l.0 else least f ls) ≡ Some id → is_some (f id) ≡ true
-    by_first true is e = ap (λ k. is_some (f k)) (sym (inside l.0 id e)) ∙ sooner (f l.0) (option_and_then f (least f ls)) is
-    by_first false is e = least_has f ls id e
+least_has f (l ∷ ls) id e =
+    least_by f (is_sooner (f l.0) (option_and_then f (least f ls))) l.0 id (least f ls) (sooner_has (f l.0) (option_and_then f (least f ls))) (least_has f ls id) e
 
 -- so the consumer that is chosen has a link in the pool
 in_pool : (pool : Sharing) (id : ℕ) → choice pool ≡ Some id → is_some (link_at pool.consumers id) ≡ true

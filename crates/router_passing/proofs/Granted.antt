@@ -1,5 +1,5 @@
 -- The address whose grants come first.
-use Rattle.std.proofs.Common.{◌≡◌, ◌∙◌, ◌+◌, ◌<◌, ◌≤◌, ℕ, zero, suc, Bool, true, false, true≢false, refl, sym, ap, subst, Option, Some, None, List, [], ◌∷◌, ◌++◌, length, arith, ⊥}
+use Rattle.std.proofs.Common.{◌≡◌, ◌∙◌, ◌+◌, ◌<◌, ◌≤◌, ℕ, zero, suc, Bool, true, false, true≢false, refl, sym, ap, subst, Option, Some, None, List, [], ◌∷◌, ◌++◌, length, arith}
 use Rattle.std.specs.Prelude.{◌==◌, if◌then◌else◌, is_some}
 use Rattle.std.specs.Str.{bytes_eq}
 use Rattle.std.specs.Map.{keys_of}
@@ -85,19 +85,20 @@ pub record Has {X : Type 0} (f : ℕ → Option X) (n : ℕ) : Type 0 where
   pub below : number < n + 1
   pub has : is_some (f number) ≡ true
 
+empty_end : {X : Type 0} (xs : List (ℕ × X)) → xs ++ [] ≡ xs
+empty_end [] = refl
+empty_end (x ∷ xs) = ap (λ ys. x ∷ ys) (empty_end xs)
+
+has_more : {X : Type 0} (f : ℕ → Option X) (n : ℕ) → Has f n → Has f (suc n)
+has_more f n there = record { number = there.number; below = (let l : there.number < n + 1 = there.below in let g : there.number < suc n + 1 = omega (arith, l) in g); has = there.has }
+
+listed_by : {X : Type 0} (f : ℕ → Option X) (n : ℕ) (v : Option X) → f (suc n) ≡ v → (0 < length (listed f n) → Has f n) → 0 < length (listed f n ++ entry (suc n) v) → Has f (suc n)
+listed_by f n None is rest some = has_more f n (rest (subst (λ xs. 0 < length xs) (empty_end (listed f n)) some))
+listed_by f n (Some x) is rest some = record { number = suc n; below = omega arith; has = ap is_some is }
+
 listed_has : {X : Type 0} (f : ℕ → Option X) (n : ℕ) → 0 < length (listed f n) → Has f n
 listed_has f zero some = absurd (omega (arith, some))
-listed_has {X = X} f (suc n) some = by_entry (f (suc n)) refl some
-  where
-    empty_end : (xs : List (ℕ × X)) → xs ++ [] ≡ xs
-    empty_end [] = refl
-    empty_end (x ∷ xs) = ap (λ ys. x ∷ ys) (empty_end xs)
-
-    by_entry : (v : Option X) → f (suc n) ≡ v → 0 < length (listed f n ++ entry (suc n) v) → Has f (suc n)
-    by_entry None is some =
-        let there : Has f n = listed_has f n (subst (λ xs. 0 < length xs) (empty_end (listed f n)) some) in
-        record { number = there.number; below = (let l : there.number < n + 1 = there.below in let g : there.number < suc n + 1 = omega (arith, l) in g); has = there.has }
-    by_entry (Some x) is some = record { number = suc n; below = omega arith; has = ap is_some is }
+listed_has f (suc n) some = listed_by f n (f (suc n)) refl (listed_has f n) some
 
 -- where something is granted there is a producer
 gains_some : {X : Type 0} (amount : ℕ → ℕ) (links : List (ℕ × X)) → 0 < length (gains amount (keys_of links)) → 0 < length links

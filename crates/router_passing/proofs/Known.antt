@@ -5,6 +5,7 @@ use Rattle.std.specs.Ordering.{nat_cmp}
 use Rattle.std.specs.BTreeMap.{get}
 use Rattle.std.proofs.lemmas.Bool.{eq-eqb}
 use Rattle.amqp_frames.specs.declared.item.Item.{Item}
+use Rattle.amqp_frames.specs.declared.item.Item.TheVariants as item
 use Rattle.book_core.specs.Keys.{key_cmp}
 use Rattle.router_trace.specs.declared.event.Event.{Event}
 use Rattle.router_trace.specs.declared.handle.Attachment.{Attachment}
@@ -17,11 +18,11 @@ use Rattle.router_deliveries.specs.declared.deliveries.Deliveries.{Deliveries}
 use Rattle.router_deliveries.specs.declared.claims.Claims.{Claims}
 use Rattle.router_deliveries.specs.Claiming.{ClaimsFit}
 use Rattle.router_deliveries.specs.Finding.{count_deliveries}
-use Rattle.router_deliveries.specs.Fits.{DeliveriesFit}
+use Rattle.router_deliveries.specs.Fits.{DeliveriesFit, channel_of as of_deliveries}
 use Rattle.router_deliveries.specs.Touching as deliveries
 use Rattle.router_deliveries.proofs.Numbers.{none_beyond}
 use Rattle.router_links.specs.declared.links.Links.{Links}
-use Rattle.router_links.specs.Fits.{LinksFit}
+use Rattle.router_links.specs.Fits.{LinksFit, channel_of as of_links}
 use Rattle.router_links.specs.Naming.{Remembers}
 use Rattle.router_links.specs.Touching as links
 use Rattle.router_pools.specs.declared.pools.Pools.{Pools}
@@ -173,3 +174,8 @@ bound_fits s u b t pools same claimed stand other old =
     (subst (λ l. LinksFit l (Bound b ∷ t)) (sym same) (links_bound s.links b t old.links)) stand (subst (λ l. ClaimsFit l (Bound b ∷ t)) (sym claimed) (claims_bound s.claims b t old.claims))
     (subst (λ l. links.Touches s.links l) (sym same) (record { before = λ k e. e; links = λ k e c o h. refl; numbers = λ k e. refl }))
     other (bound_counts b t) (λ a. refl) old
+
+-- both tables read the same channel of an item
+pub channel_same : (i : Item) → of_links i ≡ of_deliveries i
+channel_same (item.Frame sasl channel body payload) = refl
+channel_same _ = refl

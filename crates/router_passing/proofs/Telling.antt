@@ -98,7 +98,7 @@ joined : (xs ys zs : List LinkGrant) → (xs ++ ys) ++ zs ≡ xs ++ (ys ++ zs)
 joined [] ys zs = refl
 joined (x ∷ xs) ys zs = ap (λ ws. x ∷ ws) (joined xs ys zs)
 
-nothing_behind : (xs : List LinkGrant) → xs ++ [] ≡ xs
+pub nothing_behind : (xs : List LinkGrant) → xs ++ [] ≡ xs
 nothing_behind [] = refl
 nothing_behind (x ∷ xs) = ap (λ ws. x ∷ ws) (nothing_behind xs)
 

@@ -1,9 +1,11 @@
-use Rattle.std.proofs.Common.{◌≡◌, refl}
+use Rattle.std.proofs.Common.{◌≡◌, ◌++◌, ap}
+use Rattle.route_credit.specs.Pool.{by_id}
+use Rattle.router_passing.specs.Passing.{grants_on}
 use Rattle.router_passing.proofs.Telling.{told_last, told_more}
 use Rattle.router_passing.proofs.granting.told.Goals as goal
 
 pub loop-sum-init : goal.loop-sum-init
-loop-sum-init c = λ t fit. refl
+loop-sum-init c = λ t fit. ap (λ xs. xs ++ grants_on t (by_id c.args.sums.now)) c.new-told.ensures.items
 
 pub loop-sum-preserved : goal.loop-sum-preserved
 loop-sum-preserved c = λ t fit. told_more t c.args.sums.now c.loop-sum.sum-index _ _ _ _ c.loop-sum-test.true (c.in_ok-add_grant.ensures t fit) (c.loop-sum.invariant t fit)

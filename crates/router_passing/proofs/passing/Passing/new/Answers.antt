@@ -7,5 +7,5 @@ returns c = record {
   links = search rules;
   deliveries = search rules;
   claims = search rules;
-  pools = record { known = λ n. None; fits = ?; same = λ n quiet silent. refl };
+  pools = record { known = λ n. None; fits = c.new-4.ensures (λ n. None) (λ n. refl); same = λ n quiet silent. refl };
 }
