@@ -1,6 +1,6 @@
 -- The address whose grants come first.
 use Rattle.std.proofs.Common.{◌≡◌, ◌∙◌, ◌+◌, ◌<◌, ◌≤◌, ℕ, zero, suc, Bool, true, false, true≢false, refl, sym, ap, subst, Option, Some, None, List, [], ◌∷◌, ◌++◌, length, arith}
-use Rattle.std.specs.Prelude.{◌==◌, if◌then◌else◌, is_some}
+use Rattle.std.specs.Prelude.{◌==◌, if◌then◌else◌, is_some, unwrap_or, IfNone, IfSome}
 use Rattle.std.specs.Str.{bytes_eq}
 use Rattle.std.specs.Map.{keys_of}
 use Rattle.std.specs.Cmp.{IsTotalOrder}
@@ -152,3 +152,12 @@ grants_are t q sums is some none =
     ap (grants_on t) is
     ∙ sym (ap (grants_of_address t) (lowest_is (attachments t + 1) (λ n. wants t (figure t n)) q one.number (λ k. wants_not t q (figure t k) none) one.below
         (wants_is t q (figure t one.number) one.has filled)))
+
+-- what is told of an answer where there is none, and where there is one
+pub at_none : {A : Type 0} {P : Type 0} (r : Option A) → r ≡ None → IfNone r P → P
+at_none None e p = p
+at_none (Some x) e p = absurd cc
+
+pub at_some : {A : Type 0} (P : A → Type 0) (r : Option A) (a : A) → r ≡ Some a → IfSome r P → P a
+at_some P None a e p = absurd cc
+at_some {A = A} P (Some x) a e p = subst P (ap (λ (v : Option A). unwrap_or v x) e) p

@@ -12,6 +12,7 @@ use Rattle.router_trace.specs.declared.handle.Attachment.{Attachment}
 use Rattle.router_trace.specs.Links.{if_attached, last_of_key, numbered}
 use Rattle.router_trace.specs.Trace.{Trace, Did, Out, Took, Bound, did}
 use Rattle.router_trace.specs.declared.binding.Binding.{Binding}
+use Rattle.router_trace.specs.declared.binding.Origin.{Origin}
 use Rattle.router_trace.specs.Numbers.{count_below}
 use Rattle.router_trace.specs.Deliveries.{Delivery, bindings, delivery, waits_on, undecided_on, held_from}
 use Rattle.router_deliveries.specs.declared.deliveries.Deliveries.{Deliveries}
@@ -31,7 +32,7 @@ use Rattle.router_pools.specs.Sharing.{Figure, demand_at, offer_at}
 use Rattle.router_passing.specs.declared.passing.Passing.{Passing}
 use Rattle.router_passing.specs.Figures.{figure}
 use Rattle.router_passing.specs.Fits.{IsTold, NotedFit, PassingFit, PoolsKnow, Untouched}
-use Rattle.router_passing.specs.Passing.{last_behind, last_chosen}
+use Rattle.router_passing.specs.Passing.{binding_to, last_behind, last_chosen, with_bound}
 use Rattle.router_passing.proofs.Seen.{by_test, figure_same}
 
 -- Other functions that say the same serve the pools as well.
@@ -179,3 +180,8 @@ bound_fits s u b t pools same claimed stand other old =
 pub channel_same : (i : Item) → of_links i ≡ of_deliveries i
 channel_same (item.Frame sasl channel body payload) = refl
 channel_same _ = refl
+
+-- a message that is bound to the consumer that is chosen
+pub passed : (u : Passing) (t : Trace) (a : Attachment) (origin : Option Origin) (format : ℕ) (payload : List ℕ) (chosen : Option Attachment) → Some a ≡ chosen
+    → PassingFit u (Bound (binding_to origin format payload a) ∷ t) → PassingFit u (with_bound (option_map (binding_to origin format payload) chosen) t)
+passed u t a origin format payload chosen is fit = subst (λ v. PassingFit u (with_bound (option_map (binding_to origin format payload) v) t)) is fit

@@ -1,12 +1,8 @@
-use Rattle.std.proofs.Common.{rules, ◌≡◌, ◌∙◌, sym, ap, refl, subst, Some, ◌∷◌}
-use Rattle.std.specs.Prelude.{Option}
-use Rattle.router_trace.specs.Trace.{Bound}
-use Rattle.router_trace.specs.declared.handle.Attachment.{Attachment}
+use Rattle.std.proofs.Common.{rules, ◌≡◌, ◌∙◌, sym, ap, refl, subst, Some}
 use Rattle.router_trace.specs.Following.{link_of}
 use Rattle.router_passing.specs.Fits.{NotedFit, PassingFit}
-use Rattle.router_passing.specs.Passing.{binding_to, consumer_of, last_behind, with_bound}
-use Rattle.std.specs.Option.{option_map}
-use Rattle.router_passing.proofs.Known.{bound_fits}
+use Rattle.router_passing.specs.Passing.{binding_to, consumer_of, last_behind}
+use Rattle.router_passing.proofs.Known.{bound_fits, passed}
 use Rattle.router_passing.proofs.passing.Passing.pass.Goals as goal
 
 pub returns-in_ok-bind-in-Some-clause-fits : goal.returns-in_ok-bind-in-Some-clause-fits
@@ -15,5 +11,5 @@ returns-in_ok-bind-in-Some-clause-fits c = λ t old.
     let chosen : Some c.in-Some.consumer ≡ consumer_of t (link_of t c.args.from) = sym c.in-Some.is ∙ c.choose.ensures.chosen t c.in_ok-tell_all.ensures.exact told in
     let noted : NotedFit c.choose.new.self t (last_behind t (Some c.in-Some.consumer)) =
     subst (λ v. NotedFit c.choose.new.self t (last_behind t v)) c.in-Some.is (c.choose.ensures.fits t c.in_ok-tell_all.ensures.exact told) in
-    subst (λ v. PassingFit _ (with_bound (option_map (binding_to c.args.origin c.args.format c.args.payload) v) t)) chosen
+    passed _ t c.in-Some.consumer c.args.origin c.args.format c.args.payload (consumer_of t (link_of t c.args.from)) chosen
     (bound_fits c.choose.new.self _ (binding_to c.args.origin c.args.format c.args.payload c.in-Some.consumer) t refl refl refl (c.in_ok-bind-in-Some.ensures.fits t noted.deliveries) c.in_ok-bind-in-Some.ensures.touches noted)
