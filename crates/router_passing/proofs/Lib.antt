@@ -4,3 +4,4 @@ pub mod Known
 pub mod Chosen
 pub mod Granted
 pub mod Telling
+pub mod Asked

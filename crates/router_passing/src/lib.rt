@@ -1,6 +1,7 @@
 //! Links, the deliveries on them and the pools of their addresses, changed together.
 #![tactic(auto)]
 
+mod asking;
 mod figures;
 mod grant;
 mod granting;
