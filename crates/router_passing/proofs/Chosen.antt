@@ -1,6 +1,6 @@
 -- The consumer that is chosen is attached, at its producer's address.
-use Rattle.std.proofs.Common.{◌≡◌, ◌∙◌, ◌<◌, ◌≤◌, ℕ, Bool, true, false, true≢false, refl, sym, ap, Option, Some, None, List, [], ◌∷◌}
-use Rattle.std.specs.Prelude.{◌==◌, ◌&&◌, if◌then◌else◌, is_some, option_map, option_and_then, nat_le}
+use Rattle.std.proofs.Common.{◌≡◌, ◌∙◌, ℕ, Bool, true, false, true≢false, refl, sym, ap, Option, Some, None, List, [], ◌∷◌}
+use Rattle.std.specs.Prelude.{◌==◌, ◌&&◌, if◌then◌else◌, is_some, option_and_then}
 use Rattle.std.specs.Str.{bytes_eq}
 use Rattle.route_credit.specs.Granting.{choice, is_sooner, least}
 use Rattle.route_credit.specs.Links.{link_at}
@@ -12,7 +12,7 @@ use Rattle.router_trace.specs.Links as view
 use Rattle.router_trace.specs.Links.{Happened, sends, receives, numbered, attachments, place_of, has_number, if_attached, is_attached}
 use Rattle.router_trace.specs.Following.{link_of}
 use Rattle.router_pools.specs.Fits.{chosen_at}
-use Rattle.router_pools.specs.Sharing.{Figure, consumer, producer, listed, offer_at, sharing}
+use Rattle.router_pools.specs.Sharing.{offer_at}
 use Rattle.router_pools.proofs.AtAddress.{same_bytes}
 use Rattle.router_pools.proofs.Listed.{listed_at}
 use Rattle.router_passing.specs.Figures.{figure, figure_at, figure_by, figure_on}

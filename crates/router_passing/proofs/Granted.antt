@@ -1,9 +1,8 @@
 -- The address whose grants come first.
-use Rattle.std.proofs.Common.{◌≡◌, ◌∙◌, ◌+◌, ◌<◌, ◌≤◌, ℕ, zero, suc, Bool, true, false, true≢false, refl, sym, ap, subst, Option, Some, None, List, [], ◌∷◌, ◌++◌, length, arith}
-use Rattle.std.specs.Prelude.{◌==◌, if◌then◌else◌, is_some, unwrap_or, IfNone, IfSome}
+use Rattle.std.proofs.Common.{◌≡◌, ◌∙◌, ◌+◌, ◌<◌, ℕ, zero, suc, true, false, true≢false, refl, sym, ap, subst, Option, Some, None, List, [], ◌∷◌, ◌++◌, length, arith}
+use Rattle.std.specs.Prelude.{◌==◌, is_some, unwrap_or, IfNone, IfSome}
 use Rattle.std.specs.Str.{bytes_eq}
 use Rattle.std.specs.Map.{keys_of}
-use Rattle.std.specs.Cmp.{IsTotalOrder}
 use Rattle.std.specs.Cmp.Lexicographic.{slice_cmp}
 use Rattle.std.specs.Ordering.{nat_cmp, ordering_reverse}
 use Rattle.std.specs.declared.cmp.Ordering.{Ordering}
@@ -13,15 +12,14 @@ use Rattle.std.proofs.lemmas.Bool.Decides.{nat_tests}
 use Rattle.std.proofs.lemmas.Cmp.{nat_list_cmp_total}
 use Rattle.std.proofs.lemmas.Map.Lookups.{exact_bytes}
 use Rattle.route_credit.specs.Granting.{all_granted, gain, gains, grants_of}
-use Rattle.route_credit.specs.Pool.{by_id, Sharing}
-use Rattle.route_credit.specs.declared.demand.Demand.{Demand}
+use Rattle.route_credit.specs.Pool.{by_id}
 use Rattle.route_credit.specs.declared.ids.ProducerId.{ProducerId}
 use Rattle.router_trace.specs.Trace.{Trace}
 use Rattle.router_trace.specs.Links.{attachments}
-use Rattle.router_pools.specs.Sharing.{Figure, consumer, producer, demand_at, entry, listed, sharing}
+use Rattle.router_pools.specs.Sharing.{Figure, consumer, producer, demand_at, entry, listed}
 use Rattle.router_pools.proofs.AtAddress.{same_bytes}
 use Rattle.router_passing.specs.Figures.{figure}
-use Rattle.router_passing.specs.Passing.{grants, grants_of_address, grants_on, if_some, last_chosen, lower, lower_of, lowest_below, pool_of, wants}
+use Rattle.router_passing.specs.Passing.{grants, grants_of_address, grants_on, if_some, lower, lower_of, lowest_below, pool_of, wants}
 use Rattle.router_passing.proofs.Seen.{by_test}
 
 -- an address isn't below another
@@ -148,10 +146,10 @@ unfolding grants
 grants_are t q sums is some none =
     let filled : 0 < length (grants_of (pool_of t q)) = subst (λ n. 0 < n) (sym (length_by_id sums) ∙ ap length is) some in
     let one : Has (λ n. demand_at q (figure t n)) (attachments t) = listed_has (λ n. demand_at q (figure t n)) (attachments t)
-        (gains_some (gain (pool_of t q) (all_granted (pool_of t q))) (pool_of t q).producers filled) in
+    (gains_some (gain (pool_of t q) (all_granted (pool_of t q))) (pool_of t q).producers filled) in
     ap (grants_on t) is
     ∙ sym (ap (grants_of_address t) (lowest_is (attachments t + 1) (λ n. wants t (figure t n)) q one.number (λ k. wants_not t q (figure t k) none) one.below
-        (wants_is t q (figure t one.number) one.has filled)))
+    (wants_is t q (figure t one.number) one.has filled)))
 
 -- what is told of an answer where there is none, and where there is one
 pub at_none : {A : Type 0} {P : Type 0} (r : Option A) → r ≡ None → IfNone r P → P

@@ -1,5 +1,5 @@
 -- What the pools know of the links, behind a change of the tables.
-use Rattle.std.proofs.Common.{◌≡◌, ◌∙◌, ◌+◌, ◌<◌, ◌≤◌, ℕ, zero, suc, Bool, true, false, true≢false, refl, sym, ap, subst, Option, Some, None, List, [], ◌∷◌, arith}
+use Rattle.std.proofs.Common.{◌≡◌, ◌∙◌, ◌+◌, ℕ, zero, suc, Bool, false, refl, sym, ap, subst, Option, Some, None, List, ◌∷◌, arith}
 use Rattle.std.specs.Prelude.{◌==◌, if◌then◌else◌, option_map}
 use Rattle.std.specs.Ordering.{nat_cmp}
 use Rattle.std.specs.BTreeMap.{get}
@@ -10,7 +10,7 @@ use Rattle.book_core.specs.Keys.{key_cmp}
 use Rattle.router_trace.specs.declared.event.Event.{Event}
 use Rattle.router_trace.specs.declared.handle.Attachment.{Attachment}
 use Rattle.router_trace.specs.Links.{if_attached, last_of_key, numbered}
-use Rattle.router_trace.specs.Trace.{Trace, Did, Out, Took, Bound, did}
+use Rattle.router_trace.specs.Trace.{Trace, Out, Bound, did}
 use Rattle.router_trace.specs.declared.binding.Binding.{Binding}
 use Rattle.router_trace.specs.declared.binding.Origin.{Origin}
 use Rattle.router_trace.specs.Numbers.{count_below}
@@ -27,7 +27,7 @@ use Rattle.router_links.specs.Fits.{LinksFit, channel_of as of_links}
 use Rattle.router_links.specs.Naming.{Remembers}
 use Rattle.router_links.specs.Touching as links
 use Rattle.router_pools.specs.declared.pools.Pools.{Pools}
-use Rattle.router_pools.specs.Fits.{Fits, PoolsFit, is_touched}
+use Rattle.router_pools.specs.Fits.{PoolsFit}
 use Rattle.router_pools.specs.Sharing.{Figure, demand_at, offer_at}
 use Rattle.router_passing.specs.declared.passing.Passing.{Passing}
 use Rattle.router_passing.specs.Figures.{figure}

@@ -5,3 +5,4 @@ pub mod Chosen
 pub mod Granted
 pub mod Telling
 pub mod Asked
+pub mod Taken

@@ -1,9 +1,7 @@
 -- What is told to pools and producers, as the tables give it.
 use Rattle.std.proofs.Common.{◌≡◌, ◌∙◌, ◌+◌, ◌<◌, ◌≤◌, ℕ, Bool, true, false, refl, sym, ap, Option, Some, None, List, [], ◌∷◌, ◌++◌, drop, length, get_or}
-use Rattle.std.specs.Prelude.{◌==◌, if◌then◌else◌, option_map}
+use Rattle.std.specs.Prelude.{if◌then◌else◌, option_map}
 use Rattle.std.proofs.lemmas.List.{at_drop_all, at_drop_more}
-use Rattle.amqp_link.specs.Credit as credit
-use Rattle.amqp_link.specs.Receiving as receiving
 use Rattle.route_credit.specs.Pool.{by_id}
 use Rattle.route_credit.specs.declared.ids.ProducerId.{ProducerId}
 use Rattle.router_trace.specs.declared.handle.Attachment.{Attachment}
@@ -14,7 +12,7 @@ use Rattle.router_trace.specs.Following.{is_sending, link_of as view_of}
 use Rattle.router_links.specs.declared.link.Link.{Link}
 use Rattle.router_links.specs.Ends.{link_of}
 use Rattle.router_links.specs.Looking.{credit_on}
-use Rattle.router_pools.specs.Sharing.{Figure, consumer, producer}
+use Rattle.router_pools.specs.Sharing.{consumer, producer}
 use Rattle.router_passing.specs.declared.grant.LinkGrant.{LinkGrant}
 use Rattle.router_passing.specs.Figures.{figure_by, free_of, held, undecided, unused_by, waiting}
 use Rattle.router_passing.specs.Passing.{grant_at, grant_by, grant_on, grants_on}

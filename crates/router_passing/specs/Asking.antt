@@ -5,7 +5,6 @@ use Rattle.router_trace.specs.declared.frames.LinkState.{LinkState}
 use Rattle.router_trace.specs.declared.handle.Attachment.{Attachment}
 use Rattle.router_trace.specs.Trace.{Trace}
 use Rattle.router_trace.specs.Links.{Link, Happened, sends, receives, numbered}
-use Rattle.router_trace.specs.Deliveries.{delivery}
 use Rattle.router_trace.specs.Following.{link_of, first_delivery, is_unsent_on, owes_one}
 
 -- a number is above another, if there is one

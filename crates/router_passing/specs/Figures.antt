@@ -1,5 +1,5 @@
 -- What each link offers and wants, of a trace (AMQP 1.0 part 2, section 2.6.7): the free credit of consumers, the credit that producers have.
-use Rattle.std.specs.Prelude.{ℕ, Bool, ◌+◌, ◌-◌, ◌==◌, min, if◌then◌else◌, List, Option, Some, None}
+use Rattle.std.specs.Prelude.{ℕ, Bool, ◌+◌, ◌-◌, ◌==◌, min, if◌then◌else◌, Option, Some, None}
 use Rattle.amqp_link.specs.declared.part.Delivery.{Delivery as Told}
 use Rattle.amqp_link.specs.Credit as credit
 use Rattle.amqp_link.specs.Receiving as receiving

@@ -1,6 +1,5 @@
 -- Messages that go from a producer to a consumer of its address, and the credit that producers are granted.
 use Rattle.std.specs.Prelude.{ℕ, zero, suc, Bool, false, ◌+◌, ◌==◌, ◌&&◌, if◌then◌else◌, List, [], ◌∷◌, ◌++◌, bytes_eq, Option, Some, None, option_and_then, option_map}
-use Rattle.std.specs.BTreeMap.{is_at}
 use Rattle.std.specs.Cmp.Lexicographic.{slice_cmp}
 use Rattle.std.specs.Ordering.{nat_cmp}
 use Rattle.std.specs.declared.cmp.Ordering.{Ordering}
@@ -9,7 +8,7 @@ use Rattle.amqp_session.specs.Session.{Session}
 use Rattle.amqp_link.specs.Receiving as receiving
 use Rattle.route_credit.specs.Granting.{choice, grants_of}
 use Rattle.route_credit.specs.Pool.{Sharing}
-use Rattle.router_pools.specs.Sharing.{Figure, consumer, producer, sharing}
+use Rattle.router_pools.specs.Sharing.{Figure, producer, sharing}
 use Rattle.router_trace.specs.declared.binding.Binding.{Binding}
 use Rattle.router_trace.specs.declared.binding.Origin.{Origin}
 use Rattle.router_trace.specs.declared.handle.Attachment.{Attachment}

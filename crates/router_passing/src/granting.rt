@@ -97,7 +97,11 @@ impl Passing {
     {
         match self.links.link(from) {
             None => None,
-            Some(link) => choose_of(&mut self.pools, &self.links, link.address.as_str().as_bytes()),
+            Some(link) => choose_of(
+                &mut self.pools,
+                &self.links,
+                link.address.as_str().as_bytes(),
+            ),
         }
     }
 
@@ -126,11 +130,7 @@ fn choose_of(pools: &mut Pools, links: &Links, address: &[u8]) -> Option<Attachm
 }
 
 /// The grants that the producers of the first address that has some are due, once the pools know what all links have.
-fn grants_due(
-    alloc: Global,
-    pools: &mut Pools,
-    links: &Links,
-) -> Result<Vec<LinkGrant>, AllocError>
+fn grants_due(alloc: Global, pools: &mut Pools, links: &Links) -> Result<Vec<LinkGrant>, AllocError>
     ensures due { IfOk result (λ due. (t : List Entry) → LinksFit links.now t → NoneTouched pools.old → PoolsFit pools.old (figure t) (last_chosen t) → due.items ≡ grants t) }
     ensures fits { OnOk result ((known : ℕ → Option Figure) (last : List ℕ → ℕ) → PoolsFit pools.old known last → PoolsFit pools.new known last) }
 {

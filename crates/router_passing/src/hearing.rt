@@ -13,7 +13,12 @@ use router_links::Links;
 use router_trace::LinkAt;
 
 /// The link on which the peer sends that a transfer of it finds, on the session on this channel of the router.
-pub(crate) fn receiving(links: &Links, conn: u64, own: Option<u16>, item: &Item) -> Option<Receiving>
+pub(crate) fn receiving(
+    links: &Links,
+    conn: u64,
+    own: Option<u16>,
+    item: &Item,
+) -> Option<Receiving>
     ensures { (t : List Entry) → LinksFit links.now t → (o : ℕ) → is_channel own o ≡ true → result ≡ found_by item.now (their_handle t conn o) (link t conn o) }
 {
     let own = own?;
@@ -37,7 +42,12 @@ fn receiving_in(links: &Links, conn: u64, own: u16, perf: &Perf) -> Option<Recei
 fn receiving_at(links: &Links, conn: u64, own: u16, handle: u32) -> Option<Receiving>
     ensures { (t : List Entry) → LinksFit links.now t → result ≡ receiving_at (their_handle t conn own handle) (link t conn own) }
 {
-    let LinkAt::Receives { handle: at, unused, .. } = links.place(conn, own, handle) else {
+    let LinkAt::Receives {
+        handle: at,
+        unused,
+        ..
+    } = links.place(conn, own, handle)
+    else {
         return None;
     };
     let middle = match links.middle(conn, own, handle) {

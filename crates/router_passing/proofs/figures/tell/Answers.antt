@@ -1,4 +1,4 @@
-use Rattle.std.proofs.Common.{rules, ◌≡◌, ◌∙◌, sym, ap}
+use Rattle.std.proofs.Common.{rules, ◌≡◌, ◌∙◌}
 use Rattle.std.specs.Prelude.{None}
 use Rattle.router_trace.specs.Links.{place_of}
 use Rattle.router_passing.proofs.Seen.{nowhere}

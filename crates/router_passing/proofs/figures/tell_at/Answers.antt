@@ -1,4 +1,4 @@
-use Rattle.std.proofs.Common.{rules, ◌≡◌, ◌∙◌, sym, ap}
+use Rattle.std.proofs.Common.{rules, ◌≡◌, ◌∙◌}
 use Rattle.std.specs.Prelude.{Some, option_map}
 use Rattle.router_trace.specs.Following.{link_of as view_of}
 use Rattle.router_links.specs.Ends.{link_of}

@@ -1,6 +1,5 @@
 use Rattle.std.proofs.Common.{rules, ◌≡◌, ◌∙◌, sym, ap, true, false}
 use Rattle.router_trace.specs.Following.{is_sending}
-use Rattle.router_links.specs.Ends.{link_of}
 use Rattle.router_links.specs.declared.link.Link.{Link}
 use Rattle.router_passing.specs.Figures.{held, undecided, waiting}
 use Rattle.router_passing.proofs.Telling.{consumer_is, producer_is}

@@ -1,11 +1,10 @@
-use Rattle.std.proofs.Common.{rules, ◌≡◌, ◌∙◌, refl, sym, ap}
-use Rattle.std.specs.Prelude.{ℕ, None, Some, option_map}
+use Rattle.std.proofs.Common.{◌≡◌, ◌∙◌, refl, sym, ap}
+use Rattle.std.specs.Prelude.{None, Some, option_map}
 use Rattle.route_credit.specs.declared.ids.ConsumerId.{ConsumerId}
-use Rattle.route_credit.specs.Granting.{choice}
-use Rattle.router_trace.specs.Links.{attachments, place_of}
+use Rattle.router_trace.specs.Links.{attachments}
 use Rattle.router_pools.specs.Fits.{chosen_at}
 use Rattle.router_passing.specs.Figures.{figure}
-use Rattle.router_passing.specs.Passing.{last_behind, last_chosen, pool_of}
+use Rattle.router_passing.specs.Passing.{last_behind, last_chosen}
 use Rattle.router_passing.proofs.Chosen.{Chooses, chooses_none, chooses_some}
 use Rattle.router_passing.proofs.Known.{exchanged}
 use Rattle.router_passing.proofs.Seen.{are_numbered}

@@ -1,4 +1,4 @@
-use Rattle.std.proofs.Common.{◌≡◌, ◌++◌, ap}
+use Rattle.std.proofs.Common.{◌++◌, ap}
 use Rattle.route_credit.specs.Pool.{by_id}
 use Rattle.router_passing.specs.Passing.{grants_on}
 use Rattle.router_passing.proofs.Telling.{told_last, told_more}

@@ -1,8 +1,8 @@
-use Rattle.std.proofs.Common.{rules, ◌≡◌, refl, ◌∷◌}
-use Rattle.router_trace.specs.Trace.{Out, did}
+use Rattle.std.proofs.Common.{rules, refl, ◌∷◌}
+use Rattle.router_trace.specs.Trace.{did}
 use Rattle.router_trace.specs.declared.event.Event.TheVariants as event
 use Rattle.router_passing.specs.Passing.{last_chosen}
-use Rattle.router_passing.proofs.Known.{did_counts, moved, put_counts, told_fits}
+use Rattle.router_passing.proofs.Known.{did_counts, moved}
 use Rattle.router_passing.proofs.passing.Passing.down.Goals as goal
 
 pub returns : goal.returns

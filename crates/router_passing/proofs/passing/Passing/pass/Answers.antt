@@ -1,4 +1,4 @@
-use Rattle.std.proofs.Common.{rules, ◌≡◌, ◌∙◌, sym, ap, refl, subst, Some}
+use Rattle.std.proofs.Common.{◌≡◌, ◌∙◌, sym, refl, subst, Some}
 use Rattle.router_trace.specs.Following.{link_of}
 use Rattle.router_passing.specs.Fits.{NotedFit, PassingFit}
 use Rattle.router_passing.specs.Passing.{binding_to, consumer_of, last_behind}

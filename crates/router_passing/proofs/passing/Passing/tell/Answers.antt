@@ -1,8 +1,5 @@
-use Rattle.std.proofs.Common.{rules, ◌≡◌, refl, ◌∷◌}
-use Rattle.router_trace.specs.Trace.{Out, did}
-use Rattle.router_trace.specs.declared.event.Event.TheVariants as event
-use Rattle.router_passing.specs.Passing.{last_chosen}
-use Rattle.router_passing.proofs.Known.{did_counts, moved, put_counts, told_fits}
+use Rattle.std.proofs.Common.{rules, refl}
+use Rattle.router_passing.proofs.Known.{told_fits}
 use Rattle.router_passing.proofs.passing.Passing.tell.Goals as goal
 
 pub returns : goal.returns
