@@ -16,3 +16,4 @@ mod Above
 mod Ranges
 mod Opened
 pub mod Listed
+mod Marked

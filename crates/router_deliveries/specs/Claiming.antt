@@ -17,10 +17,13 @@ use Rattle.router_trace.specs.Links.{Link, Happened, sends, receives}
 use Rattle.router_trace.specs.Deliveries.{last_of}
 use Rattle.router_trace.specs.Trace.{Trace}
 use Rattle.router_trace.specs.Claims.{Claim, claims, claim, claimed_first, is_named}
+use Rattle.router_trace.specs.Settling.{is_ignored_on}
 use Rattle.router_deliveries.specs.declared.claims.Claims.{Claims}
 use Rattle.router_deliveries.specs.declared.claims.Middle.{Middle}
 use Rattle.router_deliveries.specs.declared.claims.Receiving.{Receiving}
-use Rattle.router_deliveries.specs.Places.{at_id}
+use Rattle.router_deliveries.specs.declared.ignored.Ignored.{Ignored}
+use Rattle.router_deliveries.specs.Indexing.{in_set}
+use Rattle.router_deliveries.specs.Places.{at, at_id}
 
 -- ids have 32 bits
 abbrev pub IsSmall : ℕ → Option Claim → Type 0
@@ -30,9 +33,21 @@ IsSmall id (Some c) = id < 2 ^ 32
 abbrev pub AreSmall : (ℕ → ℕ → ℕ → Option Claim) → Type 0
 AreSmall known = (c o id : ℕ) → IsSmall id (known c o id)
 
+-- the ids of the claims that were ignored stand by their link
+abbrev pub ignored_handle : Option Claim → Option ℕ
+ignored_handle None = None
+ignored_handle (Some v) = if v.ignored then Some v.handle else None
+
+abbrev pub is_marked : Ignored → ℕ → ℕ → ℕ → ℕ → Bool
+is_marked s c o h id = in_set (at s.sets c o h) id
+
+abbrev pub AreMarked : Claims → Type 0
+AreMarked s = (c o h id : ℕ) → is_marked s.ignored c o h id ≡ is_ignored_on h (at_id s.ids c o id)
+
 pub record ClaimsFit (s : Claims) (t : Trace) : Type 0 where
   pub ids : (c o id : ℕ) → at_id s.ids c o id ≡ claims t c o id
   pub small : AreSmall (at_id s.ids)
+  pub marked : AreMarked s
 
 -- what a transfer does to the claim of an id, on the link that it finds
 abbrev pub claimed_by_middle : ℕ → Transfer → Bool → Option Middle → ℕ → Option Claim → Option Claim

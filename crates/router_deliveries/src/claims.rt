@@ -1,18 +1,19 @@
 //! The deliveries that peers have not settled, by their delivery-ids.
-ghost use Rattle.std.specs.Prelude.{◌≡◌, ◌==◌, ◌∷◌, [], List, ℕ, Some, true, if◌then◌else◌, OnOk};
+ghost use Rattle.std.specs.Prelude.{◌≡◌, ◌==◌, ◌∷◌, [], List, ℕ, Some, None, true, if◌then◌else◌, OnOk};
 ghost use Rattle.std.specs.Option.{option_map};
 ghost use Rattle.router_trace.specs.Trace.{Entry, Out, did};
 ghost use Rattle.router_trace.specs.Claims.{claims, claim, claim_behind_in};
-ghost use Rattle.router_trace.specs.Settling.{is_claimed};
+ghost use Rattle.router_trace.specs.Settling.{is_claimed, ignored};
 ghost use Rattle.router_trace.specs.Sessions.{theirs, maps, is_channel};
 ghost use Rattle.router_trace.specs.Links.{their_handle, link};
 ghost use Rattle.router_deliveries.specs.Fits.{channel_of};
 ghost use Rattle.router_trace.specs.declared.event.Event.TheVariants as event;
 ghost use Rattle.amqp_session.specs.Ranges.{in_range};
-ghost use Rattle.router_deliveries.specs.Claiming.{ClaimsFit, AreSmall, claimed_at, heard_claim, settled_at, found_by, let_go_at, is_on};
+ghost use Rattle.router_deliveries.specs.Claiming.{ClaimsFit, AreSmall, AreMarked, ignored_handle, claimed_at, heard_claim, settled_at, found_by, let_go_at, is_on};
 ghost use Rattle.router_deliveries.specs.Places.{at_id};
 
 use crate::by_session::BySession;
+use crate::ignored::Ignored;
 use crate::names::HALF;
 use amqp_frames::Item;
 use amqp_perf::{Disposition, Perf, Role, Transfer};
@@ -61,6 +62,7 @@ pub struct Receiving {
 #[derive(Debug, Drop)]
 pub struct Claims {
     ids: BySession<Claim>,
+    ignored: Ignored,
 }
 
 impl Claims {
@@ -70,6 +72,7 @@ impl Claims {
     {
         Claims {
             ids: BySession::new(alloc),
+            ignored: Ignored::new(alloc),
         }
     }
 
@@ -87,11 +90,18 @@ impl Claims {
         self.ids.get(conn, own, id).is_some()
     }
 
+    /// How many deliveries of the link on a handle of the router's a peer has not settled that the router ignored.
+    pub fn ignored(&self, conn: u64, own: u16, handle: u32) -> usize
+        ensures { (t : List Entry) → ClaimsFit self.now t → result ≡ ignored t conn own handle }
+    {
+        self.ignored.count(conn, own, handle)
+    }
+
     /// A connection is lost.
     pub fn down(&mut self, conn: ConnectionId)
         ensures { (t : List Entry) → ClaimsFit self.old t → ClaimsFit self.new (did (event.Down conn) ∷ t) }
     {
-        self.ids.forget(conn.0);
+        self.forget(conn.0);
     }
 
     /// An item came on a connection, on the session on this channel of the router, where its channel has one; a transfer finds this
@@ -129,6 +139,7 @@ impl Claims {
         ensures claims { OnOk result (AreSmall (at_id self.old.ids) → (c o q : ℕ) → at_id self.new.ids c o q
             ≡ (if conn == c then (if is_channel own o then heard_claim perf.now link q (at_id self.old.ids c o q) else at_id self.old.ids c o q) else at_id self.old.ids c o q)) }
         ensures small { OnOk result (AreSmall (at_id self.old.ids) → AreSmall (at_id self.new.ids)) }
+        ensures marked { OnOk result (AreMarked self.old → AreMarked self.new) }
     {
         let Some(own) = own else {
             return Ok(());
@@ -163,14 +174,15 @@ impl Claims {
         ensures claims { OnOk result (AreSmall (at_id self.old.ids) → (c o q : ℕ) → at_id self.new.ids c o q
             ≡ (if conn == c then claim_behind_in perf.now own o q (at_id self.old.ids c o q) else at_id self.old.ids c o q)) }
         ensures small { OnOk result (AreSmall (at_id self.old.ids) → AreSmall (at_id self.new.ids)) }
+        ensures marked { OnOk result (AreMarked self.old → AreMarked self.new) }
     {
         match perf {
             Perf::Disposition(disposition) => {
                 self.settle(Role::Receiver, conn, own, disposition)?;
             }
             Perf::Detach(detach) => self.detach(conn, own, detach.handle)?,
-            Perf::End(_) => self.ids.end(conn, own),
-            Perf::Close(_) => self.ids.forget(conn),
+            Perf::End(_) => self.end(conn, own),
+            Perf::Close(_) => self.forget(conn),
             _ => {}
         }
         Ok(())
@@ -187,6 +199,7 @@ impl Claims {
         ensures claims { OnOk result (AreSmall (at_id self.old.ids) → (c o q : ℕ) → at_id self.new.ids c o q
             ≡ (if conn == c then (if own == o then settled_at role disposition.now q (at_id self.old.ids c o q) else at_id self.old.ids c o q) else at_id self.old.ids c o q)) }
         ensures small { OnOk result (AreSmall (at_id self.old.ids) → AreSmall (at_id self.new.ids)) }
+        ensures marked { OnOk result (AreMarked self.old → AreMarked self.new) }
     {
         if disposition.role != role || !disposition.settled {
             return Ok(());
@@ -200,6 +213,7 @@ impl Claims {
     fn detach(&mut self, conn: u64, own: u16, link: u32) -> Result<(), AllocError>
         ensures claims { OnOk result (AreSmall (at_id self.old.ids) → (c o q : ℕ) → at_id self.new.ids c o q ≡ let_go_at (conn == c) (own == o) true (Some link) (at_id self.old.ids c o q)) }
         ensures small { OnOk result (AreSmall (at_id self.old.ids) → AreSmall (at_id self.new.ids)) }
+        ensures marked { OnOk result (AreMarked self.old → AreMarked self.new) }
     {
         self.let_go(conn, own, 0, HALF - 1, Some(link))?;
         self.let_go(conn, own, HALF, u32::MAX, Some(link))?;
@@ -217,6 +231,7 @@ impl Claims {
         ensures claims { OnOk result ((c o q : ℕ) → at_id self.new.ids c o q
             ≡ (if conn == c then (if own == o then claimed_at transfer.now (Some link) q (at_id self.old.ids c o q) else at_id self.old.ids c o q) else at_id self.old.ids c o q)) }
         ensures small { OnOk result (AreSmall (at_id self.old.ids) → AreSmall (at_id self.new.ids)) }
+        ensures marked { OnOk result (AreMarked self.old → AreMarked self.new) }
     {
         match link.middle {
             None => match transfer.delivery_id {
@@ -256,6 +271,7 @@ impl Claims {
         ensures claims { OnOk result (AreSmall (at_id self.old.ids) → (c o q : ℕ) → at_id self.new.ids c o q
             ≡ let_go_at (conn == c) (own == o) (in_range first last q) link (at_id self.old.ids c o q)) }
         ensures small { OnOk result (AreSmall (at_id self.old.ids) → AreSmall (at_id self.new.ids)) }
+        ensures marked { OnOk result (AreMarked self.old → AreMarked self.new) }
     {
         let ids = self.ids.in_range(conn, own, first, last)?;
         for id in &ids {
@@ -266,11 +282,55 @@ impl Claims {
 
     /// Lets go of the claim to an id, where it is on this link of the router, or on any.
     fn let_go_one(&mut self, conn: u64, own: u16, id: u32, link: Option<u32>)
-        ensures { (c o q : ℕ) → at_id self.new.ids c o q ≡ let_go_at (conn == c) (own == o) (id == q) link (at_id self.old.ids c o q) }
+        ensures claims { (c o q : ℕ) → at_id self.new.ids c o q ≡ let_go_at (conn == c) (own == o) (id == q) link (at_id self.old.ids c o q) }
+        ensures marked { AreMarked self.old → AreMarked self.new }
     {
         if is_on(self.ids.get(conn, own, id), link) {
-            self.ids.remove(conn, own, id);
+            self.clear(conn, own, id);
         }
+    }
+
+    /// The claims on a session end.
+    fn end(&mut self, conn: u64, own: u16)
+        ensures claims { (c o q : ℕ) → at_id self.new.ids c o q ≡ (if conn == c then (if own == o then None else at_id self.old.ids c o q) else at_id self.old.ids c o q) }
+        ensures marked { AreMarked self.old → AreMarked self.new }
+    {
+        self.ids.end(conn, own);
+        self.ignored.end(conn, own);
+    }
+
+    /// The claims on a connection end.
+    fn forget(&mut self, conn: u64)
+        ensures claims { (c o q : ℕ) → at_id self.new.ids c o q ≡ (if conn == c then None else at_id self.old.ids c o q) }
+        ensures marked { AreMarked self.old → AreMarked self.new }
+    {
+        self.ids.forget(conn);
+        self.ignored.forget(conn);
+    }
+
+    /// Takes the claim to an id away.
+    fn clear(&mut self, conn: u64, own: u16, id: u32)
+        ensures claims { (c o q : ℕ) → at_id self.new.ids c o q
+            ≡ (if conn == c then (if own == o then (if id == q then None else at_id self.old.ids c o q) else at_id self.old.ids c o q) else at_id self.old.ids c o q) }
+        ensures marked { AreMarked self.old → AreMarked self.new }
+    {
+        let handle = ignored_handle(self.ids.get(conn, own, id));
+        self.ignored.drop_from(conn, own, handle, id);
+        self.ids.remove(conn, own, id);
+    }
+
+    /// Gives an id this claim, for the one that it had.
+    fn put_claim(&mut self, conn: u64, own: u16, id: u32, claim: Claim) -> Result<(), AllocError>
+        ensures claims { OnOk result ((c o q : ℕ) → at_id self.new.ids c o q
+            ≡ (if conn == c then (if own == o then (if id == q then Some claim else at_id self.old.ids c o q) else at_id self.old.ids c o q) else at_id self.old.ids c o q)) }
+        ensures marked { OnOk result (AreMarked self.old → AreMarked self.new) }
+    {
+        let before = ignored_handle(self.ids.get(conn, own, id));
+        let after = ignored_handle(Some(&claim));
+        self.ignored.drop_from(conn, own, before, id);
+        self.ignored.add(conn, own, after, id)?;
+        self.ids.insert(conn, own, id, claim)?;
+        Ok(())
     }
 
     /// Gives an id this claim, or none.
@@ -278,10 +338,11 @@ impl Claims {
         ensures claims { OnOk result ((c o q : ℕ) → at_id self.new.ids c o q
             ≡ (if conn == c then (if own == o then (if id == q then claim else at_id self.old.ids c o q) else at_id self.old.ids c o q) else at_id self.old.ids c o q)) }
         ensures small { OnOk result (AreSmall (at_id self.old.ids) → AreSmall (at_id self.new.ids)) }
+        ensures marked { OnOk result (AreMarked self.old → AreMarked self.new) }
     {
         match claim {
-            None => self.ids.remove(conn, own, id),
-            Some(claim) => self.ids.insert(conn, own, id, claim)?,
+            None => self.clear(conn, own, id),
+            Some(claim) => self.put_claim(conn, own, id, claim)?,
         }
         Ok(())
     }
@@ -298,6 +359,22 @@ fn claimed(handle: u32, resume: bool, transfer: &Transfer) -> Option<Claim>
         handle,
         ignored: resume && !transfer.more,
     })
+}
+
+/// The router's handle of a claim that was ignored.
+fn ignored_handle(claim: Option<&Claim>) -> Option<u32>
+    ensures { result ≡ ignored_handle (option_map (λ c. c.now) claim.entry) }
+{
+    match claim {
+        None => None,
+        Some(claim) => {
+            if claim.ignored {
+                Some(claim.handle)
+            } else {
+                None
+            }
+        }
+    }
 }
 
 /// Whether a claim is on this link of the router, or on any.

@@ -16,6 +16,7 @@ mod deliveries;
 mod delivery;
 mod groups;
 mod hearing;
+mod ignored;
 mod index;
 mod names;
 mod next_ids;

@@ -14,10 +14,11 @@ loop-id-preserved c =
           let before = at_id c.loop-id.self.ids d o q in
           let here = c.args.conn == d in
           let own = c.args.own == o in
-          one_more here own q _ (drop (c.loop-id.id-index + 1) ids) c.args.link before _ (c.let_go_one.ensures d o q ∙ ap (λ k. let_go_at here own (k == q) c.args.link before) (c.number.ensures ∙ c.id-item.is))
+          one_more here own q _ (drop (c.loop-id.id-index + 1) ids) c.args.link before _ (c.let_go_one.ensures.claims d o q ∙ ap (λ k. let_go_at here own (k == q) c.args.link before) (c.number.ensures ∙ c.id-item.is))
           ∙ sym (ap (λ l. let_go_at here own (has q l) c.args.link before) (drop_more ids c.loop-id.id-index c.id-item.result c.loop-id-test.true))
           ∙ c.loop-id.invariant.0 d o q,
-      λ small d o q. small_gone (c.args.conn == d) (c.args.own == o) (c.number.result == q) c.args.link q (at_id c.loop-id.self.ids d o q) _ (c.let_go_one.ensures d o q) (c.loop-id.invariant.1 small d o q),
+      λ small d o q. small_gone (c.args.conn == d) (c.args.own == o) (c.number.result == q) c.args.link q (at_id c.loop-id.self.ids d o q) _ (c.let_go_one.ensures.claims d o q) (c.loop-id.invariant.1 small d o q),
+      λ marked. c.let_go_one.ensures.marked (c.loop-id.invariant.2 marked),
     )
 
 pub returns-clause-claims : goal.returns-clause-claims

@@ -1,0 +1,142 @@
+//! The delivery-ids of the claims that the router ignored, by link.
+ghost use Rattle.std.specs.Prelude.{◌≡◌, ◌==◌, ℕ, Bool, true, false, if◌then◌else◌, OnOk};
+ghost use Rattle.std.specs.Ordering.{nat_cmp};
+ghost use Rattle.std.specs.BTreeMap.{get};
+ghost use Rattle.std.specs.BTreeSet.{contains};
+ghost use Rattle.router_trace.specs.Deliveries.{is_number};
+ghost use Rattle.router_deliveries.specs.Claiming.{is_marked};
+ghost use Rattle.router_deliveries.specs.Finding.{IsCount};
+ghost use Rattle.router_deliveries.specs.Indexing.{in_set};
+ghost use Rattle.router_deliveries.specs.Places.{in_map};
+
+use crate::by_handle::{ByHandle, InConnection, InSession};
+use std::alloc::{AllocError, Global};
+use std::collections::BTreeSet;
+
+/// The delivery-ids of the claims that the router ignored, by its handles; a link without any takes no room.
+#[derive(Debug, Drop)]
+pub(crate) struct Ignored {
+    alloc: Global,
+    sets: ByHandle<BTreeSet<u32>>,
+}
+
+impl Ignored {
+    /// None.
+    pub(crate) fn new(alloc: Global) -> Ignored
+        ensures { (c o h id : ℕ) → is_marked result c o h id ≡ false }
+    {
+        Ignored {
+            alloc,
+            sets: ByHandle::new(alloc),
+        }
+    }
+
+    /// How many ids a link has.
+    #[tactic(auto, using(crate::proofs::Found::no_ids))]
+    pub(crate) fn count(&self, conn: u64, own: u16, handle: u32) -> usize
+        ensures { IsCount (is_marked self.now conn own handle) result }
+    {
+        match self.sets.get(conn, own, handle) {
+            None => 0,
+            Some(ids) => count(ids),
+        }
+    }
+
+    /// Gives an id to a link, where there is one.
+    pub(crate) fn add(
+        &mut self,
+        conn: u64,
+        own: u16,
+        handle: Option<u32>,
+        id: u32,
+    ) -> Result<(), AllocError>
+        ensures { OnOk result ((c o h q : ℕ) → is_marked self.new c o h q
+            ≡ (if conn == c then (if own == o then (if is_number handle h then (if id == q then true else is_marked self.old c o h q) else is_marked self.old c o h q) else is_marked self.old c o h q) else is_marked self.old c o h q)) }
+    {
+        match handle {
+            None => Ok(()),
+            Some(handle) => self.add_to(conn, own, handle, id),
+        }
+    }
+
+    /// Gives an id to a link.
+    fn add_to(&mut self, conn: u64, own: u16, handle: u32, id: u32) -> Result<(), AllocError>
+        ensures { OnOk result ((c o h q : ℕ) → is_marked self.new c o h q
+            ≡ (if conn == c then (if own == o then (if handle == h then (if id == q then true else is_marked self.old c o h q) else is_marked self.old c o h q) else is_marked self.old c o h q) else is_marked self.old c o h q)) }
+    {
+        let mut ids = match self.sets.remove(conn, own, handle) {
+            None => BTreeSet::new(self.alloc),
+            Some(ids) => ids,
+        };
+        add(&mut ids, id)?;
+        self.sets.insert(conn, own, handle, ids)
+    }
+
+    /// Takes an id from a link, where there is one.
+    pub(crate) fn drop_from(&mut self, conn: u64, own: u16, handle: Option<u32>, id: u32)
+        ensures { (c o h q : ℕ) → is_marked self.new c o h q
+            ≡ (if conn == c then (if own == o then (if is_number handle h then (if id == q then false else is_marked self.old c o h q) else is_marked self.old c o h q) else is_marked self.old c o h q) else is_marked self.old c o h q) }
+    {
+        let Some(handle) = handle else {
+            return;
+        };
+        if let Some(sessions) = self.sets.rows.get_mut(&conn) {
+            drop_in_connection(sessions, own, handle, id);
+        }
+    }
+
+    /// Forgets the links of a session.
+    pub(crate) fn end(&mut self, conn: u64, own: u16)
+        ensures { (c o h q : ℕ) → is_marked self.new c o h q ≡ (if conn == c then (if own == o then false else is_marked self.old c o h q) else is_marked self.old c o h q) }
+    {
+        let _ = self.sets.end(conn, own);
+    }
+
+    /// Forgets the links of a connection.
+    pub(crate) fn forget(&mut self, conn: u64)
+        ensures { (c o h q : ℕ) → is_marked self.new c o h q ≡ (if conn == c then false else is_marked self.old c o h q) }
+    {
+        let _ = self.sets.forget(conn);
+    }
+}
+
+/// Takes an id from a link of a connection.
+fn drop_in_connection(sessions: &mut InConnection<BTreeSet<u32>>, own: u16, handle: u32, id: u32)
+    ensures { (o h q : ℕ) → in_set (in_map (get nat_cmp sessions.new o) h) q
+        ≡ (if own == o then (if handle == h then (if id == q then false else in_set (in_map (get nat_cmp sessions.old o) h) q) else in_set (in_map (get nat_cmp sessions.old o) h) q) else in_set (in_map (get nat_cmp sessions.old o) h) q) }
+{
+    if let Some(handles) = sessions.get_mut(&own) {
+        drop_in_session(handles, handle, id);
+    }
+}
+
+/// Takes an id from a link of a session.
+fn drop_in_session(handles: &mut InSession<BTreeSet<u32>>, handle: u32, id: u32)
+    ensures { (h q : ℕ) → in_set (get nat_cmp handles.new h) q
+        ≡ (if handle == h then (if id == q then false else in_set (get nat_cmp handles.old h) q) else in_set (get nat_cmp handles.old h) q) }
+{
+    let Some(ids) = handles.get_mut(&handle) else {
+        return;
+    };
+    let _ = ids.remove(&id);
+    if ids.is_empty() {
+        let _ = handles.remove(&handle);
+    }
+}
+
+/// Puts an id in a set.
+fn add(ids: &mut BTreeSet<u32>, id: u32) -> Result<(), AllocError>
+    ensures { OnOk result ((q : ℕ) → contains nat_cmp ids.new q ≡ (if id == q then true else contains nat_cmp ids.old q)) }
+{
+    match ids.insert(id) {
+        Ok(_) => Ok(()),
+        Err(_) => Err(AllocError),
+    }
+}
+
+/// How many ids a set has.
+fn count(ids: &BTreeSet<u32>) -> usize
+    ensures { IsCount (contains nat_cmp ids.now) result }
+{
+    ids.len()
+}
