@@ -9,7 +9,7 @@ ghost use Rattle.router_trace.specs.Deliveries.{delivery, next_id, sending, name
 ghost use Rattle.router_trace.specs.Sessions.{theirs, maps, is_channel};
 ghost use Rattle.router_trace.specs.Following.{first_delivery, is_unsent_on, is_used};
 ghost use Rattle.router_trace.specs.Settling.{open_ids};
-ghost use Rattle.router_deliveries.specs.Finding.{IsFirst, IsCount, IsFirstLink, IsListed, count_deliveries};
+ghost use Rattle.router_deliveries.specs.Finding.{IsFirst, IsCount, IsFirstLink, IsListed, count_deliveries, is_above};
 ghost use Rattle.router_deliveries.specs.Naming.{Remembers};
 ghost use Rattle.router_deliveries.specs.Fits.{DeliveriesFit, channel_of};
 ghost use Rattle.router_deliveries.specs.Touching.{is_touched, Touches};
@@ -148,6 +148,13 @@ impl Deliveries {
         ensures first { (t : List Entry) → DeliveriesFit self.now t → result ≡ first_delivery t is_to_tell }
     {
         self.store.first_to_tell()
+    }
+
+    /// The lowest number of a delivery above this one, or of all, whose producer is to be told its outcome.
+    pub fn to_tell_behind(&self, number: Option<u64>) -> Option<u64>
+        ensures { (t : List Entry) → DeliveriesFit self.now t → IsFirst (λ n. is_above number n && is_to_tell (delivery t n)) result }
+    {
+        self.store.to_tell_behind(number)
     }
 
     /// The number of the delivery that an id names on a session of the router's; none may be told where it isn't undecided.

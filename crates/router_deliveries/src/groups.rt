@@ -188,7 +188,7 @@ pub(crate) fn first(numbers: &BTreeSet<u64>) -> Option<u64>
 }
 
 /// The lowest number of a set above this one.
-fn behind(numbers: &BTreeSet<u64>, number: u64) -> Option<u64>
+pub(crate) fn behind(numbers: &BTreeSet<u64>, number: u64) -> Option<u64>
     ensures { IsFirst (λ n. nat_lt number n && contains nat_cmp numbers.now n) result }
 {
     let mut above = numbers.range((Bound::Excluded(number), Bound::Unbounded));

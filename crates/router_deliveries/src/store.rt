@@ -14,7 +14,7 @@ ghost use Rattle.router_deliveries.specs.Fits.{Indexed, StoreFit, carried_in, ca
 ghost use Rattle.router_deliveries.specs.declared.index.Keys.{Keys as TheKeys};
 ghost use Rattle.router_deliveries.specs.Indexing.{Indexes, standing, in_group};
 ghost use Rattle.std.specs.BTreeSet.{contains};
-ghost use Rattle.router_deliveries.specs.Finding.{IsFirst, IsCount, IsFirstLink};
+ghost use Rattle.router_deliveries.specs.Finding.{IsFirst, IsCount, IsFirstLink, is_above};
 ghost use Rattle.router_deliveries.specs.Touching.{is_touched_in, StandsSame, StoreTouches};
 ghost use Rattle.router_deliveries.specs.Hearing.{id_of};
 ghost use Rattle.router_deliveries.specs.Naming.{is_open};
@@ -22,7 +22,7 @@ ghost use Rattle.router_deliveries.specs.Stepping.{behind, behind_any, IsKept};
 
 use crate::change::{Change, Gone, behind_put};
 use crate::delivery::Delivery;
-use crate::groups::first;
+use crate::groups::{behind, first};
 use crate::index::{Index, Keys};
 use crate::touched::Touched;
 use amqp_frames::Item;
@@ -132,6 +132,16 @@ impl Store {
         ensures { IsFirst (contains nat_cmp self.now.index.to_tell) result }
     {
         first(&self.index.to_tell)
+    }
+
+    /// The lowest delivery above this one, or of all, whose producer is to be told.
+    pub(crate) fn to_tell_behind(&self, number: Option<u64>) -> Option<u64>
+        ensures { IsFirst (λ n. is_above number n && contains nat_cmp self.now.index.to_tell n) result }
+    {
+        match number {
+            None => first(&self.index.to_tell),
+            Some(number) => behind(&self.index.to_tell, number),
+        }
     }
 
     /// Whether the delivery of a number is undecided.

@@ -1,32 +1,12 @@
--- When links, deliveries, claims and pools are those that a trace gives.
-use Rattle.std.specs.Prelude.{◌≡◌, ℕ, false, List, Option}
-use Rattle.router_pools.specs.Fits.{PoolsFit, NoneTouched}
-use Rattle.router_pools.specs.Sharing.{Figure}
+-- Stub.
 use Rattle.router_trace.specs.Trace.{Trace}
 use Rattle.router_deliveries.specs.Claiming.{ClaimsFit}
 use Rattle.router_deliveries.specs.Fits.{DeliveriesFit}
-use Rattle.router_deliveries.specs.Touching as deliveries
 use Rattle.router_links.specs.Fits.{LinksFit}
-use Rattle.router_links.specs.Touching as links
 use Rattle.router_passing.specs.declared.passing.Passing.{Passing}
-use Rattle.router_passing.specs.Figures.{figure}
-use Rattle.router_passing.specs.Passing.{last_chosen}
-
--- The pools have what the links had that were touched since, and what the others have.
-pub record PoolsKnow (s : Passing) (t : Trace) : Type 0 where
-  pub known : ℕ → Option Figure
-  pub fits : PoolsFit s.pools known (λ address. last_chosen t address)
-  pub same : (n : ℕ) → links.is_touched s.links n ≡ false → deliveries.is_touched s.deliveries n ≡ false → known n ≡ figure t n
 
 -- all tables are those of the trace
 pub record PassingFit (s : Passing) (t : Trace) : Type 0 where
   pub links : LinksFit s.links t
   pub deliveries : DeliveriesFit s.deliveries t
   pub claims : ClaimsFit s.claims t
-  pub pools : PoolsKnow s t
-
--- what all links have was told to the pools
-pub record Untouched (s : Passing) : Type 0 where
-  pub pools : NoneTouched s.pools
-  pub links : (n : ℕ) → links.is_touched s.links n ≡ false
-  pub deliveries : (n : ℕ) → deliveries.is_touched s.deliveries n ≡ false

@@ -1,5 +1,4 @@
 pub mod Asking
-pub mod Figures
 pub mod Passing
 pub mod Fits
 pub use Rattle.router_trace.specs.Trace

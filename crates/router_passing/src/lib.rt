@@ -1,10 +1,8 @@
 //! Links, the deliveries on them and the pools of their addresses, changed together.
 #![tactic(auto)]
 
-mod figures;
 mod grant;
-mod granting;
-mod hearing;
+mod never;
 mod passing;
 
 pub use grant::LinkGrant;

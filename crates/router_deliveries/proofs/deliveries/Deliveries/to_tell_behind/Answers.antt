@@ -1,0 +1,14 @@
+use Rattle.std.proofs.Common.{◌≡◌, ◌&&◌, ap}
+use Rattle.std.specs.Ordering.{nat_cmp}
+use Rattle.std.specs.BTreeSet.{contains}
+use Rattle.router_trace.specs.Deliveries.{delivery, is_to_tell}
+use Rattle.router_deliveries.specs.Finding.{is_above}
+use Rattle.router_deliveries.proofs.Asked.{to_tell_in}
+use Rattle.router_deliveries.proofs.Found.{first_same}
+use Rattle.router_deliveries.proofs.deliveries.Deliveries.to_tell_behind.Goals as goal
+
+-- those that are to be told are those of the trace
+pub returns : goal.returns
+returns c = λ t fit.
+    first_same (λ n. is_above c.args.number n && contains nat_cmp c.args.self.now.store.index.to_tell n) (λ n. is_above c.args.number n && is_to_tell (delivery t n))
+    (λ n. ap (λ b. is_above c.args.number n && b) (to_tell_in c.args.self.now.store t fit.store n)) _ c.to_tell_behind.ensures
