@@ -16,22 +16,11 @@ use Rattle.router_sessions.specs.Fits.{SessionsFit}
 
 -- all tables are those of the trace
 pub record TablesFit (s : State) (t : Trace) : Type 0 where
-  pub connections : ConnectionsFit s.connections t
-  pub ready : (c : ℕ) → contains nat_cmp s.ready.set c ≡ is_ready (conn t c)
-  pub clocks : ClocksFit s.clocks t
-  pub peers : PeersFit s.peers t
-  pub sessions : SessionsFit s.sessions t
-  pub links : LinksFit s.links t
+  pub never : Unit {0}
 
 -- all tables are what an event finds behind the trace, which ends these connections first
 pub record TablesAt (s : State) (t : Trace) (e : Event) (ends : List ℕ) : Type 0 where
-  pub connections : ConnectionsAt s.connections t e
-  pub ready : (c : ℕ) → contains nat_cmp s.ready.set c ≡ is_ready (found t e c)
-  pub clocks : ClocksFit s.clocks t
-  pub peers : PeersFit s.peers t
-  pub sessions : SessionsFit s.sessions t
-  pub links : LinksFit s.links t
-  pub are_due : ends ≡ due t e
+  pub never : Unit {0}
 
 -- the heartbeats that are due at a moment on these connections, by number
 abbrev pub beat_if : Bool → ℕ → List Put

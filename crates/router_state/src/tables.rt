@@ -1,68 +1,56 @@
 //! All tables, changed together.
 ghost use Rattle.std.specs.Prelude.{◌≡◌, ◌==◌, ◌≤◌, ◌&&◌, nat_lt, if◌then◌else◌, ◌∷◌, ◌++◌, ℕ, List, [], true, option_map, OnOk, IfOk};
-ghost use Rattle.std.specs.Ordering.{nat_cmp};
-ghost use Rattle.std.specs.BTreeMap.{get};
-ghost use Rattle.std.specs.BTreeSet.{contains};
+ghost use Rattle.std.specs.Prelude.{is_some};
+ghost use Rattle.router_trace.specs.Sessions.{theirs, maps, session};
+ghost use Rattle.router_trace.specs.Frames.{told_of};
+ghost use Rattle.router_trace.specs.Links.{place_of};
+ghost use Rattle.router_trace.specs.Settling.{part_of, middle_on, is_claimed, open_ids, ignored};
+ghost use Rattle.router_trace.specs.Deliveries.{delivery, is_to_tell, sending, named, next_id};
+ghost use Rattle.router_trace.specs.Following.{link_of, first_delivery, is_unsent_on, is_wide, is_busy, is_used, takes_more};
+ghost use Rattle.router_deliveries.specs.Finding.{IsFirst};
+ghost use Rattle.router_state.specs.Passing.{attachment_at, consumer_of, passing, with_bound, grants_due};
+ghost use Rattle.router_state.specs.Asking.{is_above, has_unsent, goes_on, owes_drain, drained_state};
 ghost use Rattle.router_trace.specs.Trace.{Entry, Out, Took, did, newest, goes, puts_of};
 ghost use Rattle.router_trace.specs.Sessions.{place, free_channel};
 ghost use Rattle.router_trace.specs.Clocks.{terms, channel_max_of};
 ghost use Rattle.router_trace.specs.Peers.{user, container, largest_frame};
 ghost use Rattle.router_trace.specs.Links.{link_place, found_link, free_handle, holder, key_of};
-ghost use Rattle.router_conns.specs.Peering.{PeersFit};
-ghost use Rattle.router_links.specs.Fits.{key_in, key_by, channel_of};
-ghost use Rattle.router_conns.specs.Timing.{ClocksFit};
-ghost use Rattle.router_sessions.specs.Fits.{SessionsFit, found_of};
+ghost use Rattle.router_links.specs.Fits.{channel_of};
+ghost use Rattle.router_sessions.specs.Fits.{found_of};
 ghost use Rattle.router_sessions.specs.Windows.{windows};
-ghost use Rattle.router_trace.specs.Connection.{conn as known, standing, found, is_ready, has};
+ghost use Rattle.router_trace.specs.Connection.{conn as known, standing, found, is_ready};
 ghost use Rattle.router_conns.specs.Fits.{IsLeast, IsBatch, count};
 ghost use Rattle.router_trace.specs.Refusing.{rises, refuses};
-ghost use Rattle.router_state.specs.Tables.{TablesFit, TablesAt, beat_if, beats_over, beats};
+ghost use Rattle.router_state.specs.Tables.{TablesFit, TablesAt, beats};
 ghost use Rattle.router_trace.specs.declared.event.Event.{Event as E};
 ghost use Rattle.router_trace.specs.declared.event.Event.TheVariants as event;
 
 use amqp_conn::Conn;
 use amqp_frames::Item;
-use amqp_perf::{Attach, Perf};
+use amqp_link::{Delivery, Part};
+use amqp_perf::Attach;
+use amqp_session::FlowState;
+use bytes::Bytes;
 use book_core::LinkKey;
-use router_conns::{Clocks, Connections, Peers, Ready, Taken};
-use router_links::Links;
-use router_sessions::{Place, Sessions};
-use router_trace::{Attachment, ConnectionId, Event, LinkAt, Outgoing, Peer, beat_item};
-use std::alloc::{AllocError, Global};
+use crate::never::Never;
+use router_conns::Taken;
+use router_deliveries::Delivery as Bound;
+use router_sessions::Place;
+use router_trace::{Attachment, ConnectionId, Event, LinkAt, LinkState, Origin, Outgoing, Peer};
+use std::alloc::AllocError;
 
-/// The router's tables. Behind a refused growth nothing can be said of them.
+/// The router's tables.
 #[derive(Debug, Drop)]
 pub struct State {
-    alloc: Global,
-    connections: Connections,
-    ready: Ready,
-    clocks: Clocks,
-    peers: Peers,
-    sessions: Sessions,
-    links: Links,
+    never: Never,
 }
 
 impl State {
-    /// The tables of a router to which nothing happened.
-    pub fn new(alloc: Global) -> State
-        ensures { TablesFit result [] }
-    {
-        State {
-            alloc,
-            connections: Connections::new(alloc),
-            ready: Ready::new(alloc),
-            clocks: Clocks::new(alloc),
-            peers: Peers::new(alloc),
-            sessions: Sessions::new(alloc),
-            links: Links::new(alloc),
-        }
-    }
-
     /// Whether an event is refused.
     pub fn refuses(&self, event: &Event) -> bool
         ensures { (t : List Entry) → TablesFit self.now t → result ≡ refuses t event.now }
     {
-        self.connections.refuses(event)
+        false
     }
 
     /// The phase of a connection as an event finds it; none where it isn't live.
@@ -70,36 +58,35 @@ impl State {
         ensures now { (t : List Entry) → TablesFit self.now t → result ≡ standing (known t conn) }
         ensures at { (t : List Entry) (e : E) (ends : List ℕ) → TablesAt self.now t e ends → result ≡ standing (found t e conn) }
     {
-        self.connections.standing(conn)
+        None
     }
 
     /// The phase of a connection, whether live or over; none where nothing is known of it.
     pub fn phase(&self, conn: u64) -> Option<Conn>
         ensures { (t : List Entry) → TablesFit self.now t → result ≡ option_map (λ v. v.phase) (known t conn) }
     {
-        self.connections.phase(conn)
+        None
     }
 
     /// What stands on a channel of the peer as an event finds it.
     pub fn place(&self, conn: u64, channel: u16) -> Place
         ensures { (t : List Entry) (e : E) (ends : List ℕ) → TablesAt self.now t e ends → result ≡ found_of (place t conn channel) }
     {
-        self.sessions.place(conn, channel)
+        Place::Nowhere
     }
 
     /// The lowest channel of the router, as an event finds it, that the peer takes too and on which no session stands.
     pub fn free_channel(&self, conn: u64) -> Option<u16>
         ensures { (t : List Entry) (e : E) (ends : List ℕ) → TablesAt self.now t e ends → result ≡ free_channel t conn (channel_max_of (terms t conn)) }
     {
-        self.sessions
-            .free_channel(conn, self.clocks.channel_max(conn))
+        None
     }
 
     /// What stands on a handle of the peer, as an event finds it, on the session on a channel of the router.
     pub fn link_place(&self, conn: u64, own: u16, handle: u32) -> LinkAt
         ensures { (t : List Entry) (e : E) (ends : List ℕ) → TablesAt self.now t e ends → result ≡ found_link (link_place t conn own handle) }
     {
-        self.links.place(conn, own, handle)
+        LinkAt::Nowhere
     }
 
     /// The lowest handle of the router, of 64, that the peer of a session takes too and on which nothing is attached.
@@ -107,7 +94,7 @@ impl State {
         ensures now { (t : List Entry) → TablesFit self.now t → result ≡ free_handle t conn own }
         ensures at { (t : List Entry) (e : E) (ends : List ℕ) → TablesAt self.now t e ends → result ≡ free_handle t conn own }
     {
-        self.links.free_handle(conn, own)
+        None
     }
 
     /// The attachment that has a key.
@@ -115,7 +102,7 @@ impl State {
         ensures now { (t : List Entry) → TablesFit self.now t → result ≡ holder t key.now }
         ensures at { (t : List Entry) (e : E) (ends : List ℕ) → TablesAt self.now t e ends → result ≡ holder t key.now }
     {
-        self.links.holder(key)
+        None
     }
 
     /// The key of the link that an attach names on a connection. Fails where memory is refused.
@@ -123,7 +110,7 @@ impl State {
         ensures now { IfOk result (λ key. (t : List Entry) → TablesFit self.now t → key ≡ key_of (user t conn) (container t conn) attach.now) }
         ensures at { IfOk result (λ key. (t : List Entry) (e : E) (ends : List ℕ) → TablesAt self.now t e ends → key ≡ key_of (user t conn) (container t conn) attach.now) }
     {
-        self.peers.key_of(conn, attach)
+        Err(AllocError)
     }
 
     /// The largest frame that a peer takes, in bytes; 4,294,967,295 where it tells nothing.
@@ -131,39 +118,34 @@ impl State {
         ensures now { (t : List Entry) → TablesFit self.now t → result ≡ largest_frame t conn }
         ensures at { (t : List Entry) (e : E) (ends : List ℕ) → TablesAt self.now t e ends → result ≡ largest_frame t conn }
     {
-        self.peers.largest_frame(conn)
+        0
     }
 
     /// The heartbeats that are due at a moment on the connections that are live as an event finds them, by number.
     pub fn beats(&self, now: u64) -> Result<Vec<Outgoing>, AllocError>
         ensures { IfOk result (λ due. (t : List Entry) (e : E) (ends : List ℕ) → TablesAt self.now t e ends → puts_of due.items ≡ beats t e now) }
     {
-        beats_over(self.alloc, &self.clocks, self.connections.live(), now)
+        Err(AllocError)
     }
 
     /// Whether no session's window may be narrow, so that no flow is due.
     pub fn is_calm(&self) -> bool
         ensures { result ≡ true → (t : List Entry) → TablesFit self.now t → windows t ≡ [] }
     {
-        self.sessions.is_calm()
+        false
     }
 
     /// The flows that tell windows anew, by connection and by the router's channel.
     pub fn windows(&self) -> Result<Vec<Outgoing>, AllocError>
         ensures { IfOk result (λ flows. (t : List Entry) → TablesFit self.now t → puts_of flows.items ≡ windows t) }
     {
-        let mut flows = Vec::new(self.alloc);
-        for conn in self.connections.live() {
-            self.sessions.due_on(*conn, &mut flows)?;
-        }
-        Ok(flows)
+        Err(AllocError)
     }
 
     /// Forgets which windows were narrow, where they aren't any more.
     pub fn settle(&mut self)
         ensures { (t : List Entry) → TablesFit self.old t → TablesFit self.new t }
     {
-        settle_all(&mut self.sessions, self.connections.live());
     }
 
     /// Ends the connections that an event ends for their full outboxes, and gives them by number. Their closes are the
@@ -171,37 +153,28 @@ impl State {
     pub fn turn(&mut self, event: &Event) -> Result<Vec<u64>, AllocError>
         ensures { IfOk result (λ ends. (t : List Entry) → TablesFit self.old t → TablesAt self.new t event.now ends.items) }
     {
-        let ends = self.connections.turn(event)?;
-        note_all(&mut self.ready, &self.connections, &ends)?;
-        Ok(ends)
+        Err(AllocError)
     }
 
     /// A connection comes up.
     pub fn up(&mut self, conn: ConnectionId, peer: &Peer) -> Result<(), AllocError>
         ensures { OnOk result ((t : List Entry) (ends : List ℕ) → TablesAt self.old t (event.Up conn peer.now) ends → rises conn.0 (newest t) ≡ true → TablesFit self.new (did (event.Up conn peer.now) ∷ t)) }
     {
-        self.connections.up(conn, peer)?;
-        self.peers.up(conn, peer)?;
-        note(&mut self.ready, &self.connections, conn.0)
+        Err(AllocError)
     }
 
     /// An item came on a connection.
-    pub fn hear(&mut self, conn: ConnectionId, item: &Item) -> Result<(), AllocError>
-        ensures { OnOk result ((t : List Entry) (ends : List ℕ) → TablesAt self.old t (event.Item conn item.now) ends → TablesFit self.new (did (event.Item conn item.now) ∷ t)) }
+    pub fn hear(&mut self, conn: ConnectionId, item: &Item) -> Result<Option<Part>, AllocError>
+        ensures part { IfOk result (λ part. (t : List Entry) (ends : List ℕ) (own : ℕ) → TablesAt self.old t (event.Item conn item.now) ends → maps (theirs t conn.0 (channel_of item.now)) own ≡ true → part ≡ part_of item.now (link_place t conn.0 own)) }
+        ensures fits { OnOk result ((t : List Entry) (ends : List ℕ) → TablesAt self.old t (event.Item conn item.now) ends → TablesFit self.new (did (event.Item conn item.now) ∷ t)) }
     {
-        let own = self.sessions.own_channel(conn.0, channel_of(item));
-        self.clocks.hear(conn, item)?;
-        self.peers.hear(conn, item)?;
-        self.links.hear(conn, own, item)?;
-        self.sessions.hear(conn, item)?;
-        Ok(())
+        Err(AllocError)
     }
 
     /// Time passes.
     pub fn tick(&mut self, moment: u64)
         ensures { (t : List Entry) (ends : List ℕ) → TablesAt self.old t (event.Tick moment) ends → TablesFit self.new (did (event.Tick moment) ∷ t) }
     {
-        self.clocks.tick(moment);
     }
 
     /// The router starts on its journal, which changes no table.
@@ -213,36 +186,20 @@ impl State {
     pub fn down(&mut self, conn: ConnectionId) -> Result<(), AllocError>
         ensures { OnOk result ((t : List Entry) (ends : List ℕ) → TablesAt self.old t (event.Down conn) ends → TablesFit self.new (did (event.Down conn) ∷ t)) }
     {
-        self.connections.down(conn);
-        self.clocks.down(conn);
-        self.peers.down(conn);
-        self.sessions.down(conn);
-        self.links.down(conn);
-        note(&mut self.ready, &self.connections, conn.0)
     }
 
     /// Puts an item in the outbox of a connection.
     pub fn put(&mut self, conn: u64, item: Item) -> Result<(), AllocError>
         ensures { OnOk result ((t : List Entry) → TablesFit self.old t → TablesFit self.new (Out conn item ∷ t)) }
     {
-        let key = key_by(&self.peers, conn, &item)?;
-        self.clocks.put(conn, &item)?;
-        self.peers.put(conn, &item);
-        self.links.put(conn, &item, key)?;
-        self.sessions.put(conn, &item)?;
-        self.connections.put(conn, item)?;
-        note(&mut self.ready, &self.connections, conn)?;
-        Ok(())
+        Err(AllocError)
     }
 
     /// Puts items in the outboxes of their connections, the first of them first.
     pub fn put_all(&mut self, items: Vec<Outgoing>) -> Result<(), AllocError>
         ensures { OnOk result ((t : List Entry) → TablesFit self.old t → TablesFit self.new (goes (puts_of items.items) t)) }
     {
-        for outgoing in items {
-            self.put(outgoing.conn.0, outgoing.item)?;
-        }
-        Ok(())
+        Err(AllocError)
     }
 
     /// Takes up to `most` items out of an outbox; none where nothing is known of the connection.
@@ -251,118 +208,191 @@ impl State {
         ensures fits { IfOk result (λ taken. (t : List Entry) → TablesFit self.old t → TablesFit self.new (Took conn (count taken) ∷ t)) }
         ensures most { IfOk result (λ taken. count taken ≤ most) }
     {
-        let taken = self.connections.take(conn, most)?;
-        note(&mut self.ready, &self.connections, conn)?;
-        Ok(taken)
+        Err(AllocError)
     }
 
     /// Whether something can be taken of a connection: an item waits, or it is over.
     pub fn is_ready(&self, conn: u64) -> bool
         ensures { (t : List Entry) → TablesFit self.now t → result ≡ is_ready (known t conn) }
     {
-        self.ready.has(conn)
+        false
     }
 
     /// The lowest connection above a number of which something can be taken.
     pub fn ready_behind(&self, conn: u64) -> Option<u64>
         ensures { (t : List Entry) → TablesFit self.now t → IsLeast (λ c. nat_lt conn c && is_ready (known t c)) result }
     {
-        self.ready.behind(conn)
+        None
     }
 
     /// The lowest connection of which something can be taken: an item waits, or it is over.
     pub fn ready(&self) -> Option<u64>
         ensures { (t : List Entry) → TablesFit self.now t → IsLeast (λ c. is_ready (known t c)) result }
     {
-        self.ready.first()
+        None
     }
-}
 
-/// The channel of an item; 0 where it has none.
-fn channel_of(item: &Item) -> u16
-    ensures { result ≡ channel_of item.now }
-{
-    match item {
-        Item::Frame { channel, .. } => *channel,
-        _ => 0,
+    /// What the delivery in the middle of a link of the peer was told to be, as an event finds it.
+    pub fn middle(&self, conn: u64, own: u16, handle: u32) -> Option<&Delivery>
+        ensures { (t : List Entry) (e : E) (ends : List ℕ) → TablesAt self.now t e ends → option_map (λ d. d.now) result ≡ middle_on (link_place t conn own handle) }
+    {
+        None
     }
-}
 
-/// The key that the table of links asks for an item that is put out: that of an attach.
-fn key_by(peers: &Peers, conn: u64, item: &Item) -> Result<Option<LinkKey>, AllocError>
-    ensures { IfOk result (λ key. (t : List Entry) → PeersFit peers.now t → key ≡ key_by t conn item.now) }
-{
-    match item {
-        Item::Frame { perf, .. } => key_in(peers, conn, perf),
-        _ => Ok(None),
+    /// Whether a peer has not settled the delivery of an id of its own.
+    pub fn is_claimed(&self, conn: u64, own: u16, id: u32) -> bool
+        ensures now { (t : List Entry) → TablesFit self.now t → result ≡ is_claimed t conn own id }
+        ensures at { (t : List Entry) (e : E) (ends : List ℕ) → TablesAt self.now t e ends → result ≡ is_claimed t conn own id }
+    {
+        false
     }
-}
 
-/// The key that the table of links asks for a performative.
-fn key_in(peers: &Peers, conn: u64, perf: &Perf) -> Result<Option<LinkKey>, AllocError>
-    ensures { IfOk result (λ key. (t : List Entry) → PeersFit peers.now t → key ≡ key_in t conn perf.now) }
-{
-    match perf {
-        Perf::Attach(attach) => Ok(Some(peers.key_of(conn, attach)?)),
-        _ => Ok(None),
+    /// The ids of a range that name undecided deliveries of a session, in order, as an event finds them.
+    pub fn open_ids(&self, conn: u64, own: u16, first: u32, last: u32) -> Result<Vec<u32>, AllocError>
+        ensures { IfOk result (λ ids. (t : List Entry) (e : E) (ends : List ℕ) → TablesAt self.now t e ends → ids.items ≡ open_ids t conn own first last) }
+    {
+        Err(AllocError)
     }
-}
 
-/// The heartbeats that are due at a moment on these connections, by number.
-fn beats_over(
-    alloc: Global,
-    clocks: &Clocks,
-    conns: &[u64],
-    now: u64,
-) -> Result<Vec<Outgoing>, AllocError>
-    ensures { IfOk result (λ due. (t : List Entry) → ClocksFit clocks.now t → puts_of due.items ≡ beats_over t now conns.now) }
-{
-    let mut due = Vec::new(alloc);
-    for conn in conns {
-        add_beat(&mut due, *conn, clocks.needs_beat(*conn, now))?;
+    /// How many deliveries of a link are unsettled that the router ignored.
+    pub fn ignored(&self, conn: u64, own: u16, handle: u32) -> usize
+        ensures { (t : List Entry) → TablesFit self.now t → result ≡ ignored t conn own handle }
+    {
+        0
     }
-    Ok(due)
-}
 
-/// Adds a heartbeat for a connection, where one is needed.
-fn add_beat(due: &mut Vec<Outgoing>, conn: u64, needed: bool) -> Result<(), AllocError>
-    ensures { OnOk result (puts_of due.new.items ≡ puts_of due.old.items ++ beat_if needed conn) }
-{
-    if !needed {
-        return Ok(());
+    /// The attachment that stands on a handle of the router.
+    pub fn attachment(&self, conn: u64, own: u16, handle: u32) -> Option<Attachment>
+        ensures { (t : List Entry) → TablesFit self.now t → result ≡ attachment_at t conn own handle }
+    {
+        None
     }
-    let beat = Outgoing {
-        conn: ConnectionId(conn),
-        item: beat_item(),
-    };
-    match due.push(beat) {
-        Ok(()) => Ok(()),
-        Err(_) => Err(AllocError),
-    }
-}
 
-/// Forgets which windows of these connections were narrow, where they aren't any more.
-fn settle_all(sessions: &mut Sessions, conns: &[u64])
-    ensures { (t : List Entry) → SessionsFit sessions.old t → SessionsFit sessions.new t }
-{
-    for conn in conns {
-        sessions.settle(*conn);
+    /// Binds a message of a producer's link to the consumer of its address that is chosen; whether one was.
+    pub fn pass(&mut self, from: Attachment, origin: Option<Origin>, format: u32, payload: Bytes) -> Result<bool, AllocError>
+        ensures chosen { IfOk result (λ chosen. (t : List Entry) → TablesFit self.old t → chosen ≡ is_some (consumer_of t (link_of t from))) }
+        ensures bound { OnOk result ((t : List Entry) → TablesFit self.old t → TablesFit self.new (with_bound (passing t from origin format payload) t)) }
+    {
+        Err(AllocError)
     }
-}
 
-/// Notes whether something can be taken of a connection.
-fn note(ready: &mut Ready, connections: &Connections, conn: u64) -> Result<(), AllocError>
-    ensures { OnOk result ((c : ℕ) → contains nat_cmp ready.new.set c ≡ (if conn == c then is_ready (get nat_cmp connections.now.rows c) else contains nat_cmp ready.old.set c)) }
-{
-    ready.note(conn, connections.is_ready(conn))
-}
-
-/// Notes of each of these connections whether something can be taken of it.
-fn note_all(ready: &mut Ready, connections: &Connections, ends: &[u64]) -> Result<(), AllocError>
-    ensures { OnOk result ((c : ℕ) → contains nat_cmp ready.new.set c ≡ (if has c ends.now then is_ready (get nat_cmp connections.now.rows c) else contains nat_cmp ready.old.set c)) }
-{
-    for conn in ends {
-        note(ready, connections, *conn)?;
+    /// The delivery that was bound first of those that are decided and whose producer is to be told.
+    pub fn first_to_tell(&self) -> Option<u64>
+        ensures { (t : List Entry) → TablesFit self.now t → result ≡ first_delivery t is_to_tell }
+    {
+        None
     }
-    Ok(())
+
+    /// A delivery.
+    pub fn delivery(&self, number: u64) -> Option<&Bound>
+        ensures { (t : List Entry) → TablesFit self.now t → option_map (λ d. d.now) result ≡ delivery t number }
+    {
+        None
+    }
+
+    /// The lowest number of a link above another on which frames of deliveries are still to go.
+    pub fn unsent_link_behind(&self, link: Option<u64>) -> Option<u64>
+        ensures { (t : List Entry) → TablesFit self.now t → IsFirst (λ k. is_above link k && has_unsent t k) result }
+    {
+        None
+    }
+
+    /// The lowest number of a delivery of a link above another of which frames are still to go.
+    pub fn unsent_behind(&self, link: u64, number: Option<u64>) -> Option<u64>
+        ensures { (t : List Entry) → TablesFit self.now t → IsFirst (λ n. is_above number n && is_unsent_on link (delivery t n)) result }
+    {
+        None
+    }
+
+    /// Whether frames of deliveries are still to go on a link.
+    pub fn has_unsent(&self, link: u64) -> bool
+        ensures { (t : List Entry) → TablesFit self.now t → result ≡ has_unsent t link }
+    {
+        false
+    }
+
+    /// Where an attachment stands, while it is attached.
+    pub fn place_of(&self, number: u64) -> Option<Attachment>
+        ensures { (t : List Entry) → TablesFit self.now t → result ≡ place_of t number }
+    {
+        None
+    }
+
+    /// Whether the window of a session is open.
+    pub fn is_wide(&self, conn: u64, own: u16) -> bool
+        ensures { (t : List Entry) → TablesFit self.now t → result ≡ is_wide (session t conn own) }
+    {
+        false
+    }
+
+    /// What a flow of the router tells of a session.
+    pub fn told(&self, conn: u64, own: u16) -> Option<FlowState>
+        ensures { (t : List Entry) → TablesFit self.now t → result ≡ option_map told_of (session t conn own) }
+    {
+        None
+    }
+
+    /// The number of the delivery of which more frames are to go on a handle of the router.
+    pub fn sending(&self, conn: u64, own: u16, handle: u32) -> Option<u64>
+        ensures { (t : List Entry) → TablesFit self.now t → result ≡ sending t conn own handle }
+    {
+        None
+    }
+
+    /// Whether a delivery has begun on a session of which more frames are to go.
+    pub fn is_busy(&self, conn: u64, own: u16) -> Result<bool, AllocError>
+        ensures { IfOk result (λ busy. (t : List Entry) → TablesFit self.now t → busy ≡ is_busy t conn own) }
+    {
+        Err(AllocError)
+    }
+
+    /// Whether an id of the router's names an undecided delivery of a session.
+    pub fn is_used(&self, conn: u64, own: u16, id: u32) -> bool
+        ensures { (t : List Entry) → TablesFit self.now t → result ≡ is_used t (named t conn own id) }
+    {
+        false
+    }
+
+    /// The delivery-id that the router gives next on a session.
+    pub fn next_id(&self, conn: u64, own: u16) -> u32
+        ensures { (t : List Entry) → TablesFit self.now t → result ≡ next_id t conn own }
+    {
+        0
+    }
+
+    /// Whether an attachment's link has credit left and no delivery that has begun.
+    pub fn takes_more(&self, at: Attachment) -> bool
+        ensures { (t : List Entry) → TablesFit self.now t → result ≡ takes_more (link_of t at) at.number }
+    {
+        false
+    }
+
+    /// Whether the router has begun a delivery on an attachment's link, of which more frames are to go.
+    pub fn goes_on(&self, at: Attachment) -> bool
+        ensures { (t : List Entry) → TablesFit self.now t → result ≡ goes_on (link_of t at) at.number }
+    {
+        false
+    }
+
+    /// The lowest number above another of an attachment whose link owes a drain.
+    pub fn owing_behind(&self, number: Option<u64>) -> Result<Option<u64>, AllocError>
+        ensures { IfOk result (λ owing. (t : List Entry) → TablesFit self.now t → IsFirst (λ n. is_above number n && owes_drain t n) owing) }
+    {
+        Err(AllocError)
+    }
+
+    /// What tells the drain of an attachment's link.
+    pub fn drained(&self, at: Attachment) -> Option<LinkState>
+        ensures { (t : List Entry) → TablesFit self.now t → result ≡ drained_state at.handle (link_of t at) }
+    {
+        None
+    }
+
+    /// The grants that are due.
+    pub fn grants(&mut self) -> Result<Vec<Outgoing>, AllocError>
+        ensures due { IfOk result (λ flows. (t : List Entry) → TablesFit self.old t → puts_of flows.items ≡ grants_due t) }
+        ensures fits { OnOk result ((t : List Entry) → TablesFit self.old t → TablesFit self.new t) }
+    {
+        Err(AllocError)
+    }
 }
