@@ -13,10 +13,10 @@ use Rattle.router_trace.specs.declared.handle.Attachment.{Attachment}
 use Rattle.router_trace.specs.Trace.{Trace, Put, goes}
 use Rattle.router_trace.specs.Frames.{told_of}
 use Rattle.router_trace.specs.LinkFrames.{link_flow_item}
-use Rattle.router_trace.specs.Links.{Link, Happened, sends, receives, link, numbered, attachments}
+use Rattle.router_trace.specs.Links.{Link, Happened, sends, receives, link, numbered, attachments, is_attached}
 use Rattle.router_trace.specs.Peers.{largest_frame}
 use Rattle.router_trace.specs.Sessions.{session}
-use Rattle.router_trace.specs.Deliveries.{Delivery, bindings, delivery, sending, named, next_id, stands_on, is_number, is_to_tell, is_undecided}
+use Rattle.router_trace.specs.Deliveries.{Delivery, bindings, delivery, sending, named, next_id, stands_on, is_number, is_undecided}
 use Rattle.router_trace.specs.DeliveryFrames.{outcome_item, first_transfer, later_transfer, next_frame, largest_out, rest_of}
 use Rattle.router_trace.specs.Numbers.{first_below, first_placed, Placed}
 
@@ -40,7 +40,15 @@ first_delivery t passes = first_below (bindings t + 1) (λ n. passes (delivery t
 abbrev pub link_of : Trace → Attachment → Option Link
 link_of t a = link t a.conn.0 a.channel a.handle
 
--- Producers told: of the deliveries that are decided while their producer's link is attached and isn't told, the one that was bound first.
+-- Producers told: of the deliveries that are decided, while their producer's link is attached and isn't told, the one that was bound first.
+abbrev pub is_still_attached : Trace → Option Origin → Bool
+is_still_attached t None = false
+is_still_attached t (Some p) = is_attached t p.link
+
+abbrev pub is_to_be_told : Trace → Option Delivery → Bool
+is_to_be_told t None = false
+is_to_be_told t (Some d) = is_some d.outcome && is_still_attached t d.origin
+
 abbrev pub outcome_to : Option Origin → Option DeliveryState → List Put
 outcome_to (Some p) (Some s) = record { conn = p.link.conn.0; item = outcome_item p.link.channel Receiver p.id s } ∷ []
 outcome_to _ _ = []
@@ -54,7 +62,7 @@ tells_of t None = []
 tells_of t (Some n) = tell (delivery t n)
 
 abbrev pub tells : Trace → List Put
-tells t = tells_of t (first_delivery t is_to_tell)
+tells t = tells_of t (first_delivery t (is_to_be_told t))
 
 -- Sends (2.5.6, 2.6.7 and 2.6.12). A delivery that has begun goes on: the router's handle says that more of it is to come.
 abbrev pub goes_on_at : Option Link → ℕ → Option ℕ → ℕ → Bool
