@@ -3,7 +3,7 @@ ghost use Rattle.std.specs.Prelude.{◌≡◌, ◌==◌, ◌≤◌, ◌&&◌, na
 ghost use Rattle.std.specs.Prelude.{is_some};
 ghost use Rattle.router_trace.specs.Sessions.{theirs, maps, session};
 ghost use Rattle.router_trace.specs.Frames.{told_of};
-ghost use Rattle.router_trace.specs.Links.{place_of};
+ghost use Rattle.router_trace.specs.Links.{place_of, is_attached};
 ghost use Rattle.router_trace.specs.Settling.{part_of, middle_on, is_claimed, open_ids, ignored};
 ghost use Rattle.router_trace.specs.Deliveries.{delivery, is_to_tell, sending, named, next_id};
 ghost use Rattle.router_trace.specs.Following.{link_of, first_delivery, is_unsent_on, is_wide, is_busy, is_used, takes_more};
@@ -186,6 +186,7 @@ impl State {
     pub fn down(&mut self, conn: ConnectionId) -> Result<(), AllocError>
         ensures { OnOk result ((t : List Entry) (ends : List ℕ) → TablesAt self.old t (event.Down conn) ends → TablesFit self.new (did (event.Down conn) ∷ t)) }
     {
+        Err(AllocError)
     }
 
     /// Puts an item in the outbox of a connection.
@@ -276,11 +277,18 @@ impl State {
         Err(AllocError)
     }
 
-    /// The delivery that was bound first of those that are decided and whose producer is to be told.
-    pub fn first_to_tell(&self) -> Option<u64>
-        ensures { (t : List Entry) → TablesFit self.now t → result ≡ first_delivery t is_to_tell }
+    /// The lowest number above another of a delivery that is decided and whose producer isn't told.
+    pub fn to_tell_behind(&self, number: Option<u64>) -> Option<u64>
+        ensures { (t : List Entry) → TablesFit self.now t → IsFirst (λ n. is_above number n && is_to_tell (delivery t n)) result }
     {
         None
+    }
+
+    /// Whether an attachment still has its link.
+    pub fn is_attached(&self, at: Attachment) -> bool
+        ensures { (t : List Entry) → TablesFit self.now t → result ≡ is_attached t at }
+    {
+        false
     }
 
     /// A delivery.
