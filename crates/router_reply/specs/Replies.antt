@@ -93,6 +93,19 @@ abbrev pub put_for_disposition : Trace → ℕ → ADisposition → Answer → L
 put_for_disposition t c x (Settle own) = each_to c (settled_answers own (terminal x.state) (open_ids t c own x.first (last_of x)))
 put_for_disposition t c x _ = []
 
+-- the disposition that an item is, in its turn or not, and what answers the deliveries that it decides
+abbrev pub disposition_of : Perf → Option ADisposition
+disposition_of (perf.Disposition x) = Some x
+disposition_of _ = None
+
+abbrev pub disposition_in : Item → Option ADisposition
+disposition_in (item.Frame sasl channel body payload) = disposition_of body
+disposition_in _ = None
+
+abbrev pub settled_put : Trace → ℕ → ℕ → Option ADisposition → List Put
+settled_put t c own None = []
+settled_put t c own (Some x) = put_for_disposition t c x (Settle own)
+
 -- A delivery that came whole, behind the event. Its producer hasn't settled it where its id is still claimed. One that is resumed is ignored, as the
 -- router knows none of its; a link has at most 1,024 of these unsettled. Another is bound to a consumer of its address; where none is chosen it is
 -- released, or dropped where it is settled.
@@ -105,10 +118,6 @@ from_link c own handle l = record { number = l.number; conn = record { 0 = c }; 
 
 abbrev pub origin_of : Attachment → ℕ → Origin
 origin_of from id = record { link = from; id = id }
-
-abbrev pub message_bound : Trace → ℕ → ℕ → Attachment → Told → List ℕ → Option Binding
-message_bound after c own from d payload =
-    if d.resume then None else passing after from (option_map (origin_of from) (claimed_id after c own d.id)) (unwrap_or d.format 0) payload
 
 abbrev pub ignored_put : Trace → ℕ → ℕ → ℕ → Option ℕ → List Item
 ignored_put after c own handle None = []
@@ -123,10 +132,11 @@ abbrev pub unbound_put : ℕ → Option ℕ → Option Attachment → List Item
 unbound_put own id None = released own id
 unbound_put own id (Some consumer) = []
 
+abbrev pub fresh_put : Trace → ℕ → ℕ → Told → Option Link → List Item
+fresh_put after c own d l = unbound_put own (claimed_id after c own d.id) (consumer_of after l)
+
 abbrev pub whole_put : Trace → ℕ → ℕ → ℕ → Told → Option Link → List Item
-whole_put after c own handle d l =
-    if d.resume then ignored_put after c own handle (claimed_id after c own d.id)
-    else unbound_put own (claimed_id after c own d.id) (consumer_of after l)
+whole_put after c own handle d l = if d.resume then ignored_put after c own handle (claimed_id after c own d.id) else fresh_put after c own d l
 
 -- what a transfer gives that is taken: a delivery that came whole, one that is too large, or nothing yet
 abbrev pub part_put : Trace → ℕ → ℕ → ℕ → Option Part → List Item
@@ -134,9 +144,15 @@ part_put after c own handle (Some (part.Whole d payload)) = whole_put after c ow
 part_put after c own handle (Some part.TooLarge) = detach_item own handle true (Some MessageSizeExceeded) ∷ []
 part_put after c own handle _ = []
 
+abbrev pub bound_from : Trace → Attachment → Option ℕ → Told → List ℕ → Option Binding
+bound_from after from claimed d payload = passing after from (option_map (origin_of from) claimed) (unwrap_or d.format 0) payload
+
+abbrev pub fresh_bound : Trace → ℕ → ℕ → ℕ → Told → List ℕ → Option Link → Option Binding
+fresh_bound after c own handle d payload None = None
+fresh_bound after c own handle d payload (Some l) = bound_from after (from_link c own handle l) (claimed_id after c own d.id) d payload
+
 abbrev pub whole_bound : Trace → ℕ → ℕ → ℕ → Told → List ℕ → Option Link → Option Binding
-whole_bound after c own handle d payload None = None
-whole_bound after c own handle d payload (Some l) = message_bound after c own (from_link c own handle l) d payload
+whole_bound after c own handle d payload l = if d.resume then None else fresh_bound after c own handle d payload l
 
 abbrev pub part_bound : Trace → ℕ → ℕ → ℕ → Option Part → Option Binding
 part_bound after c own handle (Some (part.Whole d payload)) = whole_bound after c own handle d payload (link after c own handle)
@@ -156,6 +172,14 @@ put_for_attach t c a (Attach own) = taken t c own a
 put_for_attach t c a (Refuse own handle x) = each_to c (refused (largest_frame t c) own handle x a)
 put_for_attach t c a _ = []
 
+abbrev pub attach_put_in : Trace → ℕ → Perf → Answer → List Put
+attach_put_in t c (perf.Attach a) answer = put_for_attach t c a answer
+attach_put_in t c _ answer = []
+
+abbrev pub attach_put : Trace → ℕ → Item → Answer → List Put
+attach_put t c (item.Frame sasl channel body payload) answer = attach_put_in t c body answer
+attach_put t c _ answer = []
+
 abbrev pub put_for : Trace → Trace → ℕ → Perf → Item → Answer → List Put
 put_for t after c (perf.Attach a) i answer = put_for_attach after c a answer
 put_for t after c (perf.Transfer x) i answer = put_for_transfer t after c i answer
@@ -168,6 +192,13 @@ links_put t after c _ answer = []
 
 abbrev pub item_put : List ℕ → Trace → Trace → ℕ → Conn → Item → Answer → List Put
 item_put id t after c p i answer = each_to c (said id p answer) ++ links_put t (puts c (said id p answer) after) c i answer
+
+-- what a transfer gives that is taken, bound and put behind its event; and all that an answer to an item does
+abbrev pub given_behind : Trace → ℕ → ℕ → ℕ → Option Part → Trace
+given_behind after c own handle part = puts c (part_put after c own handle part) (with_bound (part_bound after c own handle part) after)
+
+abbrev pub behind_answer : List ℕ → Trace → Trace → ℕ → Conn → Item → Answer → Trace
+behind_answer id t after c p i answer = goes (item_put id t after c p i answer) (with_bound (bound_for t after c i answer) after)
 
 -- nothing where the connection isn't live
 abbrev pub item_row : List ℕ → Trace → Trace → ℕ → Item → Option Conn → List Put

@@ -20,7 +20,7 @@ pub record TablesFit (s : State) (t : Trace) : Type 0 where
 
 -- all tables are what an event finds behind the trace, which ends these connections first
 pub record TablesAt (s : State) (t : Trace) (e : Event) (ends : List ℕ) : Type 0 where
-  pub never : Unit {0}
+  pub are_due : ends ≡ due t e
 
 -- the heartbeats that are due at a moment on these connections, by number
 abbrev pub beat_if : Bool → ℕ → List Put
