@@ -1,13 +1,11 @@
 -- What stands behind an item, by its answer.
-use Rattle.std.proofs.Common.{◌≡◌, ◌∙◌, sym, ap, refl, subst, ℕ, Bool, true, false, List, [], ◌∷◌, ◌++◌}
-use Rattle.std.specs.Prelude.{if◌then◌else◌, Option, Some, None}
+use Rattle.std.proofs.Common.{◌≡◌, ◌∙◌, ap, refl, ℕ, true, false, List, []}
+use Rattle.std.specs.Prelude.{Option, Some, None}
 use Rattle.amqp_perf.specs.declared.perf.Disposition.{Disposition as ADisposition}
-use Rattle.amqp_perf.specs.declared.perf.Perf.{Perf}
 use Rattle.amqp_perf.specs.declared.perf.Perf.TheVariants as perf
 use Rattle.amqp_frames.specs.declared.item.Item.{Item}
 use Rattle.amqp_frames.specs.declared.item.Item.TheVariants as item
 use Rattle.amqp_conn.specs.declared.conn.Conn.{Conn}
-use Rattle.amqp_link.specs.declared.part.Part.{Part}
 use Rattle.router_trace.specs.Trace.{Entry, Put, goes, each_to, puts}
 use Rattle.router_trace.specs.Links.{link_place}
 use Rattle.router_trace.specs.Settling.{part_of}

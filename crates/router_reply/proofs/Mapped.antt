@@ -1,6 +1,6 @@
 -- A transfer is taken on the session that its channel stands for.
 use Rattle.std.proofs.Common.{◌≡◌, refl, ℕ, Bool, true, false, List, ◌∷◌}
-use Rattle.std.specs.Prelude.{nat_lt, nat_eq, length, ◌&&◌, if◌then◌else◌, Option, Some, None, Result, Ok, Err, option_map}
+use Rattle.std.specs.Prelude.{nat_lt, nat_eq, length, ◌&&◌, Option, Some, None, Result, Ok, Err, option_map}
 use Rattle.std.proofs.lemmas.Bool.{eq-eqb}
 use Rattle.amqp_perf.specs.declared.perf.Attach.{Attach as AnAttach}
 use Rattle.amqp_perf.specs.declared.perf.Begin.{Begin as ABegin}
@@ -32,8 +32,8 @@ use Rattle.router_trace.specs.Settling.{middle_by}
 use Rattle.router_links.specs.Fits.{channel_of}
 use Rattle.router_reply.specs.declared.answer.Answer.{Answer}
 use Rattle.router_reply.specs.declared.answer.Answer.TheVariants.{Taken}
-use Rattle.router_reply.specs.Rows.{Finds, Links, header_by, open_by, open_reply, begin_by, begin_reply, end_reply, echo, flow_on, flow_reply, attach_reply, transfer_reply, detach_reply, disposition_reply, in_turn, out_of_turn, turn_by, perf_reply, item_reply}
-use Rattle.router_reply.specs.LinkRows.{refusal, attach_or, attach_at, session_attach_reply, session_detach_reply, link_echo, is_reached, link_flow_reply, is_anonymous, is_among, is_same_id, is_same_tag, is_unattached, asks, start_on, continue_on, delivery_by, delivery_on, link_transfer_reply, session_transfer_reply}
+use Rattle.router_reply.specs.Rows.{Finds, Links, header_by, open_by, begin_by, begin_reply, end_reply, echo, flow_on, flow_reply, attach_reply, transfer_reply, detach_reply, disposition_reply, in_turn, out_of_turn, turn_by, perf_reply, item_reply}
+use Rattle.router_reply.specs.LinkRows.{refusal, attach_or, attach_at, session_detach_reply, link_echo, is_reached, link_flow_reply, is_anonymous, is_among, is_same_id, is_same_tag, is_unattached, asks, delivery_by, delivery_on, link_transfer_reply}
 use Rattle.router_reply.specs.LinkRows.{flow_on as link_flow_on}
 use Rattle.router_reply.specs.Replies.{finds}
 

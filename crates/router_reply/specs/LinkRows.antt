@@ -23,7 +23,6 @@ use Rattle.amqp_link.specs.Receiving as receiving
 use Rattle.amqp_link.specs.Receiving.{Received}
 use Rattle.router_trace.specs.declared.condition.Condition.{Condition}
 use Rattle.router_trace.specs.declared.condition.Condition.TheVariants.{NotAllowed, FramingError, ResourceLimitExceeded, NotImplemented, UnattachedHandle, HandleInUse, WindowViolation, NotFound, TransferLimitExceeded}
-use Rattle.router_trace.specs.declared.frames.LinkState.{LinkState}
 use Rattle.router_trace.specs.Frames.{told_of}
 use Rattle.router_trace.specs.Sessions.{flow_state}
 use Rattle.router_trace.specs.Links.{LinkPlace, nowhere, detaching, on, Happened, sends, receives, with_grant}

@@ -119,6 +119,10 @@ from_link c own handle l = record { number = l.number; conn = record { 0 = c }; 
 abbrev pub origin_of : Attachment → ℕ → Origin
 origin_of from id = record { link = from; id = id }
 
+abbrev pub message_bound : Trace → ℕ → ℕ → Attachment → Told → List ℕ → Option Binding
+message_bound after c own from d payload =
+    if d.resume then None else passing after from (option_map (origin_of from) (claimed_id after c own d.id)) (unwrap_or d.format 0) payload
+
 abbrev pub ignored_put : Trace → ℕ → ℕ → ℕ → Option ℕ → List Item
 ignored_put after c own handle None = []
 ignored_put after c own handle (Some id) =
@@ -132,11 +136,10 @@ abbrev pub unbound_put : ℕ → Option ℕ → Option Attachment → List Item
 unbound_put own id None = released own id
 unbound_put own id (Some consumer) = []
 
-abbrev pub fresh_put : Trace → ℕ → ℕ → Told → Option Link → List Item
-fresh_put after c own d l = unbound_put own (claimed_id after c own d.id) (consumer_of after l)
-
 abbrev pub whole_put : Trace → ℕ → ℕ → ℕ → Told → Option Link → List Item
-whole_put after c own handle d l = if d.resume then ignored_put after c own handle (claimed_id after c own d.id) else fresh_put after c own d l
+whole_put after c own handle d l =
+    if d.resume then ignored_put after c own handle (claimed_id after c own d.id)
+    else unbound_put own (claimed_id after c own d.id) (consumer_of after l)
 
 -- what a transfer gives that is taken: a delivery that came whole, one that is too large, or nothing yet
 abbrev pub part_put : Trace → ℕ → ℕ → ℕ → Option Part → List Item
@@ -144,15 +147,15 @@ part_put after c own handle (Some (part.Whole d payload)) = whole_put after c ow
 part_put after c own handle (Some part.TooLarge) = detach_item own handle true (Some MessageSizeExceeded) ∷ []
 part_put after c own handle _ = []
 
-abbrev pub bound_from : Trace → Attachment → Option ℕ → Told → List ℕ → Option Binding
-bound_from after from claimed d payload = passing after from (option_map (origin_of from) claimed) (unwrap_or d.format 0) payload
+abbrev pub whole_bound : Trace → ℕ → ℕ → ℕ → Told → List ℕ → Option Link → Option Binding
+whole_bound after c own handle d payload None = None
+whole_bound after c own handle d payload (Some l) = message_bound after c own (from_link c own handle l) d payload
 
+-- the same of one that isn't resumed
 abbrev pub fresh_bound : Trace → ℕ → ℕ → ℕ → Told → List ℕ → Option Link → Option Binding
 fresh_bound after c own handle d payload None = None
-fresh_bound after c own handle d payload (Some l) = bound_from after (from_link c own handle l) (claimed_id after c own d.id) d payload
-
-abbrev pub whole_bound : Trace → ℕ → ℕ → ℕ → Told → List ℕ → Option Link → Option Binding
-whole_bound after c own handle d payload l = if d.resume then None else fresh_bound after c own handle d payload l
+fresh_bound after c own handle d payload (Some l) =
+    passing after (from_link c own handle l) (option_map (origin_of (from_link c own handle l)) (claimed_id after c own d.id)) (unwrap_or d.format 0) payload
 
 abbrev pub part_bound : Trace → ℕ → ℕ → ℕ → Option Part → Option Binding
 part_bound after c own handle (Some (part.Whole d payload)) = whole_bound after c own handle d payload (link after c own handle)

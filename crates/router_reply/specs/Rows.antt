@@ -21,7 +21,7 @@ use Rattle.amqp_conn.specs.declared.fault.ConnFault.TheVariants.{ChannelTooHigh}
 use Rattle.amqp_conn.specs.Phase.{after_header, after_open, after_frame}
 use Rattle.amqp_session.specs.Session.{Session, TheirFlow}
 use Rattle.router_trace.specs.declared.condition.Condition.{Condition}
-use Rattle.router_trace.specs.declared.condition.Condition.TheVariants.{NotAllowed, FramingError, DecodeError, ResourceLimitExceeded, NotImplemented, UnattachedHandle}
+use Rattle.router_trace.specs.declared.condition.Condition.TheVariants.{NotAllowed, FramingError, DecodeError, ResourceLimitExceeded}
 use Rattle.router_trace.specs.Frames.{header_item, open_item, close_item, begin_item, end_item, flow_item, closing, told_of}
 use Rattle.router_trace.specs.LinkFrames.{detach_item, link_flow_item}
 use Rattle.router_trace.specs.Links.{LinkPlace}

@@ -9,7 +9,7 @@ ghost use Rattle.router_trace.specs.DeliveryFrames.{outcome_item};
 ghost use Rattle.router_state.specs.Passing.{with_bound, passing, consumer_of};
 ghost use Rattle.router_trace.specs.Following.{link_of};
 ghost use Rattle.router_state.specs.Tables.{TablesFit};
-ghost use Rattle.router_reply.specs.Replies.{claimed_id, origin_of, released, ignored_put, unbound_put, whole_put, whole_bound, fresh_put, fresh_bound, part_put, part_bound, settled_answers, disposition_in, disposition_of};
+ghost use Rattle.router_reply.specs.Replies.{claimed_id, origin_of, released, ignored_put, unbound_put, whole_put, whole_bound, fresh_bound, part_put, part_bound, settled_answers, disposition_in, disposition_of};
 
 use amqp_frames::Item;
 use amqp_link::{Delivery, Part};
@@ -112,7 +112,14 @@ fn ignore(
     if state.ignored(conn, own, handle) <= IGNORED {
         return Ok(());
     }
-    put_detach(state, id, conn, own, handle, Condition::ResourceLimitExceeded)?;
+    put_detach(
+        state,
+        id,
+        conn,
+        own,
+        handle,
+        Condition::ResourceLimitExceeded,
+    )?;
     Ok(())
 }
 
@@ -146,7 +153,7 @@ fn pass_fresh(
     delivery: &Delivery,
     payload: Bytes,
 ) -> Result<(), AllocError>
-    ensures { OnOk result ((t : List Entry) → TablesFit state.old t → TablesFit state.new (puts conn (fresh_put t conn own delivery.now (link t conn own handle))
+    ensures { OnOk result ((t : List Entry) → TablesFit state.old t → TablesFit state.new (puts conn (unbound_put own (claimed_id t conn own delivery.now.id) (consumer_of t (link t conn own handle)))
         (with_bound (fresh_bound t conn own handle delivery.now payload (link t conn own handle)) t))) }
 {
     let claimed = claimed_id(state, conn, own, delivery.id);
@@ -154,7 +161,14 @@ fn pass_fresh(
         release(state, id, conn, own, claimed)?;
         return Ok(());
     };
-    bind(state, id, from, claimed, delivery.format.unwrap_or(0), payload)?;
+    bind(
+        state,
+        id,
+        from,
+        claimed,
+        delivery.format.unwrap_or(0),
+        payload,
+    )?;
     Ok(())
 }
 
