@@ -5,6 +5,7 @@ use Rattle.std.specs.BTreeSet.{contains}
 use Rattle.router_trace.specs.declared.event.Event.{Event}
 use Rattle.router_state.specs.declared.tables.State.{State}
 use Rattle.router_trace.specs.Trace.{Trace, Put, ups}
+use Rattle.router_trace.specs.Links.{attachments}
 use Rattle.router_trace.specs.Frames.{beat_item}
 use Rattle.router_trace.specs.Clocks.{terms, written, needs_beat}
 use Rattle.router_trace.specs.Connection.{conn, due, found, live_of, is_ready}
@@ -14,12 +15,20 @@ use Rattle.router_conns.specs.Timing.{ClocksFit}
 use Rattle.router_links.specs.Fits.{LinksFit}
 use Rattle.router_sessions.specs.Fits.{SessionsFit}
 
+-- what nothing is known of, so that only the contracts of the methods give it
+unfoldable pub Held : State → Trace → Type 0
+Held s t = s.never.never ≡ attachments t
+
+unfoldable pub Met : State → Trace → Event → Type 0
+Met s t e = s.never.never ≡ attachments t
+
 -- all tables are those of the trace
 pub record TablesFit (s : State) (t : Trace) : Type 0 where
-  pub never : Unit {0}
+  pub held : Held s t
 
 -- all tables are what an event finds behind the trace, which ends these connections first
 pub record TablesAt (s : State) (t : Trace) (e : Event) (ends : List ℕ) : Type 0 where
+  pub met : Met s t e
   pub are_due : ends ≡ due t e
 
 -- the heartbeats that are due at a moment on these connections, by number
