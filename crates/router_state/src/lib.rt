@@ -1,7 +1,6 @@
 //! The router's tables, changed together.
-#![tactic(auto)]
+#![tactic(auto, unfolding(crate::specs::Tables::Held, crate::specs::Tables::Met))]
 
-mod never;
 mod tables;
 
 pub use tables::State;

@@ -32,7 +32,6 @@ use amqp_perf::Attach;
 use amqp_session::FlowState;
 use bytes::Bytes;
 use book_core::LinkKey;
-use crate::never::Never;
 use router_conns::Taken;
 use router_deliveries::Delivery as Bound;
 use router_sessions::Place;
@@ -42,7 +41,7 @@ use std::alloc::AllocError;
 /// The router's tables.
 #[derive(Debug, Drop)]
 pub struct State {
-    never: Never,
+    never: bool,
 }
 
 impl State {
