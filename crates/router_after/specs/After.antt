@@ -1,9 +1,13 @@
 -- What follows an event's rows: producers are told outcomes, deliveries are sent, drains are told, credit is granted, and at last windows are told
 -- anew.
-use Rattle.router_trace.specs.Trace.{Trace, goes}
+use Rattle.std.specs.Prelude.{List, [], ◌∷◌, Option, Some, None}
+use Rattle.router_trace.specs.declared.outgoing.Outgoing.{Outgoing}
+use Rattle.router_trace.specs.Trace.{Trace, Put, goes, put_of}
 use Rattle.router_trace.specs.Following.{as_long_as_due, tells, sends_due, drains_due}
 use Rattle.router_state.specs.Passing.{grants_due}
 use Rattle.router_sessions.specs.Windows.{windows}
+use Rattle.router_after.specs.declared.phase.Phase.{Phase}
+use Rattle.router_after.specs.declared.phase.Phase.TheVariants.{Outcomes, Deliveries, Drains, Grants}
 
 abbrev pub told : Trace → Trace
 told t = as_long_as_due tells t
@@ -22,3 +26,15 @@ widened t = goes (windows t) t
 
 abbrev pub followed : Trace → Trace
 followed t = widened (granted (drained (sent (told t))))
+
+-- what is due first in each of the four that go on as long as something is
+abbrev pub due_in : Phase → Trace → List Put
+due_in Outcomes = tells
+due_in Deliveries = sends_due
+due_in Drains = drains_due
+due_in Grants = grants_due
+
+-- the item that is due, if one is
+abbrev pub puts_in : Option Outgoing → List Put
+puts_in None = []
+puts_in (Some x) = put_of x ∷ []

@@ -1,3 +1,5 @@
 pub mod After
+pub mod Soonest
+pub mod Starting
 pub use Rattle.router_trace.specs.Trace
 pub use Rattle.router_sessions.specs.Windows

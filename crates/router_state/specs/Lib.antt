@@ -14,3 +14,4 @@ pub use Rattle.router_sessions.specs.Windows
 pub use Rattle.router_trace.specs.Peers
 pub use Rattle.router_trace.specs.Links
 pub use Rattle.router_conns.specs.Peering
+pub mod Impossible

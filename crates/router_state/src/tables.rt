@@ -37,15 +37,22 @@ use router_conns::Taken;
 use router_deliveries::Delivery as Bound;
 use router_sessions::Place;
 use router_trace::{Attachment, ConnectionId, Event, LinkAt, LinkState, Origin, Outgoing, Peer};
-use std::alloc::AllocError;
+use std::alloc::{AllocError, Global};
 
 /// The router's tables.
 #[derive(Debug, Drop)]
 pub struct State {
+    alloc: Global,
     never: Never,
 }
 
+#[tactic(auto, unfolding(crate::specs::Impossible::another))]
 impl State {
+    /// Where the tables take their memory.
+    pub fn alloc(&self) -> Global {
+        self.alloc
+    }
+
     /// Whether an event is refused.
     pub fn refuses(&self, event: &Event) -> bool
         ensures { (t : List Entry) → TablesFit self.now t → result ≡ refuses t event.now }

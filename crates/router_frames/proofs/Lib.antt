@@ -1,0 +1,5 @@
+mod Either
+mod Filled
+mod Fullness
+mod Longer
+mod Tags

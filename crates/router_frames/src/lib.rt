@@ -1,0 +1,14 @@
+//! The frames of deliveries: outcomes as the router keeps and tells them, and transfers that fill the frames of a peer.
+#![tactic(auto)]
+
+mod laws;
+mod next;
+mod outcome;
+mod state;
+mod transfer;
+
+pub use laws::frames_are_filled;
+pub use next::{delivery_frame, next_frame};
+pub use outcome::{kept_outcome, outcome_item};
+pub use state::copy_state;
+pub use transfer::{first_transfer, later_transfer};

@@ -1,0 +1,62 @@
+//! Copies of delivery states.
+ghost use Rattle.std.specs.Prelude.{◌≡◌, true, IfOk, IsOk};
+ghost use Rattle.router_frames.specs.Outcomes.{is_plain};
+
+use amqp_perf::{DeliveryState, Fault, Modified, Received, Rejected};
+use std::alloc::AllocError;
+
+/// A copy of a delivery state.
+///
+/// # Errors
+///
+/// `AllocError` where memory was refused; it takes none for a state that holds none.
+pub fn copy_state(state: &DeliveryState) -> Result<DeliveryState, AllocError>
+    ensures copied { IfOk result (λ copied. copied ≡ state.now) }
+    ensures plain { is_plain state.now ≡ true → IsOk result }
+{
+    Ok(match state {
+        DeliveryState::Received(received) => DeliveryState::Received(Received {
+            section_number: received.section_number,
+            section_offset: received.section_offset,
+        }),
+        DeliveryState::Accepted => DeliveryState::Accepted,
+        DeliveryState::Rejected(rejected) => DeliveryState::Rejected(copy_rejected(rejected)?),
+        DeliveryState::Released => DeliveryState::Released,
+        DeliveryState::Modified(modified) => DeliveryState::Modified(copy_modified(modified)?),
+        DeliveryState::Other(value) => DeliveryState::Other(value.clone()?),
+    })
+}
+
+/// A copy of why a delivery is refused.
+fn copy_rejected(rejected: &Rejected) -> Result<Rejected, AllocError>
+    ensures { IfOk result (λ copied. copied ≡ rejected.now) }
+{
+    match &rejected.error {
+        None => Ok(Rejected { error: None }),
+        Some(fault) => Ok(Rejected {
+            error: Some(copy_fault(fault)?),
+        }),
+    }
+}
+
+/// A copy of an error.
+fn copy_fault(fault: &Fault) -> Result<Fault, AllocError>
+    ensures { IfOk result (λ copied. copied ≡ fault.now) }
+{
+    Ok(Fault {
+        condition: fault.condition.clone()?,
+        description: fault.description.clone()?,
+        info: fault.info.clone()?,
+    })
+}
+
+/// A copy of what is to change at a delivery's next attempt.
+fn copy_modified(modified: &Modified) -> Result<Modified, AllocError>
+    ensures { IfOk result (λ copied. copied ≡ modified.now) }
+{
+    Ok(Modified {
+        delivery_failed: modified.delivery_failed,
+        undeliverable_here: modified.undeliverable_here,
+        message_annotations: modified.message_annotations.clone()?,
+    })
+}
