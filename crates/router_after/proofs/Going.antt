@@ -232,3 +232,20 @@ somebody t link p k place wide first = record {
       subst (λ (b : Attachment). beats n b (Some (record { number = k; place = p })) ≡ false) same
         (not_sooner_here n k p (first.1 n (subst (λ (b : Attachment). goes_from t b n (delivery t n) ≡ true) (sym same) (ready t n a e).goes)));
 }
+
+-- where none has begun, the first that waits goes, if one can start
+and_true : (b : Bool) → (b && true) ≡ b
+and_true true = refl
+and_true false = refl
+
+pub first_to_start : (t : Trace) (p : Attachment) (r : Option ℕ) → IsFirst (λ n. goes_on_from t p n (delivery t n)) None → starts_from t p ≡ true
+    → IsFirst (λ n. waits_at p (delivery t n)) r → IsFirst (λ n. goes_from t p n (delivery t n)) r
+first_to_start t p r none can x = by_first r x
+  where
+    same : (n : ℕ) → goes_from t p n (delivery t n) ≡ waits_at p (delivery t n)
+    same n =
+        ap (λ b. b || (waits_at p (delivery t n) && starts_from t p)) (none n) ∙ ap (λ b. waits_at p (delivery t n) && b) can ∙ and_true (waits_at p (delivery t n))
+
+    by_first : (r : Option ℕ) → IsFirst (λ n. waits_at p (delivery t n)) r → IsFirst (λ n. goes_from t p n (delivery t n)) r
+    by_first None x = λ n. same n ∙ x n
+    by_first (Some k) x = (same k ∙ x.0, λ m e. x.1 m (sym (same m) ∙ e))

@@ -5,3 +5,5 @@ pub mod Orders
 pub mod Choosing
 pub mod Numbered
 pub mod Going
+pub mod Owing
+pub mod Dues

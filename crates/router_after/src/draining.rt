@@ -3,12 +3,12 @@ ghost use Rattle.std.specs.Prelude.{◌≡◌, true, List, Some, IfOk};
 ghost use Rattle.amqp_session.specs.Session.{Session};
 ghost use Rattle.router_trace.specs.Frames.{told_of};
 ghost use Rattle.router_trace.specs.Trace.{Entry};
-ghost use Rattle.router_trace.specs.Links.{numbered};
 ghost use Rattle.router_trace.specs.Sessions.{session};
-ghost use Rattle.router_trace.specs.Following.{link_of, place_drained, drain_on, drains_due};
+ghost use Rattle.router_trace.specs.Following.{link_of, drain_on, drains_due};
 ghost use Rattle.router_state.specs.Tables.{TablesFit};
 ghost use Rattle.router_state.specs.Asking.{owes_drain};
 ghost use Rattle.router_after.specs.After.{puts_in};
+ghost use Rattle.router_after.specs.Draining.{drains_at};
 ghost use Rattle.router_after.specs.Soonest.{IsSoonest, IsSoonestOn};
 
 use crate::candidate::{Candidate, sooner};
@@ -30,7 +30,7 @@ pub(crate) fn drain_due(state: &State) -> Result<Option<Outgoing>, AllocError>
 
 /// The link whose drain is told next.
 fn soonest(state: &State) -> Result<Option<Candidate>, AllocError>
-    ensures { IfOk result (λ best. (t : List Entry) → TablesFit state.now t → IsSoonest (λ n. place_drained t n (numbered t n)) best) }
+    ensures { IfOk result (λ best. (t : List Entry) → TablesFit state.now t → IsSoonest (drains_at t) best) }
 {
     let mut last = None;
     let mut best = None;
@@ -46,7 +46,7 @@ fn soonest(state: &State) -> Result<Option<Candidate>, AllocError>
 
 /// Where a link stands that owes a drain, once every delivery bound to it has gone.
 fn drained_at(state: &State, link: u64) -> Option<Candidate>
-    ensures { (t : List Entry) → TablesFit state.now t → owes_drain t link ≡ true → IsSoonestOn (λ n. place_drained t n (numbered t n)) link result }
+    ensures { (t : List Entry) → TablesFit state.now t → owes_drain t link ≡ true → IsSoonestOn (drains_at t) link result }
 {
     if state.has_unsent(link) {
         return None;

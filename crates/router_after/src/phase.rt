@@ -57,7 +57,7 @@ impl Phase {
                 let due = drain_due(state)?;
                 put(state, due)
             }
-            Phase::Grants => grant(state),
+            Phase::Grants => Ok(grant(state)?),
         }
     }
 }

@@ -27,7 +27,7 @@ pub(crate) fn frame_due(state: &State) -> Result<Option<Outgoing>, AllocError>
 {
     match soonest(state)? {
         None => Ok(None),
-        Some(next) => frame_of(state, next.number),
+        Some(next) => Ok(frame_of(state, next.number)?),
     }
 }
 

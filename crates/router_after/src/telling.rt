@@ -19,7 +19,7 @@ pub(crate) fn outcome_due(state: &State) -> Result<Option<Outgoing>, AllocError>
 {
     match first_to_tell(state)? {
         None => Ok(None),
-        Some(number) => outcome_of(state, number),
+        Some(number) => Ok(outcome_of(state, number)?),
     }
 }
 

@@ -38,7 +38,7 @@ fn first_at(state: &State, place: Attachment) -> Result<Option<u64>, AllocError>
     if !can_start(state, place)? {
         return Ok(None);
     }
-    first_waiting(state, place)
+    Ok(first_waiting(state, place)?)
 }
 
 /// The delivery that has begun on a link and goes on.

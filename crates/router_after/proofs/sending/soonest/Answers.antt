@@ -1,18 +1,18 @@
-use Rattle.std.proofs.Common.{rules, ◌≡◌, List, IfOk, ℕ, ◌+◌, ◌-◌, ◌*◌, ◌<◌, ◌≤◌, length, ◌/◌, ◌%◌, Bool, true, false, nat_eq, nat_lt, [], ◌∷◌, ◌++◌, slice_index_or, slice_set, bit_and, bit_or, Fits, w8, w32, w64, Bor, MutBor}
+use Rattle.std.proofs.Common.{◌≡◌, List, Option, Some, sym, subst}
 use Rattle.router_trace.specs.Trace.{Entry}
-use Rattle.router_trace.specs.Deliveries.{delivery}
-use Rattle.router_trace.specs.Following.{send, sends_due, transfer_of}
-use Rattle.router_state.specs.Tables.{TablesFit}
-use Rattle.router_after.specs.After.{puts_in}
-use Rattle.router_after.specs.Soonest.{IsSoonest}
+use Rattle.router_state.specs.Asking.{has_unsent}
+use Rattle.router_after.specs.declared.candidate.Candidate.{Candidate}
+use Rattle.router_after.specs.Soonest.{IsSoonestUpTo}
 use Rattle.router_after.specs.Starting.{places}
+use Rattle.router_after.proofs.Going.{has_it}
+use Rattle.router_after.proofs.Choosing.{one_more, no_more}
 use Rattle.router_after.proofs.sending.soonest.Goals as goal
 
--- src/sending.rt:42:13
 pub returns-in_default : goal.returns-in_default
-returns-in_default c = ?
+returns-in_default c = λ t f. no_more (places t) (has_unsent t) c.loop-turn.last c.loop-turn.best (has_it t) (c.in_default.ensures t f) (c.loop-turn.invariant t f)
 
--- src/sending.rt:40:5
 pub loop-turn-preserved : goal.loop-turn-preserved
-loop-turn-preserved c = ?
-
+loop-turn-preserved c = λ t f.
+    subst (λ (r : Option Candidate). IsSoonestUpTo (places t) (Some c.in-Some.link) r) (sym c.sooner-best.ensures)
+      (one_more (places t) (has_unsent t) c.loop-turn.last c.in-Some.link c.loop-turn.best c.in_ok-found.found (has_it t) (c.in-Some.ensures t f) (c.loop-turn.invariant t f)
+        (c.in_ok-found.ensures t f))

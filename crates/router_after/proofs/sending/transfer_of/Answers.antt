@@ -1,18 +1,20 @@
-use Rattle.std.proofs.Common.{rules, ◌≡◌, List, IfOk, ℕ, ◌+◌, ◌-◌, ◌*◌, ◌<◌, ◌≤◌, length, ◌/◌, ◌%◌, Bool, true, false, nat_eq, nat_lt, [], ◌∷◌, ◌++◌, slice_index_or, slice_set, bit_and, bit_or, Fits, w8, w32, w64, Bor, MutBor}
-use Rattle.router_trace.specs.Trace.{Entry}
-use Rattle.router_trace.specs.Deliveries.{delivery}
-use Rattle.router_trace.specs.Following.{send, sends_due, transfer_of}
-use Rattle.router_state.specs.Tables.{TablesFit}
-use Rattle.router_after.specs.After.{puts_in}
-use Rattle.router_after.specs.Soonest.{IsSoonest}
-use Rattle.router_after.specs.Starting.{places}
+use Rattle.std.proofs.Common.{◌∙◌, refl, sym, ap, subst}
+use Rattle.router_trace.specs.Deliveries.{Delivery}
+use Rattle.router_trace.specs.DeliveryFrames.{first_transfer}
+use Rattle.router_trace.specs.Following.{transfer_of}
+use Rattle.router_deliveries.specs.contracts.delivery.Delivery.{the_view}
+use Rattle.router_after.proofs.Dues.{begun, not_begun}
 use Rattle.router_after.proofs.sending.transfer_of.Goals as goal
 
--- src/sending.rt:80:9
 pub returns-then-is_some : goal.returns-then-is_some
-returns-then-is_some c = ?
+returns-then-is_some c = λ t f.
+    let d = the_view c.delivery.inside in
+    begun t c.args.number d c.later_transfer.result (sym (c.if-is_some.ensures)) (c.later_transfer.ensures d refl)
+    ∙ ap (transfer_of t c.args.number) c.delivery.view_is
 
--- src/sending.rt:75:1
 pub returns : goal.returns
-returns c = ?
-
+returns c = λ t f.
+    let d = the_view c.delivery.inside in
+    not_begun t c.args.number d c.first_transfer.result (sym (c.if-is_some.ensures))
+      (c.first_transfer.ensures d refl refl ∙ ap (λ id. first_transfer d.link.handle id c.args.number d) (c.next_id-id.ensures t f))
+    ∙ ap (transfer_of t c.args.number) c.delivery.view_is

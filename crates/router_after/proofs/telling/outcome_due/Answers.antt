@@ -1,17 +1,8 @@
-use Rattle.std.proofs.Common.{rules, ◌≡◌, List, IfOk, ℕ, ◌+◌, ◌-◌, ◌*◌, ◌<◌, ◌≤◌, length, ◌/◌, ◌%◌, Bool, true, false, nat_eq, nat_lt, [], ◌∷◌, ◌++◌, slice_index_or, slice_set, bit_and, bit_or, Fits, w8, w32, w64, Bor, MutBor}
-use Rattle.router_trace.specs.Trace.{Entry}
-use Rattle.router_trace.specs.Deliveries.{delivery}
-use Rattle.router_trace.specs.Following.{is_to_be_told, tell, tells}
-use Rattle.router_deliveries.specs.Finding.{IsFirst}
-use Rattle.router_state.specs.Tables.{TablesFit}
-use Rattle.router_after.specs.After.{puts_in}
+use Rattle.router_after.proofs.Dues.{tells_none, tells_one}
 use Rattle.router_after.proofs.telling.outcome_due.Goals as goal
 
--- src/telling.rt:17:1
 pub returns-in-None : goal.returns-in-None
-returns-in-None c = ?
+returns-in-None c = λ t f. tells_none t _ c.in-None.is (c.in_ok-first_to_tell.ensures t f)
 
--- src/telling.rt:17:1
-pub returns-in-Some : goal.returns-in-Some
-returns-in-Some c = ?
-
+pub returns-in_ok-outcome_of-in-Some : goal.returns-in_ok-outcome_of-in-Some
+returns-in_ok-outcome_of-in-Some c = λ t f. tells_one t _ c.in-Some.number _ c.in-Some.is (c.in_ok-first_to_tell.ensures t f) (c.in_ok-outcome_of-in-Some.ensures t f)

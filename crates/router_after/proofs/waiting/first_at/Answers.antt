@@ -1,13 +1,8 @@
-use Rattle.std.proofs.Common.{rules, ◌≡◌, List, IfOk, ℕ, ◌+◌, ◌-◌, ◌*◌, ◌<◌, ◌≤◌, length, ◌/◌, ◌%◌, Bool, true, false, nat_eq, nat_lt, [], ◌∷◌, ◌++◌, slice_index_or, slice_set, bit_and, bit_or, Fits, w8, w32, w64, Bor, MutBor}
-use Rattle.router_trace.specs.Trace.{Entry}
-use Rattle.router_trace.specs.Deliveries.{delivery}
-use Rattle.router_deliveries.specs.Finding.{IsFirst}
-use Rattle.router_state.specs.Tables.{TablesFit}
-use Rattle.router_after.specs.Soonest.{IsSoonestOn}
-use Rattle.router_after.specs.Starting.{is_same, goes_on_from, waits_at, starts_from, goes_from, places}
+use Rattle.std.proofs.Common.{◌∙◌, sym}
+use Rattle.router_after.proofs.Going.{first_to_start}
 use Rattle.router_after.proofs.waiting.first_at.Goals as goal
 
--- src/waiting.rt:32:1
 pub returns : goal.returns
-returns c = ?
-
+returns c = λ t f.
+    first_to_start t c.args.place c.in_ok-first_waiting.field-0 (c.in_default.ensures t f) (sym (c.in_ok-can_start.ensures t f) ∙ c.if-not-branch.false)
+      (c.in_ok-first_waiting.ensures t f)

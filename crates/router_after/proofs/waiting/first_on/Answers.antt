@@ -1,21 +1,19 @@
-use Rattle.std.proofs.Common.{rules, ◌≡◌, List, IfOk, ℕ, ◌+◌, ◌-◌, ◌*◌, ◌<◌, ◌≤◌, length, ◌/◌, ◌%◌, Bool, true, false, nat_eq, nat_lt, [], ◌∷◌, ◌++◌, slice_index_or, slice_set, bit_and, bit_or, Fits, w8, w32, w64, Bor, MutBor}
-use Rattle.router_trace.specs.Trace.{Entry}
+use Rattle.std.proofs.Common.{◌≡◌, ℕ, Option, sym, subst}
 use Rattle.router_trace.specs.Deliveries.{delivery}
 use Rattle.router_deliveries.specs.Finding.{IsFirst}
-use Rattle.router_state.specs.Tables.{TablesFit}
-use Rattle.router_after.specs.Soonest.{IsSoonestOn}
-use Rattle.router_after.specs.Starting.{is_same, goes_on_from, waits_at, starts_from, goes_from, places}
+use Rattle.router_after.specs.Starting.{goes_from}
+use Rattle.router_after.proofs.Going.{nowhere, nobody, somebody, closed}
 use Rattle.router_after.proofs.waiting.first_on.Goals as goal
 
--- src/waiting.rt:20:9
 pub returns-in_default : goal.returns-in_default
-returns-in_default c = ?
+returns-in_default c = λ t f. nowhere t c.args.link (sym (c.in_default.ensures t f))
 
--- src/waiting.rt:16:1
 pub returns-in-None : goal.returns-in-None
-returns-in-None c = ?
+returns-in-None c = λ t f.
+    nobody t c.args.link c.in-Some.place (sym (c.in-Some.ensures t f))
+      (subst (λ (r : Option ℕ). IsFirst (λ n. goes_from t c.in-Some.place n (delivery t n)) r) c.in-None.is (c.in_ok-first_at.ensures t f))
 
--- src/waiting.rt:16:1
 pub returns-in-Some-2 : goal.returns-in-Some-2
-returns-in-Some-2 c = ?
-
+returns-in-Some-2 c = λ t f.
+    somebody t c.args.link c.in-Some.place c.in-Some-2.number (sym (c.in-Some.ensures t f)) (sym (c.if-not-is_wide.ensures t f))
+      (subst (λ (r : Option ℕ). IsFirst (λ n. goes_from t c.in-Some.place n (delivery t n)) r) c.in-Some-2.is (c.in_ok-first_at.ensures t f))

@@ -1,12 +1,7 @@
-use Rattle.std.proofs.Common.{rules, ◌≡◌, false, List, [], OnOk, IfOk, ℕ, ◌+◌, ◌-◌, ◌*◌, ◌<◌, ◌≤◌, length, ◌/◌, ◌%◌, Bool, true, nat_eq, nat_lt, ◌∷◌, ◌++◌, slice_index_or, slice_set, bit_and, bit_or, Fits, w8, w32, w64, Bor, MutBor}
-use Rattle.router_trace.specs.Trace.{Entry, goes, puts_of}
-use Rattle.router_trace.specs.Following.{as_long_as_due}
-use Rattle.router_state.specs.Tables.{TablesFit}
-use Rattle.router_state.specs.Passing.{grants_due}
-use Rattle.router_after.specs.After.{due_in, puts_in}
+use Rattle.std.proofs.Common.{◌∙◌, ap}
+use Rattle.router_after.specs.After.{due_in}
+use Rattle.router_after.specs.declared.phase.Phase.{Phase}
 use Rattle.router_after.proofs.phase.Phase.turn.Goals as goal
 
--- src/phase.rt:43:5
-pub returns-in-Grants-clause-over : goal.returns-in-Grants-clause-over
-returns-in-Grants-clause-over c = ?
-
+pub returns-in_ok-grant-in-Grants-clause-over : goal.returns-in_ok-grant-in-Grants-clause-over
+returns-in_ok-grant-in-Grants-clause-over c = λ none t f. ap (λ (p : Phase). due_in p t) c.in-Grants.is ∙ c.in_ok-grant-in-Grants.ensures.over none t f
