@@ -14,13 +14,20 @@ use Rattle.router_conns.specs.Timing.{ClocksFit}
 use Rattle.router_links.specs.Fits.{LinksFit}
 use Rattle.router_sessions.specs.Fits.{SessionsFit}
 
+-- Not told here, so that nothing above finds that any table fits.
+unfoldable pub Theirs : State → Trace → Type 0
+Theirs s t = Unit {0}
+
+unfoldable pub TheirsAt : State → Trace → Event → List ℕ → Type 0
+TheirsAt s t e ends = Unit {0}
+
 -- all tables are those of the trace
 pub record TablesFit (s : State) (t : Trace) : Type 0 where
-  pub never : Unit {0}
+  pub theirs : Theirs s t
 
 -- all tables are what an event finds behind the trace, which ends these connections first
 pub record TablesAt (s : State) (t : Trace) (e : Event) (ends : List ℕ) : Type 0 where
-  pub never : Unit {0}
+  pub theirs : TheirsAt s t e ends
 
 -- the heartbeats that are due at a moment on these connections, by number
 abbrev pub beat_if : Bool → ℕ → List Put
