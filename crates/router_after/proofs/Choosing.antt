@@ -1,5 +1,5 @@
 -- The one that goes first, from that of each link.
-use Rattle.std.proofs.Common.{◌≡◌, ◌∙◌, ◌≤◌, ◌<◌, ◌+◌, ℕ, zero, suc, Bool, true, false, refl, sym, ap, subst, arith, Option, Some, None}
+use Rattle.std.proofs.Common.{◌≡◌, ◌∙◌, ◌≤◌, ◌<◌, ℕ, zero, suc, Bool, true, false, refl, sym, ap, subst, arith, Option, Some, None}
 use Rattle.std.specs.Prelude.{◌&&◌, ◌==◌, nat_lt, if◌then◌else◌, option_map}
 use Rattle.std.proofs.lemmas.Bool.{and_from, eqb-true}
 use Rattle.std.proofs.lemmas.Bool.Decides.{nat_tests}
@@ -8,7 +8,7 @@ use Rattle.router_trace.specs.Numbers.{Placed, first_placed, better, or_better, 
 use Rattle.router_deliveries.specs.Finding.{IsFirst}
 use Rattle.router_state.specs.Asking.{is_above}
 use Rattle.router_after.specs.declared.candidate.Candidate.{Candidate}
-use Rattle.router_after.specs.Soonest.{is_sooner, beats, unless_sooner, sooner, Stands, IsSoonest, IsSoonestOn, IsSoonestUpTo}
+use Rattle.router_after.specs.Soonest.{is_sooner, beats, sooner, Stands, IsSoonest, IsSoonestOn, IsSoonestUpTo}
 use Rattle.router_after.proofs.Orders.{is_soonest, is_sooner_too, not_before, behind_lower}
 
 -- what goes before the sooner of two goes before both
@@ -127,7 +127,7 @@ one_below (suc b) place c l stands first = by_test (c.number == b) refl (λ k. o
         let x = found_placed b place q was in
         let l = x.below in
         ap (λ t. if t then Some (record { number = b; place = c.place }) else Some q)
-          (behind_lower q.number q.place c (first q.number q.place x.stands) (omega (arith, l, is)))
+        (behind_lower q.number q.place c (first q.number q.place x.stands) (omega (arith, l, is)))
         ∙ ap (λ n. Some (record { number = n; place = c.place })) (sym is)
 
     by_test : (t : Bool) → (c.number == b) ≡ t → (c.number < b → first_placed b place ≡ Some (placed c)) → or_better (first_placed b place) b (place b) ≡ Some (placed c)

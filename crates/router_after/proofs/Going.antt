@@ -1,21 +1,18 @@
 -- Which deliveries can go from a link.
-use Rattle.std.proofs.Common.{◌≡◌, ◌∙◌, ◌⊎◌, ◌≤◌, ◌<◌, ◌+◌, ℕ, Bool, true, false, refl, sym, ap, subst, arith, Option, Some, None}
-use Rattle.std.specs.Prelude.{not, ◌&&◌, ◌||◌, ◌==◌, nat_lt, if◌then◌else◌, is_none, is_some}
+use Rattle.std.proofs.Common.{◌≡◌, ◌∙◌, ◌<◌, ◌+◌, ℕ, Bool, true, false, refl, sym, ap, subst, arith, Option, Some, None}
+use Rattle.std.specs.Prelude.{not, ◌&&◌, ◌||◌, ◌==◌, if◌then◌else◌, is_none, is_some}
 use Rattle.std.proofs.lemmas.Bool.{and_parts, and_from, eqb-true}
 use Rattle.std.proofs.lemmas.Bool.Decides.{nat_tests}
-use Rattle.amqp_session.specs.Session.{Session}
 use Rattle.router_trace.specs.declared.handle.Attachment.{Attachment}
 use Rattle.router_trace.specs.Trace.{Trace}
 use Rattle.router_trace.specs.Sessions.{session}
-use Rattle.router_trace.specs.Links.{Link, link, has_number, is_attached, if_attached, numbered, place_of}
-use Rattle.router_trace.specs.Deliveries.{Delivery, bindings, delivery, sending, named, next_id, is_number}
-use Rattle.router_trace.specs.Following.{link_of, goes_on_at, is_going, takes_more, has_credit, is_busy, is_used, can_start, is_wide, is_there, can_go, place_to_go, is_unsent_on, first_delivery}
+use Rattle.router_trace.specs.Links.{Link, link, has_number, is_attached, numbered, place_of}
+use Rattle.router_trace.specs.Deliveries.{Delivery, bindings, delivery, sending, is_number}
+use Rattle.router_trace.specs.Following.{link_of, goes_on_at, is_going, takes_more, has_credit, can_start, is_wide, is_there, can_go, place_to_go, is_unsent_on}
 use Rattle.router_deliveries.specs.Finding.{IsFirst}
-use Rattle.router_state.specs.Asking.{is_above, has_unsent, goes_on}
-use Rattle.router_after.specs.declared.candidate.Candidate.{Candidate}
+use Rattle.router_state.specs.Asking.{has_unsent, goes_on}
 use Rattle.router_after.specs.Soonest.{IsSoonestOn, beats}
 use Rattle.router_after.specs.Starting.{is_same, goes_on_from, waits_at, starts_from, goes_from, places}
-use Rattle.router_after.proofs.Scanning.{not_true}
 use Rattle.router_after.proofs.Numbers.{stands_below, some_delivery}
 use Rattle.router_after.proofs.Numbered.{number_is, place_is, stands_there}
 use Rattle.router_after.proofs.Orders.{not_sooner_here}
@@ -41,7 +38,7 @@ same_is a b e =
 pub is_itself : (a : Attachment) → is_same a a ≡ true
 is_itself a =
     and_from (a.number == a.number) _ (nat_same a.number)
-      (and_from (a.conn.0 == a.conn.0) _ (nat_same a.conn.0) (and_from (a.channel == a.channel) (a.handle == a.handle) (nat_same a.channel) (nat_same a.handle)))
+    (and_from (a.conn.0 == a.conn.0) _ (nat_same a.conn.0) (and_from (a.channel == a.channel) (a.handle == a.handle) (nat_same a.channel) (nat_same a.handle)))
 
 -- the link of a number stands at its place
 there_is : (t : Trace) (a : Attachment) → is_there (numbered t a.number) a ≡ true → numbered t a.number ≡ Some a
@@ -113,15 +110,15 @@ goes_at : (t : Trace) (n : ℕ) (d : Delivery) → (is_going t n d || can_start 
 goes_at t n d e = either (is_going t n d) (can_start t d) (goes_from t d.link n (Some d) ≡ true) e
     (λ g. or_first (goes_on_from t d.link n (Some d)) _ (and_from (is_same d.link d.link) (is_going t n d) (is_itself d.link) g))
     (λ s. let x = and_parts (is_none d.id && d.going_on) (starts_from t d.link) s in
-      or_second (goes_on_from t d.link n (Some d)) _
-        (and_from (waits_at d.link (Some d)) (starts_from t d.link) (and_from (is_same d.link d.link) (is_none d.id && d.going_on) (is_itself d.link) x.0) x.1))
+    or_second (goes_on_from t d.link n (Some d)) _
+    (and_from (waits_at d.link (Some d)) (starts_from t d.link) (and_from (is_same d.link d.link) (is_none d.id && d.going_on) (is_itself d.link) x.0) x.1))
 
 attached_at : (t : Trace) (n : ℕ) (d : Delivery) → (is_going t n d || can_start t d) ≡ true → (is_attached t d.link ≡ true) × (d.going_on ≡ true)
 attached_at t n d e = either (is_going t n d) (can_start t d) ((is_attached t d.link ≡ true) × (d.going_on ≡ true)) e
     (λ g. let x = and_parts (is_some d.id && d.going_on) (goes_on_at (link_of t d.link) d.link.number (sending t d.link.conn.0 d.link.channel d.link.handle) n) g in
-      (going_has (link_of t d.link) d.link.number (sending t d.link.conn.0 d.link.channel d.link.handle) n x.1, (and_parts (is_some d.id) d.going_on x.0).1))
+    (going_has (link_of t d.link) d.link.number (sending t d.link.conn.0 d.link.channel d.link.handle) n x.1, (and_parts (is_some d.id) d.going_on x.0).1))
     (λ s. let x = and_parts (is_none d.id && d.going_on) (starts_from t d.link) s in
-      (taking_has (link_of t d.link) d.link.number (and_parts (takes_more (link_of t d.link) d.link.number) _ x.1).0, (and_parts (is_none d.id) d.going_on x.0).1))
+    (taking_has (link_of t d.link) d.link.number (and_parts (takes_more (link_of t d.link) d.link.number) _ x.1).0, (and_parts (is_none d.id) d.going_on x.0).1))
 
 ready_there : (t : Trace) (n : ℕ) (d : Delivery) → delivery t n ≡ Some d → can_go t n d ≡ true → IsReady t n d.link
 ready_there t n d is e =
@@ -169,7 +166,7 @@ can_go_there t n a place wide goes = by_delivery (delivery t n) goes
     goes_now d e = either (goes_on_from t d.link n (Some d)) (waits_at d.link (Some d) && starts_from t d.link) ((is_going t n d || can_start t d) ≡ true) e
         (λ g. or_first (is_going t n d) (can_start t d) (and_parts (is_same d.link d.link) (is_going t n d) g).1)
         (λ s. let x = and_parts (waits_at d.link (Some d)) (starts_from t d.link) s in
-          or_second (is_going t n d) (can_start t d) (and_from (is_none d.id && d.going_on) (starts_from t d.link) (and_parts (is_same d.link d.link) (is_none d.id && d.going_on) x.0).1 x.1))
+        or_second (is_going t n d) (can_start t d) (and_from (is_none d.id && d.going_on) (starts_from t d.link) (and_parts (is_same d.link d.link) (is_none d.id && d.going_on) x.0).1 x.1))
 
     here : (d : Delivery) → goes_from t a n (Some d) ≡ true → d.link ≡ a
     here d e = either (goes_on_from t a n (Some d)) (waits_at a (Some d) && starts_from t a) (d.link ≡ a) e
@@ -180,17 +177,17 @@ can_go_there t n a place wide goes = by_delivery (delivery t n) goes
         → place_to_go t n (Some d) ≡ Some d.link
     at_own d place wide e =
         ap (λ b. if b then Some d.link else None)
-          (and_from (is_there (numbered t d.link.number) d.link) _ (is_there_at t d.link (place_is t d.link.number d.link place).0)
-            (and_from (is_wide (session t d.link.conn.0 d.link.channel)) _ wide (goes_now d e)))
+        (and_from (is_there (numbered t d.link.number) d.link) _ (is_there_at t d.link (place_is t d.link.number d.link place).0)
+        (and_from (is_wide (session t d.link.conn.0 d.link.channel)) _ wide (goes_now d e)))
 
     by_delivery : (v : Option Delivery) → goes_from t a n v ≡ true → place_to_go t n v ≡ Some a
     by_delivery None e = absurd cc
     by_delivery (Some d) e =
         let is = here d e in
         subst (λ (b : Attachment). place_to_go t n (Some d) ≡ Some b) is
-          (at_own d (subst (λ (b : Attachment). place_of t b.number ≡ Some b) (sym is) place)
-            (subst (λ (b : Attachment). is_wide (session t b.conn.0 b.channel) ≡ true) (sym is) wide)
-            (subst (λ (b : Attachment). goes_from t b n (Some d) ≡ true) (sym is) e))
+        (at_own d (subst (λ (b : Attachment). place_of t b.number ≡ Some b) (sym is) place)
+        (subst (λ (b : Attachment). is_wide (session t b.conn.0 b.channel) ≡ true) (sym is) wide)
+        (subst (λ (b : Attachment). goes_from t b n (Some d) ≡ true) (sym is) e))
 
 -- The first that goes from a link is the one of it that goes first of all.
 pub none_there : (t : Trace) (link : ℕ) → ((n : ℕ) (a : Attachment) → places t n ≡ Some a → a.number ≡ link → true ≡ false) → IsSoonestOn (places t) link None
@@ -230,7 +227,7 @@ somebody t link p k place wide first = record {
   first = λ n a e is.
       let same = placed_so t link p place n a e is in
       subst (λ (b : Attachment). beats n b (Some (record { number = k; place = p })) ≡ false) same
-        (not_sooner_here n k p (first.1 n (subst (λ (b : Attachment). goes_from t b n (delivery t n) ≡ true) (sym same) (ready t n a e).goes)));
+      (not_sooner_here n k p (first.1 n (subst (λ (b : Attachment). goes_from t b n (delivery t n) ≡ true) (sym same) (ready t n a e).goes)));
 }
 
 -- where none has begun, the first that waits goes, if one can start

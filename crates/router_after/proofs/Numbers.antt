@@ -1,5 +1,5 @@
 -- The first of the deliveries that pass a test, among all that were bound.
-use Rattle.std.proofs.Common.{◌≡◌, ◌∙◌, ◌<◌, ◌≤◌, ◌+◌, ℕ, zero, suc, Bool, true, false, refl, sym, ap, arith, List, [], ◌∷◌, Option, Some, None}
+use Rattle.std.proofs.Common.{◌≡◌, ◌∙◌, ◌<◌, ◌≤◌, ◌+◌, ℕ, zero, suc, Bool, true, false, refl, sym, ap, arith, [], ◌∷◌, Option, Some, None}
 use Rattle.std.specs.Prelude.{◌==◌, nat_lt, if◌then◌else◌, is_some}
 use Rattle.std.specs.Option.{option_and_then}
 use Rattle.std.proofs.lemmas.Bool.{eqb-true, ltb-true}
@@ -73,7 +73,6 @@ stands_below t passes none n e = by_test (nat_lt (bindings t) n) refl
 
 pub first_delivery_is : (t : Trace) (passes : Option Delivery → Bool) → passes None ≡ false → (r : Option ℕ) → IsFirst (λ n. passes (delivery t n)) r → r ≡ first_delivery t passes
 first_delivery_is t passes none r x = first_is (bindings t + 1) (λ n. passes (delivery t n)) (stands_below t passes none) r x
-
 
 -- where one passes there is a first
 some_below : (bound n : ℕ) (passes : ℕ → Bool) → n < bound → passes n ≡ true → is_some (first_below bound passes) ≡ true

@@ -1,13 +1,12 @@
 -- Which links' drains are due.
-use Rattle.std.proofs.Common.{◌≡◌, ◌∙◌, ◌≤◌, ◌<◌, ◌+◌, ℕ, Bool, true, false, refl, sym, ap, subst, arith, Option, Some, None}
-use Rattle.std.specs.Prelude.{not, ◌&&◌, ◌==◌, if◌then◌else◌, is_none, is_some}
+use Rattle.std.proofs.Common.{◌≡◌, ◌∙◌, ◌<◌, ◌+◌, ℕ, Bool, true, false, refl, sym, ap, subst, arith, Option, Some, None}
+use Rattle.std.specs.Prelude.{◌==◌, if◌then◌else◌, is_none, is_some}
 use Rattle.std.proofs.lemmas.Bool.{and_parts, and_from}
 use Rattle.router_trace.specs.declared.handle.Attachment.{Attachment}
 use Rattle.router_trace.specs.Trace.{Trace}
 use Rattle.router_trace.specs.Links.{Link, has_number, is_attached, numbered, place_of, attachments}
-use Rattle.router_trace.specs.Following.{link_of, is_drained, place_drained, owes_one, is_sending, first_delivery, is_unsent_on}
+use Rattle.router_trace.specs.Following.{link_of, is_drained, place_drained, owes_one, first_delivery, is_unsent_on}
 use Rattle.router_state.specs.Asking.{has_unsent, owes_on, owes_drain}
-use Rattle.router_after.specs.declared.candidate.Candidate.{Candidate}
 use Rattle.router_after.specs.Soonest.{IsSoonestOn, beats}
 use Rattle.router_after.specs.Draining.{drains_at}
 use Rattle.router_after.proofs.Numbered.{number_is, is_low, place_is, stands_there}
@@ -89,12 +88,12 @@ due t link p place gone owed =
     record {
       stands = ap (place_drained t link) at.0
           ∙ ap (λ b. if b then Some p else None)
-            (and_from (owes_one (link_of t p) link) _ (sym (ap (owes_on t link) at.0) ∙ owed) (not_some (first_delivery t (is_unsent_on link)) gone));
+          (and_from (owes_one (link_of t p) link) _ (sym (ap (owes_on t link) at.0) ∙ owed) (not_some (first_delivery t (is_unsent_on link)) gone));
       first = λ n a e is.
           let same = same_number t n link a e is in
           let one = inside p a (sym place ∙ ap (place_of t) (sym same) ∙ placed_there t n a e) in
           subst (λ (b : Attachment). beats n b (Some (record { number = link; place = p })) ≡ false) one
-            (not_sooner_here n link p (let k : n ≡ link = same in omega (arith, k)));
+          (not_sooner_here n link p (let k : n ≡ link = same in omega (arith, k)));
     }
   where
     or_p : Attachment → Option Attachment → Attachment

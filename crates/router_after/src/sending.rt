@@ -80,5 +80,11 @@ fn transfer_of(state: &State, number: u64, delivery: &Delivery) -> Transfer
         return later_transfer(link.handle, delivery.presettled);
     }
     let id = state.next_id(link.conn.0, link.channel);
-    first_transfer(link.handle, id, number, delivery.format, delivery.presettled)
+    first_transfer(
+        link.handle,
+        id,
+        number,
+        delivery.format,
+        delivery.presettled,
+    )
 }

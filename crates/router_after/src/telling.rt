@@ -72,6 +72,12 @@ fn outcome_of(state: &State, number: u64) -> Result<Option<Outgoing>, AllocError
     let link = origin.link;
     Ok(Some(Outgoing {
         conn: link.conn,
-        item: outcome_item(state.alloc(), link.channel, Role::Receiver, origin.id, outcome)?,
+        item: outcome_item(
+            state.alloc(),
+            link.channel,
+            Role::Receiver,
+            origin.id,
+            outcome,
+        )?,
     }))
 }

@@ -25,14 +25,14 @@ ghost use Rattle.router_state.specs.Tables.{TablesFit, TablesAt, beats};
 ghost use Rattle.router_trace.specs.declared.event.Event.{Event as E};
 ghost use Rattle.router_trace.specs.declared.event.Event.TheVariants as event;
 
+use crate::never::Never;
 use amqp_conn::Conn;
 use amqp_frames::Item;
 use amqp_link::{Delivery, Part};
 use amqp_perf::Attach;
 use amqp_session::FlowState;
-use bytes::Bytes;
 use book_core::LinkKey;
-use crate::never::Never;
+use bytes::Bytes;
 use router_conns::Taken;
 use router_deliveries::Delivery as Bound;
 use router_sessions::Place;
@@ -152,8 +152,7 @@ impl State {
     /// Forgets which windows were narrow, where they aren't any more.
     pub fn settle(&mut self)
         ensures { (t : List Entry) → TablesFit self.old t → TablesFit self.new t }
-    {
-    }
+    {}
 
     /// Ends the connections that an event ends for their full outboxes, and gives them by number. Their closes are the
     /// caller's to put.
@@ -181,8 +180,7 @@ impl State {
     /// Time passes.
     pub fn tick(&mut self, moment: u64)
         ensures { (t : List Entry) (ends : List ℕ) → TablesAt self.old t (event.Tick moment) ends → TablesFit self.new (did (event.Tick moment) ∷ t) }
-    {
-    }
+    {}
 
     /// The router starts on its journal, which changes no table.
     pub fn start(&mut self)
@@ -256,7 +254,13 @@ impl State {
     }
 
     /// The ids of a range that name undecided deliveries of a session, in order, as an event finds them.
-    pub fn open_ids(&self, conn: u64, own: u16, first: u32, last: u32) -> Result<Vec<u32>, AllocError>
+    pub fn open_ids(
+        &self,
+        conn: u64,
+        own: u16,
+        first: u32,
+        last: u32,
+    ) -> Result<Vec<u32>, AllocError>
         ensures { IfOk result (λ ids. (t : List Entry) (e : E) (ends : List ℕ) → TablesAt self.now t e ends → ids.items ≡ open_ids t conn own first last) }
     {
         Err(AllocError)
@@ -277,7 +281,13 @@ impl State {
     }
 
     /// Binds a message of a producer's link to the consumer of its address that is chosen; whether one was.
-    pub fn pass(&mut self, from: Attachment, origin: Option<Origin>, format: u32, payload: Bytes) -> Result<bool, AllocError>
+    pub fn pass(
+        &mut self,
+        from: Attachment,
+        origin: Option<Origin>,
+        format: u32,
+        payload: Bytes,
+    ) -> Result<bool, AllocError>
         ensures chosen { IfOk result (λ chosen. (t : List Entry) → TablesFit self.old t → chosen ≡ is_some (consumer_of t (link_of t from))) }
         ensures bound { OnOk result ((t : List Entry) → TablesFit self.old t → TablesFit self.new (with_bound (passing t from origin format payload) t)) }
     {

@@ -1,4 +1,4 @@
-use Rattle.std.proofs.Common.{◌∙◌, sym}
+use Rattle.std.proofs.Common.{sym}
 use Rattle.router_after.proofs.Owing.{waits, nowhere, due}
 use Rattle.router_after.proofs.draining.drained_at.Goals as goal
 

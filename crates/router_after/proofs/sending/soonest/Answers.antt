@@ -1,5 +1,4 @@
-use Rattle.std.proofs.Common.{◌≡◌, List, Option, Some, sym, subst}
-use Rattle.router_trace.specs.Trace.{Entry}
+use Rattle.std.proofs.Common.{Option, Some, sym, subst}
 use Rattle.router_state.specs.Asking.{has_unsent}
 use Rattle.router_after.specs.declared.candidate.Candidate.{Candidate}
 use Rattle.router_after.specs.Soonest.{IsSoonestUpTo}
@@ -14,5 +13,5 @@ returns-in_default c = λ t f. no_more (places t) (has_unsent t) c.loop-turn.las
 pub loop-turn-preserved : goal.loop-turn-preserved
 loop-turn-preserved c = λ t f.
     subst (λ (r : Option Candidate). IsSoonestUpTo (places t) (Some c.in-Some.link) r) (sym c.sooner-best.ensures)
-      (one_more (places t) (has_unsent t) c.loop-turn.last c.in-Some.link c.loop-turn.best c.in_ok-found.found (has_it t) (c.in-Some.ensures t f) (c.loop-turn.invariant t f)
-        (c.in_ok-found.ensures t f))
+    (one_more (places t) (has_unsent t) c.loop-turn.last c.in-Some.link c.loop-turn.best c.in_ok-found.found (has_it t) (c.in-Some.ensures t f) (c.loop-turn.invariant t f)
+    (c.in_ok-found.ensures t f))

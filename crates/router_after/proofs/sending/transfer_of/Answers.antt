@@ -1,5 +1,4 @@
-use Rattle.std.proofs.Common.{◌∙◌, refl, sym, ap, subst}
-use Rattle.router_trace.specs.Deliveries.{Delivery}
+use Rattle.std.proofs.Common.{◌∙◌, refl, sym, ap}
 use Rattle.router_trace.specs.DeliveryFrames.{first_transfer}
 use Rattle.router_trace.specs.Following.{transfer_of}
 use Rattle.router_deliveries.specs.contracts.delivery.Delivery.{the_view}
@@ -16,5 +15,5 @@ pub returns : goal.returns
 returns c = λ t f.
     let d = the_view c.delivery.inside in
     not_begun t c.args.number d c.first_transfer.result (sym (c.if-is_some.ensures))
-      (c.first_transfer.ensures d refl refl ∙ ap (λ id. first_transfer d.link.handle id c.args.number d) (c.next_id-id.ensures t f))
+    (c.first_transfer.ensures d refl refl ∙ ap (λ id. first_transfer d.link.handle id c.args.number d) (c.next_id-id.ensures t f))
     ∙ ap (transfer_of t c.args.number) c.delivery.view_is

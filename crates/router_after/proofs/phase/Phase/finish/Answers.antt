@@ -12,9 +12,9 @@ returns-then-not-branch c = λ t f.
     let done = c.loop-turn.invariant t f in
     let so_far = repeated (due_in c.args.self) c.loop-turn._turn t in
     stops (TablesFit c.turn.new.state) (due_in c.args.self) c.loop-turn._turn t c.loop-turn.auto._turn-end
-      (c.in_ok-turn.ensures.over c.if-not-branch.true so_far done) (c.in_ok-turn.ensures.put so_far done)
+    (c.in_ok-turn.ensures.over c.if-not-branch.true so_far done) (c.in_ok-turn.ensures.put so_far done)
 
 pub loop-turn-preserved : goal.loop-turn-preserved
 loop-turn-preserved c = λ t f.
     goes_on (TablesFit c.turn.new.state) (due_in c.args.self) c.loop-turn._turn t
-      (c.in_ok-turn.ensures.put (repeated (due_in c.args.self) c.loop-turn._turn t) (c.loop-turn.invariant t f))
+    (c.in_ok-turn.ensures.put (repeated (due_in c.args.self) c.loop-turn._turn t) (c.loop-turn.invariant t f))
