@@ -1,5 +1,5 @@
 -- A frame of a delivery has as much as can go.
-use Rattle.std.proofs.Common.{◌≡◌, ◌≤◌, ◌↔◌, ◌∙◌, ℕ, zero, suc, Bool, true, false, true≢false, List, [], length, take, drop, take-append-drop, refl, sym, ap, subst, arith}
+use Rattle.std.proofs.Common.{◌≡◌, ◌≤◌, ◌<◌, ◌↔◌, ◌∙◌, ℕ, ◌+◌, ◌-◌, zero, suc, Bool, true, false, true≢false, List, [], length, take, drop, take-append-drop, refl, sym, ap, subst, arith}
 use Rattle.std.proofs.lemmas.List.{append-nil, length-take-le}
 use Rattle.std.specs.Prelude.{nat_le, if◌then◌else◌}
 use Rattle.amqp_perf.specs.declared.perf.Transfer.{Transfer}
@@ -45,7 +45,7 @@ most_greatest zero k passes le h = le
 most_greatest (suc n) k passes le h = greatest_step n k (most_of n passes) passes (passes (suc n)) refl h le (λ less. most_greatest n k passes less h)
 
 -- the whole rest, or a part
-pick : {A : Type 0} (Q : A → Type 0) (test : Bool) (whole part : A) → (test ≡ true → Q whole) → (test ≡ false → Q part) → Q (if test then whole else part)
+pub pick : {A : Type 0} (Q : A → Type 0) (test : Bool) (whole part : A) → (test ≡ true → Q whole) → (test ≡ false → Q part) → Q (if test then whole else part)
 pick Q true whole part w p = w refl
 pick Q false whole part w p = p refl
 
@@ -85,3 +85,24 @@ pub frame_has_all : (largest own : ℕ) (x : Transfer) (rest : List ℕ) → fit
 frame_has_all largest own x rest h last =
     pick (λ i. (has_more i ≡ false) ↔ (payload_in i ≡ rest)) (fits largest (transfer_frame own x rest)) _ _ (λ e. ((λ _. refl), (λ _. last)))
     (λ e. ((λ more. absurd (true≢false more)), (λ same. absurd (true≢false (sym (whole_would_fit largest own x rest h last same) ∙ e)))))
+
+longer_than : (len largest : ℕ) → nat_le len largest ≡ false → largest < len
+longer_than len largest h = grind (arith, h)
+
+no_longer : (len largest : ℕ) → len ≤ largest → nat_le len largest ≡ true
+no_longer len largest h = grind (arith, h)
+
+-- A transfer of so many bytes at most beside what it carries: where more is to come, nothing else stays free.
+pub frame_carries : (largest own beside : ℕ) (x : Transfer) (rest : List ℕ) → x.more ≡ false
+    → ((payload : List ℕ) → length (item_spelling (transfer_frame own (with_more x) payload)) ≤ beside + length payload)
+    → beside ≤ largest → has_more (next_frame largest own x rest) ≡ true → largest ≤ beside + length (payload_in (next_frame largest own x rest))
+frame_carries largest own beside x rest last short room =
+    let passes = passes_of largest own x rest in
+    pick (λ i. has_more i ≡ true → largest ≤ beside + length (payload_in i)) (fits largest (transfer_frame own x rest)) _ _ (λ e more. absurd (true≢false (sym more ∙ last)))
+    (λ e more.
+    let long : largest < length (item_spelling (transfer_frame own x rest)) = longer_than _ _ e in
+    let n = largest - beside in
+    let le : n ≤ length rest = omega (arith, long, more_is_no_shorter own x rest last, short rest) in
+    let fitting : passes n ≡ true = no_longer _ _ (omega (arith, room, short (take n rest), length-take-le n rest le)) in
+    let most = most_greatest (length rest) n passes le fitting in
+    omega (arith, room, most, length-take-le (most_of (length rest) passes) rest (most_within (length rest) passes)))

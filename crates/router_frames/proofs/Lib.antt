@@ -2,4 +2,6 @@ mod Either
 mod Filled
 mod Fullness
 mod Longer
+mod Short
+mod Small
 mod Tags

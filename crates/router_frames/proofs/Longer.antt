@@ -44,10 +44,10 @@ one_null [] behind b = given_first b (given behind)
 one_null (f ∷ fs) behind b = given_behind f (given (fs ++ None ∷ behind)) (given (fs ++ Some (b ∷ []) ∷ behind)) (one_null fs behind b)
 
 -- how long a list is, by how many fields it has and their bytes
-abbrev list_size : Bool → Bool → ℕ → ℕ
+abbrev pub list_size : Bool → Bool → ℕ → ℕ
 list_size nothing small len = if nothing then 1 else (if small then 3 + len else 9 + len)
 
-abbrev is_small : ℕ → ℕ → Bool
+abbrev pub is_small : ℕ → ℕ → Bool
 is_small n len = nat_lt len 255 && nat_lt n 256
 
 sized : (small : Bool) (n : ℕ) (inside : List ℕ)
@@ -55,7 +55,7 @@ sized : (small : Bool) (n : ℕ) (inside : List ℕ)
 sized true n inside = omega arith
 sized false n inside = omega arith
 
-counted : (nothing : Bool) (n : ℕ) (inside : List ℕ)
+pub counted : (nothing : Bool) (n : ℕ) (inside : List ℕ)
     → length (if nothing then 0x45 ∷ [] else constructed kind.List (compound_piece n inside)) ≡ list_size nothing (is_small n (length inside)) (length inside)
 counted true n inside = refl
 counted false n inside = sized (is_small n (length inside)) n inside
@@ -64,7 +64,7 @@ both : (a b : Bool) → (a && b) ≡ true → (a ≡ true) × (b ≡ true)
 both true b h = (refl, h)
 both false b h = absurd (true≢false (sym h))
 
-stays_small : (n m len most : ℕ) → n ≤ m → len ≤ most → is_small m most ≡ true → is_small n len ≡ true
+pub stays_small : (n m len most : ℕ) → n ≤ m → len ≤ most → is_small m most ≡ true → is_small n len ≡ true
 stays_small n m len most le shorter h =
     let short : nat_lt most 255 ≡ true = (both (nat_lt most 255) (nat_lt m 256) h).0 in
     let few : nat_lt m 256 ≡ true = (both (nat_lt most 255) (nat_lt m 256) h).1 in
@@ -97,7 +97,7 @@ text_no_longer : (fs gs : List FieldText) → NoMore (given fs) (given gs) → l
 unfolding described_text
 text_no_longer fs gs h = let le = list_no_longer (given fs) (given gs) h in omega (arith, le)
 
-said_true : value_spelling (d.boolean true) ≡ 0x41 ∷ []
+pub said_true : value_spelling (d.boolean true) ≡ 0x41 ∷ []
 unfolding value_spelling
 said_true = refl
 
@@ -121,7 +121,7 @@ spelt_no_longer : (x : Transfer) → length (spelling (perf.Transfer (saying x f
 unfolding spelling
 spelt_no_longer x = text_no_longer (with_flag x (flag_text false)) (with_flag x (flag_text true)) (no_more_fields x)
 
-frame_len : (own : ℕ) (x : Transfer) (payload : List ℕ) → length (item_spelling (transfer_frame own x payload)) ≡ 8 + (length (spelling (perf.Transfer x)) + length payload)
+pub frame_len : (own : ℕ) (x : Transfer) (payload : List ℕ) → length (item_spelling (transfer_frame own x payload)) ≡ 8 + (length (spelling (perf.Transfer x)) + length payload)
 unfolding item_spelling
 frame_len own x payload = omega (arith, length-append (spelling (perf.Transfer x)) payload)
 

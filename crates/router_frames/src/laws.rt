@@ -1,9 +1,14 @@
-//! What holds of all frames of deliveries. The function does nothing: its contract is the laws.
-ghost use Rattle.std.specs.Prelude.{◌≡◌, ◌≤◌, ◌↔◌, ℕ, List, [], length, true, false};
+//! What holds of all frames of deliveries. The functions do nothing: their contracts are the laws.
+ghost use Rattle.std.specs.Prelude.{◌≡◌, ◌≤◌, ◌+◌, ◌↔◌, ℕ, List, [], length, true, false, is_some, Some};
+ghost use Rattle.amqp_perf.specs.Spelling.{state_spelling};
+ghost use Rattle.amqp_perf.specs.declared.perf.Role.{Role as ARole};
+ghost use Rattle.amqp_perf.specs.declared.state.DeliveryState.{DeliveryState as AState};
 ghost use Rattle.amqp_perf.specs.declared.perf.Transfer.{Transfer as ATransfer};
+ghost use Rattle.amqp_frames.specs.ItemSpelling.{item_spelling};
 ghost use Rattle.amqp_frames.specs.Room.{transfer_frame};
+ghost use Rattle.router_trace.specs.Deliveries.{Delivery, terminal};
 ghost use Rattle.router_trace.specs.LinkFrames.{fits};
-ghost use Rattle.router_trace.specs.DeliveryFrames.{next_frame, part_frame, with_more};
+ghost use Rattle.router_trace.specs.DeliveryFrames.{kept_outcome, outcome_item, first_transfer, later_transfer, next_frame, part_frame, with_more};
 ghost use Rattle.router_frames.specs.Filling.{payload_in, has_more, IsBeginning};
 
 /// A frame of a delivery is no longer than the peer takes, where an empty one is not. It carries a beginning of what is still to go: as
@@ -17,4 +22,27 @@ pub fn frames_are_filled()
     ensures all { (largest own : ℕ) (x : ATransfer) (rest : List ℕ)
         → fits largest (transfer_frame own (with_more x) []) ≡ true → x.more ≡ false
         → (has_more (next_frame largest own x rest) ≡ false) ↔ (payload_in (next_frame largest own x rest) ≡ rest) }
+{}
+
+/// Beside what it carries a frame of a delivery has at most 42 bytes, and at most 24 where it isn't the first. So one that says that more is
+/// to come carries all but so many of the bytes that the peer takes, which are 512 or more (AMQP 1.0 part 2, section 2.7.1).
+pub fn frames_have_room()
+    ensures first { (largest own handle id n : ℕ) (d : Delivery) (rest : List ℕ)
+        → 42 ≤ largest → has_more (next_frame largest own (first_transfer handle id n d) rest) ≡ true
+        → largest ≤ 42 + length (payload_in (next_frame largest own (first_transfer handle id n d) rest)) }
+    ensures later { (largest own handle : ℕ) (d : Delivery) (rest : List ℕ)
+        → 24 ≤ largest → has_more (next_frame largest own (later_transfer handle d) rest) ≡ true
+        → largest ≤ 24 + length (payload_in (next_frame largest own (later_transfer handle d) rest)) }
+    ensures first_size { (own handle id n : ℕ) (d : Delivery) (payload : List ℕ)
+        → length (item_spelling (transfer_frame own (with_more (first_transfer handle id n d)) payload)) ≤ 42 + length payload }
+    ensures later_size { (own handle : ℕ) (d : Delivery) (payload : List ℕ)
+        → length (item_spelling (transfer_frame own (with_more (later_transfer handle d)) payload)) ≤ 24 + length payload }
+{}
+
+/// An outcome as the router keeps it has at most 400 bytes, and the frame that tells it at most 429: no peer takes less than 512 (AMQP 1.0
+/// part 2, section 2.7.1).
+pub fn outcomes_are_short()
+    ensures kept { (s : AState) → is_some (terminal (Some s)) ≡ true → length (state_spelling (kept_outcome s)) ≤ 400 }
+    ensures told { (own id : ℕ) (role : ARole) (s : AState)
+        → is_some (terminal (Some s)) ≡ true → length (item_spelling (outcome_item own role id s)) ≤ 429 }
 {}

@@ -7,7 +7,7 @@ mod outcome;
 mod state;
 mod transfer;
 
-pub use laws::frames_are_filled;
+pub use laws::{frames_are_filled, frames_have_room, outcomes_are_short};
 pub use next::{delivery_frame, next_frame};
 pub use outcome::{kept_outcome, outcome_item};
 pub use state::copy_state;
