@@ -2,14 +2,13 @@
 #![tactic(auto)]
 
 mod answer;
-mod attaching;
-mod closing;
-mod deciding;
 mod events;
-mod link_rows;
-mod rows;
 
 pub use answer::Answer;
 pub use events::reply;
-pub use link_rows::LINK_TEXT;
-pub use rows::CONTAINER_ID;
+
+/// The longest name and address of a link that the router takes, in bytes.
+pub const LINK_TEXT: usize = 1024;
+
+/// The longest container-id that the router takes, in bytes.
+pub const CONTAINER_ID: usize = 1024;

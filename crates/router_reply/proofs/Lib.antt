@@ -1,4 +1,0 @@
-pub mod RowOrder
-pub mod Puts
-pub mod Placed
-pub mod Unlinked
