@@ -3,7 +3,6 @@
 use Rattle.std.specs.Prelude.{ℕ, ◌==◌, Bool, true, false, not, ◌&&◌, nat_lt, nat_le, nat_eq, if◌then◌else◌, List, [], ◌∷◌, length, Option, Some, None, is_none, is_some, option_map, bytes_eq}
 use Rattle.amqp_perf.specs.declared.perf.Attach.{Attach as AnAttach}
 use Rattle.amqp_perf.specs.declared.perf.Detach.{Detach as ADetach}
-use Rattle.arrayvec.specs.ArrayVec.{ArrayVec}
 use Rattle.amqp_perf.specs.declared.perf.Disposition.{Disposition as ADisposition}
 use Rattle.amqp_perf.specs.declared.perf.Flow.{Flow as AFlow}
 use Rattle.amqp_perf.specs.declared.perf.Role.{Role}
@@ -28,7 +27,7 @@ use Rattle.router_trace.specs.declared.frames.LinkState.{LinkState}
 use Rattle.router_trace.specs.Frames.{told_of}
 use Rattle.router_trace.specs.Sessions.{flow_state}
 use Rattle.router_trace.specs.Links.{LinkPlace, nowhere, detaching, on, Happened, sends, receives, with_grant}
-use Rattle.router_trace.specs.Deliveries.{terminal}
+use Rattle.router_trace.specs.Deliveries.{terminal, tag_in}
 use Rattle.router_trace.specs.Settling.{middle_by}
 use Rattle.router_reply.specs.declared.answer.Answer.{Answer}
 use Rattle.router_reply.specs.declared.answer.Answer.TheVariants.{Nothing, CloseWith, End, Refuse, Attach, Detach, LinkFlow, Taken, Settle}
@@ -140,14 +139,14 @@ is_same_id None first = true
 is_same_id (Some id) None = false
 is_same_id (Some id) (Some first) = id == first
 
-abbrev pub is_same_tag : Option (ArrayVec ℕ) → Option (ArrayVec ℕ) → Bool
+abbrev pub is_same_tag : Option (List ℕ) → Option (List ℕ) → Bool
 is_same_tag None first = true
 is_same_tag (Some tag) None = false
-is_same_tag (Some tag) (Some first) = bytes_eq tag.items first.items
+is_same_tag (Some tag) (Some first) = bytes_eq tag first
 
 abbrev pub continue_on : ℕ → ℕ → Told → ATransfer → Answer
 continue_on own handle first x =
-    if is_same_id x.delivery_id first.id && is_same_tag x.delivery_tag first.tag then Taken own handle
+    if is_same_id x.delivery_id first.id && is_same_tag (tag_in x) (option_map (λ tag. tag.items) first.tag) then Taken own handle
     else Detach own handle true (Some NotAllowed)
 
 abbrev pub delivery_by : ℕ → ℕ → ℕ → (ℕ → Bool) → Option Told → ATransfer → Answer
