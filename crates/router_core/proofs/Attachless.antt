@@ -218,7 +218,7 @@ less_links t after c _ a none = tt
 less_item : (id : List ℕ) (t u : List Entry) (c : ℕ) (i : Item) (p : Option Conn) → is_attach i ≡ false → Attachless (item_row id t u c i p)
 less_item id t u c i None none = tt
 less_item id t u c i (Some p) none =
-    less_both (each_to c (said id p (item_reply p (finds t c) i))) _ (less_said id c p (item_reply p (finds t c) i)) (less_links t _ c i (item_reply p (finds t c) i) none)
+    less_both (each_to c (said id p (item_reply p (finds t c) i))) _ (less_said id c p (item_reply p (finds t c) i)) (less_links t (puts c (said id p (item_reply p (finds t c) i)) u) c i (item_reply p (finds t c) i) none)
 
 pub less_row : (id : List ℕ) (t u : List Entry) (e : Event) → brings_attach e ≡ false → Attachless (own_row id t u e)
 less_row id t u (event.Item d i) none = less_item id t u d.0 i (standing (found t (event.Item d i) d.0)) none

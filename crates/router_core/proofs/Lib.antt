@@ -24,6 +24,9 @@ pub mod Kept
 pub mod Starting
 pub mod Untaken
 pub mod UntakenLinks
+pub mod UntakenGrants
+pub mod UntakenDeliveries
+pub mod UntakenRows
 pub mod Plain
 pub mod Takes
 pub mod Mine

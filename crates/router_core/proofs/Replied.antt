@@ -1,5 +1,5 @@
 -- An event's replies keep the order.
-use Rattle.std.proofs.Common.{◌≡◌, ◌∙◌, sym, ap, refl, subst, true≢false, ℕ, Bool, true, false, not, List, ◌∷◌, inl, inr}
+use Rattle.std.proofs.Common.{◌≡◌, ◌∙◌, sym, ap, refl, subst, true≢false, ℕ, Bool, true, false, not, List, [], ◌∷◌, inl, inr}
 use Rattle.std.specs.Prelude.{◌==◌, ◌⊎◌, Option, Some, None, is_some, option_map, if◌then◌else◌}
 use Rattle.std.proofs.lemmas.Bool.{eqb-true, eq-eqb}
 use Rattle.amqp_perf.specs.declared.perf.Perf.{Perf}
@@ -32,7 +32,7 @@ use Rattle.router_conns.proofs.Turns.{known}
 use Rattle.router_core.proofs.RowOrder.{written_of, AreOffered, AnswerFits, reply_fits, place_fits, free_fits, said_turns, said_offered, Opens, open_opens}
 use Rattle.router_core.proofs.Once.{filter_has, taken_up}
 use Rattle.router_core.proofs.Ordered.{Ordered, Spares, wrote, written_all, puts_turns, bound_turns, bound_ups, spares_on, bound_spares, ends_spares, ends_ups, goes_ups, some_is}
-use Rattle.router_core.proofs.Told.{ToldAt, Told, goes_told_at, ends_told_at, goes_strange, ends_strange, said_told}
+use Rattle.router_core.proofs.Told.{ToldAt, Told, goes_told_at, bound_told_at, ends_told_at, goes_strange, bound_strange, ends_strange, said_told}
 use Rattle.router_core.proofs.Flowing.{Fits, AllFit, goes_turns, beats_fit, live_some}
 use Rattle.router_core.proofs.Following.{all_keep}
 use Rattle.router_core.proofs.PassedOrder.{followed_turns}
