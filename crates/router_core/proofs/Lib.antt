@@ -31,6 +31,7 @@ pub mod Plain
 pub mod Takes
 pub mod Mine
 pub mod MineLinks
+pub mod Idle
 pub mod Only
 pub mod Settling
 pub mod Apart
