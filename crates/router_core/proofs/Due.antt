@@ -13,10 +13,10 @@ use Rattle.amqp_session.specs.Session.{Session}
 use Rattle.router_trace.specs.declared.binding.Origin.{Origin}
 use Rattle.router_trace.specs.declared.handle.Asked.{Asked}
 use Rattle.router_trace.specs.declared.handle.Attachment.{Attachment}
-use Rattle.router_trace.specs.Trace.{Entry, Put, Out, goes}
+use Rattle.router_trace.specs.Trace.{Entry, Put, Out}
 use Rattle.router_trace.specs.Frames.{told_of}
 use Rattle.router_trace.specs.LinkFrames.{fits}
-use Rattle.router_trace.specs.Links.{Link, Happened, sends, receives, link, link_in, link_behind, key_at, has_number, is_attached, numbered, attachments, asked}
+use Rattle.router_trace.specs.Links.{Link, Happened, sends, receives, link, link_in, link_behind, key_at, numbered, attachments, asked}
 use Rattle.router_trace.specs.Peers.{largest_frame}
 use Rattle.router_trace.specs.Sessions.{session}
 use Rattle.router_trace.specs.Deliveries.{Delivery, delivery, bindings, sending, next_id, is_number}

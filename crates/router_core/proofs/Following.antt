@@ -1,5 +1,5 @@
 -- What follows an event's rows goes out step by step: what each step keeps, all of it keeps, and of two traces that go in step all of it does.
-use Rattle.std.proofs.Common.{◌≡◌, ℕ, zero, suc, List, []}
+use Rattle.std.proofs.Common.{ℕ, zero, suc, List}
 use Rattle.router_trace.specs.Trace.{Entry, Put, goes}
 use Rattle.router_trace.specs.Following.{repeated, turns, as_long_as_due, tells, sends_due, drains_due}
 use Rattle.router_sessions.specs.Windows.{windows}

@@ -1,6 +1,6 @@
 -- In every trace of the router links are attached on live connections alone.
 use Rattle.std.proofs.Common.{◌≡◌, ◌∙◌, sym, ap, refl, subst, true≢false, ℕ, Bool, true, false, List, [], ◌∷◌}
-use Rattle.std.specs.Prelude.{◌==◌, nat_eq, Option, Some, None, is_some, option_map, option_and_then, if◌then◌else◌, length, drop}
+use Rattle.std.specs.Prelude.{◌==◌, nat_eq, Option, Some, None, is_some, option_map, option_and_then, if◌then◌else◌}
 use Rattle.std.proofs.lemmas.Bool.{eqb-true, eq-eqb}
 use Rattle.amqp_perf.specs.declared.perf.Attach.{Attach as AnAttach}
 use Rattle.amqp_perf.specs.declared.perf.Perf.{Perf}
@@ -17,9 +17,9 @@ use Rattle.router_trace.specs.declared.event.Event.TheVariants as event
 use Rattle.router_trace.specs.declared.handle.Asked.{Asked}
 use Rattle.router_trace.specs.declared.handle.Attachment.{Attachment}
 use Rattle.router_trace.specs.Trace.{Entry, Out, Took, Put, did, goes, puts, each_to, ups, step_of}
-use Rattle.router_trace.specs.Connection.{Connection, conn, behind, behind_perf, with_item, took, drained, unless_empty, is_live, has, due, found, live_of, standing}
+use Rattle.router_trace.specs.Connection.{Connection, conn, behind, with_item, took, drained, unless_empty, is_live, has, due, found, standing}
 use Rattle.router_trace.specs.Refusing.{refuses}
-use Rattle.router_trace.specs.Frames.{closing, close_item, open_item}
+use Rattle.router_trace.specs.Frames.{close_item, open_item}
 use Rattle.router_trace.specs.LinkFrames.{attach_item, detach_item, answer_to, refusal_of, fits}
 use Rattle.router_trace.specs.Links.{Link, link, link_behind, key_at, their_handle, holder, free_handle}
 use Rattle.router_trace.specs.Peers.{largest_frame}
@@ -27,9 +27,8 @@ use Rattle.router_trace.specs.Sessions.{theirs}
 use Rattle.router_trace.specs.Following.{tells, sends_due, drains_due}
 use Rattle.router_sessions.specs.Windows.{windows}
 use Rattle.router_state.specs.Passing.{grants_due, with_bound}
-use Rattle.router_reply.specs.declared.answer.Answer.{Answer}
 use Rattle.router_reply.specs.Rows.{said, item_reply}
-use Rattle.router_reply.specs.Replies.{closing_of, ends, heard, finds, stolen_by, attach_answer, taken_behind, taken, refused, part_put, settled_answers, bound_by, item_row, own_row, replied}
+use Rattle.router_reply.specs.Replies.{closing_of, ends, heard, finds, stolen_by, attach_answer, taken_behind, taken, refused, bound_by, item_row, own_row, replied}
 use Rattle.router_core.specs.Replies.{answered}
 use Rattle.router_core.specs.Laws.{is_attach}
 use Rattle.router_conns.proofs.Lists.{by_test}
@@ -38,9 +37,9 @@ use Rattle.router_core.proofs.Attachless.{Attachless, Unlinked, unlinked_goes, l
 use Rattle.router_core.proofs.Due.{tells_on, sends_on, drains_on, grants_on}
 use Rattle.router_core.proofs.Following.{Steps, passed_on, passed_keeps}
 use Rattle.router_core.proofs.ItemRows.{item_cases}
-use Rattle.router_core.proofs.Linked.{none_if, link_was, linked_before}
+use Rattle.router_core.proofs.Linked.{link_was, linked_before}
 use Rattle.router_core.proofs.Order.{not_before, event_pending}
-use Rattle.router_core.proofs.Ordered.{Ordered, Spares, puts_spares, bound_spares, ends_spares}
+use Rattle.router_core.proofs.Ordered.{Ordered, Spares, puts_spares, bound_spares}
 use Rattle.router_core.proofs.Replied.{FoundLive, found_live, nothing_stands, heard_spares}
 
 abbrev pub Lively : List Entry → Type 0
@@ -218,7 +217,7 @@ item_lively id t d i was =
     before : Lively v
     before = bound_lively bound u was
 
-replied_lively : (id : List ℕ) (t : List Entry) (e : Event) → Lively (heard id t (step_of e)) → Lively (replied id t (step_of e))
+pub replied_lively : (id : List ℕ) (t : List Entry) (e : Event) → Lively (heard id t (step_of e)) → Lively (replied id t (step_of e))
 replied_lively id t (event.Item d i) was = item_lively id t d i was
 replied_lively id t (event.Tick ms) was =
     let u : List Entry = heard id t (step_of (event.Tick ms))
@@ -227,7 +226,7 @@ replied_lively id t (event.Down d) was = was
 replied_lively id t (event.Up d p) was = was
 replied_lively id t event.Start was = was
 
-lively_steps : Steps Lively
+pub lively_steps : Steps Lively
 lively_steps = record {
   telling = λ t was. goes_lively (tells t) t was (less_steady (tells t) t (on_less t (tells t) (tells_on t)));
   sending = λ t was. goes_lively (sends_due t) t was (less_steady (sends_due t) t (on_less t (sends_due t) (sends_on t)));

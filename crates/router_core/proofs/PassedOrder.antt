@@ -3,8 +3,7 @@ use Rattle.std.proofs.Common.{◌≡◌, sym, subst, true, ℕ, List, [], ◌∷
 use Rattle.amqp_perf.specs.declared.perf.Perf.{Perf}
 use Rattle.amqp_perf.specs.declared.perf.Perf.TheVariants as perf
 use Rattle.amqp_frames.specs.declared.item.Item.{Item}
-use Rattle.amqp_frames.specs.declared.item.Item.TheVariants as item
-use Rattle.router_trace.specs.Trace.{Entry, Put, goes}
+use Rattle.router_trace.specs.Trace.{Entry, Put}
 use Rattle.router_trace.specs.Order.{Written, of_session, perf_has_turn, has_turn}
 use Rattle.router_trace.specs.Following.{tells, sends_due, drains_due}
 use Rattle.router_state.specs.Passing.{grants_due}

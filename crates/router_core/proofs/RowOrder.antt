@@ -34,7 +34,7 @@ use Rattle.router_conns.proofs.Lists.{by_test}
 use Rattle.router_reply.specs.declared.answer.Answer.{Answer}
 use Rattle.router_reply.specs.declared.answer.Answer.TheVariants.{Nothing, Header, Open, Close, CloseWith, Begin, End, Flow, Attach, Refuse, Detach, LinkFlow, Taken, Settle}
 use Rattle.router_reply.specs.Rows.{Finds, Links, said, header_reply, open_by, open_reply, begin_by, begin_reply, end_reply, echo, flow_on, flow_reply, attach_reply, transfer_reply, detach_reply, disposition_reply, in_turn, turn_by, perf_reply, item_reply}
-use Rattle.router_reply.specs.LinkRows.{refusal, attach_or, attach_at, session_attach_reply, session_detach_reply, link_echo, is_reached, link_flow_reply, is_anonymous, asks, is_among, start_on, continue_on, delivery_by, delivery_on, link_transfer_reply, is_unattached, session_transfer_reply}
+use Rattle.router_reply.specs.LinkRows.{refusal, attach_or, attach_at, session_attach_reply, session_detach_reply, link_echo, is_reached, link_flow_reply, is_anonymous, asks, is_among, start_on, delivery_by, delivery_on, link_transfer_reply, is_unattached, session_transfer_reply}
 use Rattle.router_reply.specs.LinkRows.{flow_on as link_flow_on}
 use Rattle.amqp_link.specs.Receiving.{delivery_count, unused}
 use Rattle.router_trace.specs.Links.{LinkPlace, nowhere as no_link, detaching, on as on_link, Happened, sends, receives}

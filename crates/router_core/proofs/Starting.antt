@@ -1,6 +1,6 @@
 -- In every trace of the router a delivery starts where its link has credit.
 use Rattle.std.proofs.Common.{◌≡◌, sym, refl, subst, ℕ, zero, suc, ◌≤◌, Bool, true, false, List, [], ◌∷◌, arith}
-use Rattle.std.specs.Prelude.{Option, Some, None, nat_lt, if◌then◌else◌}
+use Rattle.std.specs.Prelude.{Option, Some, None, nat_lt}
 use Rattle.amqp_perf.specs.declared.perf.Perf.{Perf}
 use Rattle.amqp_perf.specs.declared.perf.Perf.TheVariants as perf
 use Rattle.amqp_frames.specs.declared.item.Item.{Item}
@@ -65,9 +65,11 @@ takes_within (Some l) taken = by l.going_on refl
 
 sent_within : (t : List Entry) (ps : List Put) → AllSent t ps → WithinCredit t → WithinCredit (goes ps t)
 sent_within t [] sent within = within
-sent_within t (p ∷ []) sent within =
-    (subst (λ (i : Item). within_credit i (link t p.conn)) (sym sent.transfer.frame)
-    (subst (λ (h : ℕ). starts_within (link t p.conn sent.own h)) (sym sent.transfer.on_handle) (takes_within (link t p.conn sent.own sent.handle) sent.takes)), within)
+sent_within t (p ∷ []) sent within = (
+  subst (λ (i : Item). within_credit i (link t p.conn)) (sym sent.transfer.frame)
+      (subst (λ (h : ℕ). starts_within (link t p.conn sent.own h)) (sym sent.transfer.on_handle) (takes_within (link t p.conn sent.own sent.handle) sent.takes)),
+  within,
+)
 sent_within t (p ∷ q ∷ qs) sent within = absurd sent
 
 passed_within : Steps WithinCredit

@@ -1,5 +1,5 @@
 -- What takes leave as it is: a trace without its takes says the same of deliveries, and what follows an event's rows is the same.
-use Rattle.std.proofs.Common.{◌≡◌, ◌∙◌, sym, ap, refl, ℕ, ◌+◌, not, ◌&&◌, ◌||◌, List, [], ◌∷◌, ◌==◌}
+use Rattle.std.proofs.Common.{◌≡◌, ◌∙◌, ap, refl, ℕ, ◌+◌, not, ◌&&◌, ◌||◌, List, [], ◌∷◌, ◌==◌}
 use Rattle.std.specs.Prelude.{Bool, Option, Some, None, is_none, is_some, option_and_then, if◌then◌else◌}
 use Rattle.router_trace.specs.declared.binding.Binding.{Binding}
 use Rattle.router_trace.specs.declared.binding.Origin.{Origin}
@@ -12,7 +12,7 @@ use Rattle.router_trace.specs.Claims.{Claim, claim_at, claim_behind, claims}
 use Rattle.router_trace.specs.Numbers.{Placed, first_below, first_placed}
 use Rattle.router_trace.specs.Following.{is_still_attached, is_to_be_told, tell, tells_of, tells, goes_on_at, is_going, takes_more, is_going_on, is_busy, is_open, is_used, can_start, is_wide, is_there, can_go, place_to_go, send, send_of, sends_due, is_unsent_on, owes_one, place_drained, drain_on, drain_by, drains_due}
 use Rattle.router_state.specs.Passing.{grants_due, with_bound}
-use Rattle.router_after.specs.After.{told, sent, drained, granted}
+use Rattle.router_after.specs.After.{told, sent, drained}
 use Rattle.router_core.specs.Laws.{untaken}
 use Rattle.router_core.proofs.Following.{due_alike, passed_on}
 use Rattle.router_core.proofs.Untaken.{untaken_goes, same_theirs, same_session}
@@ -161,7 +161,7 @@ same_place_drained : (t : List Entry) (n : ℕ) (a : Option Attachment) → plac
 same_place_drained t n None = refl
 same_place_drained t n (Some a) =
     λ j. if owes_one (same_link t a.conn.0 a.channel a.handle j) n
-        && is_none (first_below (same_bindings t j + 1) (λ k. is_unsent_on n (same_delivery t k j))) then Some a else None
+    && is_none (first_below (same_bindings t j + 1) (λ k. is_unsent_on n (same_delivery t k j))) then Some a else None
 
 same_drain_by : (t : List Entry) (p : Option Placed) → drain_by t p ≡ drain_by (untaken t) p
 same_drain_by t None = refl

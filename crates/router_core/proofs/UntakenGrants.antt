@@ -1,7 +1,7 @@
 -- What takes leave as it is: a trace without its takes grants the same, and chooses the same consumers.
 use Rattle.std.proofs.Common.{◌≡◌, ap, refl, ℕ, List}
-use Rattle.std.specs.Prelude.{false, Option}
-use Rattle.router_trace.specs.Trace.{Entry, Put}
+use Rattle.std.specs.Prelude.{false}
+use Rattle.router_trace.specs.Trace.{Entry}
 use Rattle.router_trace.specs.Numbers.{first_below}
 use Rattle.router_state.specs.Passing.{choice_of, grants_due}
 use Rattle.router_core.specs.Laws.{untaken}

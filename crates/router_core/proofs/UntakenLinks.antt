@@ -1,25 +1,15 @@
 -- What takes leave as it is: a trace without its takes says the same of links and of peers.
-use Rattle.std.proofs.Common.{◌≡◌, ◌∙◌, ap, refl, ℕ, ◌+◌, List, [], ◌∷◌, ◌++◌, ◌==◌}
+use Rattle.std.proofs.Common.{◌≡◌, ◌∙◌, ap, refl, ℕ, ◌+◌, List, [], ◌∷◌, ◌==◌}
 use Rattle.std.specs.Prelude.{Option, Some, None, option_map, unwrap_or, if◌then◌else◌}
 use Rattle.amqp_perf.specs.declared.perf.Attach.{Attach as AnAttach}
-use Rattle.amqp_perf.specs.declared.perf.Perf.{Perf}
-use Rattle.amqp_perf.specs.declared.perf.Perf.TheVariants as perf
-use Rattle.amqp_frames.specs.declared.item.Item.{Item}
-use Rattle.amqp_frames.specs.declared.item.Item.TheVariants as item
-use Rattle.amqp_conn.specs.declared.conn.Conn.{Conn}
 use Rattle.router_trace.specs.declared.handle.Asked.{Asked}
 use Rattle.router_trace.specs.declared.handle.Attachment.{Attachment}
-use Rattle.router_trace.specs.Trace.{Entry, Did, Out, Took, Bound, Put, goes, puts, each_to}
-use Rattle.router_trace.specs.LinkFrames.{answer_to}
+use Rattle.router_trace.specs.Trace.{Entry, Did, Out, Took, Bound}
 use Rattle.router_trace.specs.Links.{asked, asked_at, is_lost, answers_by, answered_handle, their_handle_at, their_handle_behind, their_handle, is_taken, attachments, key_of, key_at, link_at, link_behind, link, has_number, if_attached, same_key, newest_by, last_of_key, holder, link_place_by, link_place, handle_max_at, told_handle_max, most_behind, highest_handle, is_free_handle, first_free_below, free_handle}
 use Rattle.router_trace.specs.Peers.{user_at, user, container_at, Container, container, largest_frame}
 use Rattle.router_trace.specs.Sessions.{unless_close}
-use Rattle.router_reply.specs.declared.answer.Answer.{Answer}
-use Rattle.router_reply.specs.declared.answer.Answer.TheVariants.{Attach, Refuse}
-use Rattle.router_reply.specs.Rows.{Finds, said, item_reply}
-use Rattle.router_reply.specs.Replies.{finds, stolen_by, attach_answer, taken_behind, taken, refused, links_put, item_put, item_row}
 use Rattle.router_core.specs.Laws.{untaken}
-use Rattle.router_core.proofs.Untaken.{untaken_goes, same_theirs, same_place, same_free}
+use Rattle.router_core.proofs.Untaken.{same_theirs}
 
 -- what is known of peers
 

@@ -1,5 +1,5 @@
 -- What takes leave as it is: without a trace's takes an item's row puts the same, and the same message is bound.
-use Rattle.std.proofs.Common.{◌≡◌, ◌∙◌, sym, ap, refl, ℕ, ◌^◌, Bool, true, false, List, [], ◌∷◌, ◌++◌}
+use Rattle.std.proofs.Common.{◌≡◌, ◌∙◌, ap, refl, ℕ, ◌^◌, true, List, [], ◌∷◌, ◌++◌}
 use Rattle.std.specs.Prelude.{Option, Some, None, is_some, nat_lt, filter, option_map, option_and_then, unwrap_or, if◌then◌else◌}
 use Rattle.amqp_perf.specs.declared.perf.Attach.{Attach as AnAttach}
 use Rattle.amqp_perf.specs.declared.perf.Disposition.{Disposition as ADisposition}
@@ -12,17 +12,15 @@ use Rattle.amqp_conn.specs.declared.conn.Conn.{Conn}
 use Rattle.amqp_link.specs.declared.part.Delivery.{Delivery as Told}
 use Rattle.amqp_link.specs.declared.part.Part.{Part}
 use Rattle.amqp_link.specs.declared.part.Part.TheVariants as part
-use Rattle.router_trace.specs.declared.binding.Binding.{Binding}
 use Rattle.router_trace.specs.declared.condition.Condition.TheVariants.{ResourceLimitExceeded}
 use Rattle.router_trace.specs.declared.handle.Attachment.{Attachment}
 use Rattle.router_trace.specs.Trace.{Entry, Put, goes, puts, each_to}
 use Rattle.router_trace.specs.LinkFrames.{answer_to, detach_item}
-use Rattle.router_trace.specs.Links.{Link, link, numbered, free_handle, holder, key_at, link_place}
-use Rattle.router_trace.specs.Peers.{largest_frame}
+use Rattle.router_trace.specs.Links.{Link, link, free_handle, holder, key_at, link_place}
 use Rattle.router_trace.specs.Deliveries.{terminal, last_of, named}
 use Rattle.router_trace.specs.Numbers.{count_below}
 use Rattle.router_trace.specs.Settling.{ids_between, is_open_as, names_open, is_open_id, is_ignored_on, ignored, part_of}
-use Rattle.router_state.specs.Passing.{choice_of, consumer_of, binding_to}
+use Rattle.router_state.specs.Passing.{consumer_of, binding_to}
 use Rattle.router_reply.specs.declared.answer.Answer.{Answer}
 use Rattle.router_reply.specs.declared.answer.Answer.TheVariants.{Attach, Refuse, Taken, Settle}
 use Rattle.router_reply.specs.Rows.{Finds, said, item_reply}
@@ -76,7 +74,7 @@ same_ignored_put t c own handle (Some id) =
 same_whole_put : (t : List Entry) (c own handle : ℕ) (d : Told) → whole_put t c own handle d (link t c own handle) ≡ whole_put (untaken t) c own handle d (link (untaken t) c own handle)
 same_whole_put t c own handle d =
     λ j. if d.resume then (same_ignored_put t c own handle (claimed_id t c own d.id) ∙ ap (ignored_put (untaken t) c own handle) (same_claimed_id t c own d.id)) j
-        else unbound_put own (same_claimed_id t c own d.id j) ((same_consumer t (link t c own handle) ∙ ap (consumer_of (untaken t)) (same_link t c own handle)) j)
+    else unbound_put own (same_claimed_id t c own d.id j) ((same_consumer t (link t c own handle) ∙ ap (consumer_of (untaken t)) (same_link t c own handle)) j)
 
 same_part_put : (t : List Entry) (c own handle : ℕ) (q : Option Part) → part_put t c own handle q ≡ part_put (untaken t) c own handle q
 same_part_put t c own handle (Some (part.Whole d payload)) = same_whole_put t c own handle d
@@ -86,8 +84,8 @@ same_part_put t c own handle _ = refl
 same_message : (t : List Entry) (c own : ℕ) (from : Attachment) (d : Told) (payload : List ℕ) → message_bound t c own from d payload ≡ message_bound (untaken t) c own from d payload
 same_message t c own from d payload =
     λ j. if d.resume then None
-        else option_map (binding_to (option_map (origin_of from) (same_claimed_id t c own d.id j)) (unwrap_or d.format 0) payload)
-        ((same_consumer t (link t from.conn.0 from.channel from.handle) ∙ ap (consumer_of (untaken t)) (same_link t from.conn.0 from.channel from.handle)) j)
+    else option_map (binding_to (option_map (origin_of from) (same_claimed_id t c own d.id j)) (unwrap_or d.format 0) payload)
+    ((same_consumer t (link t from.conn.0 from.channel from.handle) ∙ ap (consumer_of (untaken t)) (same_link t from.conn.0 from.channel from.handle)) j)
 
 same_whole_bound : (t : List Entry) (c own handle : ℕ) (d : Told) (payload : List ℕ) (l : Option Link)
     → whole_bound t c own handle d payload l ≡ whole_bound (untaken t) c own handle d payload l
