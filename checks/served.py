@@ -19,9 +19,9 @@ def free_port():
 
 
 class Served:
-    """The program, serving on ports of its own; `listeners` are the attributes of each listener."""
+    """The program, serving on ports of its own; `listeners` are the attributes of each listener, `addresses` those of each address."""
 
-    def __init__(self, listeners=("",), users=(), words=(), before=(), program=PROGRAM):
+    def __init__(self, listeners=("",), users=(), addresses=(), words=(), before=(), program=PROGRAM):
         self.folder = tempfile.TemporaryDirectory()
         self.ports = [free_port() for _ in listeners]
         lines = []
@@ -29,6 +29,8 @@ class Served:
             lines += ["listener {", f"port: {port}", *more.split("\n"), "}"]
         for name, password in users:
             lines += ["user {", f"name: {name}", f"password: {password}", "}"]
+        for more in addresses:
+            lines += ["address {", *more.split("\n"), "}"]
         self.config = f"{self.folder.name}/config"
         with open(self.config, "w", encoding="utf-8") as file:
             file.write("\n".join(it for it in lines if it) + "\n")

@@ -1,7 +1,40 @@
--- What follows an event's rows.
-use Rattle.router_trace.specs.Trace.{Trace, goes}
+-- What follows an event's rows: producers are told outcomes, deliveries are sent, drains are told, credit is granted, and at last windows are told
+-- anew.
+use Rattle.std.specs.Prelude.{List, [], ◌∷◌, Option, Some, None}
+use Rattle.router_trace.specs.declared.outgoing.Outgoing.{Outgoing}
+use Rattle.router_trace.specs.Trace.{Trace, Put, goes, put_of}
+use Rattle.router_trace.specs.Following.{as_long_as_due, tells, sends_due, drains_due}
+use Rattle.router_passing.specs.Passing.{grants_due}
 use Rattle.router_sessions.specs.Windows.{windows}
+use Rattle.router_after.specs.declared.phase.Phase.{Phase}
+use Rattle.router_after.specs.declared.phase.Phase.TheVariants.{Outcomes, Deliveries, Drains, Grants}
 
--- the flows that tell windows anew
+abbrev pub told : Trace → Trace
+told t = as_long_as_due tells t
+
+abbrev pub sent : Trace → Trace
+sent t = as_long_as_due sends_due t
+
+abbrev pub drained : Trace → Trace
+drained t = as_long_as_due drains_due t
+
+abbrev pub granted : Trace → Trace
+granted t = as_long_as_due grants_due t
+
+abbrev pub widened : Trace → Trace
+widened t = goes (windows t) t
+
 abbrev pub followed : Trace → Trace
-followed t = goes (windows t) t
+followed t = widened (granted (drained (sent (told t))))
+
+-- what is due first in each of the four that go on as long as something is
+abbrev pub due_in : Phase → Trace → List Put
+due_in Outcomes = tells
+due_in Deliveries = sends_due
+due_in Drains = drains_due
+due_in Grants = grants_due
+
+-- the item that is due, if one is
+abbrev pub puts_in : Option Outgoing → List Put
+puts_in None = []
+puts_in (Some x) = put_of x ∷ []

@@ -1,19 +1,22 @@
 -- Each connection is answered alone: what a trace has of it is what the events about it alone make.
-use Rattle.std.proofs.Common.{◌≡◌, ◌∙◌, sym, ap, refl, true≢false, ℕ, Bool, true, false, List, [], ◌∷◌}
-use Rattle.std.specs.Prelude.{is_some, if◌then◌else◌}
+use Rattle.std.proofs.Common.{◌≡◌, ◌∙◌, sym, ap, refl, subst, true≢false, ℕ, Bool, true, false, List, [], ◌∷◌}
+use Rattle.std.specs.Prelude.{is_some, if◌then◌else◌, Option, Some, None}
 use Rattle.std.specs.List.{list_any}
 use Rattle.std.proofs.lemmas.Bool.{eqb-true}
+use Rattle.router_trace.specs.declared.binding.Binding.{Binding}
 use Rattle.router_trace.specs.declared.event.Event.{Event}
 use Rattle.router_trace.specs.declared.event.Event.TheVariants as event
 use Rattle.router_trace.specs.Trace.{Entry, Did, Put, Step, goes, each_to, ups}
 use Rattle.router_trace.specs.Connection.{conn, due, found, has, is_due, is_full, is_live, standing}
 use Rattle.router_trace.specs.Clocks.{terms, written, needs_beat}
+use Rattle.router_trace.specs.Following.{tells, sends_due, drains_due}
 use Rattle.router_trace.specs.Sessions.{session}
 use Rattle.router_trace.specs.Refusing.{refuses}
 use Rattle.router_sessions.specs.Windows.{flows_below, windows}
 use Rattle.router_state.specs.Tables.{beat_if}
-use Rattle.router_reply.specs.Replies.{finds, heard, own_row, replied}
-use Rattle.router_after.specs.After.{followed}
+use Rattle.router_passing.specs.Passing.{grants_due, with_bound}
+use Rattle.router_reply.specs.Replies.{finds, heard, bound_by, own_row, replied}
+use Rattle.router_after.specs.After.{widened}
 use Rattle.router_core.specs.Replies.{answered}
 use Rattle.router_core.specs.Runs.{Taking, took_one}
 use Rattle.router_core.specs.Moves.{Move, handles, takes, Goes, outs}
@@ -21,13 +24,18 @@ use Rattle.router_core.specs.Laws.{events_of, is_about, own_events, own_part, co
 use Rattle.router_conns.proofs.Lists.{by_test}
 use Rattle.router_conns.proofs.Turns.{due_none}
 use Rattle.router_core.proofs.Once.{NoTwice, neither, filter_has}
-use Rattle.router_core.proofs.Attachless.{said_to, row_said, less_row, less_windows, Unlinked, unlinked_did, unlinked_goes}
-use Rattle.router_core.proofs.MineLinks.{linkless, own_finds}
-use Rattle.router_core.proofs.Ordered.{Ordered, Spares, Without, goes_spares}
+use Rattle.router_core.proofs.Attachless.{said_to, row_said, less_row, less_windows, Unlinked, Unnamed, unlinked_did, unlinked_goes}
+use Rattle.router_core.proofs.MineLinks.{linkless, Unclaimed, own_finds}
+use Rattle.router_core.proofs.Idle.{unnamed_goes, unnamed_did, unclaimed_did, unclaimed_goes}
+use Rattle.router_core.proofs.Kept.{none_row, none_window}
+use Rattle.router_core.proofs.Ordered.{Ordered, Spares, Without, goes_spares, spares_self, spares_on, bound_spares}
+use Rattle.router_core.proofs.PassedOrder.{passed_turns}
 use Rattle.router_core.proofs.Order.{took_turns, ordered_empty}
 use Rattle.router_core.proofs.Told.{Told}
 use Rattle.router_core.proofs.Replied.{heard_spares, replied_turns, answered_turns, answered_told}
-use Rattle.router_core.proofs.Headed.{item_without, took_told}
+use Rattle.router_core.proofs.Headed.{item_without, on_without, took_told}
+use Rattle.router_core.proofs.Due.{AllOnLinks, tells_on, sends_on, drains_on, grants_on}
+use Rattle.router_core.proofs.Following.{Steps, passed_on, passed_keeps, each_keeps}
 use Rattle.router_core.proofs.Mine.{apart, own_terms, own_written, own_session, own_outs, Eased, eased_goes, found_same, own_phase}
 use Rattle.router_core.proofs.Only.{only, only_none, own_goes, each_all, lives_known, only_windows, only_beats, own_ends, eased_ends}
 use Rattle.router_core.proofs.Settling.{settled}
@@ -70,30 +78,30 @@ same_flows : (t : List Entry) (c : ℕ) → Eased c t → NoTwice (ups t) → on
 same_flows t c eased once =
     only_windows t c once ∙ (λ j. if is_some (own_phase t c eased j) then flows_below c (λ o. own_session t c o j) 15 else [])
 
-same_followed : (t : List Entry) (c : ℕ) → Eased c t → NoTwice (ups t) → own_part c (followed t) ≡ own_followed c (own_part c t)
-same_followed t c eased once = own_goes c (windows t) t ∙ ap (λ (ps : List Put). goes ps (own_part c t)) (same_flows t c eased once)
+same_widened : (t : List Entry) (c : ℕ) → Eased c t → NoTwice (ups t) → own_part c (widened t) ≡ own_followed c (own_part c t)
+same_widened t c eased once = own_goes c (windows t) t ∙ ap (λ (ps : List Put). goes ps (own_part c t)) (same_flows t c eased once)
 
 -- an event's row
 
-row_about : (id : List ℕ) (t u : List Entry) (e : Event) (c : ℕ) → has c (due t e) ≡ false → Eased c t → NoTwice (ups t) → Unlinked c t → brings_attach e ≡ false
+row_about : (id : List ℕ) (t u : List Entry) (e : Event) (c : ℕ) → has c (due t e) ≡ false → Eased c t → NoTwice (ups t) → Unlinked c t → Unnamed c t → Unclaimed c t → brings_attach e ≡ false
     → is_about c e ≡ true → only c (own_row id t u e) ≡ own_answer id c (own_part c t) e
-row_about id t u (event.Item d i) c spared eased once unlinked none about =
+row_about id t u (event.Item d i) c spared eased once unlinked unnamed unclaimed none about =
     let e : Event = event.Item d i
     in let same : d.0 ≡ c = eqb-true d.0 c about
     in let phase : standing (found t e c) ≡ apart (own_part c t) c = ap standing (found_same t e c spared) ∙ own_phase t c eased
-    in ap (only c) (row_said id t u d.0 i (standing (found t e d.0)) none)
+    in ap (only c) (row_said id t u d.0 i (standing (found t e d.0)) (subst (λ (n : ℕ). Unlinked n t) (sym same) unlinked) (subst (λ (n : ℕ). Unnamed n t) (sym same) unnamed) none)
     ∙ each_all (said_to id (standing (found t e d.0)) (finds t d.0) i) d.0 c about
     ∙ (λ j. each_to (same j) (said_to id (standing (found t e (same j))) (finds t (same j)) i))
-    ∙ (λ j. each_to c (said_to id (phase j) (own_finds t c unlinked j) i))
-row_about id t u (event.Tick ms) c spared eased once unlinked none about =
+    ∙ (λ j. each_to c (said_to id (phase j) (own_finds t c unlinked unclaimed j) i))
+row_about id t u (event.Tick ms) c spared eased once unlinked unnamed unclaimed none about =
     let e : Event = event.Tick ms
     in let same = found_same t e c spared
     in let phase : standing (found t e c) ≡ apart (own_part c t) c = ap standing same ∙ own_phase t c eased
     in only_beats t (found t e) ms c once (λ h. lives_known t c (sym (ap is_live same) ∙ h))
     ∙ (λ j. if is_some (phase j) then beat_if (needs_beat (own_terms t c j) (own_written t c j) ms) c else [])
-row_about id t u (event.Down d) c spared eased once unlinked none about = refl
-row_about id t u (event.Up d p) c spared eased once unlinked none about = refl
-row_about id t u event.Start c spared eased once unlinked none about = refl
+row_about id t u (event.Down d) c spared eased once unlinked unnamed unclaimed none about = refl
+row_about id t u (event.Up d p) c spared eased once unlinked unnamed unclaimed none about = refl
+row_about id t u event.Start c spared eased once unlinked unnamed unclaimed none about = refl
 
 row_else : (id : List ℕ) (t u : List Entry) (e : Event) (c : ℕ) → Unlinked c u → is_about c e ≡ false → Without c (own_row id t u e)
 row_else id t u (event.Item d i) c unlinked other = item_without id t u d.0 c i (standing (found t (event.Item d i) d.0)) unlinked other
@@ -108,6 +116,8 @@ record Fine (c : ℕ) (t : List Entry) : Type 0 where
   told : Told t
   eased : Eased c t
   unlinked : Unlinked c t
+  unnamed : Unnamed c t
+  unclaimed : Unclaimed c t
   settled : own_flows c (own_part c t) ≡ []
 
 not_due : (t : List Entry) (e : Event) (c : ℕ) → is_full (conn t c) ≡ false → has c (due t e) ≡ false
@@ -123,11 +133,75 @@ record Stepped (id : List ℕ) (c : ℕ) (t : List Entry) (s : Step) : Type 0 wh
   other : is_about c s.event ≡ false → own_part c (answered id t s) ≡ own_part c t
 
 -- no link is attached on it behind an event's row
-row_unlinked : (id : List ℕ) (t u : List Entry) (e : Event) (c : ℕ) → (is_about c e ≡ true → brings_attach e ≡ false) → Unlinked c u → Unlinked c (goes (own_row id t u e) u)
-row_unlinked id t u e c bare unlinked =
+row_unlinked : (id : List ℕ) (t u v : List Entry) (e : Event) (c : ℕ) → (is_about c e ≡ true → brings_attach e ≡ false) → Unlinked c u → Unlinked c v
+    → Unlinked c (goes (own_row id t u e) v)
+row_unlinked id t u v e c bare unlinked before =
     by_test (is_about c e)
-    (λ own. unlinked_goes c (own_row id t u e) u (less_row id t u e (bare own)) unlinked)
-    (λ other o h. (goes_spares (own_row id t u e) u c (row_else id t u e c unlinked other)).link o h ∙ unlinked o h)
+    (λ own. unlinked_goes c (own_row id t u e) v (less_row id t u e (bare own)) before)
+    (λ other o h. (goes_spares (own_row id t u e) v c (row_else id t u e c unlinked other)).link o h ∙ before o h)
+
+own_bound : (c : ℕ) (b : Option Binding) (t : List Entry) → own_part c (with_bound b t) ≡ own_part c t
+own_bound c None t = refl
+own_bound c (Some b) t = refl
+
+eased_bound : (c : ℕ) (b : Option Binding) (t : List Entry) → Eased c t → Eased c (with_bound b t)
+eased_bound c None t eased = eased
+eased_bound c (Some b) t eased = eased
+
+-- what follows an event's rows leaves a connection without links alone, before windows are told anew
+record Aside (c : ℕ) (t u : List Entry) : Type 0 where
+  part : own_part c u ≡ own_part c t
+  spares : Spares t u c
+
+aside_goes : (c : ℕ) (t u : List Entry) (ps : List Put) → Unlinked c t → AllOnLinks u ps → Aside c t u → Aside c t (goes ps u)
+aside_goes c t u ps unlinked all aside =
+    let without : Without c ps = on_without u c (λ o h. aside.spares.link o h ∙ unlinked o h) ps all
+    in record {
+      part = own_goes c ps u ∙ ap (λ (qs : List Put). goes qs (own_part c u)) (only_none c ps without) ∙ aside.part;
+      spares = spares_on t u (goes ps u) c aside.spares (goes_spares ps u c without);
+    }
+
+aside_steps : (c : ℕ) (t : List Entry) → Unlinked c t → Steps (Aside c t)
+aside_steps c t unlinked = record {
+  telling = λ u aside. aside_goes c t u (tells u) unlinked (tells_on u) aside;
+  sending = λ u aside. aside_goes c t u (sends_due u) unlinked (sends_on u) aside;
+  draining = λ u aside. aside_goes c t u (drains_due u) unlinked (drains_on u) aside;
+  granting = λ u aside. aside_goes c t u (grants_due u) unlinked (grants_on u) aside;
+}
+
+passed_aside : (c : ℕ) (t : List Entry) → Unlinked c t → Aside c t (passed_on t)
+passed_aside c t unlinked = passed_keeps (Aside c t) (aside_steps c t unlinked) t (record { part = refl; spares = spares_self t c })
+
+-- what is known of it behind an event's rows
+record Rowed (id : List ℕ) (c : ℕ) (t : List Entry) (s : Step) : Type 0 where
+  ordered : Ordered (replied id t s)
+  eased : Eased c (replied id t s)
+  unlinked : Unlinked c (replied id t s)
+  unnamed : Unnamed c (replied id t s)
+  unclaimed : Unclaimed c (replied id t s)
+  before : Unlinked c (heard id t s)
+  part : own_part c (replied id t s) ≡ goes (only c (own_row id t (heard id t s) s.event)) (own_part c (Did s ∷ t))
+
+rowed : (id : List ℕ) (c : ℕ) (t : List Entry) (s : Step) → Fine c t → refuses t s.event ≡ false → is_full (conn t c) ≡ false
+    → (comes_up c s.event ≡ true → is_live (conn (Did s ∷ t) c) ≡ true) → (is_about c s.event ≡ true → brings_attach s.event ≡ false) → Rowed id c t s
+rowed id c t s fine taken roomy lives bare =
+    let spared : has c (due t s.event) ≡ false = not_due t s.event c roomy
+    in let u : List Entry = heard id t s
+    in let row : List Put = own_row id t u s.event
+    in let bound : Option Binding = bound_by t u s.event
+    in let v : List Entry = with_bound bound u
+    in let spare : Spares (Did s ∷ t) u c = heard_spares id t s.event c spared
+    in let spare_v : Spares (Did s ∷ t) v c = spares_on (Did s ∷ t) u v c spare (bound_spares bound u c)
+    in let before : Unlinked c u = λ o h. spare.link o h ∙ unlinked_did c t s fine.unlinked o h
+    in record {
+      ordered = replied_turns id t s.event fine.ordered fine.told taken;
+      eased = eased_goes c row v (eased_bound c bound u (eased_ends id (due t s.event) (Did s ∷ t) c ((spared, lives), fine.eased)));
+      unlinked = row_unlinked id t u v s.event c bare before (λ o h. spare_v.link o h ∙ unlinked_did c t s fine.unlinked o h);
+      unnamed = unnamed_goes c row v (none_row id t u s.event) (λ o n. spare_v.named o n ∙ unnamed_did c t s fine.unnamed o n);
+      unclaimed = unclaimed_goes c row v (λ o n. spare_v.claims o n ∙ unclaimed_did c t s fine.unlinked fine.unclaimed o n);
+      before = before;
+      part = own_goes c row v ∙ ap (goes (only c row)) (own_bound c bound u ∙ own_ends id (due t s.event) (Did s ∷ t) c spared);
+    }
 
 stepped : (id : List ℕ) (c : ℕ) (t : List Entry) (s : Step) → Fine c t → refuses t s.event ≡ false → is_full (conn t c) ≡ false
     → (comes_up c s.event ≡ true → is_live (conn (Did s ∷ t) c) ≡ true) → (is_about c s.event ≡ true → brings_attach s.event ≡ false) → Stepped id c t s
@@ -135,28 +209,29 @@ stepped id c t s fine taken roomy lives bare =
     let spared : has c (due t s.event) ≡ false = not_due t s.event c roomy
     in let u : List Entry = heard id t s
     in let row : List Put = own_row id t u s.event
-    in let behind : List Entry = replied id t s
-    in let spare : Spares (Did s ∷ t) u c = heard_spares id t s.event c spared
-    in let unlinked : Unlinked c u = λ o h. spare.link o h ∙ unlinked_did c t s fine.unlinked o h
-    in let eased : Eased c behind = eased_goes c row u (eased_ends id (due t s.event) (Did s ∷ t) c ((spared, lives), fine.eased))
-    in let once : NoTwice (ups behind) = (replied_turns id t s.event fine.ordered fine.told taken).once
-    in let part : own_part c behind ≡ goes (only c row) (own_part c (Did s ∷ t))
-    = own_goes c row u ∙ ap (goes (only c row)) (own_ends id (due t s.event) (Did s ∷ t) c spared)
-    in let all : own_part c (answered id t s) ≡ own_followed c (own_part c behind) = same_followed behind c eased once
+    in let r : Rowed id c t s = rowed id c t s fine taken roomy lives bare
+    in let behind : List Entry = passed_on (replied id t s)
+    in let aside : Aside c (replied id t s) behind = passed_aside c (replied id t s) r.unlinked
+    in let eased : Eased c behind = each_keeps (Eased c) (eased_goes c) (replied id t s) r.eased
+    in let all : own_part c (answered id t s) ≡ own_followed c (own_part c (replied id t s))
+    = same_widened behind c eased (passed_turns (replied id t s) r.ordered).once ∙ ap (own_followed c) aside.part
     in record {
       fine = record {
         ordered = answered_turns id t s.event fine.ordered fine.told taken;
         told = answered_told id t s.event fine.ordered fine.told taken;
         eased = eased_goes c (windows behind) behind eased;
-        unlinked = unlinked_goes c (windows behind) behind (less_windows behind) (row_unlinked id t u s.event c bare unlinked);
-        settled = ap (own_flows c) all ∙ settled_followed c (own_part c behind);
+        unlinked = unlinked_goes c (windows behind) behind (less_windows behind) (λ o h. aside.spares.link o h ∙ r.unlinked o h);
+        unnamed = unnamed_goes c (windows behind) behind (none_window behind) (λ o n. aside.spares.named o n ∙ r.unnamed o n);
+        unclaimed = unclaimed_goes c (windows behind) behind (λ o n. aside.spares.claims o n ∙ r.unclaimed o n);
+        settled = ap (own_flows c) all ∙ settled_followed c (own_part c (replied id t s));
       };
       about = λ e.
           let did : own_part c (Did s ∷ t) ≡ Did s ∷ own_part c t = rw e refl
-          in all ∙ ap (own_followed c) (part ∙ (λ j. goes (row_about id t u s.event c spared fine.eased fine.ordered.once fine.unlinked (bare e) e j) (did j)));
+          in all ∙ ap (own_followed c) (r.part
+          ∙ (λ j. goes (row_about id t u s.event c spared fine.eased fine.ordered.once fine.unlinked fine.unnamed fine.unclaimed (bare e) e j) (did j)));
       other = λ e.
           let did : own_part c (Did s ∷ t) ≡ own_part c t = rw e refl
-          in all ∙ ap (own_followed c) (part ∙ (λ j. goes (only_none c row (row_else id t u s.event c unlinked e) j) (did j)))
+          in all ∙ ap (own_followed c) (r.part ∙ (λ j. goes (only_none c row (row_else id t u s.event c r.before e) j) (did j)))
           ∙ ap (λ (ps : List Put). goes ps (own_part c t)) fine.settled;
     }
 
@@ -168,6 +243,8 @@ fine_took c t x fine = record {
   told = took_told t x.conn.0 _ fine.told;
   eased = fine.eased;
   unlinked = fine.unlinked;
+  unnamed = fine.unnamed;
+  unclaimed = fine.unclaimed;
   settled = fine.settled;
 }
 
@@ -196,6 +273,8 @@ fine_empty c = record {
   told = record { told = λ k v is live some. absurd cc; strange = λ k absent. refl };
   eased = tt;
   unlinked = λ o h. refl;
+  unnamed = λ o n. refl;
+  unclaimed = λ o n. refl;
   settled = refl;
 }
 

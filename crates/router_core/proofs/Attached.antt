@@ -1,18 +1,24 @@
--- The frames of an attach that is taken or refused have their turns.
+-- The frames of an attach that is taken or refused have their turns, and those of deliveries and dispositions that come.
 use Rattle.std.proofs.Common.{◌≡◌, ◌∙◌, sym, ap, refl, true≢false, ℕ, Bool, true, false, List, [], ◌∷◌}
-use Rattle.std.specs.Prelude.{Option, Some, None, if◌then◌else◌}
+use Rattle.std.specs.Prelude.{Option, Some, None, if◌then◌else◌, nat_lt}
 use Rattle.amqp_perf.specs.declared.perf.Attach.{Attach as AnAttach}
+use Rattle.amqp_perf.specs.declared.state.DeliveryState.{DeliveryState}
 use Rattle.amqp_frames.specs.declared.item.Item.{Item}
+use Rattle.amqp_link.specs.declared.part.Delivery.{Delivery as Told}
+use Rattle.amqp_link.specs.declared.part.Part.{Part}
+use Rattle.amqp_link.specs.declared.part.Part.TheVariants as part
 use Rattle.router_trace.specs.declared.condition.Condition.{Condition}
-use Rattle.router_trace.specs.declared.condition.Condition.TheVariants.{FrameSizeTooSmall}
+use Rattle.router_trace.specs.declared.condition.Condition.TheVariants.{FrameSizeTooSmall, ResourceLimitExceeded, MessageSizeExceeded}
 use Rattle.router_trace.specs.declared.handle.Attachment.{Attachment}
 use Rattle.router_trace.specs.Trace.{Entry, goes, each_to, ups}
 use Rattle.router_trace.specs.Connection.{has}
 use Rattle.router_trace.specs.LinkFrames.{attach_item, detach_item, answer_to, refusal_of, fits}
-use Rattle.router_trace.specs.Links.{if_attached, last_of_key, free_handle, key_at}
+use Rattle.router_trace.specs.Links.{Link, link, if_attached, last_of_key, free_handle, key_at}
 use Rattle.router_trace.specs.Order.{unwritten, of_session, has_turn}
 use Rattle.router_trace.specs.Peers.{largest_frame}
-use Rattle.router_reply.specs.Replies.{stolen_by, attach_answer, taken, refused}
+use Rattle.router_trace.specs.Settling.{ignored}
+use Rattle.router_passing.specs.Passing.{consumer_of}
+use Rattle.router_reply.specs.Replies.{stolen_by, attach_answer, taken, refused, claimed_id, ignored_put, unbound_put, part_put, settled_answers}
 use Rattle.router_conns.proofs.Lists.{by_test}
 use Rattle.router_core.proofs.Flowing.{AllFit, IsQuiet, fit_both}
 use Rattle.router_core.proofs.Linked.{holder_linked}
@@ -54,9 +60,9 @@ taken_fit t c own a ord begun =
     last : Option Attachment
     last = last_of_key t (key_at t c (answer_to a 0))
 
-pub refused_fit : (t : List Entry) (c own handle : ℕ) (e : Condition) (a : AnAttach) → Ordered t → of_session (wrote t c) own ≡ true
-    → AllFit t (each_to c (refused (largest_frame t c) own handle e a))
-refused_fit t c own handle e a ord begun = by (fits (largest_frame t c) (attach_item own (refusal_of a handle)))
+pub refused_fit : (t : List Entry) (largest c own handle : ℕ) (e : Condition) (a : AnAttach) → Ordered t → of_session (wrote t c) own ≡ true
+    → AllFit t (each_to c (refused largest own handle e a))
+refused_fit t largest c own handle e a ord begun = by (fits largest (attach_item own (refusal_of a handle)))
   where
     known : has c (ups t) ≡ true
     known = session_known t c own ord begun
@@ -64,3 +70,43 @@ refused_fit t c own handle e a ord begun = by (fits (largest_frame t c) (attach_
     by : (b : Bool) → AllFit t (each_to c (if b then attach_item own (refusal_of a handle) ∷ detach_item own handle true (Some e) ∷ [] else detach_item own handle true (Some e) ∷ []))
     by true = (record { known = known; turn = begun; quiet = tt }, all_fit t c known (detach_item own handle true (Some e)) begun tt)
     by false = all_fit t c known (detach_item own handle true (Some e)) begun tt
+
+-- what a delivery that came whole brings, and dispositions that are answered
+
+ignored_fit : (t : List Entry) (after : List Entry) (c own handle : ℕ) (q : Option ℕ) → has c (ups t) ≡ true → of_session (wrote t c) own ≡ true
+    → AllFit t (each_to c (ignored_put after c own handle q))
+ignored_fit t after c own handle None known begun = tt
+ignored_fit t after c own handle (Some id) known begun =
+    by_test (nat_lt 1024 (ignored after c own handle))
+    (λ e. rw e (all_fit t c known (detach_item own handle true (Some ResourceLimitExceeded)) begun tt))
+    (λ e. rw e tt)
+
+unbound_fit : (t : List Entry) (c own : ℕ) (q : Option ℕ) (consumer : Option Attachment) → has c (ups t) ≡ true → of_session (wrote t c) own ≡ true
+    → AllFit t (each_to c (unbound_put own q consumer))
+unbound_fit t c own None None known begun = tt
+unbound_fit t c own (Some id) None known begun = (record { known = known; turn = begun; quiet = tt }, tt)
+unbound_fit t c own q (Some consumer) known begun = tt
+
+pub part_fit : (t after : List Entry) (c own handle : ℕ) (q : Option Part) → Ordered t → of_session (wrote t c) own ≡ true
+    → AllFit t (each_to c (part_put after c own handle q))
+part_fit t after c own handle q ord begun = by q
+  where
+    known : has c (ups t) ≡ true
+    known = session_known t c own ord begun
+
+    whole : (b : Bool) (d : Told) (l : Option Link) → AllFit t (each_to c (if b then ignored_put after c own handle (claimed_id after c own handle d.id)
+        else unbound_put own (claimed_id after c own handle d.id) (consumer_of after l)))
+    whole true d l = ignored_fit t after c own handle (claimed_id after c own handle d.id) known begun
+    whole false d l = unbound_fit t c own (claimed_id after c own handle d.id) (consumer_of after l) known begun
+
+    by : (q : Option Part) → AllFit t (each_to c (part_put after c own handle q))
+    by (Some (part.Whole d payload)) = whole d.resume d (link after c own handle)
+    by (Some part.TooLarge) = all_fit t c known (detach_item own handle true (Some MessageSizeExceeded)) begun tt
+    by _ = tt
+
+pub settled_fit : (t : List Entry) (c own : ℕ) (s : Option DeliveryState) (ids : List ℕ) → Ordered t → of_session (wrote t c) own ≡ true
+    → AllFit t (each_to c (settled_answers own s ids))
+settled_fit t c own None ids ord begun = tt
+settled_fit t c own (Some s) [] ord begun = tt
+settled_fit t c own (Some s) (id ∷ ids) ord begun =
+    (record { known = session_known t c own ord begun; turn = begun; quiet = tt }, settled_fit t c own (Some s) ids ord begun)

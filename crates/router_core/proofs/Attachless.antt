@@ -1,11 +1,17 @@
 -- Of items on their way, those that bring no attach: what rows say, heartbeats and flows. They begin no link.
-use Rattle.std.proofs.Common.{◌≡◌, ◌∙◌, sym, ap, refl, subst, true≢false, ℕ, zero, suc, Bool, true, false, List, [], ◌∷◌, ◌++◌, append-nil}
-use Rattle.std.specs.Prelude.{◌==◌, Option, Some, None, is_some}
+use Rattle.std.proofs.Common.{◌≡◌, ◌∙◌, sym, ap, refl, true≢false, ℕ, zero, suc, Bool, true, false, List, [], ◌∷◌, ◌++◌, append-nil}
+use Rattle.std.specs.Prelude.{◌==◌, nat_lt, if◌then◌else◌, filter, Option, Some, None, is_some}
+use Rattle.amqp_perf.specs.declared.perf.Disposition.{Disposition as ADisposition}
 use Rattle.amqp_perf.specs.declared.perf.Perf.{Perf}
 use Rattle.amqp_perf.specs.declared.perf.Perf.TheVariants as perf
+use Rattle.amqp_perf.specs.declared.perf.Transfer.{Transfer}
+use Rattle.amqp_perf.specs.declared.state.DeliveryState.{DeliveryState}
 use Rattle.amqp_frames.specs.declared.item.Item.{Item}
 use Rattle.amqp_frames.specs.declared.item.Item.TheVariants as item
 use Rattle.amqp_conn.specs.declared.conn.Conn.{Conn}
+use Rattle.amqp_link.specs.declared.part.Delivery.{Delivery as Told}
+use Rattle.amqp_link.specs.declared.part.Part.{Part}
+use Rattle.amqp_link.specs.declared.part.Part.TheVariants as part
 use Rattle.amqp_session.specs.Session.{Session}
 use Rattle.router_trace.specs.declared.condition.Condition.{Condition}
 use Rattle.router_trace.specs.declared.event.Event.{Event}
@@ -14,16 +20,23 @@ use Rattle.router_trace.specs.Trace.{Entry, Did, Out, Put, Step, goes, puts, eac
 use Rattle.router_trace.specs.Connection.{Connection, standing, found, live, live_of}
 use Rattle.router_trace.specs.Clocks.{terms, written, needs_beat}
 use Rattle.router_trace.specs.Frames.{closing}
-use Rattle.router_trace.specs.Links.{Link, link, their_handle}
+use Rattle.router_trace.specs.declared.handle.Attachment.{Attachment}
+use Rattle.router_trace.specs.declared.handle.PeerHandle.{PeerHandle}
+use Rattle.router_trace.specs.declared.handle.PeerHandle.TheVariants.{Mapped, Detaching}
+use Rattle.router_trace.specs.Links.{Link, link, link_place, link_place_by, on_link, their_handle}
+use Rattle.router_trace.specs.Deliveries.{named, terminal, last_of}
+use Rattle.router_trace.specs.Settling.{ids_between, is_open_id, names_open, ignored, part_on, part_in}
+use Rattle.router_passing.specs.Passing.{consumer_of}
 use Rattle.router_trace.specs.Sessions.{session, theirs}
 use Rattle.router_sessions.specs.Windows.{is_narrow, flow_due, flows_below, windows_over, windows}
 use Rattle.router_state.specs.Tables.{beat_if, beats_over}
 use Rattle.router_reply.specs.declared.answer.Answer.{Answer}
-use Rattle.router_reply.specs.declared.answer.Answer.TheVariants.{Nothing, Header, Open, Close, CloseWith, Begin, End, Flow, Attach, Refuse, Detach, LinkFlow}
+use Rattle.router_reply.specs.declared.answer.Answer.TheVariants.{Nothing, Header, Open, Close, CloseWith, Begin, End, Flow, Attach, Refuse, Detach, LinkFlow, Taken, Settle}
 use Rattle.router_reply.specs.Rows.{Finds, said, item_reply}
-use Rattle.router_reply.specs.Replies.{closing_of, finds, links_put, item_row, own_row}
-use Rattle.router_core.specs.Laws.{is_attach, brings_attach}
-use Rattle.router_conns.proofs.Lists.{by_test}
+use Rattle.router_reply.specs.Replies.{closing_of, finds, claimed_id, ignored_put, unbound_put, part_put, settled_answers, links_put, item_row, own_row}
+use Rattle.router_core.specs.Laws.{is_attach_in, is_attach, brings_attach}
+use Rattle.router_conns.proofs.Lists.{by_test, filter_none}
+use Rattle.router_core.proofs.Due.{goes_on_link, AllOnLinks}
 use Rattle.router_core.proofs.Linked.{link_was, linked_before, none_if}
 
 abbrev pub Attachless : List Put → Type 0
@@ -56,6 +69,48 @@ less_said id c p (Attach own) = tt
 less_said id c p (Refuse own handle x) = tt
 less_said id c p (Detach own handle closed x) = (refl, tt)
 less_said id c p (LinkFlow own told at) = (refl, tt)
+less_said id c p (Taken own handle) = tt
+less_said id c p (Settle own) = tt
+
+-- what a delivery that came whole brings, and dispositions that are answered
+
+less_ignored : (after : List Entry) (c own handle : ℕ) (q : Option ℕ) → Attachless (each_to c (ignored_put after c own handle q))
+less_ignored after c own handle None = tt
+less_ignored after c own handle (Some id) = by_test (nat_lt 1024 (ignored after c own handle)) (λ e. rw e (refl, tt)) (λ e. rw e tt)
+
+less_unbound : (c own : ℕ) (q : Option ℕ) (consumer : Option Attachment) → Attachless (each_to c (unbound_put own q consumer))
+less_unbound c own None None = tt
+less_unbound c own (Some id) None = (refl, tt)
+less_unbound c own q (Some consumer) = tt
+
+pub less_part : (after : List Entry) (c own handle : ℕ) (q : Option Part) → Attachless (each_to c (part_put after c own handle q))
+less_part after c own handle q = by q
+  where
+    whole : (b : Bool) (d : Told) (l : Option Link) → Attachless (each_to c (if b then ignored_put after c own handle (claimed_id after c own handle d.id)
+        else unbound_put own (claimed_id after c own handle d.id) (consumer_of after l)))
+    whole true d l = less_ignored after c own handle (claimed_id after c own handle d.id)
+    whole false d l = less_unbound c own (claimed_id after c own handle d.id) (consumer_of after l)
+
+    by : (q : Option Part) → Attachless (each_to c (part_put after c own handle q))
+    by (Some (part.Whole d payload)) = whole d.resume d (link after c own handle)
+    by (Some part.TooLarge) = (refl, tt)
+    by _ = tt
+
+pub less_settled : (c own : ℕ) (s : Option DeliveryState) (ids : List ℕ) → Attachless (each_to c (settled_answers own s ids))
+less_settled c own None ids = tt
+less_settled c own (Some s) [] = tt
+less_settled c own (Some s) (id ∷ ids) = (refl, less_settled c own (Some s) ids)
+
+-- what goes out on links that stand
+kind_less : (body : Perf) → goes_on_link body ≡ true → is_attach_in body ≡ false
+kind_less (perf.Flow f) kind = refl
+kind_less (perf.Transfer x) kind = refl
+kind_less (perf.Disposition x) kind = refl
+kind_less _ kind = absurd cc
+
+pub on_less : (t : List Entry) (ps : List Put) → AllOnLinks t ps → Attachless ps
+on_less t [] all = tt
+on_less t (p ∷ ps) all = (ap is_attach all.0.frame ∙ kind_less all.0.body all.0.kind, on_less t ps all.1)
 
 -- heartbeats and the flows of windows
 
@@ -89,37 +144,90 @@ abbrev pub said_to : List ℕ → Option Conn → Finds → Item → List Item
 said_to id None k i = []
 said_to id (Some p) k i = said id p (item_reply p k i)
 
-no_links : (t : List Entry) (c : ℕ) (i : Item) (a : Answer) → is_attach i ≡ false → links_put t c i a ≡ []
-no_links t c (item.Frame sasl channel body payload) a none = by body none
-  where
-    by : (body : Perf) → is_attach (item.Frame sasl channel body payload) ≡ false → links_put t c (item.Frame sasl channel body payload) a ≡ []
-    by (perf.Attach x) none = absurd cc
-    by _ none = refl
-no_links t c _ a none = refl
+-- no link stands on a connection, and no delivery has an id on it
+abbrev pub Unlinked : ℕ → List Entry → Type 0
+Unlinked c t = (o h : ℕ) → link t c o h ≡ None
 
-pub row_said : (id : List ℕ) (t u : List Entry) (c : ℕ) (i : Item) (p : Option Conn) → is_attach i ≡ false → item_row id t u c i p ≡ each_to c (said_to id p (finds t c) i)
-row_said id t u c i None none = refl
-row_said id t u c i (Some p) none =
-    ap (λ (ps : List Put). each_to c (said id p (item_reply p (finds t c) i)) ++ ps) (no_links (puts c (said id p (item_reply p (finds t c) i)) u) c i (item_reply p (finds t c) i) none)
+abbrev pub Unnamed : ℕ → List Entry → Type 0
+Unnamed c t = (o id : ℕ) → named t c o id ≡ None
+
+-- then transfers and dispositions bring nothing
+
+no_part : (x : Transfer) (payload : List ℕ) (v : Option PeerHandle) (known : ℕ → Option Link) → ((h : ℕ) → known h ≡ None) → part_on x payload (link_place_by v known) ≡ None
+no_part x payload None known none = refl
+no_part x payload (Some Detaching) known none = refl
+no_part x payload (Some (Mapped h)) known none = ap (λ (l : Option Link). part_on x payload (on_link h l)) (none h)
+
+nothing_open : (t : List Entry) (c own : ℕ) → Unnamed c t → (ids : List ℕ) → filter (is_open_id t c own) ids ≡ []
+nothing_open t c own none ids = filter_none (is_open_id t c own) (λ id. ap (names_open t c own id) (none own id)) ids
+
+nothing_settled : (own : ℕ) (s : Option DeliveryState) → settled_answers own s [] ≡ []
+nothing_settled own None = refl
+nothing_settled own (Some s) = refl
+
+no_links : (t after : List Entry) (c : ℕ) (i : Item) (a : Answer) → Unlinked c t → Unnamed c t → is_attach i ≡ false → links_put t after c i a ≡ []
+no_links t after c (item.Frame sasl channel body payload) a unlinked unnamed none = by body none
+  where
+    part_none : (x : Transfer) (own : ℕ) (b : Bool) → (if b then None else part_in (perf.Transfer x) payload (link_place t c own)) ≡ None
+    part_none x own true = refl
+    part_none x own false = no_part x payload (their_handle t c own x.handle) (link t c own) (unlinked own)
+
+    transfer : (x : Transfer) (a : Answer) → links_put t after c (item.Frame sasl channel (perf.Transfer x) payload) a ≡ []
+    transfer x (Taken own handle) = ap (λ (q : Option Part). each_to c (part_put after c own handle q)) (part_none x own sasl)
+    transfer x _ = refl
+
+    disposition : (x : ADisposition) (a : Answer) → links_put t after c (item.Frame sasl channel (perf.Disposition x) payload) a ≡ []
+    disposition x (Settle own) =
+        ap (λ (ids : List ℕ). each_to c (settled_answers own (terminal x.state) ids)) (nothing_open t c own unnamed (ids_between x.first (last_of x)))
+        ∙ ap (each_to c) (nothing_settled own (terminal x.state))
+    disposition x _ = refl
+
+    by : (body : Perf) → is_attach (item.Frame sasl channel body payload) ≡ false → links_put t after c (item.Frame sasl channel body payload) a ≡ []
+    by (perf.Attach x) none = absurd cc
+    by (perf.Transfer x) none = transfer x a
+    by (perf.Disposition x) none = disposition x a
+    by _ none = refl
+no_links t after c _ a unlinked unnamed none = refl
+
+pub row_said : (id : List ℕ) (t u : List Entry) (c : ℕ) (i : Item) (p : Option Conn) → Unlinked c t → Unnamed c t → is_attach i ≡ false
+    → item_row id t u c i p ≡ each_to c (said_to id p (finds t c) i)
+row_said id t u c i None unlinked unnamed none = refl
+row_said id t u c i (Some p) unlinked unnamed none =
+    ap (λ (ps : List Put). each_to c (said id p (item_reply p (finds t c) i)) ++ ps)
+    (no_links t (puts c (said id p (item_reply p (finds t c) i)) u) c i (item_reply p (finds t c) i) unlinked unnamed none)
     ∙ append-nil (each_to c (said id p (item_reply p (finds t c) i)))
 
-less_said_to : (id : List ℕ) (c : ℕ) (p : Option Conn) (k : Finds) (i : Item) → Attachless (each_to c (said_to id p k i))
-less_said_to id c None k i = tt
-less_said_to id c (Some p) k i = less_said id c p (item_reply p k i)
+less_links : (t after : List Entry) (c : ℕ) (i : Item) (a : Answer) → is_attach i ≡ false → Attachless (links_put t after c i a)
+less_links t after c (item.Frame sasl channel body payload) a none = by body none
+  where
+    transfer : (x : Transfer) (a : Answer) → Attachless (links_put t after c (item.Frame sasl channel (perf.Transfer x) payload) a)
+    transfer x (Taken own handle) = less_part after c own handle _
+    transfer x _ = tt
+
+    disposition : (x : ADisposition) (a : Answer) → Attachless (links_put t after c (item.Frame sasl channel (perf.Disposition x) payload) a)
+    disposition x (Settle own) = less_settled c own _ _
+    disposition x _ = tt
+
+    by : (body : Perf) → is_attach (item.Frame sasl channel body payload) ≡ false → Attachless (links_put t after c (item.Frame sasl channel body payload) a)
+    by (perf.Attach x) none = absurd cc
+    by (perf.Transfer x) none = transfer x a
+    by (perf.Disposition x) none = disposition x a
+    by _ none = tt
+less_links t after c _ a none = tt
+
+less_item : (id : List ℕ) (t u : List Entry) (c : ℕ) (i : Item) (p : Option Conn) → is_attach i ≡ false → Attachless (item_row id t u c i p)
+less_item id t u c i None none = tt
+less_item id t u c i (Some p) none =
+    less_both (each_to c (said id p (item_reply p (finds t c) i))) _ (less_said id c p (item_reply p (finds t c) i)) (less_links t (puts c (said id p (item_reply p (finds t c) i)) u) c i (item_reply p (finds t c) i) none)
 
 pub less_row : (id : List ℕ) (t u : List Entry) (e : Event) → brings_attach e ≡ false → Attachless (own_row id t u e)
-less_row id t u (event.Item d i) none =
-    subst (λ (ps : List Put). Attachless ps) (sym (row_said id t u d.0 i (standing (found t (event.Item d i) d.0)) none))
-    (less_said_to id d.0 (standing (found t (event.Item d i) d.0)) (finds t d.0) i)
+less_row id t u (event.Item d i) none = less_item id t u d.0 i (standing (found t (event.Item d i) d.0)) none
 less_row id t u (event.Tick ms) none = less_beats t ms (live_of (ups t) (found t (event.Tick ms)))
 less_row id t u (event.Down d) none = tt
 less_row id t u (event.Up d p) none = tt
 less_row id t u event.Start none = tt
 
 -- a connection on which no link is attached
-
-abbrev pub Unlinked : ℕ → List Entry → Type 0
-Unlinked c t = (o h : ℕ) → link t c o h ≡ None
 
 gone_is : (v : Option Link) → v ≡ None → is_some v ≡ false
 gone_is v e = ap (λ (x : Option Link). is_some x) e

@@ -17,17 +17,19 @@ use Rattle.router_trace.specs.Clocks.{terms, written, needs_beat}
 use Rattle.router_trace.specs.Order.{Written, unwritten, begun_behind_perf, written_behind, is_open, has_turn}
 use Rattle.router_sessions.specs.Windows.{is_narrow, flow_due, flows_below, windows_over, windows}
 use Rattle.router_state.specs.Tables.{beat_if, beats_over}
-use Rattle.router_after.specs.After.{followed}
+use Rattle.router_after.specs.After.{widened}
 use Rattle.router_core.specs.Moves.{outs}
 use Rattle.router_conns.proofs.Lists.{by_test}
-use Rattle.router_reply.proofs.RowOrder.{written_of, perf_is_offered, IsOffered}
+use Rattle.router_core.proofs.RowOrder.{written_of, perf_is_offered, IsOffered}
 use Rattle.router_core.proofs.Once.{filter_has, has_first, has_rest}
 use Rattle.router_core.proofs.Ordered.{Ordered, wrote, wrote_push, out_turns}
 
--- an item that leaves all that was written as it was: a flow, an attach, a detach or a heartbeat
+-- an item that leaves all that was written as it was: a flow, an attach, a transfer, a disposition, a detach or a heartbeat
 abbrev pub perf_is_quiet : Perf → Type 0
 perf_is_quiet (perf.Flow f) = Unit {0}
 perf_is_quiet (perf.Attach a) = Unit {0}
+perf_is_quiet (perf.Transfer x) = Unit {0}
+perf_is_quiet (perf.Disposition x) = Unit {0}
 perf_is_quiet (perf.Detach x) = Unit {0}
 perf_is_quiet _ = ⊥
 
@@ -40,6 +42,8 @@ quiet_perf : (body : Perf) (own : ℕ) (w : Written) → perf_is_quiet body
     → written_of (behind_perf body w.phase) (begun_behind_perf body own w.begun) ≡ w
 quiet_perf (perf.Flow f) own w q = refl
 quiet_perf (perf.Attach a) own w q = refl
+quiet_perf (perf.Transfer x) own w q = refl
+quiet_perf (perf.Disposition x) own w q = refl
 quiet_perf (perf.Detach x) own w q = refl
 quiet_perf _ own w q = absurd q
 
@@ -51,6 +55,8 @@ quiet_same _ w q = absurd q
 quiet_perf_offered : (body : Perf) (asked : Option BeginState) → perf_is_quiet body → perf_is_offered body asked
 quiet_perf_offered (perf.Flow f) asked q = tt
 quiet_perf_offered (perf.Attach a) asked q = tt
+quiet_perf_offered (perf.Transfer x) asked q = tt
+quiet_perf_offered (perf.Disposition x) asked q = tt
 quiet_perf_offered (perf.Detach x) asked q = tt
 quiet_perf_offered _ asked q = absurd q
 
@@ -132,8 +138,8 @@ windows_fit t ord (c ∷ cs) each =
     in fit_both t (flows_below c (session t c) 15) (windows_over t cs) (below_fit t c v.0 ord v.1 v.2 here.1 15)
     (windows_fit t ord cs (λ k h. each k (has_rest k c cs h)))
 
-pub followed_turns : (t : List Entry) → Ordered t → Ordered (followed t)
-followed_turns t ord = goes_turns (windows t) t ord (windows_fit t ord (live t) (λ c h. filter_has (λ k. is_live (conn t k)) c (ups t) h))
+pub widened_turns : (t : List Entry) → Ordered t → Ordered (widened t)
+widened_turns t ord = goes_turns (windows t) t ord (windows_fit t ord (live t) (λ c h. filter_has (λ k. is_live (conn t k)) c (ups t) h))
 
 -- heartbeats
 

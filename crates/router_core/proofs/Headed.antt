@@ -7,6 +7,7 @@ use Rattle.amqp_frames.specs.declared.item.Item.{Item}
 use Rattle.amqp_frames.specs.declared.item.Item.TheVariants as item
 use Rattle.amqp_conn.specs.declared.conn.Conn.{Conn}
 use Rattle.amqp_session.specs.Session.{Session}
+use Rattle.router_trace.specs.declared.binding.Binding.{Binding}
 use Rattle.router_trace.specs.declared.terms.Terms.{Terms}
 use Rattle.router_trace.specs.declared.condition.Condition.TheVariants.{ResourceLimitExceeded}
 use Rattle.router_trace.specs.declared.event.ConnectionId.{ConnectionId}
@@ -22,10 +23,13 @@ use Rattle.router_trace.specs.Links.{Link, link, if_attached, last_of_key, holde
 use Rattle.router_trace.specs.Peers.{largest_frame}
 use Rattle.router_trace.specs.Sessions.{session}
 use Rattle.router_trace.specs.Clocks.{terms, terms_at, written, needs_beat}
+use Rattle.router_trace.specs.Following.{tells, sends_due, drains_due}
 use Rattle.router_sessions.specs.Windows.{is_narrow, flow_due, flows_below, windows_over, windows}
 use Rattle.router_state.specs.Tables.{beat_if, beats_over}
+use Rattle.router_passing.specs.Passing.{grants_due, with_bound}
+use Rattle.router_after.specs.After.{followed}
 use Rattle.router_reply.specs.Rows.{said, item_reply}
-use Rattle.router_reply.specs.Replies.{closing_of, ends, heard, finds, stolen_by, refused, item_row, own_row, replied}
+use Rattle.router_reply.specs.Replies.{closing_of, ends, heard, finds, stolen_by, refused, part_put, settled_answers, bound_by, item_row, own_row, replied}
 use Rattle.router_core.specs.Replies.{answered}
 use Rattle.router_core.specs.Runs.{waiting_of, took_one}
 use Rattle.router_core.specs.Moves.{Move, handles, takes, Goes, IsTrace, with_came, ins, outs}
@@ -35,14 +39,17 @@ use Rattle.router_conns.proofs.Lists.{by_test}
 use Rattle.router_conns.proofs.Turns.{due_none}
 use Rattle.router_core.proofs.Attachless.{Unlinked}
 use Rattle.router_core.proofs.Coming.{ins_answered}
+use Rattle.router_core.proofs.Due.{AllOnLinks, tells_on, sends_on, drains_on, grants_on}
+use Rattle.router_core.proofs.Following.{Steps, passed_on, passed_keeps, all_keep}
 use Rattle.router_core.proofs.ItemRows.{item_cases}
 use Rattle.router_core.proofs.Linked.{none_if, holder_linked}
 use Rattle.router_core.proofs.Lively.{Lively, answered_lively, took_lively}
 use Rattle.router_core.proofs.Once.{filter_has}
-use Rattle.router_core.proofs.Ordered.{Ordered, Without, written_all, goes_spares, each_without, ends_spares}
+use Rattle.router_core.proofs.Ordered.{Ordered, Without, written_all, goes_spares, each_without, bound_spares, ends_spares}
 use Rattle.router_core.proofs.Told.{Told, goes_strange}
 use Rattle.router_core.proofs.Order.{push_some, heard_turns, no_session, took_inv, took_turns, ordered_empty}
-use Rattle.router_core.proofs.Replied.{answered_turns, answered_told}
+use Rattle.router_core.proofs.PassedOrder.{passed_steps}
+use Rattle.router_core.proofs.Replied.{replied_turns, answered_turns, answered_told}
 
 -- where nothing was put out nothing waits, and the outbox isn't full
 
@@ -171,12 +178,14 @@ pub item_without : (id : List ℕ) (t u : List Entry) (d k : ℕ) (i : Item) (p 
     → Without k (item_row id t u d i p)
 item_without id t u d k i None none apart = tt
 item_without id t u d k i (Some p) none apart =
-    item_cases id u d p (λ a ps. Without k ps)
+    item_cases id t u d p (λ a ps. Without k ps)
     (λ a. each_without (said id p a) d k apart)
     (λ own x. without_both k (stolen_by (holder u (key_at u d (answer_to x 0)))) _
     (stolen_without u k none (last_of_key u (key_at u d (answer_to x 0))) (holder u (key_at u d (answer_to x 0))) refl)
     (each_without _ d k apart))
     (λ own handle e x. each_without (refused (largest_frame u d) own handle e x) d k apart)
+    (λ own handle q. each_without (part_put u d own handle q) d k apart)
+    (λ own s ids. each_without (settled_answers own s ids) d k apart)
     i (item_reply p (finds t d) i)
 
 -- no link stands where nothing was put out
@@ -192,6 +201,35 @@ own_without id t u (event.Tick ms) k ord none h = beats_without t k ms (untold t
 own_without id t u (event.Down d) k ord none h = tt
 own_without id t u (event.Up d p) k ord none h = tt
 own_without id t u event.Start k ord none h = tt
+
+-- what follows an event's rows goes out for connections with links alone
+
+pub on_without : (t : List Entry) (k : ℕ) → Unlinked k t → (ps : List Put) → AllOnLinks t ps → Without k ps
+on_without t k none [] all = tt
+on_without t k none (p ∷ ps) all = (
+  by_test (p.conn == k)
+      (λ e. absurd (true≢false (sym all.0.linked
+      ∙ subst (λ (n : ℕ). is_some (link t n all.0.own all.0.handle) ≡ false) (sym (eqb-true p.conn k e))
+      (ap (λ (v : Option Link). is_some v) (none all.0.own all.0.handle)))))
+      (λ e. e),
+  on_without t k none ps all.1,
+)
+
+-- where nothing was put out
+record Mute (k : ℕ) (t : List Entry) : Type 0 where
+  ordered : Ordered t
+  none : outs t k ≡ []
+
+mute_goes : (k : ℕ) (ps : List Put) (t : List Entry) → AllOnLinks t ps → Mute k t → outs (goes ps t) k ≡ []
+mute_goes k ps t all mute = (goes_spares ps t k (on_without t k (unlinked t k mute.ordered mute.none) ps all)).outs ∙ mute.none
+
+mute_steps : (k : ℕ) → Steps (Mute k)
+mute_steps k = record {
+  telling = λ t mute. record { ordered = passed_steps.telling t mute.ordered; none = mute_goes k (tells t) t (tells_on t) mute };
+  sending = λ t mute. record { ordered = passed_steps.sending t mute.ordered; none = mute_goes k (sends_due t) t (sends_on t) mute };
+  draining = λ t mute. record { ordered = passed_steps.draining t mute.ordered; none = mute_goes k (drains_due t) t (drains_on t) mute };
+  granting = λ t mute. record { ordered = passed_steps.granting t mute.ordered; none = mute_goes k (grants_due t) t (grants_on t) mute };
+}
 
 -- a header that stands first stays first
 
@@ -210,22 +248,33 @@ first_ends id (d ∷ ds) t c h =
     let items : List Item = closing_of id (conn t d) ResourceLimitExceeded
     in first_ends id ds (puts d items t) c (first_goes (each_to d items) t c h)
 
+bound_outs : (b : Option Binding) (t : List Entry) (c : ℕ) → outs (with_bound b t) c ≡ outs t c
+bound_outs b t c = (bound_spares b t c).outs
+
+first_followed : (t : List Entry) (c : ℕ) → HeaderFirst (outs t c) → HeaderFirst (outs (followed t) c)
+first_followed t c h = all_keep (λ (u : List Entry). HeaderFirst (outs u c)) (λ ps u h. first_goes ps u c h) t h
+
 first_answered : (id : List ℕ) (t : List Entry) (e : Event) (c : ℕ) → HeaderFirst (outs t c) → HeaderFirst (outs (answered id t (step_of e)) c)
 first_answered id t e c h =
-    first_goes (windows (replied id t (step_of e))) (replied id t (step_of e)) c
-    (first_goes (own_row id t (heard id t (step_of e)) e) (heard id t (step_of e)) c (first_ends id (due t e) (did e ∷ t) c h))
+    let u : List Entry = heard id t (step_of e)
+    in first_followed (replied id t (step_of e)) c
+    (first_goes (own_row id t u e) (with_bound (bound_by t u e) u) c
+    (subst (λ (is : List Item). HeaderFirst is) (sym (bound_outs (bound_by t u e) u c)) (first_ends id (due t e) (did e ∷ t) c h)))
 
 silent_heard : (id : List ℕ) (t : List Entry) (e : Event) (c : ℕ) → outs t c ≡ [] → outs (heard id t (step_of e)) c ≡ []
 silent_heard id t e c h = (ends_spares id (due t e) (did e ∷ t) c (not_due t e c h)).outs ∙ h
 
-silent_answered : (id : List ℕ) (t : List Entry) (e : Event) (c : ℕ) → Ordered (heard id t (step_of e)) → with_came e c (ins t c) ≡ [] → outs t c ≡ []
-    → outs (answered id t (step_of e)) c ≡ []
-silent_answered id t e c ord came h =
+silent_answered : (id : List ℕ) (t : List Entry) (e : Event) (c : ℕ) → Ordered (heard id t (step_of e)) → Ordered (replied id t (step_of e))
+    → with_came e c (ins t c) ≡ [] → outs t c ≡ [] → outs (answered id t (step_of e)) c ≡ []
+silent_answered id t e c ord next came h =
     let u : List Entry = heard id t (step_of e)
-    in let behind : List Entry = replied id t (step_of e)
+    in let v : List Entry = with_bound (bound_by t u e) u
+    in let behind : List Entry = passed_on (replied id t (step_of e))
     in let none : outs u c ≡ [] = silent_heard id t e c h
-    in let rows : outs behind c ≡ [] = (goes_spares (own_row id t u e) u c (own_without id t u e c ord none came)).outs ∙ none
-    in (goes_spares (windows behind) behind c (windows_without behind c rows (live behind))).outs ∙ rows
+    in let rows : outs (replied id t (step_of e)) c ≡ []
+    = (goes_spares (own_row id t u e) v c (own_without id t u e c ord none came)).outs ∙ bound_outs (bound_by t u e) u c ∙ none
+    in let passed : Mute c behind = passed_keeps (Mute c) (mute_steps c) (replied id t (step_of e)) (record { ordered = next; none = rows })
+    in (goes_spares (windows behind) behind c (windows_without behind c passed.none (live behind))).outs ∙ passed.none
 
 -- headers are answered first
 pub record Headed (t : List Entry) : Type 0 where
@@ -263,9 +312,10 @@ first_item id t d i ord taken none is =
     in let u : List Entry = heard id t (step_of e)
     in let row : own_row id t u e ≡ each_to d.0 (header_item ∷ [])
     = ap (λ (p : Option Conn). item_row id t u d.0 i p) (first_phase t e d.0 ord taken none) ∙ header_answer id t u d.0 i is
-    in first_goes (windows (replied id t (step_of e))) (replied id t (step_of e)) d.0
-    (subst (λ (ps : List Put). HeaderFirst (outs (goes ps u) d.0)) (sym row)
-    (put_first (outs u d.0) (d.0 == d.0) (eq-eqb d.0 d.0 refl) (silent_heard id t e d.0 none)))
+    in let v : List Entry = with_bound (bound_by t u e) u
+    in first_followed (replied id t (step_of e)) d.0
+    (subst (λ (ps : List Put). HeaderFirst (outs (goes ps v) d.0)) (sym row)
+    (put_first (outs v d.0) (d.0 == d.0) (eq-eqb d.0 d.0 refl) (bound_outs (bound_by t u e) u d.0 ∙ silent_heard id t e d.0 none)))
   where
     put_first : (is : List Item) (b : Bool) → b ≡ true → is ≡ [] → HeaderFirst (if b then is ++ header_item ∷ [] else is)
     put_first is b e h = rw (e, h) refl
@@ -288,12 +338,12 @@ event_header id t (event.Up d p) ord taken was c h = first_answered id t (event.
 event_header id t (event.Tick ms) ord taken was c h = first_answered id t (event.Tick ms) c (was.header c h)
 event_header id t event.Start ord taken was c h = first_answered id t event.Start c (was.header c h)
 
-answered_headed : (id : List ℕ) (t : List Entry) (e : Event) → Ordered t → refuses t e ≡ false → Headed t → Headed (answered id t (step_of e))
-answered_headed id t e ord taken was = record {
+answered_headed : (id : List ℕ) (t : List Entry) (e : Event) → Ordered t → Told t → refuses t e ≡ false → Headed t → Headed (answered id t (step_of e))
+answered_headed id t e ord told taken was = record {
   header = λ c h. event_header id t e ord taken was c (sym (ap begins_with_header (ins_answered id t e c)) ∙ h);
   silent = λ c h.
       let came : with_came e c (ins t c) ≡ [] = sym (ins_answered id t e c) ∙ h
-      in silent_answered id t e c (heard_turns id t e ord taken) came (was.silent c (came_none e c (ins t c) came));
+      in silent_answered id t e c (heard_turns id t e ord taken) (replied_turns id t e ord told taken) came (was.silent c (came_none e c (ins t c) came));
 }
 
 -- takes
@@ -320,7 +370,7 @@ goes_kept id (handles s ∷ ms) t u was goes =
       ordered = answered_turns id t s.event was.ordered was.told goes.0;
       lively = answered_lively id t s.event was.ordered was.lively goes.0;
       told = answered_told id t s.event was.ordered was.told goes.0;
-      headed = answered_headed id t s.event was.ordered goes.0 was.headed;
+      headed = answered_headed id t s.event was.ordered was.told goes.0 was.headed;
     })
     goes.1
 goes_kept id (takes x ∷ ms) t u was goes =

@@ -1,38 +1,57 @@
--- What an answer to an item puts: what it says, or the frames of an attach that is taken or refused.
+-- What an answer to an item puts: what it says, or the frames of an attach that is taken or refused, or what a delivery that came whole, and a
+-- disposition, bring.
 use Rattle.std.proofs.Common.{sym, subst, ℕ, Bool, List, [], ◌++◌, append-nil}
+use Rattle.std.specs.Prelude.{Option}
 use Rattle.amqp_perf.specs.declared.perf.Attach.{Attach as AnAttach}
+use Rattle.amqp_perf.specs.declared.perf.Disposition.{Disposition as ADisposition}
 use Rattle.amqp_perf.specs.declared.perf.Perf.{Perf}
 use Rattle.amqp_perf.specs.declared.perf.Perf.TheVariants as perf
+use Rattle.amqp_perf.specs.declared.perf.Transfer.{Transfer as ATransfer}
+use Rattle.amqp_perf.specs.declared.state.DeliveryState.{DeliveryState}
 use Rattle.amqp_frames.specs.declared.item.Item.{Item}
 use Rattle.amqp_frames.specs.declared.item.Item.TheVariants as item
 use Rattle.amqp_conn.specs.declared.conn.Conn.{Conn}
+use Rattle.amqp_link.specs.declared.part.Part.{Part}
 use Rattle.router_trace.specs.declared.condition.Condition.{Condition}
 use Rattle.router_trace.specs.Trace.{Entry, Put, each_to}
 use Rattle.router_trace.specs.Peers.{largest_frame}
 use Rattle.router_reply.specs.declared.answer.Answer.{Answer}
-use Rattle.router_reply.specs.declared.answer.Answer.TheVariants.{Attach, Refuse}
+use Rattle.router_reply.specs.declared.answer.Answer.TheVariants.{Attach, Refuse, Taken, Settle}
 use Rattle.router_reply.specs.Rows.{said}
-use Rattle.router_reply.specs.Replies.{taken, refused, item_put}
+use Rattle.router_reply.specs.Replies.{taken, refused, part_put, settled_answers, item_put}
 
-pub item_cases : (id : List ℕ) (t : List Entry) (c : ℕ) (p : Conn) (P : Answer → List Put → Type 0)
+pub item_cases : (id : List ℕ) (t after : List Entry) (c : ℕ) (p : Conn) (P : Answer → List Put → Type 0)
     → ((a : Answer) → P a (each_to c (said id p a)))
-    → ((own : ℕ) (x : AnAttach) → P (Attach own) (taken t c own x))
-    → ((own handle : ℕ) (e : Condition) (x : AnAttach) → P (Refuse own handle e) (each_to c (refused (largest_frame t c) own handle e x)))
-    → (i : Item) (a : Answer) → P a (item_put id t c p i a)
-item_cases id t c p P none takes refuses i a = by_item i a
+    → ((own : ℕ) (x : AnAttach) → P (Attach own) (taken after c own x))
+    → ((own handle : ℕ) (e : Condition) (x : AnAttach) → P (Refuse own handle e) (each_to c (refused (largest_frame after c) own handle e x)))
+    → ((own handle : ℕ) (q : Option Part) → P (Taken own handle) (each_to c (part_put after c own handle q)))
+    → ((own : ℕ) (s : Option DeliveryState) (ids : List ℕ) → P (Settle own) (each_to c (settled_answers own s ids)))
+    → (i : Item) (a : Answer) → P a (item_put id t after c p i a)
+item_cases id t after c p P none takes refuses carries settles i a = by_item i a
   where
     nothing_more : (a : Answer) → P a (each_to c (said id p a) ++ [])
     nothing_more a = subst (λ (ps : List Put). P a ps) (sym (append-nil (each_to c (said id p a)))) (none a)
 
-    by_attach : (sasl : Bool) (channel : ℕ) (payload : List ℕ) (x : AnAttach) (a : Answer) → P a (item_put id t c p (item.Frame sasl channel (perf.Attach x) payload) a)
+    by_attach : (sasl : Bool) (channel : ℕ) (payload : List ℕ) (x : AnAttach) (a : Answer) → P a (item_put id t after c p (item.Frame sasl channel (perf.Attach x) payload) a)
     by_attach sasl channel payload x (Attach own) = takes own x
     by_attach sasl channel payload x (Refuse own handle e) = refuses own handle e x
     by_attach sasl channel payload x a = nothing_more a
 
-    by_perf : (sasl : Bool) (channel : ℕ) (payload : List ℕ) (body : Perf) (a : Answer) → P a (item_put id t c p (item.Frame sasl channel body payload) a)
+    by_transfer : (sasl : Bool) (channel : ℕ) (payload : List ℕ) (x : ATransfer) (a : Answer) → P a (item_put id t after c p (item.Frame sasl channel (perf.Transfer x) payload) a)
+    by_transfer sasl channel payload x (Taken own handle) = carries own handle _
+    by_transfer sasl channel payload x a = nothing_more a
+
+    by_disposition : (sasl : Bool) (channel : ℕ) (payload : List ℕ) (x : ADisposition) (a : Answer)
+        → P a (item_put id t after c p (item.Frame sasl channel (perf.Disposition x) payload) a)
+    by_disposition sasl channel payload x (Settle own) = settles own _ _
+    by_disposition sasl channel payload x a = nothing_more a
+
+    by_perf : (sasl : Bool) (channel : ℕ) (payload : List ℕ) (body : Perf) (a : Answer) → P a (item_put id t after c p (item.Frame sasl channel body payload) a)
     by_perf sasl channel payload (perf.Attach x) a = by_attach sasl channel payload x a
+    by_perf sasl channel payload (perf.Transfer x) a = by_transfer sasl channel payload x a
+    by_perf sasl channel payload (perf.Disposition x) a = by_disposition sasl channel payload x a
     by_perf sasl channel payload _ a = nothing_more a
 
-    by_item : (i : Item) (a : Answer) → P a (item_put id t c p i a)
+    by_item : (i : Item) (a : Answer) → P a (item_put id t after c p i a)
     by_item (item.Frame sasl channel body payload) a = by_perf sasl channel payload body a
     by_item _ a = nothing_more a

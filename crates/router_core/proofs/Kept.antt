@@ -1,13 +1,19 @@
--- In every trace of the router the session's window has room before each transfer: so far none is put out.
-use Rattle.std.proofs.Common.{◌≡◌, sym, refl, subst, ℕ, zero, suc, Bool, true, false, List, [], ◌∷◌, ◌++◌}
-use Rattle.std.specs.Prelude.{Option, Some, None, if◌then◌else◌}
+-- In every trace of the router the session's window has room before each transfer: they are sent where a window is open, and nowhere else.
+use Rattle.std.proofs.Common.{◌≡◌, sym, ap, refl, subst, ℕ, zero, suc, ◌+◌, ◌≤◌, Bool, true, false, not, List, [], ◌∷◌, ◌++◌, arith}
+use Rattle.std.specs.Prelude.{Option, Some, None, if◌then◌else◌, nat_eq, nat_lt}
 use Rattle.amqp_perf.specs.declared.perf.Attach.{Attach as AnAttach}
 use Rattle.amqp_perf.specs.declared.perf.Perf.{Perf}
 use Rattle.amqp_perf.specs.declared.perf.Perf.TheVariants as perf
 use Rattle.amqp_frames.specs.declared.item.Item.{Item}
 use Rattle.amqp_frames.specs.declared.item.Item.TheVariants as item
 use Rattle.amqp_conn.specs.declared.conn.Conn.{Conn}
-use Rattle.amqp_session.specs.Session.{Session}
+use Rattle.amqp_perf.specs.declared.state.DeliveryState.{DeliveryState}
+use Rattle.amqp_link.specs.declared.part.Delivery.{Delivery as Told}
+use Rattle.amqp_link.specs.declared.part.Part.{Part}
+use Rattle.amqp_link.specs.declared.part.Part.TheVariants as part
+use Rattle.amqp_session.specs.Session.{Session, remote_window}
+use Rattle.router_trace.specs.declared.binding.Binding.{Binding}
+use Rattle.router_trace.specs.declared.binding.Origin.{Origin}
 use Rattle.router_trace.specs.declared.condition.Condition.{Condition}
 use Rattle.router_trace.specs.declared.condition.Condition.TheVariants.{ResourceLimitExceeded, FrameSizeTooSmall}
 use Rattle.router_trace.specs.declared.event.Event.{Event}
@@ -15,23 +21,31 @@ use Rattle.router_trace.specs.declared.handle.Attachment.{Attachment}
 use Rattle.router_trace.specs.declared.event.Event.TheVariants as event
 use Rattle.router_trace.specs.Trace.{Entry, Did, Out, Put, Step, goes, puts, each_to, ups}
 use Rattle.router_trace.specs.Connection.{Connection, conn, standing, found, live, due, live_of}
-use Rattle.router_trace.specs.Frames.{closing}
+use Rattle.router_trace.specs.Frames.{closing, told_of}
+use Rattle.router_trace.specs.Deliveries.{Delivery, delivery}
+use Rattle.router_trace.specs.Settling.{ignored}
+use Rattle.router_trace.specs.Numbers.{Placed, first_placed}
+use Rattle.router_trace.specs.Following.{link_of, first_delivery, is_to_be_told, outcome_to, tell, tells_of, tells, is_wide, sends_due, drain_of, drain_on, drain_by, place_drained, drains_due}
 use Rattle.router_trace.specs.LinkFrames.{attach_item, detach_item, answer_to, refusal_of, fits}
-use Rattle.router_trace.specs.Links.{holder, key_at}
+use Rattle.router_trace.specs.Links.{Link, Happened, sends, receives, link, holder, key_at, numbered, attachments}
 use Rattle.router_trace.specs.Peers.{largest_frame}
 use Rattle.router_trace.specs.Sessions.{session}
 use Rattle.router_trace.specs.Clocks.{terms, written, needs_beat}
 use Rattle.router_sessions.specs.Windows.{is_narrow, flow_due, flows_below, windows_over, windows}
 use Rattle.router_state.specs.Tables.{beat_if, beats_over}
+use Rattle.router_passing.specs.Passing.{grants_due, consumer_of, with_bound}
 use Rattle.router_reply.specs.declared.answer.Answer.{Answer}
-use Rattle.router_reply.specs.declared.answer.Answer.TheVariants.{Nothing, Header, Open, Close, CloseWith, Begin, End, Flow, Attach, Refuse, Detach, LinkFlow}
+use Rattle.router_reply.specs.declared.answer.Answer.TheVariants.{Nothing, Header, Open, Close, CloseWith, Begin, End, Flow, Attach, Refuse, Detach, LinkFlow, Taken, Settle}
 use Rattle.router_reply.specs.Rows.{said, item_reply}
-use Rattle.router_reply.specs.Replies.{closing_of, ends, heard, finds, stolen_by, attach_answer, refused, item_row, own_row, replied}
+use Rattle.router_reply.specs.Replies.{closing_of, ends, heard, finds, stolen_by, attach_answer, refused, claimed_id, ignored_put, unbound_put, whole_put, part_put, settled_answers, bound_by, item_row, own_row, replied}
 use Rattle.router_core.specs.Replies.{answered}
 use Rattle.router_core.specs.Runs.{took_one}
 use Rattle.router_core.specs.Moves.{Move, handles, takes, Goes, IsTrace}
-use Rattle.router_core.specs.Laws.{keeps_window, WindowKept}
+use Rattle.router_core.specs.Laws.{has_room, keeps_window, WindowKept}
 use Rattle.router_conns.proofs.Lists.{by_test}
+use Rattle.router_core.proofs.Due.{AllSent, sends_sent}
+use Rattle.router_core.proofs.Following.{Steps, passed_on, passed_keeps}
+use Rattle.router_core.proofs.Granting.{AllGrants, all_grants}
 use Rattle.router_core.proofs.ItemRows.{item_cases}
 
 -- a transfer
@@ -80,7 +94,7 @@ goes_keeps (p ∷ ps) t none kept = goes_keeps ps (Out p.conn p.item ∷ t) none
 none_closing : (id : List ℕ) (p : Conn) (x : Condition) → NoTransfer (closing id p x)
 none_closing id p x = by_test p.opened (λ e. rw e (refl, tt)) (λ e. rw e (refl, (refl, tt)))
 
-none_closing_of : (id : List ℕ) (v : Option Connection) (x : Condition) → NoTransfer (closing_of id v x)
+pub none_closing_of : (id : List ℕ) (v : Option Connection) (x : Condition) → NoTransfer (closing_of id v x)
 none_closing_of id None x = tt
 none_closing_of id (Some v) x = none_closing id v.phase x
 
@@ -97,6 +111,8 @@ none_said id p (Attach own) = tt
 none_said id p (Refuse own handle x) = tt
 none_said id p (Detach own handle closed x) = (refl, tt)
 none_said id p (LinkFlow own told at) = (refl, tt)
+none_said id p (Taken own handle) = tt
+none_said id p (Settle own) = tt
 
 -- an attach that is taken, or refused
 
@@ -119,14 +135,45 @@ none_refused largest own handle e a = by (fits largest (attach_item own (refusal
     by true = (refl, (refl, tt))
     by false = (refl, tt)
 
+-- what a delivery that came whole brings, and dispositions that are answered
+
+none_ignored : (after : List Entry) (c own handle : ℕ) (q : Option ℕ) → NoTransfer (ignored_put after c own handle q)
+none_ignored after c own handle None = tt
+none_ignored after c own handle (Some id) = by_test (nat_lt 1024 (ignored after c own handle)) (λ e. rw e (refl, tt)) (λ e. rw e tt)
+
+none_unbound : (own : ℕ) (q : Option ℕ) (consumer : Option Attachment) → NoTransfer (unbound_put own q consumer)
+none_unbound own None None = tt
+none_unbound own (Some id) None = (refl, tt)
+none_unbound own q (Some consumer) = tt
+
+none_whole : (after : List Entry) (c own handle : ℕ) (d : Told) (l : Option Link) → NoTransfer (whole_put after c own handle d l)
+none_whole after c own handle d l = by d.resume
+  where
+    by : (b : Bool) → NoTransfer (if b then ignored_put after c own handle (claimed_id after c own handle d.id)
+        else unbound_put own (claimed_id after c own handle d.id) (consumer_of after l))
+    by true = none_ignored after c own handle (claimed_id after c own handle d.id)
+    by false = none_unbound own (claimed_id after c own handle d.id) (consumer_of after l)
+
+none_part : (after : List Entry) (c own handle : ℕ) (q : Option Part) → NoTransfer (part_put after c own handle q)
+none_part after c own handle (Some (part.Whole d payload)) = none_whole after c own handle d (link after c own handle)
+none_part after c own handle (Some part.TooLarge) = (refl, tt)
+none_part after c own handle _ = tt
+
+none_settled : (own : ℕ) (s : Option DeliveryState) (ids : List ℕ) → NoTransfer (settled_answers own s ids)
+none_settled own None ids = tt
+none_settled own (Some s) [] = tt
+none_settled own (Some s) (id ∷ ids) = (refl, none_settled own (Some s) ids)
+
 none_item : (id : List ℕ) (t after : List Entry) (c : ℕ) (i : Item) (p : Option Conn) → NonePut (item_row id t after c i p)
 none_item id t after c i None = tt
 none_item id t after c i (Some p) =
-    item_cases id after c p (λ a ps. NonePut ps)
+    item_cases id t after c p (λ a ps. NonePut ps)
     (λ a. none_to c (said id p a) (none_said id p a))
     (λ own x. none_both (stolen_by (holder after (key_at after c (answer_to x 0)))) _ (none_stolen (holder after (key_at after c (answer_to x 0))))
     (none_to c _ (none_attach (largest_frame after c) own _ x)))
     (λ own handle e x. none_to c _ (none_refused (largest_frame after c) own handle e x))
+    (λ own handle q. none_to c _ (none_part after c own handle q))
+    (λ own s ids. none_to c _ (none_settled own s ids))
     i (item_reply p (finds t c) i)
 
 none_beat : (b : Bool) (c : ℕ) → NonePut (beat_if b c)
@@ -161,6 +208,69 @@ none_over t (c ∷ cs) = none_both (flows_below c (session t c) 15) (windows_ove
 pub none_window : (t : List Entry) → NonePut (windows t)
 none_window t = none_over t (live t)
 
+-- a transfer is sent where the window is open
+
+window_open : (v : Option Session) → is_wide v ≡ true → has_room v
+window_open None wide = absurd cc
+window_open (Some h) wide = by (remote_window h) wide
+  where
+    by : (n : ℕ) → not (nat_eq n 0) ≡ true → 1 ≤ n
+    by zero wide = absurd cc
+    by (suc n) wide = omega arith
+
+sent_keeps : (t : List Entry) (ps : List Put) → AllSent t ps → WindowKept t → WindowKept (goes ps t)
+sent_keeps t [] sent kept = kept
+sent_keeps t (p ∷ []) sent kept =
+    (subst (λ (i : Item). keeps_window i (session t p.conn)) (sym sent.transfer.frame) (window_open (session t p.conn sent.own) sent.wide), kept)
+sent_keeps t (p ∷ q ∷ qs) sent kept = absurd sent
+
+none_tell : (d : Option Delivery) → NonePut (tell d)
+none_tell None = tt
+none_tell (Some d) = by d.origin d.outcome
+  where
+    by : (origin : Option Origin) (decided : Option DeliveryState) → NonePut (outcome_to origin decided)
+    by None decided = tt
+    by (Some p) None = tt
+    by (Some p) (Some s) = (refl, tt)
+
+none_told : (t : List Entry) (n : Option ℕ) → NonePut (tells_of t n)
+none_told t None = tt
+none_told t (Some n) = none_tell (delivery t n)
+
+none_drained : (a : Attachment) (s : Option Session) (v : Option Link) → NonePut (drain_on a s v)
+none_drained a None v = tt
+none_drained a (Some s) None = tt
+none_drained a (Some s) (Some l) = by l.happened
+  where
+    by : (w : Happened) → NonePut (drain_of a (told_of s) w)
+    by (sends list) = (refl, tt)
+    by (receives list) = tt
+
+none_drain_by : (t : List Entry) (p : Option Placed) → NonePut (drain_by t p)
+none_drain_by t None = tt
+none_drain_by t (Some p) = none_drained p.place (session t p.place.conn.0 p.place.channel) (link_of t p.place)
+
+none_grants : (t : List Entry) (ps : List Put) → AllGrants t ps → NonePut ps
+none_grants t [] all = tt
+none_grants t (p ∷ ps) all = (ap is_transfer all.0.flow, none_grants t ps all.1)
+
+pub none_tells : (t : List Entry) → NonePut (tells t)
+none_tells t = none_told t (first_delivery t (is_to_be_told t))
+
+pub none_drains : (t : List Entry) → NonePut (drains_due t)
+none_drains t = none_drain_by t (first_placed (attachments t + 1) (λ n. place_drained t n (numbered t n)))
+
+pub none_granted : (t : List Entry) → NonePut (grants_due t)
+none_granted t = none_grants t (grants_due t) (all_grants t)
+
+passed_kept : Steps WindowKept
+passed_kept = record {
+  telling = λ t kept. goes_keeps (tells t) t (none_tells t) kept;
+  sending = λ t kept. sent_keeps t (sends_due t) (sends_sent t) kept;
+  draining = λ t kept. goes_keeps (drains_due t) t (none_drains t) kept;
+  granting = λ t kept. goes_keeps (grants_due t) t (none_granted t) kept;
+}
+
 -- an event with all that it has put
 
 ends_keep : (id : List ℕ) (cs : List ℕ) (t : List Entry) → WindowKept t → WindowKept (ends id cs t)
@@ -169,11 +279,18 @@ ends_keep id (c ∷ cs) t kept =
     let items : List Item = closing_of id (conn t c) ResourceLimitExceeded
     in ends_keep id cs (puts c items t) (goes_keeps (each_to c items) t (none_to c items (none_closing_of id (conn t c) ResourceLimitExceeded)) kept)
 
+bound_keeps : (b : Option Binding) (t : List Entry) → WindowKept t → WindowKept (with_bound b t)
+bound_keeps None t kept = kept
+bound_keeps (Some b) t kept = kept
+
 pub answered_keeps : (id : List ℕ) (t : List Entry) (s : Step) → WindowKept t → WindowKept (answered id t s)
 answered_keeps id t s kept =
     let behind : WindowKept (heard id t s) = ends_keep id (due t s.event) (Did s ∷ t) kept
-    in let rows : WindowKept (replied id t s) = goes_keeps (own_row id t (heard id t s) s.event) (heard id t s) (none_row id t (heard id t s) s.event) behind
-    in goes_keeps (windows (replied id t s)) (replied id t s) (none_window (replied id t s)) rows
+    in let bound : List Entry = with_bound (bound_by t (heard id t s) s.event) (heard id t s)
+    in let rows : WindowKept (replied id t s)
+    = goes_keeps (own_row id t (heard id t s) s.event) bound (none_row id t (heard id t s) s.event) (bound_keeps (bound_by t (heard id t s) s.event) (heard id t s) behind)
+    in let all : WindowKept (passed_on (replied id t s)) = passed_keeps WindowKept passed_kept (replied id t s) rows
+    in goes_keeps (windows (passed_on (replied id t s))) (passed_on (replied id t s)) (none_window (passed_on (replied id t s))) all
 
 -- moves
 

@@ -19,7 +19,7 @@ use Rattle.router_trace.specs.Links.{Link, link, link_in, link_behind, heard_lin
 use Rattle.router_trace.specs.Order.{Written, begun_behind_perf, written_behind, is_open, of_session, perf_has_turn, has_turn}
 use Rattle.router_core.specs.Laws.{is_attach_in, is_attach}
 use Rattle.router_conns.proofs.Lists.{by_test}
-use Rattle.router_reply.proofs.RowOrder.{written_of}
+use Rattle.router_core.proofs.RowOrder.{written_of}
 
 mapped_was : (q : Bool) (f : Link → Link) (v : Option Link) → is_some (if q then option_map f v else v) ≡ true → is_some v ≡ true
 mapped_was true f None some = some
@@ -108,7 +108,7 @@ linked_more (item.Frame sasl own body payload) w o h n t c last v turn was some 
 linked_more _ w o h n t c last v turn was some = was some
 
 -- the attachment that holds a key has its link
-numbered_some : (n : ℕ) (v : Option Link) → has_number n v ≡ true → is_some v ≡ true
+pub numbered_some : (n : ℕ) (v : Option Link) → has_number n v ≡ true → is_some v ≡ true
 numbered_some n None h = h
 numbered_some n (Some l) h = refl
 

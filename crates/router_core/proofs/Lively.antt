@@ -1,6 +1,6 @@
 -- In every trace of the router links are attached on live connections alone.
 use Rattle.std.proofs.Common.{◌≡◌, ◌∙◌, sym, ap, refl, subst, true≢false, ℕ, Bool, true, false, List, [], ◌∷◌}
-use Rattle.std.specs.Prelude.{◌==◌, nat_eq, Option, Some, None, is_some, option_map, option_and_then, if◌then◌else◌, length, drop}
+use Rattle.std.specs.Prelude.{◌==◌, nat_eq, Option, Some, None, is_some, option_map, option_and_then, if◌then◌else◌}
 use Rattle.std.proofs.lemmas.Bool.{eqb-true, eq-eqb}
 use Rattle.amqp_perf.specs.declared.perf.Attach.{Attach as AnAttach}
 use Rattle.amqp_perf.specs.declared.perf.Perf.{Perf}
@@ -8,6 +8,7 @@ use Rattle.amqp_perf.specs.declared.perf.Perf.TheVariants as perf
 use Rattle.amqp_frames.specs.declared.item.Item.{Item}
 use Rattle.amqp_frames.specs.declared.item.Item.TheVariants as item
 use Rattle.amqp_conn.specs.declared.conn.Conn.{Conn}
+use Rattle.router_trace.specs.declared.binding.Binding.{Binding}
 use Rattle.router_trace.specs.declared.condition.Condition.{Condition}
 use Rattle.router_trace.specs.declared.condition.Condition.TheVariants.{ResourceLimitExceeded, FrameSizeTooSmall, Stolen}
 use Rattle.router_trace.specs.declared.event.ConnectionId.{ConnectionId}
@@ -16,26 +17,29 @@ use Rattle.router_trace.specs.declared.event.Event.TheVariants as event
 use Rattle.router_trace.specs.declared.handle.Asked.{Asked}
 use Rattle.router_trace.specs.declared.handle.Attachment.{Attachment}
 use Rattle.router_trace.specs.Trace.{Entry, Out, Took, Put, did, goes, puts, each_to, ups, step_of}
-use Rattle.router_trace.specs.Connection.{Connection, conn, behind, behind_perf, with_item, took, drained, unless_empty, is_live, has, due, found, live_of, standing}
+use Rattle.router_trace.specs.Connection.{Connection, conn, behind, with_item, took, drained, unless_empty, is_live, has, due, found, standing}
 use Rattle.router_trace.specs.Refusing.{refuses}
-use Rattle.router_trace.specs.Frames.{closing, close_item, open_item}
+use Rattle.router_trace.specs.Frames.{close_item, open_item}
 use Rattle.router_trace.specs.LinkFrames.{attach_item, detach_item, answer_to, refusal_of, fits}
 use Rattle.router_trace.specs.Links.{Link, link, link_behind, key_at, their_handle, holder, free_handle}
 use Rattle.router_trace.specs.Peers.{largest_frame}
 use Rattle.router_trace.specs.Sessions.{theirs}
+use Rattle.router_trace.specs.Following.{tells, sends_due, drains_due}
 use Rattle.router_sessions.specs.Windows.{windows}
-use Rattle.router_reply.specs.declared.answer.Answer.{Answer}
+use Rattle.router_passing.specs.Passing.{grants_due, with_bound}
 use Rattle.router_reply.specs.Rows.{said, item_reply}
-use Rattle.router_reply.specs.Replies.{closing_of, ends, heard, finds, stolen_by, attach_answer, taken_behind, taken, refused, item_row, own_row, replied}
+use Rattle.router_reply.specs.Replies.{closing_of, ends, heard, finds, stolen_by, attach_answer, taken_behind, taken, refused, bound_by, item_row, own_row, replied}
 use Rattle.router_core.specs.Replies.{answered}
 use Rattle.router_core.specs.Laws.{is_attach}
 use Rattle.router_conns.proofs.Lists.{by_test}
 use Rattle.router_core.proofs.Attached.{session_known}
-use Rattle.router_core.proofs.Attachless.{Attachless, Unlinked, unlinked_goes, less_closing_of, less_said, less_row, less_windows}
+use Rattle.router_core.proofs.Attachless.{Attachless, Unlinked, unlinked_goes, less_closing_of, less_said, less_part, less_settled, on_less, less_row, less_windows}
+use Rattle.router_core.proofs.Due.{tells_on, sends_on, drains_on, grants_on}
+use Rattle.router_core.proofs.Following.{Steps, passed_on, passed_keeps}
 use Rattle.router_core.proofs.ItemRows.{item_cases}
-use Rattle.router_core.proofs.Linked.{none_if, link_was, linked_before}
+use Rattle.router_core.proofs.Linked.{link_was, linked_before}
 use Rattle.router_core.proofs.Order.{not_before, event_pending}
-use Rattle.router_core.proofs.Ordered.{Ordered, Spares, puts_spares, ends_spares}
+use Rattle.router_core.proofs.Ordered.{Ordered, Spares, puts_spares, bound_spares}
 use Rattle.router_core.proofs.Replied.{FoundLive, found_live, nothing_stands, heard_spares}
 
 abbrev pub Lively : List Entry → Type 0
@@ -101,20 +105,20 @@ answer_steady u c own largest (Some handle) a live =
 still_live : (u : List Entry) (d c : ℕ) (i : Item) → ((p : Conn) → (behind i p).closed ≡ p.closed) → is_live (conn u c) ≡ true → is_live (conn (Out d i ∷ u) c) ≡ true
 still_live u d c i same live = by_test (d == c) (λ e. rw e (live_more i (conn u c) same live)) (λ e. rw e live)
 
-taken_steady : (u : List Entry) (c own : ℕ) (a : AnAttach) → is_live (conn u c) ≡ true → Steady (taken u c own a) u
-taken_steady u c own a live = by (holder u (key_at u c (answer_to a 0)))
+taken_steady : (u v : List Entry) (c own : ℕ) (a : AnAttach) → is_live (conn v c) ≡ true → Steady (taken u c own a) v
+taken_steady u v c own a live = by (holder u (key_at u c (answer_to a 0)))
   where
-    by : (x : Option Attachment) → Steady (taken_behind u c own a (stolen_by x)) u
-    by None = answer_steady u c own (largest_frame u c) (free_handle u c own) a live
+    by : (x : Option Attachment) → Steady (taken_behind u c own a (stolen_by x)) v
+    by None = answer_steady v c own (largest_frame u c) (free_handle u c own) a live
     by (Some x) =
         let out : Item = detach_item x.channel x.handle false (Some Stolen)
-        in (λ h. absurd (true≢false (sym h)), answer_steady (Out x.conn.0 out ∷ u) c own (largest_frame u c) _ a (still_live u x.conn.0 c out (λ p. refl) live))
+        in (λ h. absurd (true≢false (sym h)), answer_steady (Out x.conn.0 out ∷ v) c own (largest_frame u c) _ a (still_live v x.conn.0 c out (λ p. refl) live))
 
-refused_steady : (u : List Entry) (c own handle : ℕ) (e : Condition) (a : AnAttach) → is_live (conn u c) ≡ true
-    → Steady (each_to c (refused (largest_frame u c) own handle e a)) u
-refused_steady u c own handle e a live = by (fits (largest_frame u c) (attach_item own (refusal_of a handle)))
+refused_steady : (v : List Entry) (largest c own handle : ℕ) (e : Condition) (a : AnAttach) → is_live (conn v c) ≡ true
+    → Steady (each_to c (refused largest own handle e a)) v
+refused_steady v largest c own handle e a live = by (fits largest (attach_item own (refusal_of a handle)))
   where
-    by : (b : Bool) → Steady (each_to c (if b then attach_item own (refusal_of a handle) ∷ detach_item own handle true (Some e) ∷ [] else detach_item own handle true (Some e) ∷ [])) u
+    by : (b : Bool) → Steady (each_to c (if b then attach_item own (refusal_of a handle) ∷ detach_item own handle true (Some e) ∷ [] else detach_item own handle true (Some e) ∷ [])) v
     by true = (λ h. live, (λ h. absurd (true≢false (sym h)), tt))
     by false = (λ h. live, tt)
 
@@ -181,23 +185,39 @@ heard_lively id t e ord was taken c o h some =
 
 -- an event with all that it has put
 
+bound_lively : (b : Option Binding) (t : List Entry) → Lively t → Lively (with_bound b t)
+bound_lively None t was = was
+bound_lively (Some b) t was = was
+
 item_lively : (id : List ℕ) (t : List Entry) (d : ConnectionId) (i : Item) → Lively (heard id t (step_of (event.Item d i))) → Lively (replied id t (step_of (event.Item d i)))
 item_lively id t d i was =
     by_test (is_live (found t (event.Item d i) d.0))
     (λ q. let here : FoundLive t (event.Item d i) d.0 = found_live t (event.Item d i) d.0 q
     in let live : is_live (conn u d.0) ≡ true = ap is_live (heard_spares id t (event.Item d i) d.0 here.spared).conn ∙ q
-    in subst (λ (s : Option Conn). Lively (goes (item_row id t u d.0 i s) u)) (sym here.phase)
-    (item_cases id u d.0 here.view.phase (λ a ps. Lively (goes ps u))
-    (λ a. goes_lively (each_to d.0 (said id here.view.phase a)) u was (less_steady _ u (less_said id d.0 here.view.phase a)))
-    (λ own x. goes_lively (taken u d.0 own x) u was (taken_steady u d.0 own x live))
-    (λ own handle f x. goes_lively _ u was (refused_steady u d.0 own handle f x live))
+    in let there : is_live (conn v d.0) ≡ true = ap is_live (bound_spares bound u d.0).conn ∙ live
+    in subst (λ (s : Option Conn). Lively (goes (item_row id t u d.0 i s) v)) (sym here.phase)
+    (item_cases id t u d.0 here.view.phase (λ a ps. Lively (goes ps v))
+    (λ a. goes_lively (each_to d.0 (said id here.view.phase a)) v before (less_steady _ v (less_said id d.0 here.view.phase a)))
+    (λ own x. goes_lively (taken u d.0 own x) v before (taken_steady u v d.0 own x there))
+    (λ own handle f x. goes_lively _ v before (refused_steady v (largest_frame u d.0) d.0 own handle f x there))
+    (λ own handle p. goes_lively _ v before (less_steady _ v (less_part u d.0 own handle p)))
+    (λ own s ids. goes_lively _ v before (less_steady _ v (less_settled d.0 own s ids)))
     i (item_reply here.view.phase (finds t d.0) i)))
-    (λ q. subst (λ (s : Option Conn). Lively (goes (item_row id t u d.0 i s) u)) (sym (nothing_stands (standing (found t (event.Item d i) d.0)) q)) was)
+    (λ q. subst (λ (s : Option Conn). Lively (goes (item_row id t u d.0 i s) v)) (sym (nothing_stands (standing (found t (event.Item d i) d.0)) q)) before)
   where
     u : List Entry
     u = heard id t (step_of (event.Item d i))
 
-replied_lively : (id : List ℕ) (t : List Entry) (e : Event) → Lively (heard id t (step_of e)) → Lively (replied id t (step_of e))
+    bound : Option Binding
+    bound = bound_by t u (event.Item d i)
+
+    v : List Entry
+    v = with_bound bound u
+
+    before : Lively v
+    before = bound_lively bound u was
+
+pub replied_lively : (id : List ℕ) (t : List Entry) (e : Event) → Lively (heard id t (step_of e)) → Lively (replied id t (step_of e))
 replied_lively id t (event.Item d i) was = item_lively id t d i was
 replied_lively id t (event.Tick ms) was =
     let u : List Entry = heard id t (step_of (event.Tick ms))
@@ -206,10 +226,20 @@ replied_lively id t (event.Down d) was = was
 replied_lively id t (event.Up d p) was = was
 replied_lively id t event.Start was = was
 
+pub lively_steps : Steps Lively
+lively_steps = record {
+  telling = λ t was. goes_lively (tells t) t was (less_steady (tells t) t (on_less t (tells t) (tells_on t)));
+  sending = λ t was. goes_lively (sends_due t) t was (less_steady (sends_due t) t (on_less t (sends_due t) (sends_on t)));
+  draining = λ t was. goes_lively (drains_due t) t was (less_steady (drains_due t) t (on_less t (drains_due t) (drains_on t)));
+  granting = λ t was. goes_lively (grants_due t) t was (less_steady (grants_due t) t (on_less t (grants_due t) (grants_on t)));
+}
+
 pub answered_lively : (id : List ℕ) (t : List Entry) (e : Event) → Ordered t → Lively t → refuses t e ≡ false → Lively (answered id t (step_of e))
 answered_lively id t e ord was taken =
-    let behind : List Entry = replied id t (step_of e)
-    in goes_lively (windows behind) behind (replied_lively id t e (heard_lively id t e ord was taken)) (less_steady (windows behind) behind (less_windows behind))
+    let behind : List Entry = passed_on (replied id t (step_of e))
+    in let passed : Lively behind
+    = passed_keeps Lively lively_steps (replied id t (step_of e)) (replied_lively id t e (heard_lively id t e ord was taken))
+    in goes_lively (windows behind) behind passed (less_steady (windows behind) behind (less_windows behind))
 
 -- takes
 

@@ -1,6 +1,6 @@
 -- What a trace has of one connection says the same of its handles as the whole trace does.
 use Rattle.std.proofs.Common.{◌≡◌, ◌∙◌, ap, refl, ℕ, Bool, false, List, [], ◌∷◌}
-use Rattle.std.specs.Prelude.{◌==◌, Option, None, if◌then◌else◌, unwrap_or}
+use Rattle.std.specs.Prelude.{◌==◌, Option, None, is_some, if◌then◌else◌, unwrap_or}
 use Rattle.router_trace.specs.declared.channel.PeerChannel.{PeerChannel}
 use Rattle.router_trace.specs.declared.handle.Asked.{Asked}
 use Rattle.router_trace.specs.declared.handle.PeerHandle.{PeerHandle}
@@ -8,6 +8,7 @@ use Rattle.router_trace.specs.declared.event.Event.{Event}
 use Rattle.router_trace.specs.declared.event.Event.TheVariants as event
 use Rattle.router_trace.specs.Trace.{Entry, Did, Out, Took, Bound}
 use Rattle.router_trace.specs.Links.{asked, asked_at, is_lost, answers_by, answered_handle, their_handle_at, their_handle_behind, their_handle, link_place_by, handle_max_at, told_handle_max, most_behind, highest_handle, is_free_handle, first_free_below, free_handle}
+use Rattle.router_trace.specs.Claims.{claims}
 use Rattle.router_trace.specs.Sessions.{unless_close, place}
 use Rattle.router_reply.specs.Rows.{Finds}
 use Rattle.router_reply.specs.Replies.{finds, free_for}
@@ -110,12 +111,18 @@ linkless t c = record {
   free_channel = free_for t c;
   links = λ o p. link_place_by (their_handle t c o p) (λ h. None);
   free_handle = free_handle t c;
+  claimed = λ o id. false;
 }
 
-pub own_finds : (t : List Entry) (c : ℕ) → Unlinked c t → finds t c ≡ linkless (own_part c t) c
-own_finds t c none = λ j. record {
+-- no delivery of the peer is unsettled there
+abbrev pub Unclaimed : ℕ → List Entry → Type 0
+Unclaimed c t = (o id : ℕ) → claims t c o id ≡ None
+
+pub own_finds : (t : List Entry) (c : ℕ) → Unlinked c t → Unclaimed c t → finds t c ≡ linkless (own_part c t) c
+own_finds t c none unclaimed = λ j. record {
   places = λ p. own_place t c p j;
   free_channel = own_free t c j;
   links = λ o p. link_place_by (own_handle t c o p j) (λ h. none o h j);
   free_handle = λ o. own_free_handle t c o j;
+  claimed = λ o id. is_some (unclaimed o id j);
 }

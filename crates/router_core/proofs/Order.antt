@@ -20,7 +20,7 @@ use Rattle.router_core.specs.Moves.{outs}
 use Rattle.router_trace.specs.Order.{unwritten}
 use Rattle.router_conns.proofs.Lists.{by_test, has_push, from_push}
 use Rattle.router_conns.proofs.Turns.{reach_up}
-use Rattle.router_reply.proofs.RowOrder.{phase_is}
+use Rattle.router_core.proofs.RowOrder.{phase_is}
 use Rattle.router_core.proofs.Once.{NoTwice, filter_has, no_twice_filter, no_twice_push, rises_apart, taken_up}
 use Rattle.router_core.proofs.Linked.{linked_before}
 use Rattle.router_core.proofs.Ordered.{Ordered, Pending, wrote, written_all, ends_turns}

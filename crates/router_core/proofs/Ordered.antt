@@ -10,6 +10,7 @@ use Rattle.amqp_frames.specs.declared.item.Item.TheVariants as item
 use Rattle.amqp_conn.specs.declared.conn.Conn.{Conn}
 use Rattle.amqp_session.specs.declared.states.BeginState.{BeginState}
 use Rattle.amqp_session.specs.Session.{Session}
+use Rattle.router_trace.specs.declared.binding.Binding.{Binding}
 use Rattle.router_trace.specs.declared.condition.Condition.{Condition}
 use Rattle.router_trace.specs.declared.condition.Condition.TheVariants.{ResourceLimitExceeded}
 use Rattle.router_trace.specs.Trace.{Entry, Put, Out, goes, puts, each_to, ups, newest}
@@ -20,12 +21,15 @@ use Rattle.router_trace.specs.Sessions.{session, offered, begun, behind_item, un
 use Rattle.router_trace.specs.Sessions.{behind_perf as session_behind_perf}
 use Rattle.router_trace.specs.Clocks.{terms}
 use Rattle.router_trace.specs.Links.{link}
+use Rattle.router_trace.specs.Deliveries.{named}
+use Rattle.router_trace.specs.Claims.{claims}
 use Rattle.router_trace.specs.Order.{Written, unwritten, begun_behind_perf, begun_behind, written_behind, is_open, of_session, perf_has_turn, has_turn, have_turns}
+use Rattle.router_passing.specs.Passing.{with_bound}
 use Rattle.router_reply.specs.Replies.{closing_of, ends}
 use Rattle.router_core.specs.Moves.{outs}
 use Rattle.router_conns.proofs.Lists.{by_test}
 use Rattle.router_conns.proofs.Turns.{stays, known}
-use Rattle.router_reply.proofs.RowOrder.{open_phase, written_of, closing_turns, closing_offered, perf_is_offered, IsOffered, AreOffered}
+use Rattle.router_core.proofs.RowOrder.{open_phase, written_of, closing_turns, closing_offered, perf_is_offered, IsOffered, AreOffered}
 use Rattle.router_core.proofs.Linked.{linked_more}
 use Rattle.router_core.proofs.Once.{NoTwice, neither, has_first, has_rest}
 
@@ -143,6 +147,24 @@ out_turns t c i ord turn offer there = record {
     turn_at : (k : ℕ) → (c == k) ≡ true → has_turn (wrote t k) i ≡ true
     turn_at k e = subst (λ (n : ℕ). has_turn (wrote t n) i ≡ true) (eqb-true c k e) turn
 
+-- a binding says nothing of what is written
+pub bound_turns : (b : Option Binding) (t : List Entry) → Ordered t → Ordered (with_bound b t)
+bound_turns None t ord = ord
+bound_turns (Some b) t ord = record {
+  turns = ord.turns;
+  phases = ord.phases;
+  begun = ord.begun;
+  opened = ord.opened;
+  linked = ord.linked;
+  unknown = ord.unknown;
+  rise = ord.rise;
+  once = ord.once;
+}
+
+pub bound_ups : (b : Option Binding) (t : List Entry) → ups (with_bound b t) ≡ ups t
+bound_ups None t = refl
+bound_ups (Some b) t = refl
+
 outs_same : (t : List Entry) (c : ℕ) (i : Item) → outs (Out c i ∷ t) c ≡ outs t c ++ i ∷ []
 outs_same t c i = let e : (c == c) ≡ true = eq-eqb c c refl in rw e refl
 
@@ -170,11 +192,22 @@ pub record Spares (t u : List Entry) (k : ℕ) : Type 0 where
   pub offered : offered u k ≡ offered t k
   pub terms : terms u k ≡ terms t k
   pub link : (o h : ℕ) → link u k o h ≡ link t k o h
+  pub named : (o id : ℕ) → named u k o id ≡ named t k o id
+  pub claims : (o id : ℕ) → claims u k o id ≡ claims t k o id
 
 pub spares_self : (t : List Entry) (k : ℕ) → Spares t t k
-spares_self t k = record { conn = refl; outs = refl; session = λ o. refl; offered = refl; terms = refl; link = λ o h. refl }
+spares_self t k = record {
+  conn = refl;
+  outs = refl;
+  session = λ o. refl;
+  offered = refl;
+  terms = refl;
+  link = λ o h. refl;
+  named = λ o id. refl;
+  claims = λ o id. refl;
+}
 
-spares_on : (t u v : List Entry) (k : ℕ) → Spares t u k → Spares u v k → Spares t v k
+pub spares_on : (t u v : List Entry) (k : ℕ) → Spares t u k → Spares u v k → Spares t v k
 spares_on t u v k f g = record {
   conn = g.conn ∙ f.conn;
   outs = g.outs ∙ f.outs;
@@ -182,6 +215,8 @@ spares_on t u v k f g = record {
   offered = g.offered ∙ f.offered;
   terms = g.terms ∙ f.terms;
   link = λ o h. g.link o h ∙ f.link o h;
+  named = λ o id. g.named o id ∙ f.named o id;
+  claims = λ o id. g.claims o id ∙ f.claims o id;
 }
 
 spares_one : (t : List Entry) (c k : ℕ) (i : Item) → (c == k) ≡ false → Spares t (Out c i ∷ t) k
@@ -192,6 +227,21 @@ spares_one t c k i apart = record {
   offered = rw apart refl;
   terms = rw apart refl;
   link = λ o h. rw apart refl;
+  named = λ o id. rw apart refl;
+  claims = λ o id. rw apart refl;
+}
+
+pub bound_spares : (b : Option Binding) (t : List Entry) (k : ℕ) → Spares t (with_bound b t) k
+bound_spares None t k = spares_self t k
+bound_spares (Some b) t k = record {
+  conn = refl;
+  outs = refl;
+  session = λ o. refl;
+  offered = refl;
+  terms = refl;
+  link = λ o h. refl;
+  named = λ o id. refl;
+  claims = λ o id. refl;
 }
 
 -- items for other connections

@@ -1,5 +1,5 @@
 -- An event's replies keep the order.
-use Rattle.std.proofs.Common.{◌≡◌, ◌∙◌, sym, ap, refl, subst, true≢false, ℕ, Bool, true, false, not, List, ◌∷◌, inl, inr}
+use Rattle.std.proofs.Common.{◌≡◌, ◌∙◌, sym, ap, refl, subst, true≢false, ℕ, Bool, true, false, not, List, [], ◌∷◌, inl, inr}
 use Rattle.std.specs.Prelude.{◌==◌, ◌⊎◌, Option, Some, None, is_some, option_map, if◌then◌else◌}
 use Rattle.std.proofs.lemmas.Bool.{eqb-true, eq-eqb}
 use Rattle.amqp_perf.specs.declared.perf.Perf.{Perf}
@@ -9,10 +9,11 @@ use Rattle.amqp_frames.specs.declared.item.Item.TheVariants as item
 use Rattle.amqp_conn.specs.declared.conn.Conn.{Conn}
 use Rattle.amqp_session.specs.declared.states.BeginState.{BeginState}
 use Rattle.router_trace.specs.declared.terms.Terms.{Terms}
+use Rattle.router_trace.specs.declared.binding.Binding.{Binding}
 use Rattle.router_trace.specs.declared.event.ConnectionId.{ConnectionId}
 use Rattle.router_trace.specs.declared.event.Event.{Event}
 use Rattle.router_trace.specs.declared.event.Event.TheVariants as event
-use Rattle.router_trace.specs.Trace.{Entry, did, goes, each_to, ups, with_up, step_of}
+use Rattle.router_trace.specs.Trace.{Entry, Put, did, goes, each_to, ups, with_up, step_of}
 use Rattle.router_trace.specs.Connection.{Connection, conn, ended, standing, is_live, has, due, found, live_of}
 use Rattle.router_trace.specs.Refusing.{refuses}
 use Rattle.router_trace.specs.Frames.{beat_item}
@@ -21,19 +22,21 @@ use Rattle.router_trace.specs.Sessions.{session, offered, offered_by, theirs}
 use Rattle.router_trace.specs.Clocks.{terms, terms_in, terms_by, channel_max_of}
 use Rattle.router_trace.specs.Order.{Written, unwritten, is_open, of_session, have_turns}
 use Rattle.router_state.specs.Tables.{beats}
+use Rattle.router_passing.specs.Passing.{with_bound}
 use Rattle.router_reply.specs.declared.answer.Answer.{Answer}
 use Rattle.router_reply.specs.Rows.{Finds, said, perf_reply, item_reply}
-use Rattle.router_reply.specs.Replies.{heard, finds, taken, refused, item_row, own_row, replied}
-use Rattle.router_sessions.specs.Windows.{windows}
+use Rattle.router_reply.specs.Replies.{heard, finds, taken, refused, part_put, settled_answers, bound_by, item_row, own_row, replied}
 use Rattle.router_core.specs.Replies.{answered}
 use Rattle.router_conns.proofs.Lists.{by_test, has_push}
 use Rattle.router_conns.proofs.Turns.{known}
-use Rattle.router_reply.proofs.RowOrder.{written_of, AreOffered, AnswerFits, reply_fits, place_fits, free_fits, said_turns, said_offered, Opens, open_opens}
+use Rattle.router_core.proofs.RowOrder.{written_of, AreOffered, AnswerFits, reply_fits, place_fits, free_fits, said_turns, said_offered, Opens, open_opens}
 use Rattle.router_core.proofs.Once.{filter_has, taken_up}
-use Rattle.router_core.proofs.Ordered.{Ordered, Spares, wrote, written_all, puts_turns, ends_spares, ends_ups, goes_ups, some_is}
-use Rattle.router_core.proofs.Told.{ToldAt, Told, goes_told_at, ends_told_at, goes_strange, ends_strange, said_told}
-use Rattle.router_core.proofs.Flowing.{Fits, goes_turns, beats_fit, followed_turns, live_some}
-use Rattle.router_core.proofs.Attached.{taken_fit, refused_fit}
+use Rattle.router_core.proofs.Ordered.{Ordered, Spares, wrote, written_all, puts_turns, bound_turns, bound_ups, spares_on, bound_spares, ends_spares, ends_ups, goes_ups, some_is}
+use Rattle.router_core.proofs.Told.{ToldAt, Told, goes_told_at, bound_told_at, ends_told_at, goes_strange, bound_strange, ends_strange, said_told}
+use Rattle.router_core.proofs.Flowing.{Fits, AllFit, goes_turns, beats_fit, live_some}
+use Rattle.router_core.proofs.Following.{all_keep}
+use Rattle.router_core.proofs.PassedOrder.{followed_turns}
+use Rattle.router_core.proofs.Attached.{taken_fit, refused_fit, part_fit, settled_fit}
 use Rattle.router_core.proofs.ItemRows.{item_cases}
 use Rattle.router_core.proofs.Order.{not_before, found_open, heard_turns}
 
@@ -79,6 +82,12 @@ heard_spares id t e c spared = ends_spares id (due t e) (did e ∷ t) c spared
 begun_at : (p : Conn) (b : ℕ → Bool) (own : ℕ) → p.opened ≡ true → p.closed ≡ false → b own ≡ true → of_session (written_of p b) own ≡ true
 begun_at p b own opened live begun = rw (opened, live, begun) refl
 
+-- a binding before them leaves items their turns
+fit_bound : (b : Option Binding) (t : List Entry) (ps : List Put) → AllFit t ps → AllFit (with_bound b t) ps
+fit_bound None t ps fits = fits
+fit_bound (Some b) t [] fits = tt
+fit_bound (Some b) t (p ∷ ps) fits = (record { known = fits.0.known; turn = fits.0.turn; quiet = fits.0.quiet }, fit_bound (Some b) t ps fits.1)
+
 row_turns : (id : List ℕ) (t : List Entry) (d : ConnectionId) (i : Item) → Ordered t → FoundLive t (event.Item d i) d.0
     → Ordered (heard id t (step_of (event.Item d i))) → has d.0 (ups (heard id t (step_of (event.Item d i)))) ≡ true
     → Ordered (replied id t (step_of (event.Item d i)))
@@ -86,6 +95,10 @@ row_turns id t d i ord here heard_ord there =
     let c : ℕ = d.0
     in let e : Event = event.Item d i
     in let u : List Entry = heard id t (step_of e)
+    in let bound : Option Binding = bound_by t u e
+    in let v : List Entry = with_bound bound u
+    in let v_ord : Ordered v = bound_turns bound u heard_ord
+    in let v_there : has c (ups v) ≡ true = subst (λ (ks : List ℕ). has c ks ≡ true) (sym (bound_ups bound u)) there
     in let p : Conn = here.view.phase
     in let b : ℕ → Bool = (wrote t c).begun
     in let asked : Option BeginState = offered_by i (offered t c)
@@ -95,20 +108,24 @@ row_turns id t d i ord here heard_ord there =
       places = λ k. place_fits (theirs t c k) (session t c) b begun;
       room = free_fits t c (channel_max_of (terms t c)) b begun;
     })
-    in let spare : Spares (did e ∷ t) u c = heard_spares id t e c here.spared
-    in let same : wrote u c ≡ written_of p b =
+    in let spare : Spares (did e ∷ t) v c = spares_on (did e ∷ t) u v c (heard_spares id t e c here.spared) (bound_spares bound u c)
+    in let same : wrote v c ≡ written_of p b =
     ap (λ js. written_all js unwritten) spare.outs ∙ ap (λ (q : Conn). written_of q b) (ord.phases c here.view here.known_as here.live)
     in let came : offered (did e ∷ t) c ≡ asked = offered_here
-    in let on : (own : ℕ) → (p.opened ≡ true) × (b own ≡ true) → of_session (wrote u c) own ≡ true
+    in let on : (own : ℕ) → (p.opened ≡ true) × (b own ≡ true) → of_session (wrote v c) own ≡ true
     = λ own stands. subst (λ (w : Written). of_session w own ≡ true) (sym same) (begun_at p b own stands.0 here.live stands.1)
-    in subst (λ (s : Option Conn). Ordered (goes (item_row id t u c i s) u)) (sym here.phase)
-    (item_cases id u c p (λ x ps. AnswerFits p b asked x → Ordered (goes ps u))
-    (λ x fits. puts_turns (said id p x) u c heard_ord
+    in let before : (own : ℕ) → (p.opened ≡ true) × (b own ≡ true) → of_session (wrote u c) own ≡ true
+    = λ own stands. subst (λ (js : List Item). of_session (written_all js unwritten) own ≡ true) ((bound_spares bound u c).outs) (on own stands)
+    in subst (λ (s : Option Conn). Ordered (goes (item_row id t u c i s) v)) (sym here.phase)
+    (item_cases id t u c p (λ x ps. AnswerFits p b asked x → Ordered (goes ps v))
+    (λ x fits. puts_turns (said id p x) v c v_ord
     (subst (λ (w : Written). have_turns w (said id p x) ≡ true) (sym same) (said_turns id p b asked x here.live fits))
     (subst (λ (y : Option BeginState). AreOffered (said id p x) y) (sym (spare.offered ∙ came)) (said_offered id p b asked x fits))
-    there)
-    (λ own x fits. goes_turns (taken u c own x) u heard_ord (taken_fit u c own x heard_ord (on own fits)))
-    (λ own handle f x fits. goes_turns (each_to c (refused (largest_frame u c) own handle f x)) u heard_ord (refused_fit u c own handle f x heard_ord (on own fits)))
+    v_there)
+    (λ own x fits. goes_turns (taken u c own x) v v_ord (fit_bound bound u (taken u c own x) (taken_fit u c own x heard_ord (before own fits))))
+    (λ own handle f x fits. goes_turns (each_to c (refused (largest_frame u c) own handle f x)) v v_ord (refused_fit v (largest_frame u c) c own handle f x v_ord (on own fits)))
+    (λ own handle q fits. goes_turns (each_to c (part_put u c own handle q)) v v_ord (part_fit v u c own handle q v_ord (on own fits)))
+    (λ own s ids fits. goes_turns (each_to c (settled_answers own s ids)) v v_ord (settled_fit v c own s ids v_ord (on own fits)))
     i a all)
   where
     offered_here : offered (did (event.Item d i) ∷ t) d.0 ≡ offered_by i (offered t d.0)
@@ -120,10 +137,14 @@ item_turns : (id : List ℕ) (t : List Entry) (d : ConnectionId) (i : Item) → 
 item_turns id t d i ord heard_ord there =
     by_test (is_live (found t (event.Item d i) d.0))
     (λ h. row_turns id t d i ord (found_live t (event.Item d i) d.0 h) heard_ord there)
-    (λ h. subst (λ (s : Option Conn). Ordered (goes (item_row id t u d.0 i s) u)) (sym (nothing_stands (standing (found t (event.Item d i) d.0)) h)) heard_ord)
+    (λ h. subst (λ (s : Option Conn). Ordered (goes (item_row id t u d.0 i s) (with_bound bound u))) (sym (nothing_stands (standing (found t (event.Item d i) d.0)) h))
+    (bound_turns bound u heard_ord))
   where
     u : List Entry
     u = heard id t (step_of (event.Item d i))
+
+    bound : Option Binding
+    bound = bound_by t u (event.Item d i)
 
 -- heartbeats
 
@@ -196,23 +217,30 @@ event_told t event.Start ord told taken k same v is live some = told.told k v (f
 
 -- behind an event's rows, but for the item's own connection
 row_told : (id : List ℕ) (t : List Entry) (e : Event) (k : ℕ) → ToldAt (did e ∷ t) k → ToldAt (replied id t (step_of e)) k
-row_told id t e k was = goes_told_at (own_row id t (heard id t (step_of e)) e) (heard id t (step_of e)) k (ends_told_at id (due t e) (did e ∷ t) k was)
+row_told id t e k was =
+    let u : List Entry = heard id t (step_of e)
+    in goes_told_at (own_row id t u e) (with_bound (bound_by t u e) u) k (bound_told_at (bound_by t u e) u k (ends_told_at id (due t e) (did e ∷ t) k was))
 
 opened_told : (id : List ℕ) (t : List Entry) (d : ConnectionId) (i : Item) → ((p : Conn) (k : Finds) → Opens (item_reply p k i))
     → ToldAt (replied id t (step_of (event.Item d i))) d.0
 opened_told id t d i opens =
     by_test (is_live (found t (event.Item d i) d.0))
     (λ h. let here : FoundLive t (event.Item d i) d.0 = found_live t (event.Item d i) d.0 h
-    in subst (λ (s : Option Conn). ToldAt (goes (item_row id t u d.0 i s) u) d.0) (sym here.phase)
-    (item_cases id u d.0 here.view.phase (λ a ps. Opens a → ToldAt (goes ps u) d.0)
-    (λ a says. said_told id here.view.phase u d.0 a says)
+    in subst (λ (s : Option Conn). ToldAt (goes (item_row id t u d.0 i s) v) d.0) (sym here.phase)
+    (item_cases id t u d.0 here.view.phase (λ a ps. Opens a → ToldAt (goes ps v) d.0)
+    (λ a says. said_told id here.view.phase v d.0 a says)
     (λ own x says. absurd says)
     (λ own handle f x says. absurd says)
+    (λ own handle q says. absurd says)
+    (λ own s ids says. absurd says)
     i (item_reply here.view.phase (finds t d.0) i) (opens here.view.phase (finds t d.0))))
     (λ h. row_told id t (event.Item d i) d.0 (λ v is live some. absurd (true≢false (sym (lives v live) ∙ sym (ap is_live is) ∙ h))))
   where
     u : List Entry
     u = heard id t (step_of (event.Item d i))
+
+    v : List Entry
+    v = with_bound (bound_by t u (event.Item d i)) u
 
     lives : (v : Connection) → v.phase.closed ≡ false → is_live (Some v) ≡ true
     lives v e = rw e refl
@@ -252,18 +280,23 @@ strange_at t (event.Item d i) told taken k absent =
 strange_at t (event.Tick ms) told taken k absent = told.strange k absent
 strange_at t event.Start told taken k absent = told.strange k absent
 
+replied_ups : (id : List ℕ) (t : List Entry) (e : Event) → ups (replied id t (step_of e)) ≡ with_up e (ups t)
+replied_ups id t e =
+    let u : List Entry = heard id t (step_of e)
+    in goes_ups (own_row id t u e) (with_bound (bound_by t u e) u) ∙ bound_ups (bound_by t u e) u ∙ ends_ups id (due t e) (did e ∷ t)
+
+answered_ups : (id : List ℕ) (t : List Entry) (e : Event) → ups (answered id t (step_of e)) ≡ with_up e (ups t)
+answered_ups id t e = all_keep (λ (v : List Entry). ups v ≡ with_up e (ups t)) (λ ps v h. goes_ups ps v ∙ h) (replied id t (step_of e)) (replied_ups id t e)
+
+replied_strange : (id : List ℕ) (t : List Entry) (e : Event) (k : ℕ) → terms (did e ∷ t) k ≡ None → terms (replied id t (step_of e)) k ≡ None
+replied_strange id t e k none =
+    let u : List Entry = heard id t (step_of e)
+    in goes_strange (own_row id t u e) (with_bound (bound_by t u e) u) k
+    (bound_strange (bound_by t u e) u k (ends_strange id (due t e) (did e ∷ t) k none))
+
 pub answered_told : (id : List ℕ) (t : List Entry) (e : Event) → Ordered t → Told t → refuses t e ≡ false → Told (answered id t (step_of e))
 answered_told id t e ord told taken = record {
-  told = λ k. goes_told_at (windows behind) behind k (replied_told id t e ord told taken k);
-  strange = λ k absent. goes_strange (windows behind) behind k
-      (goes_strange (own_row id t (heard id t (step_of e)) e) (heard id t (step_of e)) k (ends_strange id (due t e) (did e ∷ t) k
-      (strange_at t e told taken k (sym (ap (λ ks. has k ks) all_ups) ∙ absent))));
+  told = λ k. all_keep (λ (v : List Entry). ToldAt v k) (λ ps v h. goes_told_at ps v k h) (replied id t (step_of e)) (replied_told id t e ord told taken k);
+  strange = λ k absent. all_keep (λ (v : List Entry). terms v k ≡ None) (λ ps v h. goes_strange ps v k h) (replied id t (step_of e))
+      (replied_strange id t e k (strange_at t e told taken k (sym (ap (λ ks. has k ks) (answered_ups id t e)) ∙ absent)));
 }
-  where
-    behind : List Entry
-    behind = replied id t (step_of e)
-
-    all_ups : ups (answered id t (step_of e)) ≡ with_up e (ups t)
-    all_ups =
-        goes_ups (windows (replied id t (step_of e))) (replied id t (step_of e)) ∙ goes_ups (own_row id t (heard id t (step_of e)) e) (heard id t (step_of e))
-        ∙ ends_ups id (due t e) (did e ∷ t)

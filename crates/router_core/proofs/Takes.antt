@@ -1,22 +1,26 @@
 -- Takes make no difference: without them, a trace whose outboxes were never full is what its events alone make.
 use Rattle.std.proofs.Common.{◌≡◌, ◌∙◌, sym, ap, refl, subst, ℕ, false, List, [], ◌∷◌}
-use Rattle.std.specs.Prelude.{Option}
+use Rattle.std.specs.Prelude.{Option, Some, None}
 use Rattle.amqp_conn.specs.declared.conn.Conn.{Conn}
+use Rattle.router_trace.specs.declared.binding.Binding.{Binding}
 use Rattle.router_trace.specs.declared.event.Event.{Event}
 use Rattle.router_trace.specs.declared.event.Event.TheVariants as event
 use Rattle.router_trace.specs.Trace.{Entry, Did, Put, Step, goes, each_to}
 use Rattle.router_trace.specs.Connection.{conn, due, is_full, live}
 use Rattle.router_sessions.specs.Windows.{windows_over}
+use Rattle.router_passing.specs.Passing.{with_bound}
 use Rattle.router_state.specs.Tables.{beats_over}
 use Rattle.router_reply.specs.Rows.{down_reply}
-use Rattle.router_reply.specs.Replies.{ends, item_row, own_row}
-use Rattle.router_after.specs.After.{followed}
+use Rattle.router_reply.specs.Replies.{ends, item_bound, bound_by, item_row, own_row, replied_behind}
+use Rattle.router_after.specs.After.{widened, followed}
 use Rattle.router_core.specs.Replies.{answered}
 use Rattle.router_core.specs.Runs.{took_one}
 use Rattle.router_core.specs.Moves.{Move, handles, takes, Goes, outs}
 use Rattle.router_core.specs.Laws.{untaken, events_of, NeverFull}
 use Rattle.router_core.proofs.Untaken.{untaken_goes, same_outs, same_beats, same_windows}
-use Rattle.router_core.proofs.UntakenLinks.{same_item_row}
+use Rattle.router_core.proofs.UntakenPassed.{untaken_bound, same_passed}
+use Rattle.router_core.proofs.UntakenRows.{same_item_row, same_item_bound}
+use Rattle.router_core.proofs.Following.{passed_on, each_keeps, all_keep}
 use Rattle.router_core.proofs.Plain.{plain, plain_live, Calm, calm_goes, none_due, same_live, stood_found, live_found}
 
 -- an event's own row, what follows its rows, and all of it, by the plain phases
@@ -26,11 +30,21 @@ plain_row id x after (event.Down c) = each_to c.0 down_reply
 plain_row id x after (event.Tick ms) = beats_over x ms (plain_live x)
 plain_row id x after _ = []
 
+abbrev pub plain_bound : List Entry → List Entry → Event → Option Binding
+plain_bound x after (event.Item c i) = item_bound x after c.0 i (plain x c.0)
+plain_bound x after _ = None
+
+abbrev pub plain_widened : List Entry → List Entry
+plain_widened x = goes (windows_over x (plain_live x)) x
+
 abbrev pub plain_followed : List Entry → List Entry
-plain_followed x = goes (windows_over x (plain_live x)) x
+plain_followed x = plain_widened (passed_on x)
+
+abbrev pub plain_replied : List ℕ → List Entry → Step → List Entry
+plain_replied id x s = goes (plain_row id x (Did s ∷ x) s.event) (with_bound (plain_bound x (Did s ∷ x) s.event) (Did s ∷ x))
 
 abbrev pub plain_answered : List ℕ → List Entry → Step → List Entry
-plain_answered id x s = plain_followed (goes (plain_row id x (Did s ∷ x) s.event) (Did s ∷ x))
+plain_answered id x s = plain_followed (plain_replied id x s)
 
 -- what events alone make of a trace
 abbrev plain_all : List ℕ → List Step → List Entry → List Entry
@@ -46,25 +60,46 @@ same_row id t u (event.Tick ms) calm none =
 same_row id t u (event.Up c p) calm none = refl
 same_row id t u event.Start calm none = refl
 
-same_followed : (t : List Entry) → Calm t → untaken (followed t) ≡ plain_followed (untaken t)
-same_followed t calm =
+same_bound : (t u : List Entry) (e : Event) → Calm t → due t e ≡ [] → bound_by t u e ≡ plain_bound (untaken t) (untaken u) e
+same_bound t u (event.Item c i) calm none =
+    ap (λ (p : Option Conn). item_bound t u c.0 i p) (stood_found t (event.Item c i) calm none c.0) ∙ same_item_bound t u c.0 i (plain (untaken t) c.0)
+same_bound t u (event.Down c) calm none = refl
+same_bound t u (event.Tick ms) calm none = refl
+same_bound t u (event.Up c p) calm none = refl
+same_bound t u event.Start calm none = refl
+
+same_widened : (t : List Entry) → Calm t → untaken (widened t) ≡ plain_widened (untaken t)
+same_widened t calm =
     untaken_goes (windows_over t (live t)) t
     ∙ ap (λ (ps : List Put). goes ps (untaken t)) (ap (windows_over t) (same_live t calm) ∙ same_windows t (plain_live (untaken t)))
+
+calm_passed : (t : List Entry) → Calm t → Calm (passed_on t)
+calm_passed t calm = each_keeps Calm calm_goes t calm
+
+same_followed : (t : List Entry) → Calm t → untaken (followed t) ≡ plain_followed (untaken t)
+same_followed t calm = same_widened (passed_on t) (calm_passed t calm) ∙ ap plain_widened (same_passed t (untaken t) refl)
+
+calm_bound : (b : Option Binding) (t : List Entry) → Calm t → Calm (with_bound b t)
+calm_bound None t calm = calm
+calm_bound (Some b) t calm = calm
 
 -- an event with all that it has put
 pub same_answered : (id : List ℕ) (t : List Entry) (s : Step) → Calm t → ((c : ℕ) → is_full (conn t c) ≡ false)
     → Calm (answered id t s) × (untaken (answered id t s) ≡ plain_answered id (untaken t) s)
 same_answered id t s calm roomy =
     let none : due t s.event ≡ [] = none_due t s.event roomy
-    in let row : List Put = own_row id t (Did s ∷ t) s.event
-    in let behind : List Entry = goes row (Did s ∷ t)
-    in let calm_row : Calm behind = calm_goes row (Did s ∷ t) (roomy, calm)
+    in let u : List Entry = Did s ∷ t
+    in let bound : Option Binding = bound_by t u s.event
+    in let row : List Put = own_row id t u s.event
+    in let behind : List Entry = goes row (with_bound bound u)
+    in let calm_row : Calm behind = calm_goes row (with_bound bound u) (calm_bound bound u (roomy, calm))
     in let both : Calm (followed behind) × (untaken (followed behind) ≡ plain_answered id (untaken t) s) = (
-      calm_goes (windows_over behind (live behind)) behind calm_row,
+      all_keep Calm calm_goes behind calm_row,
       same_followed behind calm_row
-          ∙ ap plain_followed (untaken_goes row (Did s ∷ t) ∙ ap (λ (ps : List Put). goes ps (Did s ∷ untaken t)) (same_row id t (Did s ∷ t) s.event calm none)),
+          ∙ ap plain_followed (untaken_goes row (with_bound bound u)
+          ∙ (λ j. goes (same_row id t u s.event calm none j) ((untaken_bound bound u ∙ ap (λ (b : Option Binding). with_bound b (untaken u)) (same_bound t u s.event calm none)) j))),
     )
-    in subst (λ (x : List Entry). Calm (followed (goes (own_row id t x s.event) x)) × (untaken (followed (goes (own_row id t x s.event) x)) ≡ plain_answered id (untaken t) s))
+    in subst (λ (x : List Entry). Calm (followed (replied_behind id t x s.event)) × (untaken (followed (replied_behind id t x s.event)) ≡ plain_answered id (untaken t) s))
     (sym (ap (λ (ks : List ℕ). ends id ks (Did s ∷ t)) none)) both
 
 -- moves

@@ -7,6 +7,7 @@ use Rattle.amqp_perf.specs.declared.perf.Perf.TheVariants as perf
 use Rattle.amqp_frames.specs.declared.item.Item.{Item}
 use Rattle.amqp_frames.specs.declared.item.Item.TheVariants as item
 use Rattle.amqp_conn.specs.declared.conn.Conn.{Conn}
+use Rattle.router_trace.specs.declared.binding.Binding.{Binding}
 use Rattle.router_trace.specs.declared.condition.Condition.{Condition}
 use Rattle.router_trace.specs.declared.condition.Condition.TheVariants.{ResourceLimitExceeded}
 use Rattle.router_trace.specs.declared.terms.Terms.{Terms}
@@ -17,11 +18,12 @@ use Rattle.router_trace.specs.Sessions.{unless_close, unless_close_in}
 use Rattle.router_trace.specs.Clocks.{terms}
 use Rattle.router_reply.specs.declared.answer.Answer.{Answer}
 use Rattle.router_reply.specs.declared.answer.Answer.TheVariants as answer
+use Rattle.router_passing.specs.Passing.{with_bound}
 use Rattle.router_reply.specs.Rows.{said}
 use Rattle.router_reply.specs.Replies.{closing_of, ends}
 use Rattle.router_conns.proofs.Lists.{by_test}
 use Rattle.router_conns.proofs.Turns.{stays}
-use Rattle.router_reply.proofs.RowOrder.{Opens}
+use Rattle.router_core.proofs.RowOrder.{Opens}
 use Rattle.router_core.proofs.Ordered.{with_inv}
 
 -- at a connection
@@ -75,6 +77,10 @@ ends_told_at id (c ∷ cs) t k was =
     let items : List Item = closing_of id (conn t c) ResourceLimitExceeded
     in ends_told_at id cs (puts c items t) k (goes_told_at (each_to c items) t k was)
 
+pub bound_told_at : (b : Option Binding) (t : List Entry) (k : ℕ) → ToldAt t k → ToldAt (with_bound b t) k
+bound_told_at None t k was = was
+bound_told_at (Some b) t k was = was
+
 -- of one that never came up nothing is known
 out_strange : (t : List Entry) (c k : ℕ) (i : Item) → terms t k ≡ None → terms (Out c i ∷ t) k ≡ None
 out_strange t c k i was = by_test (c == k) (λ e. rw e (no_terms i (terms t k) was)) (λ e. rw e was)
@@ -88,6 +94,10 @@ ends_strange id [] t k was = was
 ends_strange id (c ∷ cs) t k was =
     let items : List Item = closing_of id (conn t c) ResourceLimitExceeded
     in ends_strange id cs (puts c items t) k (goes_strange (each_to c items) t k was)
+
+pub bound_strange : (b : Option Binding) (t : List Entry) (k : ℕ) → terms t k ≡ None → terms (with_bound b t) k ≡ None
+bound_strange None t k was = was
+bound_strange (Some b) t k was = was
 
 -- behind the router's open the connection is open, and behind a close it isn't live
 open_told : (id : List ℕ) (t : List Entry) (c : ℕ) → ToldAt (Out c (open_item id) ∷ t) c

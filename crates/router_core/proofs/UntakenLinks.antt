@@ -1,25 +1,15 @@
--- What takes leave as it is: a trace without its takes says the same of links and of peers, and an item's row puts the same.
-use Rattle.std.proofs.Common.{◌≡◌, ◌∙◌, ap, refl, ℕ, ◌+◌, List, [], ◌∷◌, ◌++◌, ◌==◌}
+-- What takes leave as it is: a trace without its takes says the same of links and of peers.
+use Rattle.std.proofs.Common.{◌≡◌, ◌∙◌, ap, refl, ℕ, ◌+◌, List, [], ◌∷◌, ◌==◌}
 use Rattle.std.specs.Prelude.{Option, Some, None, option_map, unwrap_or, if◌then◌else◌}
 use Rattle.amqp_perf.specs.declared.perf.Attach.{Attach as AnAttach}
-use Rattle.amqp_perf.specs.declared.perf.Perf.{Perf}
-use Rattle.amqp_perf.specs.declared.perf.Perf.TheVariants as perf
-use Rattle.amqp_frames.specs.declared.item.Item.{Item}
-use Rattle.amqp_frames.specs.declared.item.Item.TheVariants as item
-use Rattle.amqp_conn.specs.declared.conn.Conn.{Conn}
 use Rattle.router_trace.specs.declared.handle.Asked.{Asked}
 use Rattle.router_trace.specs.declared.handle.Attachment.{Attachment}
-use Rattle.router_trace.specs.Trace.{Entry, Did, Out, Took, Bound, Put, goes, puts, each_to}
-use Rattle.router_trace.specs.LinkFrames.{answer_to}
+use Rattle.router_trace.specs.Trace.{Entry, Did, Out, Took, Bound}
 use Rattle.router_trace.specs.Links.{asked, asked_at, is_lost, answers_by, answered_handle, their_handle_at, their_handle_behind, their_handle, is_taken, attachments, key_of, key_at, link_at, link_behind, link, has_number, if_attached, same_key, newest_by, last_of_key, holder, link_place_by, link_place, handle_max_at, told_handle_max, most_behind, highest_handle, is_free_handle, first_free_below, free_handle}
 use Rattle.router_trace.specs.Peers.{user_at, user, container_at, Container, container, largest_frame}
 use Rattle.router_trace.specs.Sessions.{unless_close}
-use Rattle.router_reply.specs.declared.answer.Answer.{Answer}
-use Rattle.router_reply.specs.declared.answer.Answer.TheVariants.{Attach, Refuse}
-use Rattle.router_reply.specs.Rows.{Finds, said, item_reply}
-use Rattle.router_reply.specs.Replies.{finds, stolen_by, attach_answer, taken_behind, taken, refused, links_put, item_put, item_row}
 use Rattle.router_core.specs.Laws.{untaken}
-use Rattle.router_core.proofs.Untaken.{untaken_goes, same_theirs, same_place, same_free}
+use Rattle.router_core.proofs.Untaken.{same_theirs}
 
 -- what is known of peers
 
@@ -37,7 +27,7 @@ same_container (Out d i ∷ t) c = ap (λ (v : Option Container). if d == c then
 same_container (Took d n ∷ t) c = same_container t c
 same_container (Bound b ∷ t) c = same_container t c
 
-same_largest : (t : List Entry) (c : ℕ) → largest_frame t c ≡ largest_frame (untaken t) c
+pub same_largest : (t : List Entry) (c : ℕ) → largest_frame t c ≡ largest_frame (untaken t) c
 same_largest t c = ap (λ (v : Option Container). unwrap_or (option_map (λ told. told.largest) v) 4294967295) (same_container t c)
 
 same_key_at : (t : List Entry) (c : ℕ) (a : AnAttach) → key_at t c a ≡ key_at (untaken t) c a
@@ -59,7 +49,7 @@ same_answers (Out d i ∷ t) c o h = λ j. if d == c then answers_by i o h (same
 same_answers (Took d n ∷ t) c o h = same_answers t c o h
 same_answers (Bound b ∷ t) c o h = same_answers t c o h
 
-same_handle : (t : List Entry) (c o p : ℕ) → their_handle t c o p ≡ their_handle (untaken t) c o p
+pub same_handle : (t : List Entry) (c o p : ℕ) → their_handle t c o p ≡ their_handle (untaken t) c o p
 same_handle [] c o p = refl
 same_handle (Did s ∷ t) c o p = λ j. their_handle_at s.event c o p (λ q. same_theirs t c q j) (same_handle t c o p j)
 same_handle (Out d i ∷ t) c o p =
@@ -81,20 +71,20 @@ same_highest (Out d i ∷ t) c o = λ j. if d == c then most_behind i o (same_to
 same_highest (Took d n ∷ t) c o = same_highest t c o
 same_highest (Bound b ∷ t) c o = same_highest t c o
 
-same_free_handle : (t : List Entry) (c o : ℕ) → free_handle t c o ≡ free_handle (untaken t) c o
+pub same_free_handle : (t : List Entry) (c o : ℕ) → free_handle t c o ≡ free_handle (untaken t) c o
 unfolding free_handle
 same_free_handle t c o = λ j. first_free_below 64 (is_free_handle (unwrap_or (same_highest t c o j) 63) (λ h. same_answers t c o h j)) 0
 
 -- links
 
-same_attachments : (t : List Entry) → attachments t ≡ attachments (untaken t)
+pub same_attachments : (t : List Entry) → attachments t ≡ attachments (untaken t)
 same_attachments [] = refl
 same_attachments (Did s ∷ t) = same_attachments t
 same_attachments (Out d i ∷ t) = ap (λ (n : ℕ). if is_taken i then n + 1 else n) (same_attachments t)
 same_attachments (Took d n ∷ t) = same_attachments t
 same_attachments (Bound b ∷ t) = same_attachments t
 
-same_link : (t : List Entry) (c o h : ℕ) → link t c o h ≡ link (untaken t) c o h
+pub same_link : (t : List Entry) (c o h : ℕ) → link t c o h ≡ link (untaken t) c o h
 same_link [] c o h = refl
 same_link (Did s ∷ t) c o h = λ j. link_at s.event c o h (λ q. same_theirs t c q j) (λ p. same_handle t c o p j) (same_link t c o h j)
 same_link (Out d i ∷ t) c o h =
@@ -102,7 +92,7 @@ same_link (Out d i ∷ t) c o h =
 same_link (Took d n ∷ t) c o h = same_link t c o h
 same_link (Bound b ∷ t) c o h = same_link t c o h
 
-same_link_place : (t : List Entry) (c o p : ℕ) → link_place t c o p ≡ link_place (untaken t) c o p
+pub same_link_place : (t : List Entry) (c o p : ℕ) → link_place t c o p ≡ link_place (untaken t) c o p
 same_link_place t c o p = λ j. link_place_by (same_handle t c o p j) (λ h. same_link t c o h j)
 
 -- the attachment of a key that came last, and the link that has the key
@@ -119,52 +109,7 @@ same_attached : (t : List Entry) (v : Option Attachment) → if_attached t v ≡
 same_attached t None = refl
 same_attached t (Some a) = λ j. if has_number a.number (same_link t a.conn.0 a.channel a.handle j) then Some a else None
 
-same_holder : (t : List Entry) (c : ℕ) (a : AnAttach) → holder t (key_at t c a) ≡ holder (untaken t) (key_at (untaken t) c a)
+pub same_holder : (t : List Entry) (c : ℕ) (a : AnAttach) → holder t (key_at t c a) ≡ holder (untaken t) (key_at (untaken t) c a)
 same_holder t c a =
     same_attached t (last_of_key t (key_at t c a))
     ∙ ap (if_attached (untaken t)) (same_last t c a t ∙ ap (last_of_key (untaken t)) (same_key_at t c a))
-
--- an item's row
-
-same_finds : (t : List Entry) (c : ℕ) → finds t c ≡ finds (untaken t) c
-same_finds t c = λ j. record {
-  places = λ p. same_place t c p j;
-  free_channel = same_free t c j;
-  links = λ o p. same_link_place t c o p j;
-  free_handle = λ o. same_free_handle t c o j;
-}
-
-same_taken_behind : (t : List Entry) (c own : ℕ) (a : AnAttach) (stolen : List Put) → taken_behind t c own a stolen ≡ taken_behind (untaken t) c own a stolen
-same_taken_behind t c own a stolen = λ j. stolen ++ each_to c (attach_answer (same_largest t c j) own (behind j) a)
-  where
-    behind : free_handle (goes stolen t) c own ≡ free_handle (goes stolen (untaken t)) c own
-    behind = same_free_handle (goes stolen t) c own ∙ ap (λ (u : List Entry). free_handle u c own) (untaken_goes stolen t)
-
-same_taken : (t : List Entry) (c own : ℕ) (a : AnAttach) → taken t c own a ≡ taken (untaken t) c own a
-same_taken t c own a =
-    same_taken_behind t c own a (stolen_by (holder t (key_at t c (answer_to a 0))))
-    ∙ ap (λ (x : Option Attachment). taken_behind (untaken t) c own a (stolen_by x)) (same_holder t c (answer_to a 0))
-
-same_links : (t : List Entry) (c : ℕ) (i : Item) (a : Answer) → links_put t c i a ≡ links_put (untaken t) c i a
-same_links t c (item.Frame sasl channel body payload) a = by_perf body a
-  where
-    by_attach : (x : AnAttach) (a : Answer)
-        → links_put t c (item.Frame sasl channel (perf.Attach x) payload) a ≡ links_put (untaken t) c (item.Frame sasl channel (perf.Attach x) payload) a
-    by_attach x (Attach own) = same_taken t c own x
-    by_attach x (Refuse own handle e) = ap (λ (n : ℕ). each_to c (refused n own handle e x)) (same_largest t c)
-    by_attach x _ = refl
-
-    by_perf : (body : Perf) (a : Answer) → links_put t c (item.Frame sasl channel body payload) a ≡ links_put (untaken t) c (item.Frame sasl channel body payload) a
-    by_perf (perf.Attach x) a = by_attach x a
-    by_perf _ a = refl
-same_links t c _ a = refl
-
-same_put : (id : List ℕ) (t : List Entry) (c : ℕ) (p : Conn) (i : Item) (a : Answer) → item_put id t c p i a ≡ item_put id (untaken t) c p i a
-same_put id t c p i a =
-    ap (λ (ps : List Put). each_to c (said id p a) ++ ps)
-    (same_links (puts c (said id p a) t) c i a ∙ ap (λ (u : List Entry). links_put u c i a) (untaken_goes (each_to c (said id p a)) t))
-
-pub same_item_row : (id : List ℕ) (t u : List Entry) (c : ℕ) (i : Item) (p : Option Conn) → item_row id t u c i p ≡ item_row id (untaken t) (untaken u) c i p
-same_item_row id t u c i None = refl
-same_item_row id t u c i (Some p) =
-    ap (λ (k : Finds). item_put id u c p i (item_reply p k i)) (same_finds t c) ∙ same_put id u c p i (item_reply p (finds (untaken t) c) i)

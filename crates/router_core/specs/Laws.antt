@@ -4,6 +4,7 @@ use Rattle.std.specs.List.{list_any}
 use Rattle.amqp_perf.specs.declared.perf.Perf.{Perf}
 use Rattle.amqp_perf.specs.declared.perf.Perf.TheVariants as perf
 use Rattle.amqp_session.specs.Session.{Session, remote_window}
+use Rattle.amqp_link.specs.Credit.{credit}
 use Rattle.amqp_frames.specs.declared.item.Item.{Item}
 use Rattle.amqp_frames.specs.declared.item.Item.TheVariants as item
 use Rattle.router_trace.specs.declared.event.Event.{Event}
@@ -11,6 +12,7 @@ use Rattle.router_trace.specs.declared.event.Event.TheVariants as event
 use Rattle.router_core.specs.declared.driving.Sent.{Sent}
 use Rattle.router_trace.specs.Trace.{Trace, Did, Out, Took, Bound, Step}
 use Rattle.router_trace.specs.Connection.{conn, is_full, is_live}
+use Rattle.router_trace.specs.Links.{Link, Happened, sends, receives, link}
 use Rattle.router_trace.specs.Sessions.{session}
 use Rattle.router_core.specs.Replies.{answered}
 use Rattle.router_trace.specs.Order.{unwritten, have_turns}
@@ -81,6 +83,41 @@ TracesKeepWindows = (id : List ℕ) (u : Trace) → IsTrace id u → WindowKept 
 
 abbrev pub RunsKeepWindows : Type 0
 RunsKeepWindows = (id : List ℕ) (events : List Event) (xs : List Sent) (u : Trace) → Run id 0 [] events xs u → WindowKept u
+
+-- Before each transfer put out that starts a delivery the link's credit left is at least 1; each is put out on a link that stands (2.6.7).
+abbrev pub credit_left : Happened → Type 0
+credit_left (sends list) = 1 ≤ credit list
+credit_left (receives list) = ⊥
+
+abbrev pub unless_going_on : Bool → Happened → Type 0
+unless_going_on true w = Unit {0}
+unless_going_on false w = credit_left w
+
+abbrev pub starts_within : Option Link → Type 0
+starts_within None = ⊥
+starts_within (Some l) = unless_going_on l.going_on l.happened
+
+abbrev pub perf_within : Perf → ℕ → (ℕ → ℕ → Option Link) → Type 0
+perf_within (perf.Transfer x) own known = starts_within (known own x.handle)
+perf_within _ own known = Unit {0}
+
+abbrev pub within_credit : Item → (ℕ → ℕ → Option Link) → Type 0
+within_credit (item.Frame sasl own body payload) known = perf_within body own known
+within_credit _ known = Unit {0}
+
+abbrev pub WithinCredit : Trace → Type 0
+WithinCredit [] = Unit {0}
+WithinCredit (Did s ∷ t) = WithinCredit t
+WithinCredit (Out c i ∷ t) = within_credit i (link t c) × WithinCredit t
+WithinCredit (Took c n ∷ t) = WithinCredit t
+WithinCredit (Bound b ∷ t) = WithinCredit t
+
+-- so it is in every trace of the router, and in every list of events
+abbrev pub TracesStartWithinCredit : Type 0
+TracesStartWithinCredit = (id : List ℕ) (u : Trace) → IsTrace id u → WithinCredit u
+
+abbrev pub RunsStartWithinCredit : Type 0
+RunsStartWithinCredit = (id : List ℕ) (events : List Event) (xs : List Sent) (u : Trace) → Run id 0 [] events xs u → WithinCredit u
 
 -- A trace without its takes, and the events that moves handle, in order.
 abbrev pub untaken : Trace → Trace

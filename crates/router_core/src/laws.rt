@@ -1,6 +1,6 @@
 //! What holds of every trace of the router, in the words of the protocol. The functions do nothing: their contracts are the
 //! laws.
-ghost use Rattle.router_core.specs.Laws.{TracesKeepOrder, RunsKeepOrder, TracesKeepWindows, RunsKeepWindows, TakesMakeNoDifference, AnsweredAlone};
+ghost use Rattle.router_core.specs.Laws.{TracesKeepOrder, RunsKeepOrder, TracesKeepWindows, RunsKeepWindows, TracesStartWithinCredit, RunsStartWithinCredit, TakesMakeNoDifference, AnsweredAlone};
 
 /// In every trace of the router each connection is written at most one header, one open and one close, a close never
 /// without an open before it, and nothing behind the close. Heartbeats and frames of sessions stand between open and close;
@@ -17,6 +17,13 @@ pub fn connections_keep_order()
 pub fn windows_are_kept()
     ensures traces { TracesKeepWindows }
     ensures runs { RunsKeepWindows }
+{}
+
+/// In every trace of the router each transfer is put out on a link that stands, and before each that starts a delivery the
+/// link's credit left is at least 1 (AMQP 1.0 part 2, section 2.6.7). Lists of events have such traces.
+pub fn no_delivery_starts_beyond_credit()
+    ensures traces { TracesStartWithinCredit }
+    ensures runs { RunsStartWithinCredit }
 {}
 
 /// Takes make no difference: where the same events are handled in the same order, and no outbox of a live connection is full

@@ -1,7 +1,7 @@
 mod Again
 mod Tags
 mod Keys
-mod Puts
+pub mod Puts
 mod Closed
 mod Named
 mod Picked
@@ -13,6 +13,7 @@ pub mod Numbers
 mod Asked
 pub mod Touching
 mod Above
+pub mod Unsent
 mod Ranges
 mod Opened
 pub mod Listed

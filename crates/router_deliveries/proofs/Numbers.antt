@@ -21,7 +21,7 @@ not_true true no_way = absurd (no_way refl)
 not_true false no_way = refl
 
 -- the first below a bound
-none_below : (bound : ℕ) (passes : ℕ → Bool) → ((n : ℕ) → n < bound → passes n ≡ false) → first_below bound passes ≡ None
+pub none_below : (bound : ℕ) (passes : ℕ → Bool) → ((n : ℕ) → n < bound → passes n ≡ false) → first_below bound passes ≡ None
 unfolding first_below
 none_below zero passes none = refl
 none_below (suc b) passes none =
@@ -157,7 +157,7 @@ none_before (Bound b ∷ t) = fresh (bindings t + 1 == 0) (Some (fresh_delivery 
     apart k = grind (arith, nat_tests)
 
 -- so what passes stands there
-stands_below : (t : Trace) (passes : Option Delivery → Bool) → passes None ≡ false → (n : ℕ) → passes (delivery t n) ≡ true → n < bindings t + 1
+pub stands_below : (t : Trace) (passes : Option Delivery → Bool) → passes None ≡ false → (n : ℕ) → passes (delivery t n) ≡ true → n < bindings t + 1
 stands_below t passes none n e = by_test (nat_lt (bindings t) n) refl
   where
     not_less : (k n : ℕ) → nat_lt k n ≡ false → n < k + 1

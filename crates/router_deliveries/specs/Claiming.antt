@@ -1,5 +1,5 @@
 -- When the table of claims is that which a trace gives.
-use Rattle.std.specs.Prelude.{◌≡◌, ◌<◌, ◌^◌, ℕ, Bool, true, false, ◌==◌, ◌&&◌, is_none, if◌then◌else◌, List, [], ◌∷◌, Option, Some, None}
+use Rattle.std.specs.Prelude.{◌≡◌, ◌<◌, ◌^◌, ℕ, Bool, true, false, ◌==◌, ◌&&◌, if◌then◌else◌, List, [], ◌∷◌, Option, Some, None}
 use Rattle.amqp_perf.specs.declared.perf.Transfer.{Transfer}
 use Rattle.amqp_perf.specs.declared.perf.Disposition.{Disposition}
 use Rattle.amqp_perf.specs.declared.perf.Perf.{Perf}
@@ -16,7 +16,7 @@ use Rattle.router_trace.specs.declared.handle.PeerHandle.TheVariants.{Mapped}
 use Rattle.router_trace.specs.Links.{Link, Happened, sends, receives}
 use Rattle.router_trace.specs.Deliveries.{last_of}
 use Rattle.router_trace.specs.Trace.{Trace}
-use Rattle.router_trace.specs.Claims.{Claim, claims, claim, claimed_first, is_named}
+use Rattle.router_trace.specs.Claims.{Claim, claims, claim, claimed_first, claimed_later, is_named}
 use Rattle.router_trace.specs.Settling.{is_ignored_on}
 use Rattle.router_deliveries.specs.declared.claims.Claims.{Claims}
 use Rattle.router_deliveries.specs.declared.claims.Middle.{Middle}
@@ -52,7 +52,7 @@ pub record ClaimsFit (s : Claims) (t : Trace) : Type 0 where
 -- what a transfer does to the claim of an id, on the link that it finds
 abbrev pub claimed_by_middle : ℕ → Transfer → Bool → Option Middle → ℕ → Option Claim → Option Claim
 claimed_by_middle h x beyond None id v = claimed_first h x beyond id v
-claimed_by_middle h x beyond (Some m) id v = if is_named m.id id then (if is_none v then None else claim h m.resume x) else v
+claimed_by_middle h x beyond (Some m) id v = if is_named m.id id then claimed_later h (claim h m.resume x) v else v
 
 abbrev pub claimed_at : Transfer → Option Receiving → ℕ → Option Claim → Option Claim
 claimed_at x None id v = v

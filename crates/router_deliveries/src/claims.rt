@@ -3,7 +3,7 @@ ghost use Rattle.std.specs.Prelude.{◌≡◌, ◌==◌, ◌∷◌, [], List, �
 ghost use Rattle.std.specs.Option.{option_map};
 ghost use Rattle.router_trace.specs.Trace.{Entry, Out, did};
 ghost use Rattle.router_trace.specs.Claims.{claims, claim, claim_behind_in};
-ghost use Rattle.router_trace.specs.Settling.{is_claimed, ignored};
+ghost use Rattle.router_trace.specs.Settling.{is_claimed, is_claimed_on, ignored};
 ghost use Rattle.router_trace.specs.Sessions.{theirs, maps, is_channel};
 ghost use Rattle.router_trace.specs.Links.{their_handle, link};
 ghost use Rattle.router_deliveries.specs.Fits.{channel_of};
@@ -88,6 +88,13 @@ impl Claims {
         ensures { (t : List Entry) → ClaimsFit self.now t → result ≡ is_claimed t conn own id }
     {
         self.ids.get(conn, own, id).is_some()
+    }
+
+    /// Whether a peer has not settled the delivery of an id of its own, of the link on a handle of the router's.
+    pub fn is_claimed_on(&self, conn: u64, own: u16, handle: u32, id: u32) -> bool
+        ensures { (t : List Entry) → ClaimsFit self.now t → result ≡ is_claimed_on t conn own handle id }
+    {
+        is_on(self.ids.get(conn, own, id), Some(handle))
     }
 
     /// How many deliveries of the link on a handle of the router's a peer has not settled that the router ignored.
@@ -250,7 +257,7 @@ impl Claims {
             Some(middle) => match middle.id {
                 None => {}
                 Some(id) => {
-                    if self.ids.get(conn, own, id).is_some() {
+                    if is_on(self.ids.get(conn, own, id), Some(link.handle)) {
                         self.set(conn, own, id, claimed(link.handle, middle.resume, transfer))?;
                     }
                 }

@@ -1,5 +1,5 @@
 //! The table of deliveries.
-ghost use Rattle.std.specs.Prelude.{◌≡◌, ◌==◌, ◌&&◌, ◌∷◌, [], List, ℕ, OnOk, IfOk, false, if◌then◌else◌, nat_lt};
+ghost use Rattle.std.specs.Prelude.{◌≡◌, ◌==◌, ◌&&◌, ◌∷◌, [], List, ℕ, OnOk, IfOk, false, if◌then◌else◌};
 ghost use Rattle.std.specs.Option.{option_map, is_some};
 ghost use Rattle.std.specs.Ordering.{nat_cmp};
 ghost use Rattle.std.specs.BTreeMap.{get};
@@ -9,7 +9,7 @@ ghost use Rattle.router_trace.specs.Deliveries.{delivery, next_id, sending, name
 ghost use Rattle.router_trace.specs.Sessions.{theirs, maps, is_channel};
 ghost use Rattle.router_trace.specs.Following.{first_delivery, is_unsent_on, is_used};
 ghost use Rattle.router_trace.specs.Settling.{open_ids};
-ghost use Rattle.router_deliveries.specs.Finding.{IsFirst, IsCount, IsFirstLink, IsListed, count_deliveries, is_above};
+ghost use Rattle.router_deliveries.specs.Finding.{IsFirst, IsCount, IsListed, count_deliveries, is_above};
 ghost use Rattle.router_deliveries.specs.Naming.{Remembers};
 ghost use Rattle.router_deliveries.specs.Fits.{DeliveriesFit, channel_of};
 ghost use Rattle.router_deliveries.specs.Touching.{is_touched, Touches};
@@ -96,16 +96,16 @@ impl Deliveries {
         self.store.first_unsent(link).is_some()
     }
 
-    /// The first delivery above a number of which frames are still to go on the link of this number.
-    pub fn unsent_behind(&self, link: u64, number: u64) -> Option<u64>
-        ensures { (t : List Entry) → DeliveriesFit self.now t → IsFirst (λ n. nat_lt number n && is_unsent_on link (delivery t n)) result }
+    /// The first delivery above a number, or of all, of which frames are still to go on the link of this number.
+    pub fn unsent_behind(&self, link: u64, number: Option<u64>) -> Option<u64>
+        ensures { (t : List Entry) → DeliveriesFit self.now t → IsFirst (λ n. is_above number n && is_unsent_on link (delivery t n)) result }
     {
-        self.store.unsent_behind(link, number)
+        self.store.unsent_behind(link, number.unwrap_or(0))
     }
 
     /// The lowest number of a link above this one, or of all, on which frames of a delivery are still to go.
     pub fn unsent_link_behind(&self, link: Option<u64>) -> Option<u64>
-        ensures { (t : List Entry) → DeliveriesFit self.now t → IsFirstLink (λ k n. is_unsent_on k (delivery t n)) link result }
+        ensures { (t : List Entry) → DeliveriesFit self.now t → IsFirst (λ k. is_above link k && is_some (first_delivery t (is_unsent_on k))) result }
     {
         self.store.unsent_link_behind(link)
     }

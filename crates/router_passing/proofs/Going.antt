@@ -1,6 +1,6 @@
 -- A session is busy exactly where one of the deliveries that its handles send goes on.
-use Rattle.std.proofs.Common.{◌≡◌, ◌∙◌, ◌<◌, ◌+◌, ◌||◌, ◌&&◌, ℕ, zero, suc, Bool, true, false, refl, sym, ap, arith, List, [], ◌∷◌, Option, Some, None}
-use Rattle.std.specs.Prelude.{◌==◌, is_some, nat_le, if◌then◌else◌}
+use Rattle.std.proofs.Common.{◌≡◌, ◌∙◌, ◌<◌, ◌+◌, ◌||◌, ◌&&◌, ℕ, Bool, true, false, refl, sym, ap, arith, List, [], ◌∷◌, Option, Some, None}
+use Rattle.std.specs.Prelude.{◌==◌, nat_le}
 use Rattle.std.proofs.lemmas.Bool.{eqb-true}
 use Rattle.std.proofs.lemmas.Bool.Decides.{nat_tests}
 use Rattle.amqp_session.specs.Ranges.{has}
@@ -8,54 +8,16 @@ use Rattle.router_trace.specs.Trace.{Trace}
 use Rattle.router_trace.specs.Deliveries.{Delivery, bindings, delivery, sending, is_number}
 use Rattle.router_trace.specs.Links.{Link}
 use Rattle.router_trace.specs.Following.{goes_on_at, is_busy, is_going_on, link_of}
-use Rattle.router_trace.specs.Numbers.{first_below, or_other, if_passes}
 use Rattle.router_deliveries.specs.Finding.{IsListed}
 use Rattle.router_deliveries.proofs.Listed.{listed_has}
 use Rattle.router_deliveries.proofs.Numbers.{none_beyond}
+use Rattle.router_deliveries.proofs.Unsent.{first_there, there_first}
 use Rattle.router_passing.specs.Asking.{some_go_on}
 
 pub same_tests : (a b : Bool) → (a ≡ true → b ≡ true) → (b ≡ true → a ≡ true) → a ≡ b
 same_tests true b f g = sym (f refl)
 same_tests false true f g = g refl
 same_tests false false f g = refl
-
--- the first below a bound is there exactly where one passes
-or_some : (v w : Option ℕ) → is_some w ≡ true → is_some (or_other v w) ≡ true
-or_some None w e = e
-or_some (Some n) w e = refl
-
-or_first : (v w : Option ℕ) → is_some v ≡ true → is_some (or_other v w) ≡ true
-or_first None w e = absurd cc
-or_first (Some n) w e = refl
-
-pub first_there : (b : ℕ) (p : ℕ → Bool) (n : ℕ) → n < b → p n ≡ true → is_some (first_below b p) ≡ true
-unfolding first_below
-first_there zero p n l e = absurd (omega (arith, l))
-first_there (suc b) p n l e = by_test (n == b) refl (λ k. first_there b p n k e)
-  where
-    less : (n b : ℕ) → n < suc b → (n == b) ≡ false → n < b
-    less n b l e = grind (arith, nat_tests)
-
-    here : (t : Bool) (b : ℕ) → t ≡ true → is_some (if_passes t b) ≡ true
-    here true b e = refl
-    here false b e = absurd cc
-
-    by_test : (t : Bool) → (n == b) ≡ t → (n < b → is_some (first_below b p) ≡ true) → is_some (or_other (first_below b p) (if_passes (p b) b)) ≡ true
-    by_test true q below = or_some (first_below b p) _ (here (p b) b (ap p (sym (eqb-true n b q)) ∙ e))
-    by_test false q below = or_first (first_below b p) _ (below (less n b l q))
-
-pub there_first : (b : ℕ) (p : ℕ → Bool) → is_some (first_below b p) ≡ true → (n : ℕ) × (p n ≡ true)
-unfolding first_below
-there_first zero p e = absurd cc
-there_first (suc b) p e = by_test (p b) refl (λ k. there_first b p k)
-  where
-    none : (v : Option ℕ) → is_some (or_other v None) ≡ true → is_some v ≡ true
-    none None e = absurd cc
-    none (Some n) e = refl
-
-    by_test : (t : Bool) → p b ≡ t → (is_some (first_below b p) ≡ true → (n : ℕ) × (p n ≡ true)) → (n : ℕ) × (p n ≡ true)
-    by_test true q below = (b, q)
-    by_test false q below = below (none (first_below b p) (ap (λ t. is_some (or_other (first_below b p) (if_passes t b))) (sym q) ∙ e))
 
 -- one that goes on is sent on its handle
 pub both_left : (a b : Bool) → (a && b) ≡ true → a ≡ true

@@ -5,6 +5,6 @@ pub mod Chosen
 pub mod Granted
 pub mod Telling
 pub mod Asked
-pub mod Taken
+pub mod Quiet
 pub mod Going
 pub mod Owed

@@ -7,11 +7,7 @@ use Rattle.router_trace.specs.Trace.{Trace}
 use Rattle.router_trace.specs.Links.{Link, Happened, sends, receives, numbered}
 use Rattle.router_trace.specs.Deliveries.{delivery}
 use Rattle.router_trace.specs.Following.{link_of, first_delivery, is_unsent_on, owes_one, is_going_on}
-
--- a number is above another, if there is one
-abbrev pub is_above : Option ℕ → ℕ → Bool
-is_above None n = true
-is_above (Some m) n = nat_lt m n
+use Rattle.router_deliveries.specs.Finding.{is_above}
 
 -- frames of deliveries are still to go on a link
 abbrev pub has_unsent : Trace → ℕ → Bool

@@ -1,8 +1,8 @@
 //! Links that owe a drain.
 ghost use Rattle.std.specs.Prelude.{◌≡◌, ◌&&◌, ℕ, List, None, IfOk};
 ghost use Rattle.router_trace.specs.Trace.{Entry};
-ghost use Rattle.router_deliveries.specs.Finding.{IsFirst};
-ghost use Rattle.router_passing.specs.Asking.{is_above, is_below, owes_drain, lowest_of};
+ghost use Rattle.router_deliveries.specs.Finding.{IsFirst, is_above};
+ghost use Rattle.router_passing.specs.Asking.{is_below, owes_drain, lowest_of};
 ghost use Rattle.router_passing.specs.Fits.{PassingFit};
 
 use crate::passing::Passing;

@@ -103,4 +103,11 @@ impl Passing {
         self.links.put(conn, item, key)?;
         Ok(())
     }
+
+    /// Forgets which connections had links that owed a drain, where none does any more.
+    pub fn settle_owed(&mut self)
+        ensures { (t : List Entry) → PassingFit self.old t → PassingFit self.new t }
+    {
+        self.links.settle_owed();
+    }
 }

@@ -1,20 +1,23 @@
 -- No outbox was full when an event came: then none was before, and the router hears of an event what it hears without takes.
 use Rattle.std.proofs.Common.{◌≡◌, ap, refl, subst, ℕ, false, not, List, [], ◌∷◌}
-use Rattle.std.specs.Prelude.{Option, is_some}
+use Rattle.std.specs.Prelude.{Option, Some, None, is_some}
 use Rattle.amqp_frames.specs.declared.item.Item.{Item}
 use Rattle.amqp_conn.specs.declared.conn.Conn.{Conn}
 use Rattle.router_trace.specs.declared.condition.Condition.TheVariants.{ResourceLimitExceeded}
+use Rattle.router_trace.specs.declared.binding.Binding.{Binding}
 use Rattle.router_trace.specs.declared.event.Event.{Event}
 use Rattle.router_trace.specs.declared.event.Event.TheVariants as event
 use Rattle.router_trace.specs.Trace.{Entry, Did, Out, Took, Bound, Put, Step, goes, each_to, puts, newest, newer}
 use Rattle.router_trace.specs.Connection.{conn, due, is_full}
 use Rattle.router_trace.specs.Refusing.{refuses, rises}
-use Rattle.router_sessions.specs.Windows.{windows}
-use Rattle.router_reply.specs.Replies.{closing_of, ends, heard, own_row, replied}
+use Rattle.router_passing.specs.Passing.{with_bound}
+use Rattle.router_reply.specs.Replies.{closing_of, ends, heard, bound_by, own_row, replied}
+use Rattle.router_after.specs.After.{followed}
 use Rattle.router_core.specs.Replies.{answered}
 use Rattle.router_core.specs.Runs.{took_one}
 use Rattle.router_core.specs.Moves.{Move, handles, takes, Goes}
 use Rattle.router_core.specs.Laws.{untaken}
+use Rattle.router_core.proofs.Following.{all_keep}
 use Rattle.router_core.proofs.Plain.{Calm, stood}
 use Rattle.router_play.specs.Script.{Scene}
 use Rattle.router_play.specs.Pieces.{AlwaysRoom}
@@ -40,9 +43,18 @@ ends_before id (c ∷ cs) t calm =
     let items : List Item = closing_of id (conn t c) ResourceLimitExceeded
     in goes_before (each_to c items) t (ends_before id cs (puts c items t) calm)
 
+bound_before : (b : Option Binding) (t : List Entry) → Calm (with_bound b t) → Calm t
+bound_before None t calm = calm
+bound_before (Some b) t calm = calm
+
+followed_before : (t : List Entry) → Calm (followed t) → Calm t
+followed_before t = all_keep (λ (u : List Entry). Calm u → Calm t) (λ ps u before calm. before (goes_before ps u calm)) t (λ calm. calm)
+
 pub answered_before : (id : List ℕ) (t : List Entry) (s : Step) → Calm (answered id t s) → ((c : ℕ) → is_full (conn t c) ≡ false) × Calm t
 answered_before id t s calm =
-    ends_before id (due t s.event) (Did s ∷ t) (goes_before (own_row id t (heard id t s) s.event) (heard id t s) (goes_before (windows (replied id t s)) (replied id t s) calm))
+    let u : List Entry = heard id t s
+    in ends_before id (due t s.event) (Did s ∷ t)
+    (bound_before (bound_by t u s.event) u (goes_before (own_row id t u s.event) (with_bound (bound_by t u s.event) u) (followed_before (replied id t s) calm)))
 
 moves_before : (id : List ℕ) (ms : List Move) (t u : List Entry) → Goes id ms t u → Calm u → Calm t
 moves_before id [] t u went calm = subst (λ (w : List Entry). Calm w) went calm

@@ -4,6 +4,7 @@ use Rattle.std.specs.Prelude.{◌==◌, Option, Some, None, is_some, option_map,
 use Rattle.std.proofs.lemmas.Bool.{eqb-true, eq-eqb}
 use Rattle.amqp_frames.specs.declared.item.Item.{Item}
 use Rattle.amqp_conn.specs.declared.conn.Conn.{Conn}
+use Rattle.router_trace.specs.declared.binding.Binding.{Binding}
 use Rattle.router_trace.specs.declared.condition.Condition.{Condition}
 use Rattle.router_trace.specs.declared.condition.Condition.TheVariants.{ResourceLimitExceeded}
 use Rattle.router_trace.specs.declared.event.ConnectionId.{ConnectionId}
@@ -21,18 +22,22 @@ use Rattle.router_trace.specs.Refusing.{refuses}
 use Rattle.router_trace.specs.Sessions.{session}
 use Rattle.router_trace.specs.Clocks.{terms, written, needs_beat}
 use Rattle.router_trace.specs.Frames.{flow_item, told_of}
+use Rattle.router_trace.specs.Following.{tells, sends_due, drains_due}
 use Rattle.router_sessions.specs.Windows.{is_narrow, flow_due, flows_below, windows_over, windows}
 use Rattle.router_state.specs.Tables.{beat_if, beats_over, beats}
+use Rattle.router_passing.specs.Passing.{grants_due, with_bound}
 use Rattle.router_reply.specs.Rows.{said, item_reply}
-use Rattle.router_reply.specs.Replies.{closing_of, ends, heard, finds, stolen_by, refused, item_row, own_row, replied}
-use Rattle.router_after.specs.After.{followed}
+use Rattle.router_reply.specs.Replies.{closing_of, ends, heard, finds, stolen_by, refused, part_put, settled_answers, bound_by, item_row, own_row, replied}
+use Rattle.router_after.specs.After.{widened, followed}
 use Rattle.router_core.specs.Replies.{answered}
 use Rattle.router_core.specs.Runs.{waiting_of}
 use Rattle.router_core.specs.Moves.{IsTrace, outs}
 use Rattle.router_core.proofs.Headed.{Kept, trace_kept}
 use Rattle.router_core.proofs.ItemRows.{item_cases}
 use Rattle.router_core.proofs.Linked.{holder_linked}
-use Rattle.router_core.proofs.Lively.{heard_lively}
+use Rattle.router_core.proofs.Due.{AllOnLinks, tells_on, sends_on, drains_on, grants_on}
+use Rattle.router_core.proofs.Following.{Steps, passed_on, passed_keeps, all_keep}
+use Rattle.router_core.proofs.Lively.{Lively, heard_lively, replied_lively, lively_steps}
 use Rattle.router_play.specs.Carrying.{is_loss_of, was_lost}
 use Rattle.router_conns.proofs.Lists.{by_test}
 use Rattle.router_conns.proofs.Turns.{stays}
@@ -230,8 +235,34 @@ windows_known t known there (k ∷ ks) =
     (λ l. rw l (known_join (flows_below k (session t k) 15) (windows_over t (live_of ks known)) t (flows_known k (session t k) t (there k l) 15) (windows_known t known there ks)))
     (λ l. rw l (windows_known t known there ks))
 
-followed_even : (t : List Entry) (c : ℕ) → Even t (followed t) c
-followed_even t c = goes_even (windows t) t c (windows_known t (conn t) (λ k l. live_known (conn t k) l) (ups t))
+widened_even : (t : List Entry) (c : ℕ) → Even t (widened t) c
+widened_even t c = goes_even (windows t) t c (windows_known t (conn t) (λ k l. live_known (conn t k) l) (ups t))
+
+-- what goes out on links goes to live connections
+links_known : (ps : List Put) (t : List Entry) → Lively t → AllOnLinks t ps → AllKnown ps t
+links_known [] t lively all = tt
+links_known (p ∷ ps) t lively all =
+    (live_known (conn t p.conn) (lively p.conn all.0.own all.0.handle all.0.linked), links_known ps t lively all.1)
+
+record Reached (c : ℕ) (t u : List Entry) : Type 0 where
+  lively : Lively u
+  even : Even t u c
+
+reached_goes : (c : ℕ) (t u : List Entry) (ps : List Put) → AllOnLinks u ps → Lively (goes ps u) → Reached c t u → Reached c t (goes ps u)
+reached_goes c t u ps all next was = record { lively = next; even = even_trans t u (goes ps u) c was.even (goes_even ps u c (links_known ps u was.lively all)) }
+
+reached_steps : (c : ℕ) (t : List Entry) → Steps (Reached c t)
+reached_steps c t = record {
+  telling = λ u was. reached_goes c t u (tells u) (tells_on u) (lively_steps.telling u was.lively) was;
+  sending = λ u was. reached_goes c t u (sends_due u) (sends_on u) (lively_steps.sending u was.lively) was;
+  draining = λ u was. reached_goes c t u (drains_due u) (drains_on u) (lively_steps.draining u was.lively) was;
+  granting = λ u was. reached_goes c t u (grants_due u) (grants_on u) (lively_steps.granting u was.lively) was;
+}
+
+followed_even : (t : List Entry) (c : ℕ) → Lively t → Even t (followed t) c
+followed_even t c lively =
+    let passed : Reached c t (passed_on t) = passed_keeps (Reached c t) (reached_steps c t) t (record { lively = lively; even = even_refl t c })
+    in even_trans t (passed_on t) (followed t) c passed.even (widened_even (passed_on t) c)
 
 -- what an event's own row puts
 
@@ -250,20 +281,32 @@ stolen_known u links last (Some x) is = (links x.conn.0 x.channel x.handle (hold
 item_known : (id : List ℕ) (t u : List Entry) (d : ℕ) (i : Item) → LinksKnown u → (p : Option Conn) → (is_some p ≡ true → is_some (conn u d) ≡ true) → AllKnown (item_row id t u d i p) u
 item_known id t u d i links None there = tt
 item_known id t u d i links (Some p) there =
-    item_cases id u d p (λ a ps. AllKnown ps u)
+    item_cases id t u d p (λ a ps. AllKnown ps u)
     (λ a. each_known (said id p a) u d (there refl))
     (λ own x. known_join (stolen_by (holder u (key_at u d (answer_to x 0)))) _ u
     (stolen_known u links (last_of_key u (key_at u d (answer_to x 0))) (holder u (key_at u d (answer_to x 0))) refl)
     (each_known _ u d (there refl)))
     (λ own handle e x. each_known (refused (largest_frame u d) own handle e x) u d (there refl))
+    (λ own handle q. each_known (part_put u d own handle q) u d (there refl))
+    (λ own r ids. each_known (settled_answers own r ids) u d (there refl))
     i (item_reply p (finds t d) i)
+
+bound_even : (b : Option Binding) (t : List Entry) (c : ℕ) → Even t (with_bound b t) c
+bound_even None t c = even_refl t c
+bound_even (Some b) t c = record {
+  level = record { added = []; written = sym (append-nil (outs t c)); waits = sym (append-nil (waiting_of (conn t c))) };
+  known = refl;
+  lives = λ h. h;
+}
 
 row_even : (id : List ℕ) (t : List Entry) (e : Event) (c : ℕ) → LinksKnown (heard id t (step_of e)) → Even (heard id t (step_of e)) (replied id t (step_of e)) c
 row_even id t (event.Item d i) c links =
     let e : Event = event.Item d i
     in let u : List Entry = heard id t (step_of e)
-    in goes_even (own_row id t u e) u c
-    (item_known id t u d.0 i links (standing (found t e d.0)) (λ l. (ends_even id (due t e) (did e ∷ t) d.0).known ∙ live_known (found t e d.0) l))
+    in let v : List Entry = with_bound (bound_by t u e) u
+    in even_trans u v (replied id t (step_of e)) c (bound_even (bound_by t u e) u c) (goes_even (own_row id t u e) v c
+    (known_on (own_row id t u e) u v (λ k. (bound_even (bound_by t u e) u k).known)
+    (item_known id t u d.0 i links (standing (found t e d.0)) (λ l. (ends_even id (due t e) (did e ∷ t) d.0).known ∙ live_known (found t e d.0) l))))
 row_even id t (event.Up d p) c links = even_refl (heard id t (step_of (event.Up d p))) c
 row_even id t (event.Down d) c links = even_refl (heard id t (step_of (event.Down d))) c
 row_even id t (event.Tick ms) c links =
@@ -279,9 +322,10 @@ behind_even id t e c real taken =
     let u : List Entry = heard id t (step_of e)
     in let v : List Entry = replied id t (step_of e)
     in let was : Kept t = trace_kept id t real
-    in let links : LinksKnown u = λ k o h some. live_known (conn u k) (heard_lively id t e was.ordered was.lively taken k o h some)
+    in let lively : Lively u = heard_lively id t e was.ordered was.lively taken
+    in let links : LinksKnown u = λ k o h some. live_known (conn u k) (lively k o h some)
     in even_trans (did e ∷ t) u (answered id t (step_of e)) c (ends_even id (due t e) (did e ∷ t) c)
-    (even_trans u v (answered id t (step_of e)) c (row_even id t e c links) (followed_even v c))
+    (even_trans u v (answered id t (step_of e)) c (row_even id t e c links) (followed_even v c (replied_lively id t e lively)))
 
 pub answered_even : (id : List ℕ) (t : List Entry) (e : Event) (c : ℕ) → IsTrace id t → refuses t e ≡ false → moves e c ≡ false → Even t (answered id t (step_of e)) c
 answered_even id t e c real taken h = even_trans t (did e ∷ t) (answered id t (step_of e)) c (did_even t e c h) (behind_even id t e c real taken)
@@ -325,6 +369,10 @@ goes_lost : (ps : List Put) (t : List Entry) (c : ℕ) → was_lost (goes ps t) 
 goes_lost [] t c = refl
 goes_lost (p ∷ ps) t c = goes_lost ps (Out p.conn p.item ∷ t) c
 
+bound_lost : (b : Option Binding) (t : List Entry) (c : ℕ) → was_lost (with_bound b t) c ≡ was_lost t c
+bound_lost None t c = refl
+bound_lost (Some b) t c = refl
+
 ends_lost : (id : List ℕ) (ds : List ℕ) (t : List Entry) (c : ℕ) → was_lost (ends id ds t) c ≡ was_lost t c
 ends_lost id [] t c = refl
 ends_lost id (d ∷ ds) t c =
@@ -332,8 +380,9 @@ ends_lost id (d ∷ ds) t c =
 
 pub answered_lost : (id : List ℕ) (t : List Entry) (e : Event) (c : ℕ) → was_lost (answered id t (step_of e)) c ≡ (is_loss_of e c || was_lost t c)
 answered_lost id t e c =
-    goes_lost (windows (replied id t (step_of e))) (replied id t (step_of e)) c
-    ∙ goes_lost (own_row id t (heard id t (step_of e)) e) (heard id t (step_of e)) c ∙ ends_lost id (due t e) (did e ∷ t) c
+    let u : List Entry = heard id t (step_of e)
+    in all_keep (λ (v : List Entry). was_lost v c ≡ (is_loss_of e c || was_lost t c)) (λ ps v h. goes_lost ps v c ∙ h) (replied id t (step_of e))
+    (goes_lost (own_row id t u e) (with_bound (bound_by t u e) u) c ∙ bound_lost (bound_by t u e) u c ∙ ends_lost id (due t e) (did e ∷ t) c)
 
 pub answered_kept : (id : List ℕ) (t : List Entry) (e : Event) (c : ℕ) → is_loss_of e c ≡ false → was_lost (answered id t (step_of e)) c ≡ was_lost t c
 answered_kept id t e c other = answered_lost id t e c ∙ ap (λ b. b || was_lost t c) other

@@ -21,3 +21,4 @@ mod Calming
 mod Shadows
 mod Shadowing
 mod Pieces
+mod Handing

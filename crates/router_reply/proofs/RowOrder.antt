@@ -1,10 +1,11 @@
 -- Each row of the reply table keeps the order on a live connection.
 use Rattle.std.proofs.Common.{◌≡◌, ◌∙◌, sym, ap, refl, subst, ℕ, Bool, true, false, List, [], ◌∷◌}
-use Rattle.std.specs.Prelude.{nat_lt, nat_le, nat_eq, if◌then◌else◌, is_some, is_none, length, Option, Some, None, Result, Ok, Err}
+use Rattle.std.specs.Prelude.{nat_lt, nat_le, nat_eq, ◌&&◌, option_map, if◌then◌else◌, is_some, is_none, length, Option, Some, None, Result, Ok, Err}
 use Rattle.std.specs.List.{find}
 use Rattle.amqp_perf.specs.declared.perf.Attach.{Attach as AnAttach}
 use Rattle.amqp_perf.specs.declared.perf.Begin.{Begin as ABegin}
 use Rattle.amqp_perf.specs.declared.perf.Detach.{Detach as ADetach}
+use Rattle.amqp_perf.specs.declared.perf.Disposition.{Disposition as ADisposition}
 use Rattle.amqp_perf.specs.declared.perf.Transfer.{Transfer as ATransfer}
 use Rattle.amqp_perf.specs.declared.perf.Flow.{Flow as AFlow}
 use Rattle.amqp_perf.specs.declared.perf.Open.{Open as AnOpen}
@@ -27,11 +28,14 @@ use Rattle.router_trace.specs.Order.{Written, have_turns}
 use Rattle.router_trace.specs.Sessions.{Place, nowhere, ending, on, on_session, place_by, session, is_free, free_channel, channels, offered_by, unless_close, begin_state, flow_state}
 use Rattle.router_conns.proofs.Lists.{by_test}
 use Rattle.router_reply.specs.declared.answer.Answer.{Answer}
-use Rattle.router_reply.specs.declared.answer.Answer.TheVariants.{Nothing, Header, Open, Close, CloseWith, Begin, End, Flow, Attach, Refuse, Detach, LinkFlow}
+use Rattle.router_reply.specs.declared.answer.Answer.TheVariants.{Nothing, Header, Open, Close, CloseWith, Begin, End, Flow, Attach, Refuse, Detach, LinkFlow, Taken, Settle}
 use Rattle.router_reply.specs.Rows.{Finds, Links, said, header_reply, open_by, open_reply, begin_by, begin_reply, end_reply, echo, flow_on, flow_reply, attach_reply, transfer_reply, detach_reply, disposition_reply, in_turn, turn_by, perf_reply, item_reply}
-use Rattle.router_reply.specs.LinkRows.{refusal, attach_or, attach_at, session_attach_reply, session_detach_reply, link_echo, is_reached, link_flow_reply, is_anonymous, delivery_on, link_transfer_reply, is_unattached, session_transfer_reply}
+use Rattle.router_reply.specs.LinkRows.{refusal, attach_or, attach_at, session_attach_reply, session_detach_reply, link_echo, is_reached, link_flow_reply, is_anonymous, is_among, start_on, is_same_id, is_same_tag, continue_on, delivery_by, delivery_on, link_transfer_reply, is_unattached, session_transfer_reply, asks}
 use Rattle.router_reply.specs.LinkRows.{flow_on as link_flow_on}
 use Rattle.amqp_link.specs.Receiving.{delivery_count, unused}
+use Rattle.amqp_link.specs.declared.part.Delivery.{Delivery as Told}
+use Rattle.router_trace.specs.Deliveries.{terminal, tag_in}
+use Rattle.router_trace.specs.Settling.{middle_by}
 use Rattle.router_trace.specs.Links.{LinkPlace, nowhere as no_link, detaching, on as on_link, Happened, sends, receives}
 
 -- a live phase
@@ -75,6 +79,8 @@ AnswerFits p b asked (Attach own) = (p.opened ≡ true) × (b own ≡ true)
 AnswerFits p b asked (Refuse own handle x) = (p.opened ≡ true) × (b own ≡ true)
 AnswerFits p b asked (Detach own handle closed x) = (p.opened ≡ true) × (b own ≡ true)
 AnswerFits p b asked (LinkFlow own told at) = (p.opened ≡ true) × (b own ≡ true)
+AnswerFits p b asked (Taken own handle) = (p.opened ≡ true) × (b own ≡ true)
+AnswerFits p b asked (Settle own) = (p.opened ≡ true) × (b own ≡ true)
 
 -- the items of an answer that fits have their turns
 pub closing_turns : (id : List ℕ) (h o : Bool) (b : ℕ → Bool) (x : Condition) → have_turns (written_of (open_phase h o) b) (closing id (open_phase h o) x) ≡ true
@@ -95,6 +101,8 @@ said_turns_at id h o b asked (Attach own) fits = refl
 said_turns_at id h o b asked (Refuse own handle x) fits = refl
 said_turns_at id h o b asked (Detach own handle closed x) fits = rw (fits.0, fits.1) refl
 said_turns_at id h o b asked (LinkFlow own told at) fits = rw (fits.0, fits.1) refl
+said_turns_at id h o b asked (Taken own handle) fits = refl
+said_turns_at id h o b asked (Settle own) fits = refl
 
 pub said_turns : (id : List ℕ) (p : Conn) (b : ℕ → Bool) (asked : Option BeginState) (a : Answer) → p.closed ≡ false → AnswerFits p b asked a
     → have_turns (written_of p b) (said id p a) ≡ true
@@ -119,6 +127,8 @@ said_offered id p b asked (Attach own) fits = tt
 said_offered id p b asked (Refuse own handle x) fits = tt
 said_offered id p b asked (Detach own handle closed x) fits = (tt, tt)
 said_offered id p b asked (LinkFlow own told at) fits = (tt, tt)
+said_offered id p b asked (Taken own handle) fits = tt
+said_offered id p b asked (Settle own) fits = tt
 
 -- what stands on a channel of the peer, and the free channel, fit what was written
 abbrev pub PlaceFits : Place → (ℕ → Bool) → Type 0
@@ -183,10 +193,11 @@ end_fits h b asked nowhere place = tt
 end_fits h b asked ending place = tt
 end_fits h b asked (on own s) place = (refl, place)
 
-disposition_fits : (h : Bool) (b : ℕ → Bool) (asked : Option BeginState) (at : Place) → AnswerFits (open_phase h true) b asked (disposition_reply at)
-disposition_fits h b asked nowhere = tt
-disposition_fits h b asked ending = tt
-disposition_fits h b asked (on own s) = tt
+disposition_fits : (h : Bool) (b : ℕ → Bool) (asked : Option BeginState) (at : Place) (x : ADisposition) → PlaceFits at b
+    → AnswerFits (open_phase h true) b asked (disposition_reply at x)
+disposition_fits h b asked nowhere x place = tt
+disposition_fits h b asked ending x place = tt
+disposition_fits h b asked (on own s) x place = by_test (asks x.role x.settled (terminal x.state)) (λ e. rw e (refl, place)) (λ e. rw e tt)
 
 -- the rows of links, on a session
 abbrev SessionFits : Bool → (ℕ → Bool) → Option BeginState → Answer → Type 0
@@ -229,19 +240,33 @@ link_flow_fits h b asked own s (on_link k l) f begun = by l.happened
         (λ e. rw e (link_echo_fits h b asked f.echo own (TheirFlow (flow_state f) ∷ s) k _ _ begun))
         (λ e. rw e (refl, begun))
 
-session_transfer_fits : (h : Bool) (b : ℕ → Bool) (asked : Option BeginState) (own : ℕ) (s : Session) (at : LinkPlace) (x : ATransfer) → b own ≡ true
-    → SessionFits h b asked (session_transfer_reply own s at x)
-session_transfer_fits h b asked own s at x begun =
+start_fits : (h : Bool) (b : ℕ → Bool) (asked : Option BeginState) (own k left : ℕ) (ids : ℕ → Bool) (x : ATransfer) → b own ≡ true
+    → SessionFits h b asked (start_on own k left ids x)
+start_fits h b asked own k left ids x begun =
+    by_test (is_anonymous x) (λ e. rw e (refl, begun))
+    (λ e. rw e (by_test (is_among ids x.delivery_id) (λ f. rw f (refl, begun))
+    (λ f. rw f (by_test (nat_eq left 0) (λ g. rw g (refl, begun)) (λ g. rw g (refl, begun))))))
+
+continue_fits : (h : Bool) (b : ℕ → Bool) (asked : Option BeginState) (own k : ℕ) (first : Told) (x : ATransfer) → b own ≡ true
+    → SessionFits h b asked (continue_on own k first x)
+continue_fits h b asked own k first x begun =
+    by_test (is_same_id x.delivery_id first.id && is_same_tag (tag_in x) (option_map (λ tag. tag.items) first.tag)) (λ e. rw e (refl, begun)) (λ e. rw e (refl, begun))
+
+session_transfer_fits : (h : Bool) (b : ℕ → Bool) (asked : Option BeginState) (own : ℕ) (s : Session) (ids : ℕ → Bool) (at : LinkPlace) (x : ATransfer) → b own ≡ true
+    → SessionFits h b asked (session_transfer_reply own s ids at x)
+session_transfer_fits h b asked own s ids at x begun =
     by_test (is_unattached at) (λ e. rw e (refl, begun))
     (λ e. rw e (by_test (nat_eq (allowance s) 0) (λ f. rw f (refl, begun)) (λ f. rw f (by at))))
   where
-    carried : (k : ℕ) (w : Happened) → SessionFits h b asked (delivery_on own k w x)
-    carried k (sends list) = (refl, begun)
-    carried k (receives list) =
-        by_test (is_anonymous x) (λ e. rw e (refl, begun))
-        (λ e. rw e (by_test (nat_eq (unused list) 0) (λ f. rw f (refl, begun)) (λ f. rw f tt)))
+    within : (k left : ℕ) (first : Option Told) → SessionFits h b asked (delivery_by own k left ids first x)
+    within k left None = start_fits h b asked own k left ids x begun
+    within k left (Some first) = continue_fits h b asked own k first x begun
 
-    by : (at : LinkPlace) → SessionFits h b asked (link_transfer_reply own at x)
+    carried : (k : ℕ) (w : Happened) → SessionFits h b asked (delivery_on own k ids w x)
+    carried k (sends list) = (refl, begun)
+    carried k (receives list) = within k (unused list) (middle_by (receives list))
+
+    by : (at : LinkPlace) → SessionFits h b asked (link_transfer_reply own ids at x)
     by no_link = (refl, begun)
     by detaching = tt
     by (on_link k l) = carried k l.happened
@@ -258,10 +283,11 @@ detach_fits h b asked nowhere links x place = tt
 detach_fits h b asked ending links x place = tt
 detach_fits h b asked (on own s) links x place = session_detach_fits h b asked own (links own x.handle) x place
 
-transfer_fits : (h : Bool) (b : ℕ → Bool) (asked : Option BeginState) (at : Place) (links : Links) (x : ATransfer) → PlaceFits at b → SessionFits h b asked (transfer_reply at links x)
-transfer_fits h b asked nowhere links x place = tt
-transfer_fits h b asked ending links x place = tt
-transfer_fits h b asked (on own s) links x place = session_transfer_fits h b asked own s (links own x.handle) x place
+transfer_fits : (h : Bool) (b : ℕ → Bool) (asked : Option BeginState) (at : Place) (links : Links) (claimed : ℕ → ℕ → Bool) (x : ATransfer) → PlaceFits at b
+    → SessionFits h b asked (transfer_reply at links claimed x)
+transfer_fits h b asked nowhere links claimed x place = tt
+transfer_fits h b asked ending links claimed x place = tt
+transfer_fits h b asked (on own s) links claimed x place = session_transfer_fits h b asked own s (claimed own) (links own x.handle) x place
 
 flow_fits : (h : Bool) (b : ℕ → Bool) (asked : Option BeginState) (at : Place) (links : Links) (f : AFlow) → PlaceFits at b → SessionFits h b asked (flow_reply at links f)
 flow_fits h b asked nowhere links f place = tt
@@ -303,9 +329,9 @@ perf_fits h o b asked k payload channel (perf.Attach x) found =
 perf_fits h o b asked k payload channel (perf.Flow x) found =
     turn_fits h o b asked k channel (perf.Flow x) (flow_fits h b asked (k.places channel) k.links x (found.places channel))
 perf_fits h o b asked k payload channel (perf.Transfer x) found =
-    turn_fits h o b asked k channel (perf.Transfer x) (transfer_fits h b asked (k.places channel) k.links x (found.places channel))
+    turn_fits h o b asked k channel (perf.Transfer x) (transfer_fits h b asked (k.places channel) k.links k.claimed x (found.places channel))
 perf_fits h o b asked k payload channel (perf.Disposition x) found =
-    turn_fits h o b asked k channel (perf.Disposition x) (disposition_fits h b asked (k.places channel))
+    turn_fits h o b asked k channel (perf.Disposition x) (disposition_fits h b asked (k.places channel) x (found.places channel))
 perf_fits h o b asked k payload channel (perf.Detach x) found =
     turn_fits h o b asked k channel (perf.Detach x) (detach_fits h b asked (k.places channel) k.links x (found.places channel))
 perf_fits h o b asked k payload channel (perf.End x) found =

@@ -1,8 +1,9 @@
 -- The rows of the reply table that speak of links: what the router answers by what stands on the frame's channel and handle (AMQP 1.0
 -- part 2, sections 2.6 and 2.7.3 to 2.7.7).
-use Rattle.std.specs.Prelude.{ℕ, ◌==◌, Bool, true, false, not, ◌&&◌, nat_lt, nat_le, nat_eq, if◌then◌else◌, List, [], ◌∷◌, length, Option, Some, None, is_none, option_map}
+use Rattle.std.specs.Prelude.{ℕ, ◌==◌, Bool, true, false, not, ◌&&◌, nat_lt, nat_le, nat_eq, if◌then◌else◌, List, [], ◌∷◌, length, Option, Some, None, is_none, is_some, option_map, bytes_eq}
 use Rattle.amqp_perf.specs.declared.perf.Attach.{Attach as AnAttach}
 use Rattle.amqp_perf.specs.declared.perf.Detach.{Detach as ADetach}
+use Rattle.amqp_perf.specs.declared.perf.Disposition.{Disposition as ADisposition}
 use Rattle.amqp_perf.specs.declared.perf.Flow.{Flow as AFlow}
 use Rattle.amqp_perf.specs.declared.perf.Role.{Role}
 use Rattle.amqp_perf.specs.declared.perf.Role.TheVariants.{Sender, Receiver}
@@ -13,6 +14,8 @@ use Rattle.amqp_perf.specs.declared.terminus.SourceTerminus.{SourceTerminus}
 use Rattle.amqp_perf.specs.declared.terminus.SourceTerminus.TheVariants as source
 use Rattle.amqp_perf.specs.declared.terminus.TargetTerminus.{TargetTerminus}
 use Rattle.amqp_perf.specs.declared.terminus.TargetTerminus.TheVariants as target
+use Rattle.amqp_perf.specs.declared.state.DeliveryState.{DeliveryState}
+use Rattle.amqp_link.specs.declared.part.Delivery.{Delivery as Told}
 use Rattle.amqp_session.specs.Serials.{distance}
 use Rattle.amqp_session.specs.Session.{Session, TheirFlow, allowance}
 use Rattle.amqp_link.specs.Credit as credit
@@ -20,12 +23,13 @@ use Rattle.amqp_link.specs.Receiving as receiving
 use Rattle.amqp_link.specs.Receiving.{Received}
 use Rattle.router_trace.specs.declared.condition.Condition.{Condition}
 use Rattle.router_trace.specs.declared.condition.Condition.TheVariants.{NotAllowed, FramingError, ResourceLimitExceeded, NotImplemented, UnattachedHandle, HandleInUse, WindowViolation, NotFound, TransferLimitExceeded}
-use Rattle.router_trace.specs.declared.frames.LinkState.{LinkState}
 use Rattle.router_trace.specs.Frames.{told_of}
 use Rattle.router_trace.specs.Sessions.{flow_state}
 use Rattle.router_trace.specs.Links.{LinkPlace, nowhere, detaching, on, Happened, sends, receives, with_grant}
+use Rattle.router_trace.specs.Deliveries.{terminal, tag_in}
+use Rattle.router_trace.specs.Settling.{middle_by}
 use Rattle.router_reply.specs.declared.answer.Answer.{Answer}
-use Rattle.router_reply.specs.declared.answer.Answer.TheVariants.{Nothing, CloseWith, End, Refuse, Attach, Detach, LinkFlow}
+use Rattle.router_reply.specs.declared.answer.Answer.TheVariants.{Nothing, CloseWith, End, Refuse, Attach, Detach, LinkFlow, Taken, Settle}
 
 -- Why a link is refused, by its terminus at the router's side: there is none, or none of the kind that the router has, or it is to be
 -- made; its address is no string; it is empty; it, or the link's name, is longer than 1,024 bytes. Terminus that are to outlive a
@@ -113,28 +117,64 @@ link_flow_reply own h detaching f = Nothing
 link_flow_reply own h (on handle l) f = flow_on own (TheirFlow (flow_state f) ∷ h) handle l.happened f
 
 -- A transfer: on a handle that stands for nothing, beyond the session's window, or on a link on which the router sends, it ends the
--- session. A first frame without id or tag, or beyond the credit, detaches the link.
+-- session. A frame that starts a delivery without id or tag, or beyond the credit, detaches the link; under the id of a delivery that isn't
+-- settled yet it ends the session. So does a later frame with another id or tag detach it. Any other is taken for what it carries.
 abbrev pub is_anonymous : ATransfer → Bool
 is_anonymous x = if is_none x.delivery_id then true else is_none x.delivery_tag
 
-abbrev pub delivery_on : ℕ → ℕ → Happened → ATransfer → Answer
-delivery_on own handle (sends list) x = End own (Some NotAllowed)
-delivery_on own handle (receives list) x =
-    if is_anonymous x then Detach own handle true (Some NotAllowed)
-    else if nat_eq (receiving.unused list) 0 then Detach own handle true (Some TransferLimitExceeded)
-    else Nothing
+abbrev pub is_among : (ℕ → Bool) → Option ℕ → Bool
+is_among claimed None = false
+is_among claimed (Some id) = claimed id
 
-abbrev pub link_transfer_reply : ℕ → LinkPlace → ATransfer → Answer
-link_transfer_reply own nowhere x = End own (Some UnattachedHandle)
-link_transfer_reply own detaching x = Nothing
-link_transfer_reply own (on handle l) x = delivery_on own handle l.happened x
+abbrev pub start_on : ℕ → ℕ → ℕ → (ℕ → Bool) → ATransfer → Answer
+start_on own handle unused claimed x =
+    if is_anonymous x then Detach own handle true (Some NotAllowed)
+    else if is_among claimed x.delivery_id then End own (Some NotAllowed)
+    else if nat_eq unused 0 then Detach own handle true (Some TransferLimitExceeded)
+    else Taken own handle
+
+abbrev pub is_same_id : Option ℕ → Option ℕ → Bool
+is_same_id None first = true
+is_same_id (Some id) None = false
+is_same_id (Some id) (Some first) = id == first
+
+abbrev pub is_same_tag : Option (List ℕ) → Option (List ℕ) → Bool
+is_same_tag None first = true
+is_same_tag (Some tag) None = false
+is_same_tag (Some tag) (Some first) = bytes_eq tag first
+
+abbrev pub continue_on : ℕ → ℕ → Told → ATransfer → Answer
+continue_on own handle first x =
+    if is_same_id x.delivery_id first.id && is_same_tag (tag_in x) (option_map (λ tag. tag.items) first.tag) then Taken own handle
+    else Detach own handle true (Some NotAllowed)
+
+abbrev pub delivery_by : ℕ → ℕ → ℕ → (ℕ → Bool) → Option Told → ATransfer → Answer
+delivery_by own handle unused claimed None x = start_on own handle unused claimed x
+delivery_by own handle unused claimed (Some first) x = continue_on own handle first x
+
+abbrev pub delivery_on : ℕ → ℕ → (ℕ → Bool) → Happened → ATransfer → Answer
+delivery_on own handle claimed (sends list) x = End own (Some NotAllowed)
+delivery_on own handle claimed (receives list) x = delivery_by own handle (receiving.unused list) claimed (middle_by (receives list)) x
+
+abbrev pub link_transfer_reply : ℕ → (ℕ → Bool) → LinkPlace → ATransfer → Answer
+link_transfer_reply own claimed nowhere x = End own (Some UnattachedHandle)
+link_transfer_reply own claimed detaching x = Nothing
+link_transfer_reply own claimed (on handle l) x = delivery_on own handle claimed l.happened x
 
 abbrev pub is_unattached : LinkPlace → Bool
 is_unattached nowhere = true
 is_unattached _ = false
 
-abbrev pub session_transfer_reply : ℕ → Session → LinkPlace → ATransfer → Answer
-session_transfer_reply own h at x =
+abbrev pub session_transfer_reply : ℕ → Session → (ℕ → Bool) → LinkPlace → ATransfer → Answer
+session_transfer_reply own h claimed at x =
     if is_unattached at then End own (Some UnattachedHandle)
     else if nat_eq (allowance h) 0 then End own (Some WindowViolation)
-    else link_transfer_reply own at x
+    else link_transfer_reply own claimed at x
+
+-- A disposition: where the peer as a receiver decides deliveries without settling them, each is answered.
+abbrev pub asks : Role → Bool → Option DeliveryState → Bool
+asks Sender settled decided = false
+asks Receiver settled decided = not settled && is_some decided
+
+abbrev pub session_disposition_reply : ℕ → ADisposition → Answer
+session_disposition_reply own x = if asks x.role x.settled (terminal x.state) then Settle own else Nothing

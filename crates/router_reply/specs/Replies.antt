@@ -1,27 +1,40 @@
 -- What stands behind an event in a trace.
-use Rattle.std.specs.Prelude.{ℕ, true, false, if◌then◌else◌, List, [], ◌∷◌, ◌++◌, Option, Some, None}
+use Rattle.std.specs.Prelude.{ℕ, true, false, nat_lt, if◌then◌else◌, List, [], ◌∷◌, ◌++◌, map, Option, Some, None, option_map, unwrap_or}
 use Rattle.amqp_perf.specs.declared.perf.Attach.{Attach as AnAttach}
 use Rattle.amqp_perf.specs.declared.perf.Perf.{Perf}
 use Rattle.amqp_perf.specs.declared.perf.Perf.TheVariants as perf
+use Rattle.amqp_perf.specs.declared.perf.Disposition.{Disposition as ADisposition}
+use Rattle.amqp_perf.specs.declared.perf.Role.TheVariants.{Sender, Receiver}
+use Rattle.amqp_perf.specs.declared.state.DeliveryState.{DeliveryState}
+use Rattle.amqp_perf.specs.declared.state.DeliveryState.TheVariants as state
+use Rattle.amqp_link.specs.declared.part.Delivery.{Delivery as Told}
+use Rattle.amqp_link.specs.declared.part.Part.{Part}
+use Rattle.amqp_link.specs.declared.part.Part.TheVariants as part
 use Rattle.amqp_frames.specs.declared.item.Item.{Item}
 use Rattle.amqp_frames.specs.declared.item.Item.TheVariants as item
 use Rattle.amqp_conn.specs.declared.conn.Conn.{Conn}
 use Rattle.router_trace.specs.declared.condition.Condition.{Condition}
-use Rattle.router_trace.specs.declared.condition.Condition.TheVariants.{ResourceLimitExceeded, Stolen, FrameSizeTooSmall}
+use Rattle.router_trace.specs.declared.condition.Condition.TheVariants.{ResourceLimitExceeded, Stolen, FrameSizeTooSmall, MessageSizeExceeded}
 use Rattle.router_trace.specs.declared.event.Event.{Event}
 use Rattle.router_trace.specs.declared.event.Event.TheVariants as event
 use Rattle.router_trace.specs.Trace.{Trace, Step, Put, Did, puts, each_to, goes}
 use Rattle.router_trace.specs.Connection.{Connection, conn, standing, found, due}
 use Rattle.router_trace.specs.Frames.{closing}
 use Rattle.router_trace.specs.Sessions.{place, free_channel}
+use Rattle.router_trace.specs.declared.binding.Binding.{Binding}
+use Rattle.router_trace.specs.declared.binding.Origin.{Origin}
 use Rattle.router_trace.specs.declared.handle.Attachment.{Attachment}
+use Rattle.router_trace.specs.Deliveries.{terminal, last_of}
+use Rattle.router_trace.specs.DeliveryFrames.{outcome_item}
+use Rattle.router_trace.specs.Settling.{open_ids, is_claimed, is_claimed_on, ignored, part_of}
 use Rattle.router_trace.specs.LinkFrames.{attach_item, detach_item, answer_to, refusal_of, fits}
-use Rattle.router_trace.specs.Links.{link_place, free_handle, holder, key_at}
+use Rattle.router_trace.specs.Links.{Link, link, link_place, free_handle, holder, key_at}
 use Rattle.router_trace.specs.Peers.{largest_frame}
 use Rattle.router_trace.specs.Clocks.{terms, channel_max_of}
 use Rattle.router_state.specs.Tables.{beats}
+use Rattle.router_passing.specs.Passing.{passing, consumer_of, with_bound}
 use Rattle.router_reply.specs.declared.answer.Answer.{Answer}
-use Rattle.router_reply.specs.declared.answer.Answer.TheVariants.{Attach, Refuse}
+use Rattle.router_reply.specs.declared.answer.Answer.TheVariants.{Attach, Refuse, Taken, Settle}
 use Rattle.router_reply.specs.Rows.{Finds, said, item_reply, down_reply}
 
 -- a connection is closed with an error: its open stands before the close where it isn't written yet
@@ -44,7 +57,7 @@ free_for t c = free_channel t c (channel_max_of (terms t c))
 
 -- what an item on a connection finds
 abbrev pub finds : Trace → ℕ → Finds
-finds t c = record { places = place t c; free_channel = free_for t c; links = link_place t c; free_handle = free_handle t c }
+finds t c = record { places = place t c; free_channel = free_for t c; links = link_place t c; free_handle = free_handle t c; claimed = is_claimed t c }
 
 -- An attach that is taken: the older link of its key, if one is attached, is detached as stolen, and then the answer is put, on the
 -- lowest handle that is free by then. Where the answer doesn't fit what the peer takes, a detach tells so in its place.
@@ -71,27 +84,138 @@ refused largest own handle x a =
     if fits largest (attach_item own (refusal_of a handle)) then attach_item own (refusal_of a handle) ∷ detach_item own handle true (Some x) ∷ []
     else detach_item own handle true (Some x) ∷ []
 
+-- The deliveries that a disposition decides without settling them are answered, each settled, with its outcome as the router keeps it.
+abbrev pub settled_answers : ℕ → Option DeliveryState → List ℕ → List Item
+settled_answers own None ids = []
+settled_answers own (Some s) ids = map (λ id. outcome_item own Sender id s) ids
+
+abbrev pub put_for_disposition : Trace → ℕ → ADisposition → Answer → List Put
+put_for_disposition t c x (Settle own) = each_to c (settled_answers own (terminal x.state) (open_ids t c own x.first (last_of x)))
+put_for_disposition t c x _ = []
+
+-- the disposition that an item is, in its turn or not, and what answers the deliveries that it decides
+abbrev pub disposition_of : Perf → Option ADisposition
+disposition_of (perf.Disposition x) = Some x
+disposition_of _ = None
+
+abbrev pub disposition_in : Item → Option ADisposition
+disposition_in (item.Frame sasl channel body payload) = disposition_of body
+disposition_in _ = None
+
+abbrev pub settled_put : Trace → ℕ → ℕ → Option ADisposition → List Put
+settled_put t c own None = []
+settled_put t c own (Some x) = put_for_disposition t c x (Settle own)
+
+-- A delivery that came whole, behind the event. Its producer hasn't settled it where its link still claims its id. One that is resumed is ignored, as the
+-- router knows none of its; a link has at most 1,024 of these unsettled. Another is bound to a consumer of its address; where none is chosen it is
+-- released, or dropped where it is settled.
+abbrev pub claimed_id : Trace → ℕ → ℕ → ℕ → Option ℕ → Option ℕ
+claimed_id after c own handle None = None
+claimed_id after c own handle (Some id) = if is_claimed_on after c own handle id then Some id else None
+
+abbrev pub from_link : ℕ → ℕ → ℕ → Link → Attachment
+from_link c own handle l = record { number = l.number; conn = record { 0 = c }; channel = own; handle = handle }
+
+abbrev pub origin_of : Attachment → ℕ → Origin
+origin_of from id = record { link = from; id = id }
+
+abbrev pub message_bound : Trace → ℕ → ℕ → Attachment → Told → List ℕ → Option Binding
+message_bound after c own from d payload =
+    if d.resume then None else passing after from (option_map (origin_of from) (claimed_id after c own from.handle d.id)) (unwrap_or d.format 0) payload
+
+abbrev pub ignored_put : Trace → ℕ → ℕ → ℕ → Option ℕ → List Item
+ignored_put after c own handle None = []
+ignored_put after c own handle (Some id) =
+    if nat_lt 1024 (ignored after c own handle) then detach_item own handle true (Some ResourceLimitExceeded) ∷ [] else []
+
+abbrev pub released : ℕ → Option ℕ → List Item
+released own None = []
+released own (Some id) = outcome_item own Receiver id state.Released ∷ []
+
+abbrev pub unbound_put : ℕ → Option ℕ → Option Attachment → List Item
+unbound_put own id None = released own id
+unbound_put own id (Some consumer) = []
+
+abbrev pub whole_put : Trace → ℕ → ℕ → ℕ → Told → Option Link → List Item
+whole_put after c own handle d l =
+    if d.resume then ignored_put after c own handle (claimed_id after c own handle d.id)
+    else unbound_put own (claimed_id after c own handle d.id) (consumer_of after l)
+
+-- what a transfer gives that is taken: a delivery that came whole, one that is too large, or nothing yet
+abbrev pub part_put : Trace → ℕ → ℕ → ℕ → Option Part → List Item
+part_put after c own handle (Some (part.Whole d payload)) = whole_put after c own handle d (link after c own handle)
+part_put after c own handle (Some part.TooLarge) = detach_item own handle true (Some MessageSizeExceeded) ∷ []
+part_put after c own handle _ = []
+
+abbrev pub whole_bound : Trace → ℕ → ℕ → ℕ → Told → List ℕ → Option Link → Option Binding
+whole_bound after c own handle d payload None = None
+whole_bound after c own handle d payload (Some l) = message_bound after c own (from_link c own handle l) d payload
+
+-- the same of one that isn't resumed
+abbrev pub fresh_bound : Trace → ℕ → ℕ → ℕ → Told → List ℕ → Option Link → Option Binding
+fresh_bound after c own handle d payload None = None
+fresh_bound after c own handle d payload (Some l) =
+    passing after (from_link c own handle l) (option_map (origin_of (from_link c own handle l)) (claimed_id after c own handle d.id)) (unwrap_or d.format 0) payload
+
+abbrev pub part_bound : Trace → ℕ → ℕ → ℕ → Option Part → Option Binding
+part_bound after c own handle (Some (part.Whole d payload)) = whole_bound after c own handle d payload (link after c own handle)
+part_bound after c own handle _ = None
+
+abbrev pub put_for_transfer : Trace → Trace → ℕ → Item → Answer → List Put
+put_for_transfer t after c i (Taken own handle) = each_to c (part_put after c own handle (part_of i (link_place t c own)))
+put_for_transfer t after c i _ = []
+
+abbrev pub bound_for : Trace → Trace → ℕ → Item → Answer → Option Binding
+bound_for t after c i (Taken own handle) = part_bound after c own handle (part_of i (link_place t c own))
+bound_for t after c i _ = None
+
 -- What an answer to an item puts in outboxes, behind the ends for full outboxes.
 abbrev pub put_for_attach : Trace → ℕ → AnAttach → Answer → List Put
 put_for_attach t c a (Attach own) = taken t c own a
 put_for_attach t c a (Refuse own handle x) = each_to c (refused (largest_frame t c) own handle x a)
 put_for_attach t c a _ = []
 
-abbrev pub put_for : Trace → ℕ → Perf → Answer → List Put
-put_for t c (perf.Attach a) answer = put_for_attach t c a answer
-put_for t c _ answer = []
+abbrev pub attach_put_in : Trace → ℕ → Perf → Answer → List Put
+attach_put_in t c (perf.Attach a) answer = put_for_attach t c a answer
+attach_put_in t c _ answer = []
 
-abbrev pub links_put : Trace → ℕ → Item → Answer → List Put
-links_put t c (item.Frame sasl channel body payload) answer = put_for t c body answer
-links_put t c _ answer = []
+abbrev pub attach_put : Trace → ℕ → Item → Answer → List Put
+attach_put t c (item.Frame sasl channel body payload) answer = attach_put_in t c body answer
+attach_put t c _ answer = []
 
-abbrev pub item_put : List ℕ → Trace → ℕ → Conn → Item → Answer → List Put
-item_put id t c p i answer = each_to c (said id p answer) ++ links_put (puts c (said id p answer) t) c i answer
+abbrev pub put_for : Trace → Trace → ℕ → Perf → Item → Answer → List Put
+put_for t after c (perf.Attach a) i answer = put_for_attach after c a answer
+put_for t after c (perf.Transfer x) i answer = put_for_transfer t after c i answer
+put_for t after c (perf.Disposition x) i answer = put_for_disposition t c x answer
+put_for t after c _ i answer = []
+
+abbrev pub links_put : Trace → Trace → ℕ → Item → Answer → List Put
+links_put t after c (item.Frame sasl channel body payload) answer = put_for t after c body (item.Frame sasl channel body payload) answer
+links_put t after c _ answer = []
+
+abbrev pub item_put : List ℕ → Trace → Trace → ℕ → Conn → Item → Answer → List Put
+item_put id t after c p i answer = each_to c (said id p answer) ++ links_put t (puts c (said id p answer) after) c i answer
+
+-- what a transfer gives that is taken, bound and put behind its event; and all that an answer to an item does
+abbrev pub given_behind : Trace → ℕ → ℕ → ℕ → Option Part → Trace
+given_behind after c own handle part = puts c (part_put after c own handle part) (with_bound (part_bound after c own handle part) after)
+
+abbrev pub behind_answer : List ℕ → Trace → Trace → ℕ → Conn → Item → Answer → Trace
+behind_answer id t after c p i answer = goes (item_put id t after c p i answer) (with_bound (bound_for t after c i answer) after)
 
 -- nothing where the connection isn't live
 abbrev pub item_row : List ℕ → Trace → Trace → ℕ → Item → Option Conn → List Put
 item_row id t after c i None = []
-item_row id t after c i (Some p) = item_put id after c p i (item_reply p (finds t c) i)
+item_row id t after c i (Some p) = item_put id t after c p i (item_reply p (finds t c) i)
+
+abbrev pub item_bound : Trace → Trace → ℕ → Item → Option Conn → Option Binding
+item_bound t after c i None = None
+item_bound t after c i (Some p) = bound_for t after c i (item_reply p (finds t c) i)
+
+-- the message that an event binds, if it brings a whole one and a consumer is chosen for it
+abbrev pub bound_by : Trace → Trace → Event → Option Binding
+bound_by t after (event.Item c i) = item_bound t after c.0 i (standing (found t (event.Item c i) c.0))
+bound_by t after _ = None
 
 -- what an event's own row puts in outboxes, by what the event finds, and behind the ends for full outboxes
 abbrev pub own_row : List ℕ → Trace → Trace → Event → List Put
@@ -100,6 +224,9 @@ own_row id t after (event.Down c) = each_to c.0 down_reply
 own_row id t after (event.Tick ms) = beats t (event.Tick ms) ms
 own_row id t after _ = []
 
--- the event with what its rows put: the ends, then the event's own row
+-- the event with what its rows do: the ends, then the message that it binds, then what its own row puts
+abbrev pub replied_behind : List ℕ → Trace → Trace → Event → Trace
+replied_behind id t after e = goes (own_row id t after e) (with_bound (bound_by t after e) after)
+
 abbrev pub replied : List ℕ → Trace → Step → Trace
-replied id t s = goes (own_row id t (heard id t s) s.event) (heard id t s)
+replied id t s = replied_behind id t (heard id t s) s.event

@@ -5,6 +5,7 @@ use Rattle.std.specs.Prelude.{ℕ, Bool, nat_lt, if◌then◌else◌, List, [], 
 use Rattle.amqp_perf.specs.declared.perf.Attach.{Attach as AnAttach}
 use Rattle.amqp_perf.specs.declared.perf.Begin.{Begin as ABegin}
 use Rattle.amqp_perf.specs.declared.perf.Detach.{Detach as ADetach}
+use Rattle.amqp_perf.specs.declared.perf.Disposition.{Disposition as ADisposition}
 use Rattle.amqp_perf.specs.declared.perf.Flow.{Flow as AFlow}
 use Rattle.amqp_perf.specs.declared.perf.Open.{Open as AnOpen}
 use Rattle.amqp_perf.specs.declared.perf.Perf.{Perf}
@@ -20,12 +21,12 @@ use Rattle.amqp_conn.specs.declared.fault.ConnFault.TheVariants.{ChannelTooHigh}
 use Rattle.amqp_conn.specs.Phase.{after_header, after_open, after_frame}
 use Rattle.amqp_session.specs.Session.{Session, TheirFlow}
 use Rattle.router_trace.specs.declared.condition.Condition.{Condition}
-use Rattle.router_trace.specs.declared.condition.Condition.TheVariants.{NotAllowed, FramingError, DecodeError, ResourceLimitExceeded, NotImplemented, UnattachedHandle}
+use Rattle.router_trace.specs.declared.condition.Condition.TheVariants.{NotAllowed, FramingError, DecodeError, ResourceLimitExceeded}
 use Rattle.router_trace.specs.Frames.{header_item, open_item, close_item, begin_item, end_item, flow_item, closing, told_of}
 use Rattle.router_trace.specs.LinkFrames.{detach_item, link_flow_item}
 use Rattle.router_trace.specs.Links.{LinkPlace}
 use Rattle.router_trace.specs.Sessions.{Place, nowhere, ending, on, flow_state}
-use Rattle.router_reply.specs.LinkRows.{session_attach_reply, session_detach_reply, link_flow_reply, session_transfer_reply}
+use Rattle.router_reply.specs.LinkRows.{session_attach_reply, session_detach_reply, link_flow_reply, session_transfer_reply, session_disposition_reply}
 use Rattle.router_reply.specs.declared.answer.Answer.{Answer}
 use Rattle.router_reply.specs.declared.answer.Answer.TheVariants.{Nothing, Header, Open, Close, CloseWith, Begin, End, Flow, Detach, LinkFlow}
 
@@ -139,37 +140,37 @@ attach_reply nowhere links free a = no_session_reply
 attach_reply ending links free a = silent_reply
 attach_reply (on own h) links free a = session_attach_reply own (links own a.handle) (free own) a
 
-abbrev pub transfer_reply : Place → Links → ATransfer → Answer
-transfer_reply nowhere links x = no_session_reply
-transfer_reply ending links x = silent_reply
-transfer_reply (on own h) links x = session_transfer_reply own h (links own x.handle) x
+abbrev pub transfer_reply : Place → Links → (ℕ → ℕ → Bool) → ATransfer → Answer
+transfer_reply nowhere links claimed x = no_session_reply
+transfer_reply ending links claimed x = silent_reply
+transfer_reply (on own h) links claimed x = session_transfer_reply own h (claimed own) (links own x.handle) x
 
 abbrev pub detach_reply : Place → Links → ADetach → Answer
 detach_reply nowhere links x = no_session_reply
 detach_reply ending links x = silent_reply
 detach_reply (on own h) links x = session_detach_reply own (links own x.handle) x
 
--- a disposition names no delivery
-abbrev pub disposition_reply : Place → Answer
-disposition_reply nowhere = no_session_reply
-disposition_reply ending = silent_reply
-disposition_reply (on own h) = silent_reply
+abbrev pub disposition_reply : Place → ADisposition → Answer
+disposition_reply nowhere x = no_session_reply
+disposition_reply ending x = silent_reply
+disposition_reply (on own h) x = session_disposition_reply own x
 
 -- What an item finds: what stands on the channels of the peer, the lowest free channel of the router, what the peer's handles stand for
--- on the sessions of the router's channels, and the lowest free handle of the router on each.
+-- on the sessions of the router's channels, the lowest free handle of the router on each, and the delivery-ids of the peer that aren't settled.
 pub record Finds : Type 0 where
   pub places : ℕ → Place
   pub free_channel : Option ℕ
   pub links : Links
   pub free_handle : ℕ → Option ℕ
+  pub claimed : ℕ → ℕ → Bool
 
 -- a performative other than open, in its turn and on a channel in range, or not
 abbrev pub in_turn : Finds → ℕ → Perf → Answer
 in_turn k channel (perf.Begin b) = begin_reply (k.places channel) k.free_channel channel b
 in_turn k channel (perf.Attach a) = attach_reply (k.places channel) k.links k.free_handle a
 in_turn k channel (perf.Flow f) = flow_reply (k.places channel) k.links f
-in_turn k channel (perf.Transfer x) = transfer_reply (k.places channel) k.links x
-in_turn k channel (perf.Disposition x) = disposition_reply (k.places channel)
+in_turn k channel (perf.Transfer x) = transfer_reply (k.places channel) k.links k.claimed x
+in_turn k channel (perf.Disposition x) = disposition_reply (k.places channel) x
 in_turn k channel (perf.Detach x) = detach_reply (k.places channel) k.links x
 in_turn k channel (perf.End x) = end_reply (k.places channel)
 in_turn k channel (perf.Close x) = close_reply

@@ -70,4 +70,16 @@ pub enum Answer {
         /// What it tells of the link.
         at: LinkState,
     },
+    /// A transfer is taken for what it carries.
+    Taken {
+        /// The router's channel of the session.
+        own: u16,
+        /// The router's handle of the link.
+        handle: u32,
+    },
+    /// Deliveries that a disposition decides without settling them are answered, each settled.
+    Settle {
+        /// The router's channel of the session.
+        own: u16,
+    },
 }

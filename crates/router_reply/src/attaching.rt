@@ -4,7 +4,7 @@ ghost use Rattle.router_trace.specs.Trace.{Entry, goes, puts};
 ghost use Rattle.router_trace.specs.Links.{holder};
 ghost use Rattle.router_trace.specs.LinkFrames.{fits};
 ghost use Rattle.router_state.specs.Tables.{TablesFit};
-ghost use Rattle.router_reply.specs.Replies.{stolen_by, unless_too_large, attach_answer, taken, refused, put_for_attach, put_for, links_put};
+ghost use Rattle.router_reply.specs.Replies.{stolen_by, unless_too_large, attach_answer, taken, refused, put_for_attach, attach_put_in, attach_put};
 ghost use Rattle.router_trace.specs.Peers.{largest_frame};
 
 use crate::answer::Answer;
@@ -138,7 +138,7 @@ fn answer_perf(
     perf: Perf,
     answer: &Answer,
 ) -> Result<(), AllocError>
-    ensures { OnOk result ((t : List Entry) → TablesFit state.old t → TablesFit state.new (goes (put_for t conn perf answer.now) t)) }
+    ensures { OnOk result ((t : List Entry) → TablesFit state.old t → TablesFit state.new (goes (attach_put_in t conn perf answer.now) t)) }
 {
     match perf {
         Perf::Attach(attach) => answer_attach(state, id, conn, attach, answer)?,
@@ -147,15 +147,15 @@ fn answer_perf(
     Ok(())
 }
 
-/// Puts what an answer to an item has put in outboxes beyond its own items, where it is about a link.
-pub fn put_links(
+/// Puts what an answer to an item has put in outboxes beyond its own items, where the item is an attach.
+pub fn answer_item(
     state: &mut State,
     id: &RouterId,
     conn: u64,
     item: Item,
     answer: &Answer,
 ) -> Result<(), AllocError>
-    ensures { OnOk result ((t : List Entry) → TablesFit state.old t → TablesFit state.new (goes (links_put t conn item answer.now) t)) }
+    ensures { OnOk result ((t : List Entry) → TablesFit state.old t → TablesFit state.new (goes (attach_put t conn item answer.now) t)) }
 {
     match item {
         Item::Frame {

@@ -101,6 +101,7 @@ pub fn say(
         }
         Answer::LinkFlow { own, told, at } => state.put(conn, link_flow_item(*own, *told, *at))?,
         Answer::Attach { .. } | Answer::Refuse { .. } => {}
+        Answer::Taken { .. } | Answer::Settle { .. } => {}
     }
     Ok(())
 }

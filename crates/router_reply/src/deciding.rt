@@ -7,7 +7,9 @@ ghost use Rattle.router_trace.specs.Links.{link_place, free_handle};
 ghost use Rattle.router_sessions.specs.Fits.{found_of};
 ghost use Rattle.router_state.specs.Tables.{TablesAt};
 ghost use Rattle.router_reply.specs.Rows.{attach_reply, flow_reply, transfer_reply, detach_reply, in_turn, turn_by, perf_reply, item_reply};
+ghost use Rattle.router_reply.specs.LinkRows.{is_among};
 ghost use Rattle.router_reply.specs.Replies.{finds};
+ghost use Rattle.router_trace.specs.Settling.{is_claimed};
 ghost use Rattle.router_trace.specs.declared.event.Event.{Event as E};
 
 use crate::answer::Answer;
@@ -58,17 +60,29 @@ fn flow_reply(state: &State, conn: u64, place: Place, flow: &Flow) -> Answer
     }
 }
 
+/// Whether a peer has not settled the delivery of an id of its own, where a transfer tells one.
+fn is_among(state: &State, conn: u64, own: u16, id: Option<u32>) -> bool
+    ensures { (t : List Entry) (e : E) (ends : List ℕ) → TablesAt state.now t e ends → result ≡ is_among (is_claimed t conn own) id }
+{
+    match id {
+        None => false,
+        Some(id) => state.is_claimed(conn, own, id),
+    }
+}
+
 /// A transfer on what was found on its channel.
 fn transfer_reply(state: &State, conn: u64, place: Place, transfer: &Transfer) -> Answer
     ensures { (t : List Entry) (e : E) (ends : List ℕ) (at : At) → TablesAt state.now t e ends → place ≡ found_of at
-        → result ≡ transfer_reply at (link_place t conn) transfer.now }
+        → result ≡ transfer_reply at (link_place t conn) (is_claimed t conn) transfer.now }
 {
     match place {
         Place::Nowhere => no_session_reply(),
         Place::Ending => Answer::Nothing,
         Place::On { own, window } => {
             let at = state.link_place(conn, own, transfer.handle);
-            session_transfer_reply(own, window, at, transfer)
+            let claimed = is_among(state, conn, own, transfer.delivery_id);
+            let middle = state.middle(conn, own, transfer.handle);
+            session_transfer_reply(own, window, at, claimed, middle, transfer)
         }
     }
 }
@@ -98,7 +112,7 @@ fn in_turn(state: &State, conn: u64, channel: u16, perf: &Perf) -> Answer
         Perf::Attach(attach) => attach_reply(state, conn, place, attach),
         Perf::Flow(flow) => flow_reply(state, conn, place, flow),
         Perf::Transfer(transfer) => transfer_reply(state, conn, place, transfer),
-        Perf::Disposition(_) => disposition_reply(place),
+        Perf::Disposition(disposition) => disposition_reply(place, disposition),
         Perf::Detach(detach) => detach_reply(state, conn, place, detach),
         Perf::End(_) => end_reply(place),
         Perf::Close(_) => close_reply(),

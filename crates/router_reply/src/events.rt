@@ -1,31 +1,128 @@
 //! An event with all that follows: the ends for full outboxes, then the event's own row.
-ghost use Rattle.std.specs.Prelude.{◌≡◌, ◌∷◌, ℕ, List, OnOk, true, false};
-ghost use Rattle.router_trace.specs.Trace.{Entry, did, newest, step_of};
+ghost use Rattle.std.specs.Prelude.{◌≡◌, ◌∷◌, ℕ, List, OnOk, IfOk, true, false};
+ghost use Rattle.router_trace.specs.Trace.{Entry, did, newest, step_of, goes};
+ghost use Rattle.router_trace.specs.Sessions.{theirs, maps};
+ghost use Rattle.router_trace.specs.Links.{link_place};
+ghost use Rattle.router_trace.specs.Settling.{part_of};
+ghost use Rattle.router_links.specs.Fits.{channel_of};
 ghost use Rattle.router_trace.specs.Refusing.{rises, refuses};
 ghost use Rattle.router_state.specs.Tables.{TablesFit, TablesAt};
-ghost use Rattle.router_reply.specs.Replies.{replied, heard};
+ghost use Rattle.router_reply.specs.Rows.{item_reply};
+ghost use Rattle.router_reply.specs.Replies.{finds, replied, heard, given_behind, behind_answer, attach_put, settled_put, disposition_in};
 ghost use Rattle.router_trace.specs.declared.event.Event.TheVariants as event;
 
-use crate::attaching::put_links;
+use crate::answer::Answer;
+use crate::attaching::answer_item;
 use crate::closing::{close_all, say};
 use crate::deciding::item_reply;
+use crate::passing::{disposition_in, last_of, settle, take_part};
+use amqp_conn::Conn;
 use amqp_frames::Item;
+use amqp_link::Part;
 use router_state::State;
 use router_trace::{ConnectionId, Event, Peer, RouterId};
 use std::alloc::AllocError;
 
-/// Hears an item: its event is noted, and the ends for full outboxes are put.
+/// Hears an item: its event is noted, and the ends for full outboxes are put; what a transfer gives on its link.
 fn hear_item(
     state: &mut State,
     id: &RouterId,
     ends: &[u64],
     conn: ConnectionId,
     item: &Item,
-) -> Result<(), AllocError>
-    ensures { OnOk result ((t : List Entry) → TablesAt state.old t (event.Item conn item.now) ends.now → TablesFit state.new (heard id.now t (step_of (event.Item conn item.now)))) }
+) -> Result<Option<Part>, AllocError>
+    ensures part { IfOk result (λ part. (t : List Entry) (own : ℕ) → TablesAt state.old t (event.Item conn item.now) ends.now
+        → maps (theirs t conn.0 (channel_of item.now)) own ≡ true → part ≡ part_of item.now (link_place t conn.0 own)) }
+    ensures fits { OnOk result ((t : List Entry) → TablesAt state.old t (event.Item conn item.now) ends.now → TablesFit state.new (heard id.now t (step_of (event.Item conn item.now)))) }
 {
-    state.hear(conn, item)?;
+    let part = state.hear(conn, item)?;
     close_all(state, id, ends)?;
+    Ok(part)
+}
+
+/// A transfer that is taken: what it gives is passed on.
+fn on_taken(
+    state: &mut State,
+    id: &RouterId,
+    ends: &[u64],
+    conn: ConnectionId,
+    own: u16,
+    handle: u32,
+    item: &Item,
+) -> Result<(), AllocError>
+    ensures { OnOk result ((t : List Entry) → TablesAt state.old t (event.Item conn item.now) ends.now
+        → maps (theirs t conn.0 (channel_of item.now)) own ≡ true
+        → TablesFit state.new (given_behind (heard id.now t (step_of (event.Item conn item.now))) conn.0 own handle (part_of item.now (link_place t conn.0 own)))) }
+{
+    let part = hear_item(state, id, ends, conn, item)?;
+    take_part(state, id, conn.0, own, handle, part)?;
+    Ok(())
+}
+
+/// A disposition whose deliveries are answered: those that it names are asked before it is heard.
+fn on_settle(
+    state: &mut State,
+    id: &RouterId,
+    ends: &[u64],
+    conn: ConnectionId,
+    own: u16,
+    item: &Item,
+) -> Result<(), AllocError>
+    ensures { OnOk result ((t : List Entry) → TablesAt state.old t (event.Item conn item.now) ends.now
+        → TablesFit state.new (goes (settled_put t conn.0 own (disposition_in item.now)) (heard id.now t (step_of (event.Item conn item.now))))) }
+{
+    let Some(disposition) = disposition_in(item) else {
+        hear_item(state, id, ends, conn, item)?;
+        return Ok(());
+    };
+    let ids = state.open_ids(conn.0, own, disposition.first, last_of(disposition))?;
+    hear_item(state, id, ends, conn, item)?;
+    settle(state, id, conn.0, own, &ids, disposition)?;
+    Ok(())
+}
+
+/// An item whose row gave this answer: it is heard, and the answer put, but for what an attach has put.
+fn begin_item(
+    state: &mut State,
+    id: &RouterId,
+    ends: &[u64],
+    conn: ConnectionId,
+    phase: Conn,
+    item: &Item,
+    answer: &Answer,
+) -> Result<(), AllocError>
+    ensures { OnOk result ((t : List Entry) → TablesAt state.old t (event.Item conn item.now) ends.now → answer.now ≡ item_reply phase (finds t conn.0) item.now
+        → (u : List Entry) × TablesFit state.new u
+        × (goes (attach_put u conn.0 item.now answer.now) u ≡ behind_answer id.now t (heard id.now t (step_of (event.Item conn item.now))) conn.0 phase item.now answer.now)) }
+{
+    match answer {
+        Answer::Taken { own, handle } => {
+            on_taken(state, id, ends, conn, *own, *handle, item)?;
+            Ok(())
+        }
+        Answer::Settle { own } => {
+            on_settle(state, id, ends, conn, *own, item)?;
+            Ok(())
+        }
+        _ => {
+            hear_item(state, id, ends, conn, item)?;
+            say(state, id, conn.0, phase, answer)?;
+            Ok(())
+        }
+    }
+}
+
+/// An item on a connection that isn't live as the event finds it: it is heard, and has no answer.
+fn hear_late(
+    state: &mut State,
+    id: &RouterId,
+    ends: &[u64],
+    conn: ConnectionId,
+    item: Item,
+) -> Result<(), AllocError>
+    ensures { OnOk result ((t : List Entry) → TablesAt state.old t (event.Item conn item) ends.now → TablesFit state.new (heard id.now t (step_of (event.Item conn item)))) }
+{
+    hear_item(state, id, ends, conn, &item)?;
     Ok(())
 }
 
@@ -40,13 +137,12 @@ fn on_item(
     ensures { OnOk result ((t : List Entry) → TablesAt state.old t (event.Item conn item) ends.now → TablesFit state.new (replied id.now t (step_of (event.Item conn item)))) }
 {
     let Some(phase) = state.standing(conn.0) else {
-        hear_item(state, id, ends, conn, &item)?;
+        hear_late(state, id, ends, conn, item)?;
         return Ok(());
     };
     let answer = item_reply(state, conn.0, phase, &item);
-    hear_item(state, id, ends, conn, &item)?;
-    say(state, id, conn.0, phase, &answer)?;
-    put_links(state, id, conn.0, item, &answer)?;
+    begin_item(state, id, ends, conn, phase, &item, &answer)?;
+    answer_item(state, id, conn.0, item, &answer)?;
     Ok(())
 }
 

@@ -7,9 +7,11 @@ mod closing;
 mod deciding;
 mod events;
 mod link_rows;
+mod passing;
 mod rows;
 
 pub use answer::Answer;
 pub use events::reply;
 pub use link_rows::LINK_TEXT;
+pub use passing::IGNORED;
 pub use rows::CONTAINER_ID;

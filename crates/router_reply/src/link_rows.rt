@@ -1,6 +1,6 @@
 //! The rows of the reply table that speak of links, a function each: what the router answers to a frame on a session, by what its
 //! handle stands for.
-ghost use Rattle.std.specs.Prelude.{◌≡◌, ◌∷◌, Some};
+ghost use Rattle.std.specs.Prelude.{◌≡◌, ◌∷◌, ℕ, Bool, Some, true, option_map, is_some};
 ghost use Rattle.amqp_session.specs.Session.{Session, TheirFlow};
 ghost use Rattle.amqp_link.specs.Credit.{Link as SendList};
 ghost use Rattle.amqp_link.specs.Figures.{Sends};
@@ -8,14 +8,19 @@ ghost use Rattle.amqp_link.specs.Receiving.{Received, delivery_count, unused as 
 ghost use Rattle.router_trace.specs.Sessions.{flow_state};
 ghost use Rattle.amqp_session.specs.Figures.{window_of};
 ghost use Rattle.router_trace.specs.Links.{LinkPlace, found_link, sends, receives};
-ghost use Rattle.router_reply.specs.LinkRows.{address_refusal, terminus_refusal, source_refusal, target_refusal, refusal, attach_fresh, session_attach_reply, session_detach_reply, link_echo, flow_on, link_flow_reply, delivery_on, session_transfer_reply};
+ghost use Rattle.router_reply.specs.LinkRows.{address_refusal, terminus_refusal, source_refusal, target_refusal, refusal, attach_fresh, session_attach_reply, session_detach_reply, link_echo, flow_on, link_flow_reply, is_among, start_on, is_same_id, is_same_tag, continue_on, delivery_on, session_transfer_reply, session_disposition_reply};
+ghost use Rattle.router_reply.specs.declared.answer.Answer.TheVariants as answers;
+ghost use Rattle.router_trace.specs.declared.condition.Condition.TheVariants.{NotAllowed};
+ghost use Rattle.router_trace.specs.Deliveries.{terminal};
+ghost use Rattle.router_trace.specs.Settling.{middle_by, middle_on};
 ghost use Rattle.router_trace.specs.declared.condition.Condition.TheVariants.{UnattachedHandle};
 ghost use Rattle.router_reply.specs.declared.answer.Answer.TheVariants.{End};
 
 use crate::answer::Answer;
-use amqp_link::SendEnd;
+use amqp_link::{Delivery, SendEnd};
 use amqp_perf::{
-    Address, Attach, Detach, Flow, Role, SourceTerminus, TargetTerminus, Text, Transfer,
+    Address, Attach, DeliveryState, DeliveryTag, Detach, Disposition, Flow, Role, SourceTerminus,
+    TargetTerminus, Text, Transfer,
 };
 use amqp_session::{Serial, Window};
 use router_sessions::flow_state;
@@ -248,10 +253,20 @@ pub fn link_flow_reply(own: u16, window: Window, at: LinkAt, flow: &Flow) -> Ans
 
 /// A transfer on a session: on a handle that stands for no link it ends the session with `amqp:session:unattached-handle`, beyond the
 /// session's window with `amqp:session:window-violation`, on a link on which the router sends with `amqp:not-allowed`. One that starts a
-/// delivery without id or tag detaches the link with `amqp:not-allowed`, one beyond the credit with `amqp:link:transfer-limit-exceeded`
-/// (AMQP 1.0 part 2, sections 2.5.6, 2.6.7 and 2.7.5).
-pub fn session_transfer_reply(own: u16, window: Window, at: LinkAt, transfer: &Transfer) -> Answer
-    ensures { (h : Session) (link : LinkPlace) → window ≡ window_of h → at ≡ found_link link → result ≡ session_transfer_reply own h link transfer.now }
+/// delivery without id or tag detaches the link with `amqp:not-allowed`, one beyond the credit with `amqp:link:transfer-limit-exceeded`;
+/// under the id of a delivery that isn't settled yet it ends the session with `amqp:not-allowed`. A later one with another id or tag than
+/// the first detaches the link with `amqp:not-allowed`. Any other is taken (AMQP 1.0 part 2, sections 2.5.6, 2.6.7, 2.6.12 and 2.7.5).
+pub fn session_transfer_reply(
+    own: u16,
+    window: Window,
+    at: LinkAt,
+    claimed: bool,
+    middle: Option<&Delivery>,
+    transfer: &Transfer,
+) -> Answer
+    ensures { (h : Session) (link : LinkPlace) (ids : ℕ → Bool) → window ≡ window_of h → at ≡ found_link link
+        → claimed ≡ is_among ids transfer.now.delivery_id → option_map (λ d. d.now) middle.entry ≡ middle_on link
+        → result ≡ session_transfer_reply own h ids link transfer.now }
 {
     match at {
         LinkAt::Nowhere => end_unattached(own),
@@ -260,29 +275,128 @@ pub fn session_transfer_reply(own: u16, window: Window, at: LinkAt, transfer: &T
             error: Some(Condition::WindowViolation),
         },
         LinkAt::Detaching => Answer::Nothing,
-        LinkAt::Sends { .. } => Answer::End {
-            own,
-            error: Some(Condition::NotAllowed),
-        },
-        LinkAt::Receives { handle, unused, .. } => delivery_on(own, handle, unused, transfer),
+        LinkAt::Sends { .. } => end_not_allowed(own),
+        LinkAt::Receives { handle, unused, .. } => {
+            delivery_on(own, handle, unused, claimed, middle, transfer)
+        }
     }
 }
 
-/// A transfer on a link on which the peer sends.
-fn delivery_on(own: u16, handle: u32, unused: u32, transfer: &Transfer) -> Answer
-    ensures { (list : Received) → unused ≡ unused_of list → result ≡ delivery_on own handle (receives list) transfer.now }
+/// A frame that isn't allowed ends its session.
+fn end_not_allowed(own: u16) -> Answer
+    ensures { result ≡ answers.End own (Some NotAllowed) }
 {
-    let error = if transfer.delivery_id.is_none() || transfer.delivery_tag.is_none() {
-        Condition::NotAllowed
-    } else if unused == 0 {
-        Condition::TransferLimitExceeded
-    } else {
-        return Answer::Nothing;
-    };
+    Answer::End {
+        own,
+        error: Some(Condition::NotAllowed),
+    }
+}
+
+/// A frame that is at fault detaches its link for good.
+fn detach_for(own: u16, handle: u32, error: Condition) -> Answer
+    ensures { result ≡ answers.Detach own handle true (Some error) }
+{
     Answer::Detach {
         own,
         handle,
         closed: true,
         error: Some(error),
+    }
+}
+
+/// A transfer on a link on which the peer sends: it starts a delivery, or goes on with the one in the middle.
+fn delivery_on(
+    own: u16,
+    handle: u32,
+    unused: u32,
+    claimed: bool,
+    middle: Option<&Delivery>,
+    transfer: &Transfer,
+) -> Answer
+    ensures { (list : Received) (ids : ℕ → Bool) → unused ≡ unused_of list → claimed ≡ is_among ids transfer.now.delivery_id
+        → option_map (λ d. d.now) middle.entry ≡ middle_by (receives list) → result ≡ delivery_on own handle ids (receives list) transfer.now }
+{
+    match middle {
+        None => start_on(own, handle, unused, claimed, transfer),
+        Some(first) => continue_on(own, handle, first, transfer),
+    }
+}
+
+/// A transfer that starts a delivery.
+fn start_on(own: u16, handle: u32, unused: u32, claimed: bool, transfer: &Transfer) -> Answer
+    ensures { (ids : ℕ → Bool) → claimed ≡ is_among ids transfer.now.delivery_id → result ≡ start_on own handle unused ids transfer.now }
+{
+    if transfer.delivery_id.is_none() || transfer.delivery_tag.is_none() {
+        return detach_for(own, handle, Condition::NotAllowed);
+    }
+    if claimed {
+        return end_not_allowed(own);
+    }
+    if unused == 0 {
+        return detach_for(own, handle, Condition::TransferLimitExceeded);
+    }
+    Answer::Taken { own, handle }
+}
+
+/// Whether a later transfer's id, if it tells one, is that of the first.
+fn is_same_id(id: Option<u32>, first: Option<u32>) -> bool
+    ensures { result ≡ is_same_id id first }
+{
+    match id {
+        None => true,
+        Some(id) => match first {
+            None => false,
+            Some(first) => id == first,
+        },
+    }
+}
+
+/// Whether a later transfer's tag, if it tells one, is that of the first.
+fn is_same_tag(tag: &Option<DeliveryTag>, first: &Option<DeliveryTag>) -> bool
+    ensures { result ≡ is_same_tag (option_map (λ tag. tag.items) tag.now) (option_map (λ tag. tag.items) first.now) }
+{
+    match tag {
+        None => true,
+        Some(tag) => match first {
+            None => false,
+            Some(first) => tag.as_slice() == first.as_slice(),
+        },
+    }
+}
+
+/// A transfer that goes on with a delivery.
+fn continue_on(own: u16, handle: u32, first: &Delivery, transfer: &Transfer) -> Answer
+    ensures { result ≡ continue_on own handle first.now transfer.now }
+{
+    if is_same_id(transfer.delivery_id, first.id)
+        && is_same_tag(&transfer.delivery_tag, &first.tag)
+    {
+        return Answer::Taken { own, handle };
+    }
+    detach_for(own, handle, Condition::NotAllowed)
+}
+
+/// Whether a state is an outcome.
+fn is_terminal(state: &Option<DeliveryState>) -> bool
+    ensures { result ≡ is_some (terminal state.now) }
+{
+    match state {
+        None => false,
+        Some(DeliveryState::Received(_)) => false,
+        Some(DeliveryState::Other(_)) => false,
+        Some(_) => true,
+    }
+}
+
+/// A disposition on a session: where the peer as a receiver decides deliveries without settling them, each is answered (AMQP 1.0 part 2,
+/// sections 2.6.12 and 2.7.6).
+pub fn session_disposition_reply(own: u16, disposition: &Disposition) -> Answer
+    ensures { result ≡ session_disposition_reply own disposition.now }
+{
+    match disposition.role {
+        Role::Sender => Answer::Nothing,
+        Role::Receiver if disposition.settled => Answer::Nothing,
+        Role::Receiver if is_terminal(&disposition.state) => Answer::Settle { own },
+        Role::Receiver => Answer::Nothing,
     }
 }

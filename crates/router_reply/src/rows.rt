@@ -9,10 +9,11 @@ ghost use Rattle.amqp_session.specs.Figures.{window_of};
 ghost use Rattle.router_trace.specs.Sessions.{flow_state};
 
 use crate::answer::Answer;
+use crate::link_rows::session_disposition_reply;
 use amqp_conn::Conn;
 use amqp_conn::conn::CHANNEL_MAX;
 use amqp_frames::FrameFault;
-use amqp_perf::{Begin, Flow, Open};
+use amqp_perf::{Begin, Disposition, Flow, Open};
 use amqp_session::Window;
 use router_sessions::{Place, flow_state};
 use router_trace::{Condition, SESSION_WINDOW};
@@ -162,12 +163,13 @@ pub fn session_flow_reply(own: u16, window: Window, flow: &Flow) -> Answer
     }
 }
 
-/// A disposition: it names no delivery.
-pub fn disposition_reply(place: Place) -> Answer
-    ensures { (at : At) → place ≡ found_of at → result ≡ disposition_reply at }
+/// A disposition: on a session its own row answers (AMQP 1.0 part 2, section 2.7.6).
+pub fn disposition_reply(place: Place, disposition: &Disposition) -> Answer
+    ensures { (at : At) → place ≡ found_of at → result ≡ disposition_reply at disposition.now }
 {
     match place {
         Place::Nowhere => no_session_reply(),
-        _ => Answer::Nothing,
+        Place::Ending => Answer::Nothing,
+        Place::On { own, .. } => session_disposition_reply(own, disposition),
     }
 }

@@ -11,7 +11,7 @@ use Rattle.router_trace.specs.Connection.{conn, due, found, live_of, is_ready}
 use Rattle.router_conns.specs.Fits.{ConnectionsFit, ConnectionsAt}
 use Rattle.router_conns.specs.Peering.{PeersFit}
 use Rattle.router_conns.specs.Timing.{ClocksFit}
-use Rattle.router_links.specs.Fits.{LinksFit}
+use Rattle.router_passing.specs.Fits.{PassingFit}
 use Rattle.router_sessions.specs.Fits.{SessionsFit}
 
 -- all tables are those of the trace
@@ -21,7 +21,7 @@ pub record TablesFit (s : State) (t : Trace) : Type 0 where
   pub clocks : ClocksFit s.clocks t
   pub peers : PeersFit s.peers t
   pub sessions : SessionsFit s.sessions t
-  pub links : LinksFit s.links t
+  pub passing : PassingFit s.passing t
 
 -- all tables are what an event finds behind the trace, which ends these connections first
 pub record TablesAt (s : State) (t : Trace) (e : Event) (ends : List ℕ) : Type 0 where
@@ -30,7 +30,7 @@ pub record TablesAt (s : State) (t : Trace) (e : Event) (ends : List ℕ) : Type
   pub clocks : ClocksFit s.clocks t
   pub peers : PeersFit s.peers t
   pub sessions : SessionsFit s.sessions t
-  pub links : LinksFit s.links t
+  pub passing : PassingFit s.passing t
   pub are_due : ends ≡ due t e
 
 -- the heartbeats that are due at a moment on these connections, by number

@@ -1,6 +1,16 @@
 //! All tables, changed together.
-ghost use Rattle.std.specs.Prelude.{◌≡◌, ◌==◌, ◌≤◌, ◌&&◌, nat_lt, if◌then◌else◌, ◌∷◌, ◌++◌, ℕ, List, [], true, option_map, OnOk, IfOk};
+ghost use Rattle.std.specs.Prelude.{◌≡◌, ◌==◌, ◌≤◌, ◌&&◌, nat_lt, if◌then◌else◌, ◌∷◌, ◌++◌, ℕ, List, [], true, Option, option_map, OnOk, IfOk};
 ghost use Rattle.std.specs.Ordering.{nat_cmp};
+ghost use Rattle.std.specs.Prelude.{is_some};
+ghost use Rattle.router_trace.specs.Sessions.{theirs, maps, session};
+ghost use Rattle.router_trace.specs.Frames.{told_of};
+ghost use Rattle.router_trace.specs.Links.{place_of, is_attached};
+ghost use Rattle.router_trace.specs.Settling.{part_of, middle_on, is_claimed, is_claimed_on, open_ids, ignored};
+ghost use Rattle.router_trace.specs.Deliveries.{delivery, is_to_tell, sending, named, next_id};
+ghost use Rattle.router_trace.specs.Following.{link_of, first_delivery, is_unsent_on, is_wide, is_busy, is_used, takes_more};
+ghost use Rattle.router_deliveries.specs.Finding.{IsFirst, is_above};
+ghost use Rattle.router_passing.specs.Passing.{attachment_at, consumer_of, passing, with_bound, grants_due, grant_flow};
+ghost use Rattle.router_passing.specs.Asking.{has_unsent, goes_on, owes_drain, drained_state};
 ghost use Rattle.std.specs.BTreeMap.{get};
 ghost use Rattle.std.specs.BTreeSet.{contains};
 ghost use Rattle.router_trace.specs.Trace.{Entry, Out, Took, did, newest, goes, puts_of};
@@ -11,7 +21,8 @@ ghost use Rattle.router_trace.specs.Links.{link_place, found_link, free_handle, 
 ghost use Rattle.router_conns.specs.Peering.{PeersFit};
 ghost use Rattle.router_links.specs.Fits.{key_in, key_by, channel_of};
 ghost use Rattle.router_conns.specs.Timing.{ClocksFit};
-ghost use Rattle.router_sessions.specs.Fits.{SessionsFit, found_of};
+ghost use Rattle.amqp_session.specs.Session.{Session};
+ghost use Rattle.router_sessions.specs.Fits.{SessionsFit, found_of, window_by};
 ghost use Rattle.router_sessions.specs.Windows.{windows};
 ghost use Rattle.router_trace.specs.Connection.{conn as known, standing, found, is_ready, has};
 ghost use Rattle.router_conns.specs.Fits.{IsLeast, IsBatch, count};
@@ -22,12 +33,19 @@ ghost use Rattle.router_trace.specs.declared.event.Event.TheVariants as event;
 
 use amqp_conn::Conn;
 use amqp_frames::Item;
+use amqp_link::{Delivery, Part};
 use amqp_perf::{Attach, Perf};
+use amqp_session::{FlowState, Window};
 use book_core::LinkKey;
+use bytes::Bytes;
 use router_conns::{Clocks, Connections, Peers, Ready, Taken};
-use router_links::Links;
+use router_deliveries::Delivery as Bound;
+use router_passing::{LinkGrant, Passing};
 use router_sessions::{Place, Sessions};
-use router_trace::{Attachment, ConnectionId, Event, LinkAt, Outgoing, Peer, beat_item};
+use router_trace::{
+    Attachment, ConnectionId, Event, LinkAt, LinkState, Origin, Outgoing, Peer, SESSION_WINDOW,
+    beat_item, link_flow_item,
+};
 use std::alloc::{AllocError, Global};
 
 /// The router's tables. Behind a refused growth nothing can be said of them.
@@ -39,7 +57,7 @@ pub struct State {
     clocks: Clocks,
     peers: Peers,
     sessions: Sessions,
-    links: Links,
+    passing: Passing,
 }
 
 impl State {
@@ -54,8 +72,13 @@ impl State {
             clocks: Clocks::new(alloc),
             peers: Peers::new(alloc),
             sessions: Sessions::new(alloc),
-            links: Links::new(alloc),
+            passing: Passing::new(alloc),
         }
+    }
+
+    /// Where the tables take their memory.
+    pub fn alloc(&self) -> Global {
+        self.alloc
     }
 
     /// Whether an event is refused.
@@ -99,7 +122,7 @@ impl State {
     pub fn link_place(&self, conn: u64, own: u16, handle: u32) -> LinkAt
         ensures { (t : List Entry) (e : E) (ends : List ℕ) → TablesAt self.now t e ends → result ≡ found_link (link_place t conn own handle) }
     {
-        self.links.place(conn, own, handle)
+        self.passing.links().place(conn, own, handle)
     }
 
     /// The lowest handle of the router, of 64, that the peer of a session takes too and on which nothing is attached.
@@ -107,7 +130,7 @@ impl State {
         ensures now { (t : List Entry) → TablesFit self.now t → result ≡ free_handle t conn own }
         ensures at { (t : List Entry) (e : E) (ends : List ℕ) → TablesAt self.now t e ends → result ≡ free_handle t conn own }
     {
-        self.links.free_handle(conn, own)
+        self.passing.links().free_handle(conn, own)
     }
 
     /// The attachment that has a key.
@@ -115,7 +138,7 @@ impl State {
         ensures now { (t : List Entry) → TablesFit self.now t → result ≡ holder t key.now }
         ensures at { (t : List Entry) (e : E) (ends : List ℕ) → TablesAt self.now t e ends → result ≡ holder t key.now }
     {
-        self.links.holder(key)
+        self.passing.links().holder(key)
     }
 
     /// The key of the link that an attach names on a connection. Fails where memory is refused.
@@ -166,6 +189,13 @@ impl State {
         settle_all(&mut self.sessions, self.connections.live());
     }
 
+    /// Forgets which links owed a drain, where they don't any more.
+    pub fn settle_drains(&mut self)
+        ensures { (t : List Entry) → TablesFit self.old t → TablesFit self.new t }
+    {
+        self.passing.settle_owed();
+    }
+
     /// Ends the connections that an event ends for their full outboxes, and gives them by number. Their closes are the
     /// caller's to put.
     pub fn turn(&mut self, event: &Event) -> Result<Vec<u64>, AllocError>
@@ -182,19 +212,21 @@ impl State {
     {
         self.connections.up(conn, peer)?;
         self.peers.up(conn, peer)?;
-        note(&mut self.ready, &self.connections, conn.0)
+        note(&mut self.ready, &self.connections, conn.0)?;
+        Ok(())
     }
 
-    /// An item came on a connection.
-    pub fn hear(&mut self, conn: ConnectionId, item: &Item) -> Result<(), AllocError>
-        ensures { OnOk result ((t : List Entry) (ends : List ℕ) → TablesAt self.old t (event.Item conn item.now) ends → TablesFit self.new (did (event.Item conn item.now) ∷ t)) }
+    /// An item came on a connection: what a transfer gives on the link that it finds.
+    pub fn hear(&mut self, conn: ConnectionId, item: &Item) -> Result<Option<Part>, AllocError>
+        ensures part { IfOk result (λ part. (t : List Entry) (ends : List ℕ) (own : ℕ) → TablesAt self.old t (event.Item conn item.now) ends → maps (theirs t conn.0 (channel_of item.now)) own ≡ true → part ≡ part_of item.now (link_place t conn.0 own)) }
+        ensures fits { OnOk result ((t : List Entry) (ends : List ℕ) → TablesAt self.old t (event.Item conn item.now) ends → TablesFit self.new (did (event.Item conn item.now) ∷ t)) }
     {
         let own = self.sessions.own_channel(conn.0, channel_of(item));
         self.clocks.hear(conn, item)?;
         self.peers.hear(conn, item)?;
-        let _ = self.links.hear(conn, own, item)?;
+        let part = self.passing.hear(conn, own, item)?;
         self.sessions.hear(conn, item)?;
-        Ok(())
+        Ok(part)
     }
 
     /// Time passes.
@@ -217,7 +249,7 @@ impl State {
         self.clocks.down(conn);
         self.peers.down(conn);
         self.sessions.down(conn);
-        self.links.down(conn)?;
+        self.passing.down(conn)?;
         note(&mut self.ready, &self.connections, conn.0)
     }
 
@@ -228,7 +260,7 @@ impl State {
         let key = key_by(&self.peers, conn, &item)?;
         self.clocks.put(conn, &item)?;
         self.peers.put(conn, &item);
-        self.links.put(conn, &item, key)?;
+        self.passing.put(conn, &item, key)?;
         self.sessions.put(conn, &item)?;
         self.connections.put(conn, item)?;
         note(&mut self.ready, &self.connections, conn)?;
@@ -246,6 +278,7 @@ impl State {
     }
 
     /// Takes up to `most` items out of an outbox; none where nothing is known of the connection.
+    #[tactic(auto, using(crate::proofs::Bound::passing_taken))]
     pub fn take(&mut self, conn: u64, most: usize) -> Result<Option<Taken>, AllocError>
         ensures batched { IfOk result (λ taken. (t : List Entry) → TablesFit self.old t → IsBatch most (known t conn) taken) }
         ensures fits { IfOk result (λ taken. (t : List Entry) → TablesFit self.old t → TablesFit self.new (Took conn (count taken) ∷ t)) }
@@ -276,6 +309,237 @@ impl State {
     {
         self.ready.first()
     }
+
+    /// What the delivery in the middle of a link of the peer was told to be, as an event finds it.
+    pub fn middle(&self, conn: u64, own: u16, handle: u32) -> Option<&Delivery>
+        ensures { (t : List Entry) (e : E) (ends : List ℕ) → TablesAt self.now t e ends → option_map (λ d. d.now) result ≡ middle_on (link_place t conn own handle) }
+    {
+        self.passing.links().middle(conn, own, handle)
+    }
+
+    /// Whether a peer has not settled the delivery of an id of its own.
+    pub fn is_claimed(&self, conn: u64, own: u16, id: u32) -> bool
+        ensures now { (t : List Entry) → TablesFit self.now t → result ≡ is_claimed t conn own id }
+        ensures at { (t : List Entry) (e : E) (ends : List ℕ) → TablesAt self.now t e ends → result ≡ is_claimed t conn own id }
+    {
+        self.passing.claims().is_claimed(conn, own, id)
+    }
+
+    /// Whether a peer has not settled the delivery of an id of its own, of the link on a handle of the router's.
+    pub fn is_claimed_on(&self, conn: u64, own: u16, handle: u32, id: u32) -> bool
+        ensures { (t : List Entry) → TablesFit self.now t → result ≡ is_claimed_on t conn own handle id }
+    {
+        self.passing.claims().is_claimed_on(conn, own, handle, id)
+    }
+
+    /// The ids of a range that name undecided deliveries of a session, in order, as an event finds them.
+    pub fn open_ids(
+        &self,
+        conn: u64,
+        own: u16,
+        first: u32,
+        last: u32,
+    ) -> Result<Vec<u32>, AllocError>
+        ensures { IfOk result (λ ids. (t : List Entry) (e : E) (ends : List ℕ) → TablesAt self.now t e ends → ids.items ≡ open_ids t conn own first last) }
+    {
+        self.passing.deliveries().open_ids(conn, own, first, last)
+    }
+
+    /// How many deliveries of a link are unsettled that the router ignored.
+    pub fn ignored(&self, conn: u64, own: u16, handle: u32) -> usize
+        ensures { (t : List Entry) → TablesFit self.now t → result ≡ ignored t conn own handle }
+    {
+        self.passing.claims().ignored(conn, own, handle)
+    }
+
+    /// The attachment that stands on a handle of the router.
+    pub fn attachment(&self, conn: u64, own: u16, handle: u32) -> Option<Attachment>
+        ensures { (t : List Entry) → TablesFit self.now t → result ≡ attachment_at t conn own handle }
+    {
+        self.passing.links().attachment(conn, own, handle)
+    }
+
+    /// Binds a message of a producer's link to the consumer of its address that is chosen; whether one was.
+    pub fn pass(
+        &mut self,
+        from: Attachment,
+        origin: Option<Origin>,
+        format: u32,
+        payload: Bytes,
+    ) -> Result<bool, AllocError>
+        ensures chosen { IfOk result (λ chosen. (t : List Entry) → TablesFit self.old t → chosen ≡ is_some (consumer_of t (link_of t from))) }
+        ensures bound { OnOk result ((t : List Entry) → TablesFit self.old t → TablesFit self.new (with_bound (passing t from origin format payload) t)) }
+    {
+        let chosen = self.passing.pass(from, origin, format, payload)?;
+        Ok(chosen)
+    }
+
+    /// The lowest number above another of a delivery that is decided and whose producer isn't told.
+    pub fn to_tell_behind(&self, number: Option<u64>) -> Option<u64>
+        ensures { (t : List Entry) → TablesFit self.now t → IsFirst (λ n. is_above number n && is_to_tell (delivery t n)) result }
+    {
+        self.passing.deliveries().to_tell_behind(number)
+    }
+
+    /// Whether an attachment still has its link.
+    pub fn is_attached(&self, at: Attachment) -> bool
+        ensures { (t : List Entry) → TablesFit self.now t → result ≡ is_attached t at }
+    {
+        self.passing.is_attached(at)
+    }
+
+    /// A delivery.
+    pub fn delivery(&self, number: u64) -> Option<&Bound>
+        ensures { (t : List Entry) → TablesFit self.now t → option_map (λ d. d.now) result ≡ delivery t number }
+    {
+        self.passing.deliveries().delivery(number)
+    }
+
+    /// The lowest number of a link above another on which frames of deliveries are still to go.
+    pub fn unsent_link_behind(&self, link: Option<u64>) -> Option<u64>
+        ensures { (t : List Entry) → TablesFit self.now t → IsFirst (λ k. is_above link k && has_unsent t k) result }
+    {
+        self.passing.deliveries().unsent_link_behind(link)
+    }
+
+    /// The lowest number of a delivery of a link above another of which frames are still to go.
+    pub fn unsent_behind(&self, link: u64, number: Option<u64>) -> Option<u64>
+        ensures { (t : List Entry) → TablesFit self.now t → IsFirst (λ n. is_above number n && is_unsent_on link (delivery t n)) result }
+    {
+        self.passing.deliveries().unsent_behind(link, number)
+    }
+
+    /// Whether frames of deliveries are still to go on a link.
+    pub fn has_unsent(&self, link: u64) -> bool
+        ensures { (t : List Entry) → TablesFit self.now t → result ≡ has_unsent t link }
+    {
+        self.passing.deliveries().has_unsent(link)
+    }
+
+    /// Where an attachment stands, while it is attached.
+    pub fn place_of(&self, number: u64) -> Option<Attachment>
+        ensures { (t : List Entry) → TablesFit self.now t → result ≡ place_of t number }
+    {
+        self.passing.links().place_of(number)
+    }
+
+    /// Whether the window of a session is open.
+    pub fn is_wide(&self, conn: u64, own: u16) -> bool
+        ensures { (t : List Entry) → TablesFit self.now t → result ≡ is_wide (session t conn own) }
+    {
+        can_send(self.sessions.window(conn, own))
+    }
+
+    /// What a flow of the router tells of a session.
+    pub fn told(&self, conn: u64, own: u16) -> Option<FlowState>
+        ensures { (t : List Entry) → TablesFit self.now t → result ≡ option_map told_of (session t conn own) }
+    {
+        told_by(self.sessions.window(conn, own))
+    }
+
+    /// The number of the delivery of which more frames are to go on a handle of the router.
+    pub fn sending(&self, conn: u64, own: u16, handle: u32) -> Option<u64>
+        ensures { (t : List Entry) → TablesFit self.now t → result ≡ sending t conn own handle }
+    {
+        self.passing.deliveries().sending(conn, own, handle)
+    }
+
+    /// Whether a delivery has begun on a session of which more frames are to go.
+    pub fn is_busy(&self, conn: u64, own: u16) -> Result<bool, AllocError>
+        ensures { IfOk result (λ busy. (t : List Entry) → TablesFit self.now t → busy ≡ is_busy t conn own) }
+    {
+        self.passing.is_busy(conn, own)
+    }
+
+    /// Whether an id of the router's names an undecided delivery of a session.
+    pub fn is_used(&self, conn: u64, own: u16, id: u32) -> bool
+        ensures { (t : List Entry) → TablesFit self.now t → result ≡ is_used t (named t conn own id) }
+    {
+        self.passing.deliveries().is_used(conn, own, id)
+    }
+
+    /// The delivery-id that the router gives next on a session.
+    pub fn next_id(&self, conn: u64, own: u16) -> u32
+        ensures { (t : List Entry) → TablesFit self.now t → result ≡ next_id t conn own }
+    {
+        self.passing.deliveries().next_id(conn, own)
+    }
+
+    /// Whether an attachment's link has credit left and no delivery that has begun.
+    pub fn takes_more(&self, at: Attachment) -> bool
+        ensures { (t : List Entry) → TablesFit self.now t → result ≡ takes_more (link_of t at) at.number }
+    {
+        self.passing.takes_more(at)
+    }
+
+    /// Whether the router has begun a delivery on an attachment's link, of which more frames are to go.
+    pub fn goes_on(&self, at: Attachment) -> bool
+        ensures { (t : List Entry) → TablesFit self.now t → result ≡ goes_on (link_of t at) at.number }
+    {
+        self.passing.goes_on(at)
+    }
+
+    /// The lowest number above another of an attachment whose link owes a drain.
+    pub fn owing_behind(&self, number: Option<u64>) -> Result<Option<u64>, AllocError>
+        ensures { IfOk result (λ owing. (t : List Entry) → TablesFit self.now t → IsFirst (λ n. is_above number n && owes_drain t n) owing) }
+    {
+        self.passing.owing_behind(number)
+    }
+
+    /// What tells the drain of an attachment's link.
+    pub fn drained(&self, at: Attachment) -> Option<LinkState>
+        ensures { (t : List Entry) → TablesFit self.now t → result ≡ drained_state at.handle (link_of t at) }
+    {
+        self.passing.drained(at)
+    }
+
+    /// The grants that are due.
+    pub fn grants(&mut self) -> Result<Vec<Outgoing>, AllocError>
+        ensures due { IfOk result (λ flows. (t : List Entry) → TablesFit self.old t → puts_of flows.items ≡ grants_due t) }
+        ensures fits { OnOk result ((t : List Entry) → TablesFit self.old t → TablesFit self.new t) }
+    {
+        let grants = self.passing.grants()?;
+        let mut flows = Vec::new(self.alloc);
+        for grant in &grants {
+            self.add_grant(&mut flows, *grant)?;
+        }
+        Ok(flows)
+    }
+
+    /// Adds the flow that tells a grant.
+    fn add_grant(&self, flows: &mut Vec<Outgoing>, grant: LinkGrant) -> Result<(), AllocError>
+        ensures { OnOk result ((t : List Entry) → TablesFit self.now t → puts_of flows.new.items ≡ puts_of flows.old.items ++ grant_flow grant (session t grant.at.conn.0 grant.at.channel)) }
+    {
+        let Some(told) = self.told(grant.at.conn.0, grant.at.channel) else {
+            return Ok(());
+        };
+        let flow = Outgoing {
+            conn: grant.at.conn,
+            item: link_flow_item(grant.at.channel, told, grant.state),
+        };
+        match flows.push(flow) {
+            Ok(()) => Ok(()),
+            Err(_) => Err(AllocError),
+        }
+    }
+}
+
+/// Whether a session's window is open, where there is a session.
+fn can_send(window: Option<Window>) -> bool
+    ensures { (session : Option Session) → window ≡ window_by session → result ≡ is_wide session }
+{
+    match window {
+        None => false,
+        Some(window) => window.can_send(),
+    }
+}
+
+/// What a flow of the router tells of a session, where there is one.
+fn told_by(window: Option<Window>) -> Option<FlowState>
+    ensures { (session : Option Session) → window ≡ window_by session → result ≡ option_map told_of session }
+{
+    let mut window = window?;
+    Some(window.flow_state(SESSION_WINDOW))
 }
 
 /// The channel of an item; 0 where it has none.

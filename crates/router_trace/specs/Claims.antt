@@ -1,5 +1,5 @@
 -- What a trace says of the deliveries that a peer has not settled, by the delivery-ids that it gave them (AMQP 1.0 part 2, section 2.6.12).
-use Rattle.std.specs.Prelude.{ℕ, Bool, true, false, not, ◌&&◌, ◌==◌, if◌then◌else◌, is_none, List, ◌∷◌, [], Option, Some, None, option_map}
+use Rattle.std.specs.Prelude.{ℕ, Bool, true, false, not, ◌&&◌, ◌==◌, if◌then◌else◌, List, ◌∷◌, [], Option, Some, None, option_map}
 use Rattle.amqp_perf.specs.declared.perf.Disposition.{Disposition}
 use Rattle.amqp_perf.specs.declared.perf.Perf.{Perf}
 use Rattle.amqp_perf.specs.declared.perf.Perf.TheVariants as perf
@@ -27,7 +27,8 @@ pub record Claim : Type 0 where
   pub ignored : Bool
 
 -- A transfer that begins a delivery claims its id, unless it is settled or has no credit; a later one lets it go where it settles or
--- aborts the delivery, and one that completes a resumed delivery leaves it ignored.
+-- aborts the delivery, and one that completes a resumed delivery leaves it ignored. Once a delivery is settled its id is free, even
+-- while more of its frames come: another link of the session may claim it then, and keeps it.
 abbrev pub ends_well : Transfer → Bool
 ends_well x = if x.settled then false else not x.aborted
 
@@ -44,10 +45,14 @@ is_named (Some k) id = k == id
 abbrev pub claimed_first : ℕ → Transfer → Bool → ℕ → Option Claim → Option Claim
 claimed_first h x beyond id v = if is_named x.delivery_id id && not beyond then claim h x.resume x else v
 
+abbrev pub claimed_later : ℕ → Option Claim → Option Claim → Option Claim
+claimed_later h now None = None
+claimed_later h now (Some v) = if v.handle == h then now else Some v
+
 abbrev pub claimed_in : ℕ → Transfer → List Frame → Bool → ℕ → Option Claim → Option Claim
 claimed_in h x [] beyond id v = claimed_first h x beyond id v
 claimed_in h x (f ∷ fs) beyond id v =
-    if is_named (delivery f fs).id id then (if is_none v then None else claim h (delivery f fs).resume x) else v
+    if is_named (delivery f fs).id id then claimed_later h (claim h (delivery f fs).resume x) v else v
 
 abbrev pub claimed_by : ℕ → Transfer → Happened → ℕ → Option Claim → Option Claim
 claimed_by h x (sends list) id v = v

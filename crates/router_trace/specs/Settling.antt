@@ -1,6 +1,6 @@
 -- What dispositions and transfers of a peer find: the deliveries that a range of ids names, in order, and what a transfer gives on its link (AMQP
 -- 1.0 part 2, sections 2.6.12, 2.6.14, 2.7.5 and 2.7.6).
-use Rattle.std.specs.Prelude.{ℕ, zero, suc, ◌+◌, ◌%◌, ◌^◌, Bool, true, false, ◌&&◌, nat_lt, nat_eq, if◌then◌else◌, is_some, List, [], ◌∷◌, ◌++◌, filter, Option, Some, None}
+use Rattle.std.specs.Prelude.{ℕ, zero, suc, ◌+◌, ◌%◌, ◌^◌, Bool, true, false, ◌&&◌, ◌==◌, nat_lt, nat_eq, if◌then◌else◌, is_some, List, [], ◌∷◌, ◌++◌, filter, Option, Some, None}
 use Rattle.amqp_perf.specs.declared.perf.Perf.{Perf}
 use Rattle.amqp_perf.specs.declared.perf.Perf.TheVariants as perf
 use Rattle.amqp_perf.specs.declared.perf.Transfer.{Transfer}
@@ -45,6 +45,14 @@ open_ids t c o first last = filter (is_open_id t c o) (ids_between first last)
 -- a peer has not settled the delivery of an id of its own
 abbrev pub is_claimed : Trace → ℕ → ℕ → ℕ → Bool
 is_claimed t c o id = is_some (claims t c o id)
+
+-- ... a delivery of the link on this handle of the router
+abbrev pub is_of_link : ℕ → Option Claim → Bool
+is_of_link h None = false
+is_of_link h (Some v) = v.handle == h
+
+abbrev pub is_claimed_on : Trace → ℕ → ℕ → ℕ → ℕ → Bool
+is_claimed_on t c o h id = is_of_link h (claims t c o id)
 
 -- how many deliveries of a link are unsettled that the router ignored
 abbrev pub is_ignored_on : ℕ → Option Claim → Bool

@@ -1,8 +1,8 @@
-use Rattle.std.proofs.Common.{◌≡◌, ◌∙◌, sym, ap, subst, ℕ, Some}
+use Rattle.std.proofs.Common.{◌≡◌, ◌∙◌, sym, ap, subst, ℕ}
 use Rattle.std.specs.Prelude.{Option}
 use Rattle.router_trace.specs.Sessions.{Place as At}
 use Rattle.router_trace.specs.Links.{link_place}
-use Rattle.router_reply.specs.Rows.{Links, flow_on, flow_reply}
+use Rattle.router_reply.specs.Rows.{flow_on, flow_reply}
 use Rattle.router_reply.proofs.Placed.{IsOn, is_on}
 use Rattle.router_reply.proofs.deciding.flow_reply.Goals as goal
 

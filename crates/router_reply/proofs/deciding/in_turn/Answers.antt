@@ -3,7 +3,7 @@ use Rattle.std.specs.Prelude.{Option}
 use Rattle.amqp_perf.specs.declared.perf.Perf.{Perf}
 use Rattle.router_trace.specs.Sessions.{place}
 use Rattle.router_reply.specs.Rows.{in_turn, begin_reply}
-use Rattle.router_reply.specs.Replies.{finds, free_for}
+use Rattle.router_reply.specs.Replies.{finds}
 use Rattle.router_reply.proofs.deciding.in_turn.Goals as goal
 
 pub returns-in-Begin : goal.returns-in-Begin

@@ -1,4 +1,4 @@
-use Rattle.std.proofs.Common.{◌≡◌, ◌&&◌, ap}
+use Rattle.std.proofs.Common.{◌&&◌, ap}
 use Rattle.std.specs.Ordering.{nat_cmp}
 use Rattle.std.specs.BTreeSet.{contains}
 use Rattle.router_trace.specs.Deliveries.{delivery, is_to_tell}

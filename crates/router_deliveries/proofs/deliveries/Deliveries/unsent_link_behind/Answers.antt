@@ -2,8 +2,9 @@ use Rattle.router_trace.specs.Deliveries.{delivery}
 use Rattle.router_trace.specs.Following.{is_unsent_on}
 use Rattle.router_deliveries.specs.Indexing.{in_group}
 use Rattle.router_deliveries.proofs.Asked.{unsent_in, link_same}
+use Rattle.router_deliveries.proofs.Unsent.{links_are}
 use Rattle.router_deliveries.proofs.deliveries.Deliveries.unsent_link_behind.Goals as goal
 
 pub returns : goal.returns
 returns c = λ t fit.
-    link_same (in_group c.args.self.now.store.index.unsent) (λ k n. is_unsent_on k (delivery t n)) (unsent_in c.args.self.now.store t fit.store) c.args.link _ c.unsent_link_behind.ensures
+    links_are t c.args.link _ (link_same (in_group c.args.self.now.store.index.unsent) (λ k n. is_unsent_on k (delivery t n)) (unsent_in c.args.self.now.store t fit.store) c.args.link _ c.unsent_link_behind.ensures)

@@ -1,4 +1,4 @@
-use Rattle.std.proofs.Common.{◌≡◌, ◌∙◌, ap}
+use Rattle.std.proofs.Common.{◌∙◌, ap}
 use Rattle.router_passing.specs.Asking.{some_go_on}
 use Rattle.router_passing.proofs.Going.{busy_is}
 use Rattle.router_passing.proofs.passing.Passing.is_busy.Goals as goal

@@ -1,4 +1,4 @@
-use Rattle.std.proofs.Common.{◌≡◌, ◌∙◌, ap, None}
+use Rattle.std.proofs.Common.{◌∙◌, ap, None}
 use Rattle.router_passing.specs.Asking.{lowest_of}
 use Rattle.router_passing.proofs.Owed.{first_result, lowest_owing}
 use Rattle.router_passing.proofs.passing.Passing.owing_behind.Goals as goal

@@ -1,0 +1,51 @@
+//! What may go next, and where it stands.
+ghost use Rattle.std.specs.Prelude.{◌≡◌};
+ghost use Rattle.router_trace.specs.Numbers.{is_before};
+ghost use Rattle.router_after.specs.Soonest.{is_sooner, sooner};
+
+use router_trace::Attachment;
+
+/// A delivery or a link that may go next.
+#[derive(Clone, Copy, Debug, PartialEq, Eq)]
+pub(crate) struct Candidate {
+    /// Its number.
+    pub(crate) number: u64,
+    /// Where it stands.
+    pub(crate) place: Attachment,
+}
+
+/// The one of two that goes first.
+pub(crate) fn sooner(best: Option<Candidate>, other: Option<Candidate>) -> Option<Candidate>
+    ensures { result ≡ sooner best other }
+{
+    match best {
+        None => other,
+        Some(best) => match other {
+            None => Some(best),
+            Some(other) => {
+                if other.is_sooner(&best) {
+                    Some(other)
+                } else {
+                    Some(best)
+                }
+            }
+        },
+    }
+}
+
+impl Candidate {
+    /// Whether it goes before another.
+    fn is_sooner(&self, other: &Candidate) -> bool
+        ensures { result ≡ is_sooner self.now.number self.now.place other.now }
+    {
+        is_before(self.place, other.place)
+            || (!is_before(other.place, self.place) && self.number < other.number)
+    }
+}
+
+/// Whether a place stands before another, by connection and by the router's channel.
+fn is_before(place: Attachment, other: Attachment) -> bool
+    ensures { result ≡ is_before place other }
+{
+    place.conn.0 < other.conn.0 || (place.conn.0 == other.conn.0 && place.channel < other.channel)
+}

@@ -1,0 +1,88 @@
+//! What goes on as long as something is due.
+ghost use Rattle.std.specs.Prelude.{◌≡◌, false, List, [], OnOk, IfOk};
+ghost use Rattle.router_trace.specs.Trace.{Entry, goes, puts_of};
+ghost use Rattle.router_trace.specs.Following.{as_long_as_due};
+ghost use Rattle.router_state.specs.Tables.{TablesFit};
+ghost use Rattle.router_passing.specs.Passing.{grants_due};
+ghost use Rattle.router_after.specs.After.{due_in, puts_in};
+
+use crate::draining::drain_due;
+use crate::sending::frame_due;
+use crate::telling::outcome_due;
+use router_state::State;
+use router_trace::Outgoing;
+use std::alloc::AllocError;
+
+/// What goes on as long as something is due.
+#[derive(Clone, Copy, Debug, PartialEq, Eq)]
+pub(crate) enum Phase {
+    /// Producers are told the outcomes of their deliveries.
+    Outcomes,
+    /// Deliveries go to their consumers.
+    Deliveries,
+    /// Drains are told.
+    Drains,
+    /// Credit is granted.
+    Grants,
+}
+
+impl Phase {
+    /// Puts what is due, the first of it first, until nothing is due any more.
+    pub(crate) fn finish(self, state: &mut State) -> Result<(), AllocError>
+        ensures { OnOk result ((t : List Entry) → TablesFit state.old t → TablesFit state.new (as_long_as_due (due_in self) t)) }
+    {
+        for _turn in 0..u64::MAX {
+            if !self.turn(state)? {
+                return Ok(());
+            }
+        }
+        Err(AllocError)
+    }
+
+    /// Puts what is due first; whether something was.
+    fn turn(self, state: &mut State) -> Result<bool, AllocError>
+        ensures put { OnOk result ((t : List Entry) → TablesFit state.old t → TablesFit state.new (goes (due_in self t) t)) }
+        ensures over { IfOk result (λ due. due ≡ false → (t : List Entry) → TablesFit state.old t → due_in self t ≡ []) }
+    {
+        match self {
+            Phase::Outcomes => {
+                let due = outcome_due(state)?;
+                put(state, due)
+            }
+            Phase::Deliveries => {
+                let due = frame_due(state)?;
+                put(state, due)
+            }
+            Phase::Drains => {
+                let due = drain_due(state)?;
+                put(state, due)
+            }
+            Phase::Grants => Ok(grant(state)?),
+        }
+    }
+}
+
+/// Puts an item, if there is one; whether there was.
+fn put(state: &mut State, due: Option<Outgoing>) -> Result<bool, AllocError>
+    ensures put { OnOk result ((t : List Entry) → TablesFit state.old t → TablesFit state.new (goes (puts_in due) t)) }
+    ensures over { IfOk result (λ put. put ≡ false → puts_in due ≡ []) }
+{
+    match due {
+        None => Ok(false),
+        Some(due) => {
+            state.put(due.conn.0, due.item)?;
+            Ok(true)
+        }
+    }
+}
+
+/// Puts the flows that grant credit; whether there were any.
+fn grant(state: &mut State) -> Result<bool, AllocError>
+    ensures put { OnOk result ((t : List Entry) → TablesFit state.old t → TablesFit state.new (goes (grants_due t) t)) }
+    ensures over { IfOk result (λ due. due ≡ false → (t : List Entry) → TablesFit state.old t → grants_due t ≡ []) }
+{
+    let flows = state.grants()?;
+    let due = !flows.is_empty();
+    state.put_all(flows)?;
+    Ok(due)
+}

@@ -1,0 +1,83 @@
+//! Producers are told the outcomes of their deliveries.
+ghost use Rattle.std.specs.Prelude.{◌≡◌, List, IfOk};
+ghost use Rattle.router_trace.specs.Trace.{Entry};
+ghost use Rattle.router_trace.specs.Deliveries.{delivery};
+ghost use Rattle.router_trace.specs.Following.{is_to_be_told, tell, tells};
+ghost use Rattle.router_deliveries.specs.Finding.{IsFirst};
+ghost use Rattle.router_state.specs.Tables.{TablesFit};
+ghost use Rattle.router_after.specs.After.{puts_in};
+
+use amqp_perf::Role;
+use router_frames::outcome_item;
+use router_state::State;
+use router_trace::Outgoing;
+use std::alloc::AllocError;
+
+/// The disposition that is due first: it tells the producer of a decided delivery its outcome (AMQP 1.0 part 2, section 2.7.6).
+pub(crate) fn outcome_due(state: &State) -> Result<Option<Outgoing>, AllocError>
+    ensures { IfOk result (λ due. (t : List Entry) → TablesFit state.now t → puts_in due ≡ tells t) }
+{
+    match first_to_tell(state)? {
+        None => Ok(None),
+        Some(number) => Ok(outcome_of(state, number)?),
+    }
+}
+
+/// The number of the first delivery that is decided and whose producer's link is attached and isn't told.
+fn first_to_tell(state: &State) -> Result<Option<u64>, AllocError>
+    ensures { IfOk result (λ first. (t : List Entry) → TablesFit state.now t → IsFirst (λ n. is_to_be_told t (delivery t n)) first) }
+{
+    let mut last = None;
+    for _turn in 0..u64::MAX {
+        let Some(number) = state.to_tell_behind(last) else {
+            return Ok(None);
+        };
+        if is_to_be_told(state, number) {
+            return Ok(Some(number));
+        }
+        last = Some(number);
+    }
+    Err(AllocError)
+}
+
+/// Whether a delivery is decided and its producer's link is attached and isn't told.
+fn is_to_be_told(state: &State, number: u64) -> bool
+    ensures { (t : List Entry) → TablesFit state.now t → result ≡ is_to_be_told t (delivery t number) }
+{
+    match state.delivery(number) {
+        None => false,
+        Some(delivery) => {
+            delivery.outcome.is_some()
+                && match delivery.origin {
+                    None => false,
+                    Some(origin) => state.is_attached(origin.link),
+                }
+        }
+    }
+}
+
+/// What tells a delivery's outcome to its producer.
+fn outcome_of(state: &State, number: u64) -> Result<Option<Outgoing>, AllocError>
+    ensures { IfOk result (λ due. (t : List Entry) → TablesFit state.now t → puts_in due ≡ tell (delivery t number)) }
+{
+    let Some(delivery) = state.delivery(number) else {
+        return Ok(None);
+    };
+    let Some(origin) = delivery.origin else {
+        return Ok(None);
+    };
+    let Some(outcome) = &delivery.outcome else {
+        return Ok(None);
+    };
+    let link = origin.link;
+    Ok(Some(Outgoing {
+        conn: link.conn,
+        item: outcome_item(
+            state.alloc(),
+            link.channel,
+            Role::Receiver,
+            origin.id,
+            outcome,
+        )?,
+    }))
+}

@@ -1,0 +1,14 @@
+pub mod Tests
+pub mod Tags
+pub mod Followed
+pub mod Bindings
+pub mod Outcomes
+pub mod Telling
+pub mod Carrying
+pub mod Sound
+pub mod Sending
+pub mod Tells
+pub mod Quiet
+pub mod Transfers
+pub mod Arriving
+pub mod AllSound

@@ -1,0 +1,45 @@
+-- What holds of every trace of the router, and so of every list of events.
+use Rattle.std.specs.Prelude.{◌≡◌, ℕ, List, [], Some}
+use Rattle.router_trace.specs.declared.event.Event.{Event}
+use Rattle.router_trace.specs.Trace.{Trace}
+use Rattle.router_trace.specs.Deliveries.{Delivery, delivery}
+use Rattle.router_core.specs.declared.driving.Sent.{Sent}
+use Rattle.router_core.specs.Runs.{Run}
+use Rattle.router_core.specs.Moves.{IsTrace}
+use Rattle.router_laws.specs.Each.{EachOut, EachBound}
+use Rattle.router_laws.specs.OneConsumer.{IsOfMessage}
+use Rattle.router_laws.specs.Carried.{CarriesWhatWasBound, CompletesMessage, GoesInOrder}
+use Rattle.router_laws.specs.Came.{BindsMessage}
+use Rattle.router_laws.specs.Told.{TellsAsGiven}
+
+-- in every trace of the router
+abbrev pub InTraces : (Trace → Type 0) → Type 0
+InTraces P = (id : List ℕ) (u : Trace) → IsTrace id u → P u
+
+-- in the trace of every list of events, the outboxes emptied behind each
+abbrev pub InRuns : (Trace → Type 0) → Type 0
+InRuns P = (id : List ℕ) (events : List Event) (xs : List Sent) (u : Trace) → Run id 0 [] events xs u → P u
+
+-- each transfer carries the next bytes of a message that was bound, on the link of its consumer
+abbrev pub AllCarry : Trace → Type 0
+AllCarry u = EachOut CarriesWhatWasBound u
+
+-- the frames of a message join to it, in order, and the last of them completes it
+abbrev pub AllJoin : Trace → Type 0
+AllJoin u = GoesInOrder u × EachOut CompletesMessage u
+
+-- each message that is bound is one that came whole just now, and none is bound twice
+abbrev pub AllBindOnce : Trace → Type 0
+AllBindOnce u = EachBound BindsMessage u
+
+-- so each delivery is of a message that came whole and was bound
+pub record CameAndWasBound (u : Trace) (n : ℕ) (d : Delivery) : Type 0 where
+  pub message : IsOfMessage u n d
+  pub binds : BindsMessage message.before message.binding
+
+abbrev pub AllCame : Trace → Type 0
+AllCame u = (n : ℕ) (d : Delivery) → delivery u n ≡ Some d → CameAndWasBound u n d
+
+-- each disposition to a producer tells the outcome that was given, for the first time, or releases a message that nobody takes
+abbrev pub AllTell : Trace → Type 0
+AllTell u = EachOut TellsAsGiven u

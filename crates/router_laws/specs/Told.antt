@@ -1,0 +1,104 @@
+-- What producers are told (AMQP 1.0 part 2, sections 2.6.12 and 2.7.6): dispositions of the router as a receiver, each of one delivery of theirs.
+use Rattle.std.specs.Prelude.{◌≡◌, ◌≤◌, ◌⊎◌, ℕ, ◌+◌, Bool, true, false, ◌&&◌, if◌then◌else◌, List, [], ◌∷◌, ◌++◌, Option, Some, None}
+use Rattle.amqp_perf.specs.declared.perf.Disposition.{Disposition}
+use Rattle.amqp_perf.specs.declared.perf.Perf.{Perf}
+use Rattle.amqp_perf.specs.declared.perf.Perf.TheVariants as perf
+use Rattle.amqp_perf.specs.declared.perf.Role.{Role}
+use Rattle.amqp_perf.specs.declared.perf.Role.TheVariants.{Sender, Receiver}
+use Rattle.amqp_perf.specs.declared.state.DeliveryState.{DeliveryState}
+use Rattle.amqp_perf.specs.declared.state.DeliveryState.TheVariants as state
+use Rattle.amqp_frames.specs.declared.item.Item.{Item}
+use Rattle.amqp_frames.specs.declared.item.Item.TheVariants as item
+use Rattle.amqp_link.specs.declared.part.Delivery.{Delivery as Told}
+use Rattle.router_trace.specs.declared.binding.Origin.{Origin}
+use Rattle.router_trace.specs.Trace.{Trace, Did, Out, Took, Bound}
+use Rattle.router_trace.specs.Deliveries.{Delivery, bindings, delivery, is_meant, origin_id}
+use Rattle.router_trace.specs.DeliveryFrames.{kept_outcome}
+use Rattle.router_trace.specs.Links.{link}
+use Rattle.router_trace.specs.Settling.{is_claimed_on}
+use Rattle.router_passing.specs.Passing.{consumer_of}
+use Rattle.router_laws.specs.OneConsumer.{WhileThere}
+use Rattle.router_laws.specs.Decided.{DecidedByConsumer}
+use Rattle.router_laws.specs.Came.{CameWhole}
+
+-- A disposition of the router as a receiver tells the outcome of a delivery where it settles and its range has the id that the delivery's
+-- producer gave it, on the session of the producer's link.
+abbrev pub tells_as : Role → Disposition → ℕ → ℕ → Option Origin → Bool
+tells_as Receiver x c own origin = x.settled && is_meant x (origin_id origin c own)
+tells_as Sender x c own origin = false
+
+abbrev pub tells_in : Perf → ℕ → ℕ → Option Origin → Bool
+tells_in (perf.Disposition x) c own origin = tells_as x.role x c own origin
+tells_in _ c own origin = false
+
+abbrev pub tells : Item → ℕ → Option Delivery → Bool
+tells (item.Frame sasl own body payload) c (Some d) = tells_in body c own d.origin
+tells _ c v = false
+
+-- how often the producer of a delivery was told of it
+abbrev pub tellings : Trace → ℕ → ℕ
+tellings [] n = 0
+tellings (Did s ∷ t) n = tellings t n
+tellings (Out c i ∷ t) n = tellings t n + (if tells i c (delivery t n) then 1 else 0)
+tellings (Took c k ∷ t) n = tellings t n
+tellings (Bound b ∷ t) n = tellings t n
+
+-- once at most, whatever happens
+abbrev pub ToldAtMostOnce : Type 0
+ToldAtMostOnce = (u : Trace) (n : ℕ) → tellings u n ≤ 1
+
+-- Behind a disposition of the router as a receiver that settles one id, no delivery that was bound before it has that id to be told any more, on
+-- that session: another outcome under the id is of a message that was bound later.
+abbrev pub IsUnder : ℕ → ℕ → ℕ → Delivery → Type 0
+IsUnder c own id d = origin_id d.origin c own ≡ Some id
+
+abbrev pub ToldAnew : Type 0
+ToldAnew = (t later : Trace) (c own : ℕ) (sasl : Bool) (x : Disposition) (payload : List ℕ) (n : ℕ) → x.role ≡ Receiver → x.settled ≡ true → x.last ≡ None → n ≤ bindings t
+    → WhileThere (λ d. IsUnder c own x.first d → ⊥) (delivery (later ++ Out c (item.Frame sasl own (perf.Disposition x) payload) ∷ t) n)
+
+-- The outcome of a delivery is told: its producer is still to be told, under the id that it gave, on the session of its link; what is told is
+-- the outcome that its consumer gave before, as the router keeps it; and nothing was told of it before.
+pub record TellsOutcome (t : Trace) (c own : ℕ) (x : Disposition) : Type 0 where
+  pub number : ℕ
+  pub of : Delivery
+  pub there : delivery t number ≡ Some of
+  pub origin : Origin
+  pub producer : of.origin ≡ Some origin
+  pub on_connection : origin.link.conn.0 ≡ c
+  pub on_session : origin.link.channel ≡ own
+  pub its_id : origin.id ≡ x.first
+  pub outcome : DeliveryState
+  pub was_decided : of.outcome ≡ Some outcome
+  pub given : DecidedByConsumer t number outcome
+  pub told : x.state ≡ Some (kept_outcome outcome)
+  pub first_time : tellings t number ≡ 0
+
+-- Or a message that came whole just now is released, as no consumer is chosen for it: it is bound to none.
+pub record ReleasesMessage (t : Trace) (c own : ℕ) (x : Disposition) : Type 0 where
+  pub handle : ℕ
+  pub message : Told
+  pub payload : List ℕ
+  pub came : CameWhole t c own handle message payload
+  pub not_resumed : message.resume ≡ false
+  pub its_id : message.id ≡ Some x.first
+  pub unsettled : is_claimed_on t c own handle x.first ≡ true
+  pub nobody : consumer_of t (link t c own handle) ≡ None
+  pub told : x.state ≡ Some state.Released
+
+-- A disposition of the router as a receiver settles one delivery: it tells an outcome, or it releases a message.
+pub record TellsProducer (t : Trace) (c own : ℕ) (x : Disposition) : Type 0 where
+  pub settles : x.settled ≡ true
+  pub one : x.last ≡ None
+  pub of : TellsOutcome t c own x ⊎ ReleasesMessage t c own x
+
+abbrev pub role_tells : Role → Trace → ℕ → ℕ → Disposition → Type 0
+role_tells Receiver t c own x = TellsProducer t c own x
+role_tells Sender t c own x = Unit {0}
+
+abbrev pub perf_tells : Perf → Trace → ℕ → ℕ → Type 0
+perf_tells (perf.Disposition x) t c own = role_tells x.role t c own x
+perf_tells _ t c own = Unit {0}
+
+abbrev pub TellsAsGiven : Trace → ℕ → Item → Type 0
+TellsAsGiven t c (item.Frame sasl own body payload) = perf_tells body t c own
+TellsAsGiven t c _ = Unit {0}

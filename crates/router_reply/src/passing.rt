@@ -1,0 +1,297 @@
+//! Transfers that are taken for what they carry, and dispositions whose deliveries are answered.
+ghost use Rattle.std.specs.Prelude.{◌∷◌, [], List, ℕ, OnOk, Some, None, true, map, option_map, ◌≡◌};
+ghost use Rattle.amqp_perf.specs.declared.perf.Role.TheVariants.{Sender};
+ghost use Rattle.router_trace.specs.Trace.{Entry, puts};
+ghost use Rattle.router_trace.specs.Links.{link};
+ghost use Rattle.router_trace.specs.LinkFrames.{detach_item};
+ghost use Rattle.router_trace.specs.Deliveries.{terminal, last_of};
+ghost use Rattle.router_trace.specs.DeliveryFrames.{outcome_item};
+ghost use Rattle.router_passing.specs.Passing.{with_bound, passing, consumer_of};
+ghost use Rattle.router_trace.specs.Following.{link_of};
+ghost use Rattle.router_state.specs.Tables.{TablesFit};
+ghost use Rattle.router_reply.specs.Replies.{claimed_id, origin_of, released, ignored_put, unbound_put, whole_put, whole_bound, fresh_bound, part_put, part_bound, settled_answers, disposition_in, disposition_of};
+
+use amqp_frames::Item;
+use amqp_link::{Delivery, Part};
+use amqp_perf::{DeliveryState, Disposition, Perf, Role};
+use bytes::Bytes;
+use router_frames::outcome_item;
+use router_state::State;
+use router_trace::{Attachment, Condition, Origin, RouterId};
+use std::alloc::AllocError;
+
+/// How many unsettled deliveries of a link the router ignores, at most.
+pub const IGNORED: usize = 1024;
+
+/// The id of a delivery of a link that its producer hasn't settled.
+fn claimed_id(state: &State, conn: u64, own: u16, handle: u32, id: Option<u32>) -> Option<u32>
+    ensures { (t : List Entry) → TablesFit state.now t → result ≡ claimed_id t conn own handle id }
+{
+    let id = id?;
+    if state.is_claimed_on(conn, own, handle, id) {
+        Some(id)
+    } else {
+        None
+    }
+}
+
+/// Whom a delivery's outcome is told to.
+fn origin_of(from: Attachment, claimed: Option<u32>) -> Option<Origin>
+    ensures { result ≡ option_map (origin_of from) claimed }
+{
+    match claimed {
+        None => None,
+        Some(id) => Some(Origin { link: from, id }),
+    }
+}
+
+/// Detaches a link for good, with an error.
+fn put_detach(
+    state: &mut State,
+    id: &RouterId,
+    conn: u64,
+    own: u16,
+    handle: u32,
+    error: Condition,
+) -> Result<(), AllocError>
+    ensures { OnOk result ((t : List Entry) → TablesFit state.old t → TablesFit state.new (puts conn (detach_item own handle true (Some error) ∷ []) t)) }
+{
+    let item = id.detach_item(own, handle, true, Some(error))?;
+    state.put(conn, item)?;
+    Ok(())
+}
+
+/// Tells the outcome of one delivery, and settles it.
+fn put_outcome(
+    state: &mut State,
+    id: &RouterId,
+    conn: u64,
+    own: u16,
+    role: Role,
+    delivery: u32,
+    outcome: &DeliveryState,
+) -> Result<(), AllocError>
+    ensures { OnOk result ((t : List Entry) → TablesFit state.old t → TablesFit state.new (puts conn (outcome_item own role delivery outcome.now ∷ []) t)) }
+{
+    let item = outcome_item(id.alloc(), own, role, delivery, outcome)?;
+    state.put(conn, item)?;
+    Ok(())
+}
+
+/// Releases a delivery, unless its producer has settled it.
+fn release(
+    state: &mut State,
+    id: &RouterId,
+    conn: u64,
+    own: u16,
+    claimed: Option<u32>,
+) -> Result<(), AllocError>
+    ensures { OnOk result ((t : List Entry) → TablesFit state.old t → TablesFit state.new (puts conn (released own claimed) t)) }
+{
+    if let Some(delivery) = claimed {
+        let outcome = DeliveryState::Released;
+        put_outcome(state, id, conn, own, Role::Receiver, delivery, &outcome)?;
+    }
+    Ok(())
+}
+
+/// Ignores a delivery that is resumed: where more of a link are unsettled than the router ignores, the link is detached.
+fn ignore(
+    state: &mut State,
+    id: &RouterId,
+    conn: u64,
+    own: u16,
+    handle: u32,
+    claimed: Option<u32>,
+) -> Result<(), AllocError>
+    ensures { OnOk result ((t : List Entry) → TablesFit state.old t → TablesFit state.new (puts conn (ignored_put t conn own handle claimed) t)) }
+{
+    if claimed.is_none() {
+        return Ok(());
+    }
+    if state.ignored(conn, own, handle) <= IGNORED {
+        return Ok(());
+    }
+    put_detach(
+        state,
+        id,
+        conn,
+        own,
+        handle,
+        Condition::ResourceLimitExceeded,
+    )?;
+    Ok(())
+}
+
+/// Binds a message of a link to a consumer of its address; where none is chosen the delivery is released.
+fn bind(
+    state: &mut State,
+    id: &RouterId,
+    from: Attachment,
+    claimed: Option<u32>,
+    format: u32,
+    payload: Bytes,
+) -> Result<(), AllocError>
+    ensures { OnOk result ((t : List Entry) → TablesFit state.old t → TablesFit state.new (puts from.conn.0 (unbound_put from.channel claimed (consumer_of t (link_of t from)))
+        (with_bound (passing t from (option_map (origin_of from) claimed) format payload) t))) }
+{
+    let chosen = state.pass(from, origin_of(from, claimed), format, payload)?;
+    if chosen {
+        return Ok(());
+    }
+    release(state, id, from.conn.0, from.channel, claimed)?;
+    Ok(())
+}
+
+/// A delivery that came whole and isn't resumed: it is bound where its link stands, or released.
+fn pass_fresh(
+    state: &mut State,
+    id: &RouterId,
+    conn: u64,
+    own: u16,
+    handle: u32,
+    delivery: &Delivery,
+    payload: Bytes,
+) -> Result<(), AllocError>
+    ensures { OnOk result ((t : List Entry) → TablesFit state.old t → TablesFit state.new (puts conn (unbound_put own (claimed_id t conn own handle delivery.now.id) (consumer_of t (link t conn own handle)))
+        (with_bound (fresh_bound t conn own handle delivery.now payload (link t conn own handle)) t))) }
+{
+    let claimed = claimed_id(state, conn, own, handle, delivery.id);
+    let Some(from) = state.attachment(conn, own, handle) else {
+        release(state, id, conn, own, claimed)?;
+        return Ok(());
+    };
+    bind(
+        state,
+        id,
+        from,
+        claimed,
+        delivery.format.unwrap_or(0),
+        payload,
+    )?;
+    Ok(())
+}
+
+/// A delivery that came whole: one that is resumed is ignored.
+fn pass_whole(
+    state: &mut State,
+    id: &RouterId,
+    conn: u64,
+    own: u16,
+    handle: u32,
+    delivery: &Delivery,
+    payload: Bytes,
+) -> Result<(), AllocError>
+    ensures { OnOk result ((t : List Entry) → TablesFit state.old t → TablesFit state.new (puts conn (whole_put t conn own handle delivery.now (link t conn own handle))
+        (with_bound (whole_bound t conn own handle delivery.now payload (link t conn own handle)) t))) }
+{
+    if delivery.resume {
+        let claimed = claimed_id(state, conn, own, handle, delivery.id);
+        ignore(state, id, conn, own, handle, claimed)?;
+        return Ok(());
+    }
+    pass_fresh(state, id, conn, own, handle, delivery, payload)?;
+    Ok(())
+}
+
+/// What a transfer gives that is taken: a delivery that came whole is bound to a consumer of its address, or released, or ignored; one that
+/// is too large detaches its link (AMQP 1.0 part 2, sections 2.6.12, 2.7.3 and 2.7.5).
+pub fn take_part(
+    state: &mut State,
+    id: &RouterId,
+    conn: u64,
+    own: u16,
+    handle: u32,
+    part: Option<Part>,
+) -> Result<(), AllocError>
+    ensures { OnOk result ((t : List Entry) → TablesFit state.old t → TablesFit state.new (puts conn (part_put t conn own handle part)
+        (with_bound (part_bound t conn own handle part) t))) }
+{
+    match part {
+        None => {}
+        Some(Part::Whole(delivery, payload)) => {
+            pass_whole(state, id, conn, own, handle, &delivery, payload)?;
+        }
+        Some(Part::TooLarge) => {
+            put_detach(state, id, conn, own, handle, Condition::MessageSizeExceeded)?;
+        }
+        Some(Part::More) => {}
+        Some(Part::Aborted) => {}
+        Some(Part::BeyondCredit) => {}
+    }
+    Ok(())
+}
+
+/// The disposition that an item is.
+pub fn disposition_in(item: &Item) -> Option<&Disposition>
+    ensures { option_map (λ x. x.now) result ≡ disposition_in item.now }
+{
+    match item {
+        Item::Frame { perf, .. } => disposition_of(perf),
+        _ => None,
+    }
+}
+
+/// The disposition that a performative is.
+fn disposition_of(perf: &Perf) -> Option<&Disposition>
+    ensures { option_map (λ x. x.now) result ≡ disposition_of perf.now }
+{
+    match perf {
+        Perf::Disposition(disposition) => Some(disposition),
+        _ => None,
+    }
+}
+
+/// The last delivery that a disposition names.
+pub fn last_of(disposition: &Disposition) -> u32
+    ensures { result ≡ last_of disposition.now }
+{
+    disposition.last.unwrap_or(disposition.first)
+}
+
+/// The outcome that a state is.
+fn terminal(state: &Option<DeliveryState>) -> Option<&DeliveryState>
+    ensures { option_map (λ s. s.now) result ≡ terminal state.now }
+{
+    match state {
+        None => None,
+        Some(DeliveryState::Received(_)) => None,
+        Some(DeliveryState::Other(_)) => None,
+        Some(outcome) => Some(outcome),
+    }
+}
+
+/// Answers deliveries, each settled with this outcome.
+fn settle_each(
+    state: &mut State,
+    id: &RouterId,
+    conn: u64,
+    own: u16,
+    ids: &[u32],
+    outcome: &DeliveryState,
+) -> Result<(), AllocError>
+    ensures { OnOk result ((t : List Entry) → TablesFit state.old t → TablesFit state.new (puts conn (map (λ n. outcome_item own Sender n outcome.now) ids.now) t)) }
+{
+    for delivery in ids {
+        put_outcome(state, id, conn, own, Role::Sender, *delivery, outcome)?;
+    }
+    Ok(())
+}
+
+/// Answers the deliveries that a disposition decides, each settled with its outcome (AMQP 1.0 part 2, sections 2.6.12 and 2.7.6).
+pub fn settle(
+    state: &mut State,
+    id: &RouterId,
+    conn: u64,
+    own: u16,
+    ids: &[u32],
+    disposition: &Disposition,
+) -> Result<(), AllocError>
+    ensures { OnOk result ((t : List Entry) → TablesFit state.old t → TablesFit state.new (puts conn (settled_answers own (terminal disposition.now.state) ids.now) t)) }
+{
+    match terminal(&disposition.state) {
+        None => {}
+        Some(outcome) => settle_each(state, id, conn, own, ids, outcome)?,
+    }
+    Ok(())
+}

@@ -1,0 +1,47 @@
+-- A binding changes the table of what passes alone, and a take of an outbox doesn't change that.
+use Rattle.std.proofs.Common.{◌≡◌, ◌∙◌, ℕ, Bool, true, false, ap, Option, Some, None, ◌∷◌}
+use Rattle.std.specs.Prelude.{◌==◌}
+use Rattle.std.proofs.lemmas.Bool.{eqb-true}
+use Rattle.amqp_frames.specs.declared.item.Item.{Item}
+use Rattle.amqp_link.specs.declared.part.Part.{Part}
+use Rattle.router_trace.specs.declared.binding.Binding.{Binding}
+use Rattle.router_trace.specs.Trace.{Trace, Took}
+use Rattle.router_trace.specs.Links.{link_place}
+use Rattle.router_trace.specs.Sessions.{is_channel}
+use Rattle.router_trace.specs.Settling.{part_at, part_of}
+use Rattle.router_passing.specs.declared.passing.Passing.{Passing}
+use Rattle.router_passing.specs.Fits.{PassingFit}
+use Rattle.router_passing.specs.Passing.{with_bound}
+use Rattle.router_passing.proofs.Quiet.{taken_fits}
+use Rattle.router_state.specs.declared.tables.State.{State}
+use Rattle.router_state.specs.Tables.{TablesFit}
+
+pub passing_taken : (s : Passing) (d k : ℕ) (t : Trace) → PassingFit s t → PassingFit s (Took d k ∷ t)
+passing_taken s d k t old = taken_fits s d k t old
+
+pub bound_fits : (s : State) (new : Passing) (t : Trace) (b : Option Binding) → TablesFit s t → PassingFit new (with_bound b t)
+    → TablesFit (record s { passing = new }) (with_bound b t)
+bound_fits s new t None fit p = record {
+  connections = fit.connections;
+  ready = fit.ready;
+  clocks = fit.clocks;
+  peers = fit.peers;
+  sessions = fit.sessions;
+  passing = p;
+}
+bound_fits s new t (Some b) fit p = record {
+  connections = record { rows = fit.connections.rows; live = fit.connections.live; last = fit.connections.last; rise = fit.connections.rise; roomy = fit.connections.roomy };
+  ready = fit.ready;
+  clocks = record { moment = fit.clocks.moment; terms = fit.clocks.terms; written = fit.clocks.written };
+  peers = record { users = fit.peers.users; containers = fit.peers.containers };
+  sessions = record {
+    rows = record { offered = fit.sessions.rows.offered; answered = fit.sessions.rows.answered; theirs = fit.sessions.rows.theirs; windows = fit.sessions.rows.windows };
+    marks = fit.sessions.marks;
+  };
+  passing = p;
+}
+
+-- what a transfer gives on the session of this channel
+pub part_on_session : (t : Trace) (c : ℕ) (own : Option ℕ) (i : Item) (o : ℕ) → is_channel own o ≡ true → part_at t c own i ≡ part_of i (link_place t c o)
+part_on_session t c None i o e = absurd cc
+part_on_session t c (Some k) i o e = ap (λ q. part_of i (link_place t c q)) (eqb-true k o e)

@@ -1,0 +1,16 @@
+use Rattle.std.proofs.Common.{rules}
+use Rattle.router_passing.proofs.Quiet.{risen_fits}
+use Rattle.router_state.proofs.tables.State.up.Goals as goal
+
+pub returns : goal.returns
+returns c = λ t ends at rises. record {
+  connections = c.in_ok-up.ensures t at.connections rises;
+  ready = (search rules);
+  clocks = record { moment = at.clocks.moment; terms = at.clocks.terms; written = at.clocks.written };
+  peers = c.in_ok-up-2.ensures t at.peers;
+  sessions = record {
+    rows = record { offered = at.sessions.rows.offered; answered = at.sessions.rows.answered; theirs = at.sessions.rows.theirs; windows = at.sessions.rows.windows };
+    marks = at.sessions.marks;
+  };
+  passing = risen_fits c.args.self.now.passing c.args.conn c.args.peer.now t at.passing;
+}
