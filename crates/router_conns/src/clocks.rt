@@ -1,7 +1,9 @@
 //! What peers' opens tell, and when items were put out last.
-ghost use Rattle.std.specs.Prelude.{◌≡◌, ◌==◌, ◌∷◌, [], List, ℕ, None, false, if◌then◌else◌, OnOk};
+ghost use Rattle.std.specs.Prelude.{◌≡◌, ◌==◌, ◌∷◌, List, ℕ, None, false, if◌then◌else◌, OnOk};
 ghost use Rattle.std.specs.Ordering.{nat_cmp};
 ghost use Rattle.std.specs.BTreeMap.{get};
+ghost use Rattle.route_table.specs.Places.{Routing};
+ghost use Rattle.router_trace.specs.Configuration.{configured};
 ghost use Rattle.router_trace.specs.Trace.{Entry, Out, did};
 ghost use Rattle.router_trace.specs.Clocks.{terms, written, needs_beat, channel_max_of};
 ghost use Rattle.router_conns.specs.Timing.{ClocksFit, is_close};
@@ -28,7 +30,7 @@ pub struct Clocks {
 impl Clocks {
     /// Nothing is told or put out yet.
     pub fn new(alloc: Global) -> Clocks
-        ensures { ClocksFit result [] }
+        ensures { (g : Routing) → ClocksFit result (configured g) }
     {
         Clocks {
             moment: 0,

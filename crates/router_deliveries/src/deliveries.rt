@@ -1,8 +1,10 @@
 //! The table of deliveries.
-ghost use Rattle.std.specs.Prelude.{◌≡◌, ◌==◌, ◌&&◌, ◌∷◌, [], List, ℕ, OnOk, IfOk, false, if◌then◌else◌};
+ghost use Rattle.std.specs.Prelude.{◌≡◌, ◌==◌, ◌&&◌, ◌∷◌, List, ℕ, OnOk, IfOk, false, if◌then◌else◌};
 ghost use Rattle.std.specs.Option.{option_map, is_some};
 ghost use Rattle.std.specs.Ordering.{nat_cmp};
 ghost use Rattle.std.specs.BTreeMap.{get};
+ghost use Rattle.route_table.specs.Places.{Routing};
+ghost use Rattle.router_trace.specs.Configuration.{configured};
 ghost use Rattle.router_trace.specs.Trace.{Entry, Out, Bound, did};
 ghost use Rattle.router_trace.specs.declared.event.Event.TheVariants as event;
 ghost use Rattle.router_trace.specs.Deliveries.{delivery, next_id, sending, named, waits_on, undecided_on, held_from, is_to_tell};
@@ -40,7 +42,7 @@ pub struct Deliveries {
 impl Deliveries {
     /// No deliveries.
     pub fn new(alloc: Global) -> Deliveries
-        ensures { DeliveriesFit result [] }
+        ensures { (g : Routing) → DeliveriesFit result (configured g) }
     {
         Deliveries {
             alloc,

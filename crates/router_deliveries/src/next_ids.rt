@@ -1,8 +1,10 @@
 //! The delivery-ids that the router gives next, by session.
-ghost use Rattle.std.specs.Prelude.{◌≡◌, ◌==◌, ◌∷◌, [], List, ℕ, Bool, None, if◌then◌else◌, OnOk, unwrap_or};
+ghost use Rattle.std.specs.Prelude.{◌≡◌, ◌==◌, ◌∷◌, List, ℕ, Bool, None, if◌then◌else◌, OnOk, unwrap_or};
 ghost use Rattle.std.specs.Ordering.{nat_cmp};
 ghost use Rattle.std.specs.BTreeMap.{get};
 ghost use Rattle.amqp_frames.specs.declared.item.Item.TheVariants as item;
+ghost use Rattle.route_table.specs.Places.{Routing};
+ghost use Rattle.router_trace.specs.Configuration.{configured};
 ghost use Rattle.router_trace.specs.Trace.{Entry, Out, did};
 ghost use Rattle.router_trace.specs.declared.event.Event.TheVariants as event;
 ghost use Rattle.router_trace.specs.Deliveries.{next_id, after_id};
@@ -25,7 +27,7 @@ pub(crate) struct NextIds {
 impl NextIds {
     /// None was given.
     pub(crate) fn new(alloc: Global) -> NextIds
-        ensures { NextIdsFit result [] }
+        ensures { (g : Routing) → NextIdsFit result (configured g) }
     {
         NextIds {
             alloc,

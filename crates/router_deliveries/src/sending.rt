@@ -1,11 +1,13 @@
 //! The deliveries of which more frames are to go, by the router's handles.
-ghost use Rattle.std.specs.Prelude.{◌≡◌, ◌∷◌, [], List, ℕ, Bool, None, if◌then◌else◌, OnOk, IfOk};
+ghost use Rattle.std.specs.Prelude.{◌≡◌, ◌∷◌, List, ℕ, Bool, None, if◌then◌else◌, OnOk, IfOk};
 ghost use Rattle.std.specs.Ordering.{nat_cmp};
 ghost use Rattle.std.specs.Map.{values_of};
 ghost use Rattle.std.specs.BTreeMap.{IsOrdered};
 ghost use Rattle.router_deliveries.specs.Finding.{IsListed};
 ghost use Rattle.amqp_perf.specs.declared.perf.Perf.TheVariants as perf;
 ghost use Rattle.amqp_frames.specs.declared.item.Item.TheVariants as item;
+ghost use Rattle.route_table.specs.Places.{Routing};
+ghost use Rattle.router_trace.specs.Configuration.{configured};
 ghost use Rattle.router_trace.specs.Trace.{Entry, Out, did};
 ghost use Rattle.router_trace.specs.declared.event.Event.TheVariants as event;
 ghost use Rattle.router_trace.specs.Deliveries.{carried, tag_in};
@@ -28,7 +30,7 @@ pub(crate) struct Sending {
 impl Sending {
     /// None.
     pub(crate) fn new(alloc: Global) -> Sending
-        ensures { SendingFit result [] }
+        ensures { (g : Routing) → SendingFit result (configured g) }
     {
         Sending {
             numbers: ByHandle::new(alloc),

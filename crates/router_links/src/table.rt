@@ -1,5 +1,5 @@
 //! The links that the router took, with their keys and numbers.
-ghost use Rattle.std.specs.Prelude.{◌≡◌, ◌==◌, ◌+◌, ◌||◌, ◌&&◌, ◌∷◌, [], List, ℕ, Bool, Some, None, true, false, if◌then◌else◌, IfOk, OnOk};
+ghost use Rattle.std.specs.Prelude.{◌≡◌, ◌==◌, ◌+◌, ◌||◌, ◌&&◌, ◌∷◌, List, ℕ, Bool, Some, None, true, false, if◌then◌else◌, IfOk, OnOk};
 ghost use Rattle.std.specs.Option.{option_map};
 ghost use Rattle.std.specs.Ordering.{nat_cmp, is_eq};
 ghost use Rattle.std.specs.BTreeMap.{get};
@@ -10,6 +10,8 @@ ghost use Rattle.amqp_perf.specs.declared.perf.Close.{Close};
 ghost use Rattle.amqp_frames.specs.declared.item.Item.TheVariants as item;
 ghost use Rattle.book_core.specs.Keys.{key_cmp};
 ghost use Rattle.book_core.specs.declared.terminus.LinkKey.{LinkKey as AKey};
+ghost use Rattle.route_table.specs.Places.{Routing};
+ghost use Rattle.router_trace.specs.Configuration.{configured};
 ghost use Rattle.router_trace.specs.Trace.{Entry, Out, did};
 ghost use Rattle.router_trace.specs.Sessions.{is_channel, maps, theirs};
 ghost use Rattle.router_trace.specs.Links.{is_handle, their_handle, asked, initial_of, key_at, is_attached, if_attached, holder, place_of};
@@ -55,7 +57,7 @@ pub struct LinkTable {
 impl LinkTable {
     /// No links.
     pub fn new(alloc: Global) -> LinkTable
-        ensures fits { TableFit result [] }
+        ensures fits { (g : Routing) → TableFit result (configured g) }
         ensures untouched { (k : ℕ) → contains nat_cmp result.touched k ≡ false }
     {
         LinkTable {

@@ -12,7 +12,7 @@ use Rattle.router_pools.specs.Sharing.{Figure, producer, sharing}
 use Rattle.router_trace.specs.declared.binding.Binding.{Binding}
 use Rattle.router_trace.specs.declared.binding.Origin.{Origin}
 use Rattle.router_trace.specs.declared.handle.Attachment.{Attachment}
-use Rattle.router_trace.specs.Trace.{Trace, Put, Did, Out, Took, Bound}
+use Rattle.router_trace.specs.Trace.{Trace, Put, Did, Out, Took, Bound, Configured}
 use Rattle.router_trace.specs.Frames.{told_of}
 use Rattle.router_trace.specs.LinkFrames.{link_flow_item}
 use Rattle.router_trace.specs.Links.{Link, Happened, sends, receives, link, numbered, attachments}
@@ -32,6 +32,7 @@ last_chosen (Did s ∷ t) address = last_chosen t address
 last_chosen (Out c i ∷ t) address = last_chosen t address
 last_chosen (Took c n ∷ t) address = last_chosen t address
 last_chosen (Bound b ∷ t) address = if is_of address (link_of t b.consumer) b.consumer.number then b.consumer.number else last_chosen t address
+last_chosen (Configured g ∷ t) address = last_chosen t address
 
 -- the same once this consumer is chosen too, if one is
 abbrev pub last_behind : Trace → Option Attachment → List ℕ → ℕ

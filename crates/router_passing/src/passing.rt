@@ -1,5 +1,7 @@
 //! Links, the deliveries on them and the pools of their addresses.
-ghost use Rattle.std.specs.Prelude.{◌≡◌, ℕ, List, [], ◌∷◌, OnOk, IfOk};
+ghost use Rattle.std.specs.Prelude.{◌≡◌, ℕ, List, ◌∷◌, OnOk, IfOk};
+ghost use Rattle.route_table.specs.Places.{Routing};
+ghost use Rattle.router_trace.specs.Configuration.{configured};
 ghost use Rattle.router_trace.specs.Trace.{Entry, Out, did};
 ghost use Rattle.router_trace.specs.Sessions.{is_channel, maps, theirs};
 ghost use Rattle.router_trace.specs.Settling.{part_at};
@@ -33,7 +35,7 @@ pub struct Passing {
 impl Passing {
     /// No links.
     pub fn new(alloc: Global) -> Passing
-        ensures { PassingFit result [] }
+        ensures { (g : Routing) → PassingFit result (configured g) }
     {
         Passing {
             alloc,

@@ -17,20 +17,22 @@ use Rattle.route_credit.proofs.Indices.{same_test}
 use Rattle.route_credit.proofs.Lookups.{link_with, link_without}
 use Rattle.router_pools.specs.Addresses.{with_pool, without}
 use Rattle.router_pools.specs.Fits.{chosen_at, Fits, is_place, or_last}
-use Rattle.router_pools.specs.Sharing.{demand_at, distribution_of, Figure, offer_at}
+use Rattle.route_table.specs.declared.sections.Distribution.{Distribution}
+use Rattle.router_pools.specs.Sharing.{demand_at, Figure, offer_at}
 use Rattle.router_pools.specs.Sharing.Figure.{consumer, producer}
 use Rattle.router_pools.proofs.AtAddress.{by_test, equal_bytes, same_bytes}
 
-module _ (apart : ℕ → Bool) (pools : List ℕ → Sharing) (place : ℕ → Option (List ℕ)) (due : List ℕ → Bool) (known : ℕ → Option Figure) (last : List ℕ → ℕ) (fits : Fits apart pools place due known last) where
+module _ (apart : ℕ → Bool) (table share : List ℕ → Distribution) (pools : List ℕ → Sharing) (place : ℕ → Option (List ℕ)) (due : List ℕ → Bool) (known : ℕ → Option Figure) (last : List ℕ → ℕ) (fits : Fits apart table share pools place due known last) where
   -- more may be apart, of which other things may be known, and more may be due
   pub widened : (apart' : ℕ → Bool) (due' : List ℕ → Bool) (known' : ℕ → Option Figure)
       → ((n : ℕ) → apart' n ≡ false → (apart n ≡ false) × (known' n ≡ known n)) → ((a : List ℕ) → due' a ≡ false → due a ≡ false)
-      → Fits apart' pools place due' known' last
+      → Fits apart' table share pools place due' known' last
   widened apart' due' known' more later = record {
     consumers = λ n a is. fits.consumers n a (more n is).0 ∙ ap (offer_at a) (sym (more n is).1);
     producers = λ n a is. fits.producers n a (more n is).0 ∙ ap (demand_at a) (sym (more n is).1);
     no_consumer = fits.no_consumer;
     no_producer = fits.no_producer;
+    same = fits.same;
     distribution = fits.distribution;
     chosen = fits.chosen;
     consumers_rise = fits.consumers_rise;
@@ -74,7 +76,7 @@ module _ (apart : ℕ → Bool) (pools : List ℕ → Sharing) (place : ℕ → 
       place_here : (m : ℕ) (a : List ℕ) → bytes_eq q a ≡ false → (n == m) ≡ true → is_place (place m) a ≡ false
       place_here m a other e = ap (λ k. is_place (place k) a) (sym (eqb-true n m e)) ∙ ap (λ p. is_place p a) at ∙ other
 
-      pub taken : Fits apart pools' place' due' known last
+      pub taken : Fits apart table share pools' place' due' known last
       taken = record {
         consumers = λ m a is. keeps (λ a p. link_at p.consumers m ≡ offer_at a (known m))
             (λ a e. consumer_out m a ∙ ap (λ b. cond b None (link_at (pools a).consumers m)) (not_n m is) ∙ fits.consumers m a is) (λ a e. fits.consumers m a is) a;
@@ -90,7 +92,8 @@ module _ (apart : ℕ → Bool) (pools : List ℕ → Sharing) (place : ℕ → 
             (λ e. by_test (bytes_eq q a)
             (λ f. ap (λ p. link_at p.producers m) (changes a ∙ ap (λ b. if b then change (pools a) else pools a) f) ∙ producer_out m a ∙ ap (λ b. cond b None (link_at (pools a).producers m)) e ∙ fits.no_producer m a (place_before m a none e))
             (λ f. ap (λ p. link_at p.producers m) (elsewhere a f) ∙ fits.no_producer m a (place_before m a none e)));
-        distribution = keeps (λ a p. p.distribution ≡ distribution_of a) (λ a e. ap (λ p. p.distribution) (change_is (pools a)) ∙ fits.distribution a) (λ a e. fits.distribution a);
+        same = fits.same;
+        distribution = keeps (λ a p. p.distribution ≡ share a) (λ a e. ap (λ p. p.distribution) (change_is (pools a)) ∙ fits.distribution a) (λ a e. fits.distribution a);
         chosen = keeps (λ a p. p.last ≡ last a) (λ a e. ap (λ p. p.last) (change_is (pools a)) ∙ fits.chosen a) (λ a e. fits.chosen a);
         consumers_rise = keeps (λ a p. InOrder p.consumers) (λ a e. subst (λ p. InOrder p.consumers) (sym (change_is (pools a))) (without_ordered (pools a).consumers n (fits.consumers_rise a))) (λ a e. fits.consumers_rise a);
         producers_rise = keeps (λ a p. InOrder p.producers) (λ a e. subst (λ p. InOrder p.producers) (sym (change_is (pools a))) (without_ordered (pools a).producers n (fits.producers_rise a))) (λ a e. fits.producers_rise a);
@@ -115,7 +118,7 @@ module _ (apart : ℕ → Bool) (pools : List ℕ → Sharing) (place : ℕ → 
           (λ e. absurd (true≢false (sym here ∙ sym (ap (λ p. is_place p a) at) ∙ ap (λ k. is_place (place k) a) (eqb-true n m e) ∙ none)))
           (λ e. e)
 
-      pub changed : Fits apart' pools' place due known' last
+      pub changed : Fits apart' table share pools' place due known' last
       changed = record {
         consumers = λ m a is. by_test (n == m)
             (λ e. let same : n ≡ m = eqb-true n m e in keeps (λ a p. link_at p.consumers m ≡ offer_at a (known' m))
@@ -139,7 +142,8 @@ module _ (apart : ℕ → Bool) (pools : List ℕ → Sharing) (place : ℕ → 
             (λ f. ap (λ p. link_at p.producers m) (changes a ∙ ap (λ b. if b then change (pools a) else pools a) f) ∙ producer_there m a
             ∙ ap (λ b. cond b (demand_at q (known' n)) (link_at (pools a).producers m)) (not_place m a none f) ∙ fits.no_producer m a none)
             (λ f. ap (λ p. link_at p.producers m) (elsewhere a f) ∙ fits.no_producer m a none);
-        distribution = keeps (λ a p. p.distribution ≡ distribution_of a) (λ a e. same_distribution a ∙ fits.distribution a) (λ a e. fits.distribution a);
+        same = fits.same;
+        distribution = keeps (λ a p. p.distribution ≡ share a) (λ a e. same_distribution a ∙ fits.distribution a) (λ a e. fits.distribution a);
         chosen = keeps (λ a p. p.last ≡ last a) (λ a e. same_last a ∙ fits.chosen a) (λ a e. fits.chosen a);
         consumers_rise = keeps (λ a p. InOrder p.consumers) (λ a e. consumers_ordered a (fits.consumers_rise a)) (λ a e. fits.consumers_rise a);
         producers_rise = keeps (λ a p. InOrder p.producers) (λ a e. producers_ordered a (fits.producers_rise a)) (λ a e. fits.producers_rise a);
@@ -147,12 +151,13 @@ module _ (apart : ℕ → Bool) (pools : List ℕ → Sharing) (place : ℕ → 
       }
 
   -- a link that stands nowhere is given a place
-  pub placed : (n : ℕ) (q : List ℕ) → place n ≡ None → (place' : ℕ → Option (List ℕ)) → ((m : ℕ) → place' m ≡ (if n == m then Some q else place m)) → Fits apart pools place' due known last
+  pub placed : (n : ℕ) (q : List ℕ) → place n ≡ None → (place' : ℕ → Option (List ℕ)) → ((m : ℕ) → place' m ≡ (if n == m then Some q else place m)) → Fits apart table share pools place' due known last
   placed n q none place' moves = record {
     consumers = fits.consumers;
     producers = fits.producers;
     no_consumer = λ m a is. fits.no_consumer m a (before m a is);
     no_producer = λ m a is. fits.no_producer m a (before m a is);
+    same = fits.same;
     distribution = fits.distribution;
     chosen = fits.chosen;
     consumers_rise = fits.consumers_rise;
@@ -167,7 +172,7 @@ module _ (apart : ℕ → Bool) (pools : List ℕ → Sharing) (place : ℕ → 
 
   -- a link that stands nowhere has nothing
   pub gone : (n : ℕ) → place n ≡ None → (apart' : ℕ → Bool) → ((m : ℕ) → apart' m ≡ false → (n == m) ≡ false → apart m ≡ false)
-      → (known' : ℕ → Option Figure) → known' n ≡ None → ((m : ℕ) → (n == m) ≡ false → known' m ≡ known m) → Fits apart' pools place due known' last
+      → (known' : ℕ → Option Figure) → known' n ≡ None → ((m : ℕ) → (n == m) ≡ false → known' m ≡ known m) → Fits apart' table share pools place due known' last
   gone n none apart' less known' nothing others = record {
     consumers = λ m a is. by_test (n == m)
         (λ e. let same : n ≡ m = eqb-true n m e in ap (link_at (pools a).consumers) (sym same) ∙ fits.no_consumer n a (ap (λ p. is_place p a) none) ∙ sym (ap (offer_at a) (ap known' (sym same) ∙ nothing)))
@@ -177,6 +182,7 @@ module _ (apart : ℕ → Bool) (pools : List ℕ → Sharing) (place : ℕ → 
         (λ e. fits.producers m a (less m is e) ∙ ap (demand_at a) (sym (others m e)));
     no_consumer = fits.no_consumer;
     no_producer = fits.no_producer;
+    same = fits.same;
     distribution = fits.distribution;
     chosen = fits.chosen;
     consumers_rise = fits.consumers_rise;
@@ -185,12 +191,13 @@ module _ (apart : ℕ → Bool) (pools : List ℕ → Sharing) (place : ℕ → 
   }
 
   -- a consumer was chosen
-  pub chosen_fits : (pools' : List ℕ → Sharing) (q : List ℕ) (r : Option ℕ) → ((a : List ℕ) → pools' a ≡ with_pool pools q (λ pool. chose pool r) a) → Fits apart pools' place due known (chosen_at q r last)
+  pub chosen_fits : (pools' : List ℕ → Sharing) (q : List ℕ) (r : Option ℕ) → ((a : List ℕ) → pools' a ≡ with_pool pools q (λ pool. chose pool r) a) → Fits apart table share pools' place due known (chosen_at q r last)
   chosen_fits pools' q r changes = record {
     consumers = λ n a is. ap (link_at_of n) (same_consumers a) ∙ fits.consumers n a is;
     producers = λ n a is. ap (link_at_of n) (same_producers a) ∙ fits.producers n a is;
     no_consumer = λ n a is. ap (link_at_of n) (same_consumers a) ∙ fits.no_consumer n a is;
     no_producer = λ n a is. ap (link_at_of n) (same_producers a) ∙ fits.no_producer n a is;
+    same = fits.same;
     distribution = λ a. ap (λ p. p.distribution) (changes a) ∙ distribution_kept (bytes_eq q a) (pools a) r ∙ fits.distribution a;
     chosen = λ a. ap (λ p. p.last) (changes a) ∙ last_kept (bytes_eq q a) (pools a) r ∙ ap (λ l. if bytes_eq q a then or_last r l else l) (fits.chosen a);
     consumers_rise = λ a. subst (λ es. InOrder es) (sym (same_consumers a)) (fits.consumers_rise a);
@@ -236,7 +243,7 @@ module _ (apart : ℕ → Bool) (pools : List ℕ → Sharing) (place : ℕ → 
   pub granted_fits : (pools' : List ℕ → Sharing) (q : List ℕ) → ((a : List ℕ) → pools' a ≡ with_pool pools q all_granted a)
       → (apart' : ℕ → Bool) → ((n : ℕ) → apart' n ≡ false → (apart n ≡ false) × (link_at (grants_of (pools q)) n ≡ None))
       → (due' : List ℕ → Bool) → ((a : List ℕ) → bytes_eq q a ≡ false → due' a ≡ false → due a ≡ false)
-      → Fits apart' pools' place due' known last
+      → Fits apart' table share pools' place due' known last
   granted_fits pools' q changes apart' more due' later = record {
     consumers = λ n a is. keep (λ a p. link_at p.consumers n ≡ offer_at a (known n)) (λ a e. ap (λ es. link_at es n) (all_consumers (pools a) (rise a)) ∙ fits.consumers n a (more n is).0) (λ a e. fits.consumers n a (more n is).0) a;
     producers = λ n a is. keep (λ a p. link_at p.producers n ≡ demand_at a (known n))
@@ -247,7 +254,8 @@ module _ (apart : ℕ → Bool) (pools : List ℕ → Sharing) (place : ℕ → 
     no_producer = λ n a is. by_test (bytes_eq q a)
         (λ e. ap (λ p. link_at p.producers n) (here a e) ∙ none_by_all (pools a) n (rise a) (fits.no_producer n a is))
         (λ e. ap (λ p. link_at p.producers n) (elsewhere pools' q all_granted changes a e) ∙ fits.no_producer n a is);
-    distribution = keep (λ a p. p.distribution ≡ distribution_of a) (λ a e. all_distribution (pools a) (rise a) ∙ fits.distribution a) (λ a e. fits.distribution a);
+    same = fits.same;
+    distribution = keep (λ a p. p.distribution ≡ share a) (λ a e. all_distribution (pools a) (rise a) ∙ fits.distribution a) (λ a e. fits.distribution a);
     chosen = keep (λ a p. p.last ≡ last a) (λ a e. all_last (pools a) (rise a) ∙ fits.chosen a) (λ a e. fits.chosen a);
     consumers_rise = keep (λ a p. InOrder p.consumers) (λ a e. subst (λ es. InOrder es) (sym (all_consumers (pools a) (rise a))) (fits.consumers_rise a)) (λ a e. fits.consumers_rise a);
     producers_rise = keep (λ a p. InOrder p.producers) (λ a e. all_ordered (pools a) (rise a)) (λ a e. rise a);
@@ -266,15 +274,15 @@ module _ (apart : ℕ → Bool) (pools : List ℕ → Sharing) (place : ℕ → 
       here a e = changes a ∙ ap (λ b. if b then all_granted (pools a) else pools a) e
 
 -- a consumer's figures
-module _ (apart : ℕ → Bool) (pools : List ℕ → Sharing) (place : ℕ → Option (List ℕ)) (due : List ℕ → Bool) (known : ℕ → Option Figure) (last : List ℕ → ℕ) (fits : Fits apart pools place due known last)
+module _ (apart : ℕ → Bool) (table share : List ℕ → Distribution) (pools : List ℕ → Sharing) (place : ℕ → Option (List ℕ)) (due : List ℕ → Bool) (known : ℕ → Option Figure) (last : List ℕ → ℕ) (fits : Fits apart table share pools place due known last)
     (pools' : List ℕ → Sharing) (q : List ℕ) (n : ℕ) (at : place n ≡ Some q) (is_due : due q ≡ true)
     (apart' : ℕ → Bool) (less : (m : ℕ) → apart' m ≡ false → (n == m) ≡ false → apart m ≡ false)
     (known' : ℕ → Option Figure) (others : (m : ℕ) → (n == m) ≡ false → known' m ≡ known m) where
   pub offered_fits : (free undecided : ℕ) → ((a : List ℕ) → pools' a ≡ with_pool pools q (λ pool. offered (without_producer pool n) n free undecided) a) → known' n ≡ Some (consumer q free undecided)
-      → Fits apart' pools' place due known' last
+      → Fits apart' table share pools' place due known' last
   offered_fits free undecided changes is =
       let offer : Offer = record { free = free; undecided = undecided } in
-      changed apart pools place due known last fits pools' q (λ pool. offered (without_producer pool n) n free undecided) changes n at is_due apart' less known' others
+      changed apart table share pools place due known last fits pools' q (λ pool. offered (without_producer pool n) n free undecided) changes n at is_due apart' less known' others
       (λ m a. link_with (pools a).consumers n offer m ∙ ap (λ x. cond (n == m) x (link_at (pools a).consumers m)) (sym (ap (offer_at q) is ∙ ap (λ b. if b then Some offer else None) (equal_bytes q q refl))))
       (λ m a. link_without (pools a).producers n m ∙ ap (λ x. cond (n == m) x (link_at (pools a).producers m)) (sym (ap (demand_at q) is)))
       (λ a e. ap (offer_at a) is ∙ ap (λ b. if b then Some offer else None) e)
@@ -285,10 +293,10 @@ module _ (apart : ℕ → Bool) (pools : List ℕ → Sharing) (place : ℕ → 
 
   -- a producer's figures
   pub wanted_fits : (unused held : ℕ) → ((a : List ℕ) → pools' a ≡ with_pool pools q (λ pool. wanted (without_consumer pool n) n unused 0 held) a) → known' n ≡ Some (producer q unused held)
-      → Fits apart' pools' place due known' last
+      → Fits apart' table share pools' place due known' last
   wanted_fits unused held changes is =
       let demand : Demand = demand_of unused 0 held in
-      changed apart pools place due known last fits pools' q (λ pool. wanted (without_consumer pool n) n unused 0 held) changes n at is_due apart' less known' others
+      changed apart table share pools place due known last fits pools' q (λ pool. wanted (without_consumer pool n) n unused 0 held) changes n at is_due apart' less known' others
       (λ m a. link_without (pools a).consumers n m ∙ ap (λ x. cond (n == m) x (link_at (pools a).consumers m)) (sym (ap (offer_at q) is)))
       (λ m a. link_with (pools a).producers n demand m ∙ ap (λ x. cond (n == m) x (link_at (pools a).producers m)) (sym (ap (demand_at q) is ∙ ap (λ b. if b then Some demand else None) (equal_bytes q q refl))))
       (λ a e. ap (offer_at a) is)

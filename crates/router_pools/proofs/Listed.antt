@@ -11,6 +11,7 @@ use Rattle.route_credit.specs.Links.{link_at}
 use Rattle.route_credit.specs.Pool.{Sharing}
 use Rattle.route_credit.proofs.Entries.{Above, InOrder, less_is, same_entries}
 use Rattle.route_credit.proofs.Indices.{same_test}
+use Rattle.route_table.specs.declared.sections.Distribution.{Distribution}
 use Rattle.router_pools.specs.Fits.{Fits}
 use Rattle.router_pools.specs.Sharing.{AreNumbered, demand_at, entry, Figure, listed, offer_at, sharing}
 use Rattle.router_pools.proofs.AtAddress.{by_test}
@@ -110,9 +111,9 @@ module _ {X : Type 0} where
   listed_ordered f (suc n) = ordered_end (suc n) (f (suc n)) (listed f n) (listed_below f n) (listed_ordered f n)
 
 -- where nothing is apart the pool of an address is that of what each link has
-pub pool_is : (apart : ℕ → Bool) (pools : List ℕ → Sharing) (place : ℕ → Option (List ℕ)) (due : List ℕ → Bool) (known : ℕ → Option Figure) (last : List ℕ → ℕ) (count : ℕ) (address : List ℕ)
-    → Fits apart pools place due known last → ((n : ℕ) → apart n ≡ false) → AreNumbered known count → pools address ≡ sharing known count (last address) address
-pool_is apart pools place due known last count address fits none numbered =
+pub pool_is : (apart : ℕ → Bool) (table share : List ℕ → Distribution) (pools : List ℕ → Sharing) (place : ℕ → Option (List ℕ)) (due : List ℕ → Bool) (known : ℕ → Option Figure) (last : List ℕ → ℕ) (count : ℕ) (address : List ℕ)
+    → Fits apart table share pools place due known last → ((n : ℕ) → apart n ≡ false) → AreNumbered known count → pools address ≡ sharing (share address) known count (last address) address
+pool_is apart table share pools place due known last count address fits none numbered =
     λ i. record { distribution = fits.distribution address i; consumers = consumers i; producers = producers i; last = fits.chosen address i }
   where
     consumers : (pools address).consumers ≡ listed (λ n. offer_at address (known n)) count

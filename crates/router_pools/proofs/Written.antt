@@ -7,50 +7,12 @@ use Rattle.std.specs.Ordering.{nat_cmp, is_eq}
 use Rattle.std.specs.Str.{bytes_eq}
 use Rattle.route_credit.specs.Pool.{no_links, Sharing}
 use Rattle.router_pools.specs.Addresses.{at_address, pool_or, with_pool}
-use Rattle.router_pools.specs.Sharing.{distribution_of}
+use Rattle.route_table.specs.declared.sections.Distribution.{Distribution}
 use Rattle.router_pools.proofs.AtAddress.{by_test, equal_bytes, insert_at, lookup_is, same_bytes, set_at}
 
 module _ {K : Type 0} (read : K → List ℕ) (es : List (K × Sharing)) (q : List ℕ) where
   abbrev found : Option Sharing
   found = lookup (λ k. is_eq (slice_cmp nat_cmp q (read k))) es
-
-  -- the pools of a map
-  abbrev pub pools_of : List (K × Sharing) → List ℕ → Sharing
-  pools_of fs a = pool_or a (at_address fs read a)
-
-  pub here : (pool : Sharing) → Some pool ≡ found → pools_of es q ≡ pool
-  here pool is = ap (pool_or q) (sym (lookup_is read es q) ∙ sym is)
-
-  pub nowhere : None ≡ found → pools_of es q ≡ no_links (distribution_of q)
-  nowhere is = ap (pool_or q) (sym (lookup_is read es q) ∙ sym is)
-
-  -- one was written
-  pub written : (fs : List (K × Sharing)) (pool new : Sharing) (change : Sharing → Sharing) → Some pool ≡ found → fs ≡ set_value (λ k. is_eq (slice_cmp nat_cmp q (read k))) es new → new ≡ change pool
-      → (a : List ℕ) → pools_of fs a ≡ with_pool (pools_of es) q change a
-  written fs pool new change is set changed a =
-      ap (λ l. pool_or a (at_address l read a)) set ∙ ap (pool_or a) (set_at read es q a new) ∙ by_test (bytes_eq q a)
-      (λ e. let same : q ≡ a = same_bytes q a e in
-      let at : at_address es read a ≡ Some pool = ap (at_address es read) (sym same) ∙ sym (lookup_is read es q) ∙ sym is in
-      rw (e, at) changed)
-      (λ e. rw e refl)
-
-  -- none was there to be written
-  pub unwritten : (fs : List (K × Sharing)) → fs ≡ es → (change : Sharing → Sharing) → change (no_links (distribution_of q)) ≡ no_links (distribution_of q) → None ≡ found → (a : List ℕ) → pools_of fs a ≡ with_pool (pools_of es) q change a
-  unwritten fs unchanged change kept is a = ap (λ l. pools_of l a) unchanged ∙ by_test (bytes_eq q a)
-      (λ e. let same : q ≡ a = same_bytes q a e in
-      let at : at_address es read a ≡ None = ap (at_address es read) (sym same) ∙ sym (lookup_is read es q) ∙ sym is in
-      rw (e, at) (sym kept))
-      (λ e. rw e refl)
-
-  -- one of no links came
-  pub come : (fs : List (K × Sharing)) (k : K) (pool : Sharing) → read k ≡ q → pool ≡ no_links (distribution_of q) → None ≡ found
-      → fs ≡ insert_entry (λ x y. slice_cmp nat_cmp (read x) (read y)) es k pool → (a : List ℕ) → pools_of fs a ≡ pools_of es a
-  come fs k pool is new none set a =
-      ap (λ l. pool_or a (at_address l read a)) set ∙ ap (pool_or a) (insert_at read es k pool a) ∙ by_test (bytes_eq (read k) a)
-      (λ e. let same : q ≡ a = sym is ∙ same_bytes (read k) a e in
-      let at : at_address es read a ≡ None = ap (at_address es read) (sym same) ∙ sym (lookup_is read es q) ∙ sym none in
-      rw (e, at) new)
-      (λ e. rw e refl)
 
   pub there : (fs : List (K × Sharing)) (k : K) (pool : Sharing) → read k ≡ q → fs ≡ insert_entry (λ x y. slice_cmp nat_cmp (read x) (read y)) es k pool → is_some (at_address fs read q) ≡ true
   there fs k pool is set = ap (λ l. is_some (at_address l read q)) set ∙ ap is_some (insert_at read es k pool q) ∙ ap (λ b. is_some (cond b (Some pool) (at_address es read q))) (yes_is is)
@@ -72,6 +34,45 @@ module _ {K : Type 0} (read : K → List ℕ) (es : List (K × Sharing)) (q : Li
   pub missing : None ≡ found → is_some (at_address es read q) ≡ true → ⊥
   missing none there = true≢false (sym there ∙ ap is_some (sym (lookup_is read es q) ∙ sym none))
 
+module _ {K : Type 0} (read : K → List ℕ) (share : List ℕ → Distribution) (es : List (K × Sharing)) (q : List ℕ) where
+  -- the pools of a map, where addresses are shared so
+  abbrev pub pools_of : List (K × Sharing) → List ℕ → Sharing
+  pools_of fs a = pool_or (share a) (at_address fs read a)
+
+  pub here : (pool : Sharing) → Some pool ≡ found read es q → pools_of es q ≡ pool
+  here pool is = ap (pool_or (share q)) (sym (lookup_is read es q) ∙ sym is)
+
+  pub nowhere : None ≡ found read es q → pools_of es q ≡ no_links (share q)
+  nowhere is = ap (pool_or (share q)) (sym (lookup_is read es q) ∙ sym is)
+
+  -- one was written
+  pub written : (fs : List (K × Sharing)) (pool new : Sharing) (change : Sharing → Sharing) → Some pool ≡ found read es q → fs ≡ set_value (λ k. is_eq (slice_cmp nat_cmp q (read k))) es new → new ≡ change pool
+      → (a : List ℕ) → pools_of fs a ≡ with_pool (pools_of es) q change a
+  written fs pool new change is set changed a =
+      ap (λ l. pool_or (share a) (at_address l read a)) set ∙ ap (pool_or (share a)) (set_at read es q a new) ∙ by_test (bytes_eq q a)
+      (λ e. let same : q ≡ a = same_bytes q a e in
+      let at : at_address es read a ≡ Some pool = ap (at_address es read) (sym same) ∙ sym (lookup_is read es q) ∙ sym is in
+      rw (e, at) changed)
+      (λ e. rw e refl)
+
+  -- none was there to be written
+  pub unwritten : (fs : List (K × Sharing)) → fs ≡ es → (change : Sharing → Sharing) → change (no_links (share q)) ≡ no_links (share q) → None ≡ found read es q → (a : List ℕ) → pools_of fs a ≡ with_pool (pools_of es) q change a
+  unwritten fs unchanged change kept is a = ap (λ l. pools_of l a) unchanged ∙ by_test (bytes_eq q a)
+      (λ e. let same : q ≡ a = same_bytes q a e in
+      let at : at_address es read a ≡ None = ap (at_address es read) (sym same) ∙ sym (lookup_is read es q) ∙ sym is in
+      rw (e, at) (sym kept))
+      (λ e. rw e refl)
+
+  -- one of no links came
+  pub come : (fs : List (K × Sharing)) (k : K) (pool : Sharing) → read k ≡ q → pool ≡ no_links (share q) → None ≡ found read es q
+      → fs ≡ insert_entry (λ x y. slice_cmp nat_cmp (read x) (read y)) es k pool → (a : List ℕ) → pools_of fs a ≡ pools_of es a
+  come fs k pool is new none set a =
+      ap (λ l. pool_or (share a) (at_address l read a)) set ∙ ap (pool_or (share a)) (insert_at read es k pool a) ∙ by_test (bytes_eq (read k) a)
+      (λ e. let same : q ≡ a = sym is ∙ same_bytes (read k) a e in
+      let at : at_address es read a ≡ None = ap (at_address es read) (sym same) ∙ sym (lookup_is read es q) ∙ sym none in
+      rw (e, at) new)
+      (λ e. rw e refl)
+
 -- pools that are the same everywhere
 pub same_elsewhere : (one other : List ℕ → Sharing) (q : List ℕ) (change : Sharing → Sharing) → ((a : List ℕ) → one a ≡ other a) → (a : List ℕ) → with_pool one q change a ≡ with_pool other q change a
 same_elsewhere one other q change same a = ap (λ pool. if bytes_eq q a then change pool else pool) (same a)
@@ -81,6 +82,6 @@ pub on_ok_then : {T E : Type 0} (r : Result T E) (P Q : Type 0) → OnOk r P →
 on_ok_then (Ok x) P Q is f = f is
 on_ok_then (Err e) P Q is f = tt
 
-pub told_is : {T E X : Type 0} (r : Result T E) (shown : T → X) (one other : X) → IfOk r (λ t. shown t ≡ one) → one ≡ other → IfOk r (λ t. shown t ≡ other)
-told_is (Ok x) shown one other is same = is ∙ same
-told_is (Err e) shown one other is same = tt
+pub on_told : {T E : Type 0} (r : Result T E) (P Q : T → Type 0) → IfOk r P → ((x : T) → P x → Q x) → IfOk r Q
+on_told (Ok x) P Q is f = f x is
+on_told (Err e) P Q is f = tt

@@ -4,7 +4,7 @@ use Rattle.std.specs.List.{list_any}
 use Rattle.std.specs.Map.{lookup}
 use Rattle.std.specs.Str.{bytes_eq}
 use Rattle.route_credit.specs.Pool.{no_links, Sharing, without_consumer, without_producer}
-use Rattle.router_pools.specs.Sharing.{distribution_of}
+use Rattle.route_table.specs.declared.sections.Distribution.{Distribution}
 
 abbrev pub at_address : {K V : Type 0} → List (K × V) → (K → List ℕ) → List ℕ → Option V
 at_address entries read address = lookup (λ k. bytes_eq address (read k)) entries
@@ -13,10 +13,10 @@ at_address entries read address = lookup (λ k. bytes_eq address (read k)) entri
 abbrev pub among : {K : Type 0} → List K → (K → List ℕ) → List ℕ → Bool
 among keys read address = list_any (λ k. bytes_eq address (read k)) keys
 
--- the pool of an address: one of no links where there is none
-abbrev pub pool_or : List ℕ → Option Sharing → Sharing
-pool_or address None = no_links (distribution_of address)
-pool_or address (Some pool) = pool
+-- the pool of an address that is shared so: one of no links where there is none
+abbrev pub pool_or : Distribution → Option Sharing → Sharing
+pool_or distribution None = no_links distribution
+pool_or distribution (Some pool) = pool
 
 -- the pools, where that of one address has changed
 abbrev pub with_pool : (List ℕ → Sharing) → List ℕ → (Sharing → Sharing) → List ℕ → Sharing

@@ -10,16 +10,22 @@ use Rattle.route_credit.specs.Granting.{grants_of}
 use Rattle.route_credit.specs.Links.{link_at}
 use Rattle.route_credit.specs.Pool.{Sharing}
 use Rattle.router_pools.specs.Addresses.{among, at_address, pool_or}
-use Rattle.router_pools.specs.Sharing.{demand_at, distribution_of, Figure, offer_at}
+use Rattle.route_table.specs.declared.sections.Distribution.{Distribution}
+use Rattle.route_table.specs.Places.{distribution_of}
+use Rattle.router_pools.specs.Sharing.{demand_at, Figure, offer_at}
 use Rattle.router_pools.specs.declared.by_address.ByAddress.{ByAddress}
 use Rattle.router_pools.specs.declared.pools.Pools.{Pools}
 
--- the pool of an address
-abbrev pub pool_in : ByAddress → List ℕ → Sharing
-pool_in pools address = pool_or address (at_address pools.pools.entries (λ k. k.items) address)
+-- the pool of an address, where addresses are shared so
+abbrev pub pool_in : (List ℕ → Distribution) → ByAddress → List ℕ → Sharing
+pool_in share pools address = pool_or (share address) (at_address pools.pools.entries (λ k. k.items) address)
+
+-- how the table of prefixes says that addresses are shared
+abbrev pub table_of : Pools → List ℕ → Distribution
+table_of pools address = distribution_of pools.table address
 
 abbrev pub pool_at : Pools → List ℕ → Sharing
-pool_at pools address = pool_in pools.pools address
+pool_at pools address = pool_in (table_of pools) pools.pools address
 
 -- whether the figures of a link may have changed
 abbrev pub is_touched : Pools → ℕ → Bool
@@ -41,25 +47,27 @@ abbrev pub is_place : Option (List ℕ) → List ℕ → Bool
 is_place None address = false
 is_place (Some place) address = bytes_eq place address
 
--- Pools say of each link, but for those apart, what it has, and of each address the consumer last chosen; a link stands at its place only, and an address that isn't due has no grants.
-pub record Fits (apart : ℕ → Bool) (pools : List ℕ → Sharing) (place : ℕ → Option (List ℕ)) (due : List ℕ → Bool) (known : ℕ → Option Figure) (last : List ℕ → ℕ) : Type 0 where
+-- Pools say of each link, but for those apart, what it has, and of each address how it is shared and the consumer last chosen; a link stands at its place only, and an address that isn't due has
+-- no grants. The table says how addresses are shared.
+pub record Fits (apart : ℕ → Bool) (table share : List ℕ → Distribution) (pools : List ℕ → Sharing) (place : ℕ → Option (List ℕ)) (due : List ℕ → Bool) (known : ℕ → Option Figure) (last : List ℕ → ℕ) : Type 0 where
   pub consumers : (n : ℕ) (address : List ℕ) → apart n ≡ false → link_at (pools address).consumers n ≡ offer_at address (known n)
   pub producers : (n : ℕ) (address : List ℕ) → apart n ≡ false → link_at (pools address).producers n ≡ demand_at address (known n)
   pub no_consumer : (n : ℕ) (address : List ℕ) → is_place (place n) address ≡ false → link_at (pools address).consumers n ≡ None
   pub no_producer : (n : ℕ) (address : List ℕ) → is_place (place n) address ≡ false → link_at (pools address).producers n ≡ None
-  pub distribution : (address : List ℕ) → (pools address).distribution ≡ distribution_of address
+  pub same : (address : List ℕ) → table address ≡ share address
+  pub distribution : (address : List ℕ) → (pools address).distribution ≡ share address
   pub chosen : (address : List ℕ) → (pools address).last ≡ last address
   pub consumers_rise : (address : List ℕ) → IsStrictlySortedBy nat_cmp (keys_of (pools address).consumers)
   pub producers_rise : (address : List ℕ) → IsStrictlySortedBy nat_cmp (keys_of (pools address).producers)
   pub quiet : (address : List ℕ) → due address ≡ false → grants_of (pools address) ≡ []
 
 -- the pools are those of what each link has, but for the links that are touched
-abbrev pub PoolsFit : Pools → (ℕ → Option Figure) → (List ℕ → ℕ) → Type 0
-PoolsFit pools known last = Fits (is_touched pools) (pool_at pools) (place_of pools) (is_due pools) known last
+abbrev pub PoolsFit : Pools → (List ℕ → Distribution) → (ℕ → Option Figure) → (List ℕ → ℕ) → Type 0
+PoolsFit pools share known last = Fits (is_touched pools) (table_of pools) share (pool_at pools) (place_of pools) (is_due pools) known last
 
 -- the same, but for one link more
-abbrev pub PoolsFitBut : ℕ → Pools → (ℕ → Option Figure) → (List ℕ → ℕ) → Type 0
-PoolsFitBut number pools known last = Fits (λ n. number == n || is_touched pools n) (pool_at pools) (place_of pools) (is_due pools) known last
+abbrev pub PoolsFitBut : ℕ → Pools → (List ℕ → Distribution) → (ℕ → Option Figure) → (List ℕ → ℕ) → Type 0
+PoolsFitBut number pools share known last = Fits (λ n. number == n || is_touched pools n) (table_of pools) share (pool_at pools) (place_of pools) (is_due pools) known last
 
 -- two say the same of each link but one
 abbrev pub AgreeBut : ℕ → (ℕ → Option Figure) → (ℕ → Option Figure) → Type 0

@@ -1,14 +1,15 @@
 -- Laws of the pools of all addresses.
 use Rattle.std.specs.Prelude.{◌≡◌, ℕ, false, List, Option}
+use Rattle.route_table.specs.declared.sections.Distribution.{Distribution}
 use Rattle.router_pools.specs.Fits.{is_touched, NoneTouched, pool_at, PoolsFit}
 use Rattle.router_pools.specs.Sharing.{AreNumbered, Figure, sharing}
 use Rattle.router_pools.specs.declared.pools.Pools.{Pools}
 
 -- pools that fit say nothing of what touched links have
 abbrev pub TouchedSayNothing : Type 0
-TouchedSayNothing = (pools : Pools) (known other : ℕ → Option Figure) (last : List ℕ → ℕ) → PoolsFit pools known last → ((n : ℕ) → is_touched pools n ≡ false → other n ≡ known n) → PoolsFit pools other last
+TouchedSayNothing = (pools : Pools) (share : List ℕ → Distribution) (known other : ℕ → Option Figure) (last : List ℕ → ℕ) → PoolsFit pools share known last → ((n : ℕ) → is_touched pools n ≡ false → other n ≡ known n) → PoolsFit pools share other last
 
 -- where nothing is touched the pool of an address is that of what each link has
 abbrev pub PoolsAreSharing : Type 0
-PoolsAreSharing = (pools : Pools) (known : ℕ → Option Figure) (last : List ℕ → ℕ) (count : ℕ) → PoolsFit pools known last → NoneTouched pools → AreNumbered known count
-    → (address : List ℕ) → pool_at pools address ≡ sharing known count (last address) address
+PoolsAreSharing = (pools : Pools) (share : List ℕ → Distribution) (known : ℕ → Option Figure) (last : List ℕ → ℕ) (count : ℕ) → PoolsFit pools share known last → NoneTouched pools → AreNumbered known count
+    → (address : List ℕ) → pool_at pools address ≡ sharing (share address) known count (last address) address

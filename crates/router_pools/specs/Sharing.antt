@@ -5,16 +5,11 @@ use Rattle.route_credit.specs.Pool.{demand_of, Sharing}
 use Rattle.route_credit.specs.declared.demand.Demand.{Demand}
 use Rattle.route_credit.specs.declared.offer.Offer.{Offer}
 use Rattle.route_table.specs.declared.sections.Distribution.{Distribution}
-use Rattle.route_table.specs.declared.sections.Distribution.TheVariants.{Balanced}
 
 -- What a link has: of a consumer its address, its free credit and its undecided deliveries; of a producer its address, its unused credit and its deliveries held.
 pub data Figure : Type 0 where
   consumer : (address : List ℕ) (free undecided : ℕ) → Figure
   producer : (address : List ℕ) (unused held : ℕ) → Figure
-
--- how the links of an address share it
-abbrev pub distribution_of : List ℕ → Distribution
-distribution_of address = Balanced
 
 -- what a link offers to an address
 abbrev pub offer_at : List ℕ → Option Figure → Option Offer
@@ -38,10 +33,10 @@ abbrev pub listed : {X : Type 0} → (ℕ → Option X) → ℕ → List (ℕ ×
 listed known zero = []
 listed known (suc n) = listed known n ++ entry (suc n) (known (suc n))
 
--- the pool of an address, where so many links were ever attached, and this one was chosen last
-abbrev pub sharing : (ℕ → Option Figure) → ℕ → ℕ → List ℕ → Sharing
-sharing known count last address = record {
-  distribution = distribution_of address;
+-- the pool of an address that is shared so, where so many links were ever attached, and this one was chosen last
+abbrev pub sharing : Distribution → (ℕ → Option Figure) → ℕ → ℕ → List ℕ → Sharing
+sharing distribution known count last address = record {
+  distribution = distribution;
   consumers = listed (λ n. offer_at address (known n)) count;
   producers = listed (λ n. demand_at address (known n)) count;
   last = last;

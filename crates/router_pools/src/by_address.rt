@@ -1,10 +1,10 @@
 //! Pools by the bytes of their addresses.
 ghost use Rattle.std.specs.Prelude.{◌≡◌, ℕ, List, Bool, true, None, Some, OnOk, IfOk, option_map, is_some};
+ghost use Rattle.route_table.specs.declared.sections.Distribution.{Distribution};
 ghost use Rattle.route_credit.specs.Granting.{all_granted, choice, grants_of};
 ghost use Rattle.route_credit.specs.Pool.{by_id, chose, no_links, offered, wanted, without_consumer, without_producer};
 ghost use Rattle.router_pools.specs.Addresses.{at_address, with_pool, without};
 ghost use Rattle.router_pools.specs.Fits.{pool_in};
-ghost use Rattle.router_pools.specs.Sharing.{distribution_of};
 
 use route_credit::{ConsumerId, Pool, ProducerId};
 use route_table::Distribution;
@@ -20,7 +20,7 @@ pub(crate) struct ByAddress {
 
 impl ByAddress {
     pub(crate) fn new(alloc: Global) -> ByAddress
-        ensures { (a : List ℕ) → pool_in result a ≡ no_links (distribution_of a) }
+        ensures { (share : List ℕ → Distribution) (a : List ℕ) → pool_in share result a ≡ no_links (share a) }
     {
         ByAddress {
             alloc,
@@ -28,9 +28,9 @@ impl ByAddress {
         }
     }
 
-    /// Sees to it that there is a pool at an address.
-    fn found(&mut self, address: &[u8]) -> Result<(), AllocError>
-        ensures same { OnOk result ((a : List ℕ) → pool_in self.new a ≡ pool_in self.old a) }
+    /// Sees to it that there is a pool at an address, which is shared so.
+    fn found(&mut self, address: &[u8], distribution: Distribution) -> Result<(), AllocError>
+        ensures same { OnOk result ((share : List ℕ → Distribution) → distribution ≡ share address.now → (a : List ℕ) → pool_in share self.new a ≡ pool_in share self.old a) }
         ensures there { OnOk result (is_some (at_address self.new.pools.entries (λ k. k.items) address.now) ≡ true) }
     {
         if self.pools.contains_key(address) {
@@ -39,24 +39,25 @@ impl ByAddress {
         let key = address.to_vec(self.alloc)?;
         match self
             .pools
-            .insert(key, Pool::new(self.alloc, Distribution::Balanced))
+            .insert(key, Pool::new(self.alloc, distribution))
         {
             Ok(_) => Ok(()),
             Err(_) => Err(AllocError),
         }
     }
 
-    /// What a consumer offers to an address. It is no producer of it.
+    /// What a consumer offers to an address, which is shared so. It is no producer of it.
     pub(crate) fn offer(
         &mut self,
         address: &[u8],
+        distribution: Distribution,
         number: u64,
         free: u64,
         undecided: u64,
     ) -> Result<(), AllocError>
-        ensures { OnOk result ((a : List ℕ) → pool_in self.new a ≡ with_pool (pool_in self.old) address.now (λ pool. offered (without_producer pool number) number free undecided) a) }
+        ensures { OnOk result ((share : List ℕ → Distribution) → distribution ≡ share address.now → (a : List ℕ) → pool_in share self.new a ≡ with_pool (pool_in share self.old) address.now (λ pool. offered (without_producer pool number) number free undecided) a) }
     {
-        self.found(address)?;
+        self.found(address, distribution)?;
         match self.pools.get_mut(address) {
             None => Ok(()),
             Some(pool) => {
@@ -66,17 +67,18 @@ impl ByAddress {
         }
     }
 
-    /// What a producer wants of an address. It is no consumer of it.
+    /// What a producer wants of an address, which is shared so. It is no consumer of it.
     pub(crate) fn want(
         &mut self,
         address: &[u8],
+        distribution: Distribution,
         number: u64,
         unused: u32,
         held: u32,
     ) -> Result<(), AllocError>
-        ensures { OnOk result ((a : List ℕ) → pool_in self.new a ≡ with_pool (pool_in self.old) address.now (λ pool. wanted (without_consumer pool number) number unused 0 held) a) }
+        ensures { OnOk result ((share : List ℕ → Distribution) → distribution ≡ share address.now → (a : List ℕ) → pool_in share self.new a ≡ with_pool (pool_in share self.old) address.now (λ pool. wanted (without_consumer pool number) number unused 0 held) a) }
     {
-        self.found(address)?;
+        self.found(address, distribution)?;
         match self.pools.get_mut(address) {
             None => Ok(()),
             Some(pool) => {
@@ -88,7 +90,7 @@ impl ByAddress {
 
     /// Takes a link out of the pool of an address.
     pub(crate) fn leave(&mut self, address: &[u8], number: u64)
-        ensures { (a : List ℕ) → pool_in self.new a ≡ with_pool (pool_in self.old) address.now (λ pool. without pool number) a }
+        ensures { (share : List ℕ → Distribution) (a : List ℕ) → pool_in share self.new a ≡ with_pool (pool_in share self.old) address.now (λ pool. without pool number) a }
     {
         if let Some(pool) = self.pools.get_mut(address) {
             pool.drop_consumer(ConsumerId(number));
@@ -98,8 +100,8 @@ impl ByAddress {
 
     /// Chooses the consumer of the next delivery of an address.
     pub(crate) fn choose(&mut self, address: &[u8]) -> Option<ConsumerId>
-        ensures chosen { option_map (λ c. c.0) result ≡ choice (pool_in self.old address.now) }
-        ensures noted { (a : List ℕ) → pool_in self.new a ≡ with_pool (pool_in self.old) address.now (λ pool. chose pool (option_map (λ c. c.0) result)) a }
+        ensures chosen { (share : List ℕ → Distribution) → option_map (λ c. c.0) result ≡ choice (pool_in share self.old address.now) }
+        ensures noted { (share : List ℕ → Distribution) (a : List ℕ) → pool_in share self.new a ≡ with_pool (pool_in share self.old) address.now (λ pool. chose pool (option_map (λ c. c.0) result)) a }
     {
         match self.pools.get_mut(address) {
             None => None,
@@ -109,8 +111,8 @@ impl ByAddress {
 
     /// The grants of an address.
     pub(crate) fn grants(&mut self, address: &[u8]) -> Result<Vec<(ProducerId, u32)>, AllocError>
-        ensures sums { IfOk result (λ sums. by_id sums.items ≡ grants_of (pool_in self.old address.now)) }
-        ensures filled { OnOk result ((a : List ℕ) → pool_in self.new a ≡ with_pool (pool_in self.old) address.now all_granted a) }
+        ensures sums { IfOk result (λ sums. (share : List ℕ → Distribution) → by_id sums.items ≡ grants_of (pool_in share self.old address.now)) }
+        ensures filled { OnOk result ((share : List ℕ → Distribution) (a : List ℕ) → pool_in share self.new a ≡ with_pool (pool_in share self.old) address.now all_granted a) }
     {
         match self.pools.get_mut(address) {
             None => Ok(Vec::new(self.alloc)),

@@ -3,6 +3,8 @@ ghost use Rattle.std.specs.Prelude.{◌≡◌, ◌==◌, ◌||◌, ◌&&◌, ◌
 ghost use Rattle.std.specs.Cmp.Lexicographic.{slice_cmp};
 ghost use Rattle.std.specs.Ordering.{nat_cmp};
 ghost use Rattle.std.specs.declared.cmp.Ordering.TheVariants.{Less};
+ghost use Rattle.route_table.specs.declared.sections.Distribution.{Distribution};
+ghost use Rattle.route_table.specs.Places.{FindsAs, Routing, distribution_of};
 ghost use Rattle.route_credit.specs.Granting.{choice, grants_of};
 ghost use Rattle.route_credit.specs.Links.{link_at};
 ghost use Rattle.route_credit.specs.Pool.{by_id};
@@ -14,6 +16,7 @@ ghost use Rattle.router_pools.specs.Sharing.Figure.{consumer, producer};
 use crate::addresses::Addresses;
 use crate::by_address::ByAddress;
 use route_credit::{ConsumerId, ProducerId};
+use route_table::{Distribution, Table};
 use std::alloc::{AllocError, Global};
 use std::collections::{BTreeMap, BTreeSet};
 
@@ -21,10 +24,12 @@ use std::collections::{BTreeMap, BTreeSet};
 ///
 /// A link is named by its number, which is its order of attach. Each call costs a logarithm of the number of links, and
 /// `grants` that much for each credit that it gives. An address keeps its pool when its links are gone, since the
-/// consumer last chosen is part of it. Behind a refused growth nothing can be said of the pools.
-#[derive(Debug, Drop)]
+/// consumer last chosen is part of it. How an address is shared is what the table of prefixes says. Behind a refused growth
+/// nothing can be said of the pools.
+#[derive(Drop)]
 pub struct Pools {
     alloc: Global,
+    table: Table,
     pools: ByAddress,
     places: BTreeMap<u64, Vec<u8>>,
     due: Addresses,
@@ -39,12 +44,13 @@ pub struct Grants {
 }
 
 impl Pools {
-    /// No links at all.
-    pub fn new(alloc: Global) -> Pools
-        ensures { (known : ℕ → Option Figure) → ((n : ℕ) → known n ≡ None) → PoolsFit result known (λ a. 0) }
+    /// No links at all, where addresses are shared as this table says.
+    pub fn new(alloc: Global, table: Table) -> Pools
+        ensures { (g : Routing) → FindsAs table g → (known : ℕ → Option Figure) → ((n : ℕ) → known n ≡ None) → PoolsFit result (distribution_of g) known (λ a. 0) }
     {
         Pools {
             alloc,
+            table,
             pools: ByAddress::new(alloc),
             places: BTreeMap::new(alloc),
             due: Addresses::new(alloc),
@@ -52,9 +58,16 @@ impl Pools {
         }
     }
 
+    /// How the links of an address share its messages.
+    pub fn distribution(&self, address: &str) -> Distribution
+        ensures { (share : List ℕ → Distribution) (known : ℕ → Option Figure) (last : List ℕ → ℕ) → PoolsFit self.now share known last → result ≡ share address.now }
+    {
+        self.table.find(address).distribution
+    }
+
     /// What a link has may have changed.
     pub fn touch(&mut self, number: u64) -> Result<(), AllocError>
-        ensures fits { OnOk result ((known other : ℕ → Option Figure) (last : List ℕ → ℕ) → PoolsFit self.old known last → AgreeBut number other known → PoolsFit self.new other last) }
+        ensures fits { OnOk result ((share : List ℕ → Distribution) (known other : ℕ → Option Figure) (last : List ℕ → ℕ) → PoolsFit self.old share known last → AgreeBut number other known → PoolsFit self.new share other last) }
         ensures touched { OnOk result ((n : ℕ) → is_touched self.new n ≡ (number == n || is_touched self.old n)) }
     {
         let _ = self.touched.insert(number)?;
@@ -74,17 +87,20 @@ impl Pools {
     pub fn offer(
         &mut self,
         number: u64,
-        address: &[u8],
+        address: &str,
         free: u64,
         undecided: u64,
     ) -> Result<(), AllocError>
-        ensures fits { OnOk result ((known other : ℕ → Option Figure) (last : List ℕ → ℕ) → PoolsFit self.old known last
-            → other number ≡ Some (consumer address.now free undecided) → AgreeBut number other known → PoolsFit self.new other last) }
+        ensures fits { OnOk result ((share : List ℕ → Distribution) (known other : ℕ → Option Figure) (last : List ℕ → ℕ) → PoolsFit self.old share known last
+            → other number ≡ Some (consumer address.now free undecided) → AgreeBut number other known → PoolsFit self.new share other last) }
         ensures touched { OnOk result ((n : ℕ) → is_touched self.new n ≡ (not (number == n) && is_touched self.old n)) }
         ensures fewer { OnOk result (is_touched self.old number ≡ true → touched_count self.new < touched_count self.old) }
     {
-        self.place(number, address)?;
-        self.pools.offer(address, number, free, undecided)?;
+        let place = address.as_bytes();
+        self.place(number, place)?;
+        let distribution = self.table.find(address).distribution;
+        self.pools
+            .offer(place, distribution, number, free, undecided)?;
         let _ = self.touched.remove(&number);
         Ok(())
     }
@@ -93,25 +109,28 @@ impl Pools {
     pub fn want(
         &mut self,
         number: u64,
-        address: &[u8],
+        address: &str,
         unused: u32,
         held: u32,
     ) -> Result<(), AllocError>
-        ensures fits { OnOk result ((known other : ℕ → Option Figure) (last : List ℕ → ℕ) → PoolsFit self.old known last
-            → other number ≡ Some (producer address.now unused held) → AgreeBut number other known → PoolsFit self.new other last) }
+        ensures fits { OnOk result ((share : List ℕ → Distribution) (known other : ℕ → Option Figure) (last : List ℕ → ℕ) → PoolsFit self.old share known last
+            → other number ≡ Some (producer address.now unused held) → AgreeBut number other known → PoolsFit self.new share other last) }
         ensures touched { OnOk result ((n : ℕ) → is_touched self.new n ≡ (not (number == n) && is_touched self.old n)) }
         ensures fewer { OnOk result (is_touched self.old number ≡ true → touched_count self.new < touched_count self.old) }
     {
-        self.place(number, address)?;
-        self.pools.want(address, number, unused, held)?;
+        let place = address.as_bytes();
+        self.place(number, place)?;
+        let distribution = self.table.find(address).distribution;
+        self.pools
+            .want(place, distribution, number, unused, held)?;
         let _ = self.touched.remove(&number);
         Ok(())
     }
 
     /// A link has nothing any more.
     pub fn leave(&mut self, number: u64) -> Result<(), AllocError>
-        ensures fits { OnOk result ((known other : ℕ → Option Figure) (last : List ℕ → ℕ) → PoolsFit self.old known last
-            → other number ≡ None → AgreeBut number other known → PoolsFit self.new other last) }
+        ensures fits { OnOk result ((share : List ℕ → Distribution) (known other : ℕ → Option Figure) (last : List ℕ → ℕ) → PoolsFit self.old share known last
+            → other number ≡ None → AgreeBut number other known → PoolsFit self.new share other last) }
         ensures touched { OnOk result ((n : ℕ) → is_touched self.new n ≡ (not (number == n) && is_touched self.old n)) }
         ensures fewer { OnOk result (is_touched self.old number ≡ true → touched_count self.new < touched_count self.old) }
     {
@@ -121,27 +140,27 @@ impl Pools {
     }
 
     /// Chooses the consumer of the next delivery of an address, where one has free credit. It takes no memory.
-    pub fn choose(&mut self, address: &[u8]) -> Option<ConsumerId>
-        ensures chosen { (known : ℕ → Option Figure) (last : List ℕ → ℕ) (count : ℕ) → PoolsFit self.old known last → NoneTouched self.old → AreNumbered known count
-            → option_map (λ c. c.0) result ≡ choice (sharing known count (last address.now) address.now) }
-        ensures fits { (known : ℕ → Option Figure) (last : List ℕ → ℕ) → PoolsFit self.old known last → PoolsFit self.new known (chosen_at address.now (option_map (λ c. c.0) result) last) }
+    pub fn choose(&mut self, address: &str) -> Option<ConsumerId>
+        ensures chosen { (share : List ℕ → Distribution) (known : ℕ → Option Figure) (last : List ℕ → ℕ) (count : ℕ) → PoolsFit self.old share known last → NoneTouched self.old → AreNumbered known count
+            → option_map (λ c. c.0) result ≡ choice (sharing (share address.now) known count (last address.now) address.now) }
+        ensures fits { (share : List ℕ → Distribution) (known : ℕ → Option Figure) (last : List ℕ → ℕ) → PoolsFit self.old share known last → PoolsFit self.new share known (chosen_at address.now (option_map (λ c. c.0) result) last) }
         ensures touched { (n : ℕ) → is_touched self.new n ≡ is_touched self.old n }
     {
-        self.pools.choose(address)
+        self.pools.choose(address.as_bytes())
     }
 
     /// What the producers of an address are granted, of the first address in the order of bytes that has grants. None where no
     /// address has. Those who are granted credit may have changed then. Where memory was refused, credit may be lent
     /// that is told to nobody.
     pub fn grants(&mut self) -> Result<Option<Grants>, AllocError>
-        ensures none { IfOk result (λ r. IfNone r ((known : ℕ → Option Figure) (last : List ℕ → ℕ) (count : ℕ) → PoolsFit self.old known last → NoneTouched self.old → AreNumbered known count
-            → (a : List ℕ) → grants_of (sharing known count (last a) a) ≡ [])) }
-        ensures sums { IfOk result (λ r. IfSome r (λ grants. (known : ℕ → Option Figure) (last : List ℕ → ℕ) (count : ℕ) → PoolsFit self.old known last → NoneTouched self.old → AreNumbered known count
-            → by_id grants.sums.items ≡ grants_of (sharing known count (last grants.address.items) grants.address.items))) }
+        ensures none { IfOk result (λ r. IfNone r ((share : List ℕ → Distribution) (known : ℕ → Option Figure) (last : List ℕ → ℕ) (count : ℕ) → PoolsFit self.old share known last → NoneTouched self.old → AreNumbered known count
+            → (a : List ℕ) → grants_of (sharing (share a) known count (last a) a) ≡ [])) }
+        ensures sums { IfOk result (λ r. IfSome r (λ grants. (share : List ℕ → Distribution) (known : ℕ → Option Figure) (last : List ℕ → ℕ) (count : ℕ) → PoolsFit self.old share known last → NoneTouched self.old → AreNumbered known count
+            → by_id grants.sums.items ≡ grants_of (sharing (share grants.address.items) known count (last grants.address.items) grants.address.items))) }
         ensures some { IfOk result (λ r. IfSome r (λ grants. 0 < length grants.sums.items)) }
-        ensures below { IfOk result (λ r. IfSome r (λ grants. (known : ℕ → Option Figure) (last : List ℕ → ℕ) (count : ℕ) → PoolsFit self.old known last → NoneTouched self.old → AreNumbered known count
-            → (a : List ℕ) → slice_cmp nat_cmp a grants.address.items ≡ Less → grants_of (sharing known count (last a) a) ≡ [])) }
-        ensures fits { OnOk result ((known : ℕ → Option Figure) (last : List ℕ → ℕ) → PoolsFit self.old known last → PoolsFit self.new known last) }
+        ensures below { IfOk result (λ r. IfSome r (λ grants. (share : List ℕ → Distribution) (known : ℕ → Option Figure) (last : List ℕ → ℕ) (count : ℕ) → PoolsFit self.old share known last → NoneTouched self.old → AreNumbered known count
+            → (a : List ℕ) → slice_cmp nat_cmp a grants.address.items ≡ Less → grants_of (sharing (share a) known count (last a) a) ≡ [])) }
+        ensures fits { OnOk result ((share : List ℕ → Distribution) (known : ℕ → Option Figure) (last : List ℕ → ℕ) → PoolsFit self.old share known last → PoolsFit self.new share known last) }
         ensures touched { IfOk result (λ r. (n : ℕ) → is_touched self.new n ≡ (is_touched self.old n || is_granted (option_map (λ grants. by_id grants.sums.items) r) n)) }
     {
         loop {
@@ -158,13 +177,13 @@ impl Pools {
 
     /// The grants of the first address that may have some, which are none where it has none.
     fn next_grants(&mut self) -> Result<Option<Grants>, AllocError>
-        ensures none { IfOk result (λ r. IfNone r ((known : ℕ → Option Figure) (last : List ℕ → ℕ) (count : ℕ) → PoolsFit self.old known last → NoneTouched self.old → AreNumbered known count
-            → (a : List ℕ) → grants_of (sharing known count (last a) a) ≡ [])) }
-        ensures sums { IfOk result (λ r. IfSome r (λ grants. (known : ℕ → Option Figure) (last : List ℕ → ℕ) (count : ℕ) → PoolsFit self.old known last → NoneTouched self.old → AreNumbered known count
-            → by_id grants.sums.items ≡ grants_of (sharing known count (last grants.address.items) grants.address.items))) }
-        ensures below { IfOk result (λ r. IfSome r (λ grants. (known : ℕ → Option Figure) (last : List ℕ → ℕ) (count : ℕ) → PoolsFit self.old known last → NoneTouched self.old → AreNumbered known count
-            → (a : List ℕ) → slice_cmp nat_cmp a grants.address.items ≡ Less → grants_of (sharing known count (last a) a) ≡ [])) }
-        ensures fits { OnOk result ((known : ℕ → Option Figure) (last : List ℕ → ℕ) → PoolsFit self.old known last → PoolsFit self.new known last) }
+        ensures none { IfOk result (λ r. IfNone r ((share : List ℕ → Distribution) (known : ℕ → Option Figure) (last : List ℕ → ℕ) (count : ℕ) → PoolsFit self.old share known last → NoneTouched self.old → AreNumbered known count
+            → (a : List ℕ) → grants_of (sharing (share a) known count (last a) a) ≡ [])) }
+        ensures sums { IfOk result (λ r. IfSome r (λ grants. (share : List ℕ → Distribution) (known : ℕ → Option Figure) (last : List ℕ → ℕ) (count : ℕ) → PoolsFit self.old share known last → NoneTouched self.old → AreNumbered known count
+            → by_id grants.sums.items ≡ grants_of (sharing (share grants.address.items) known count (last grants.address.items) grants.address.items))) }
+        ensures below { IfOk result (λ r. IfSome r (λ grants. (share : List ℕ → Distribution) (known : ℕ → Option Figure) (last : List ℕ → ℕ) (count : ℕ) → PoolsFit self.old share known last → NoneTouched self.old → AreNumbered known count
+            → (a : List ℕ) → slice_cmp nat_cmp a grants.address.items ≡ Less → grants_of (sharing (share a) known count (last a) a) ≡ [])) }
+        ensures fits { OnOk result ((share : List ℕ → Distribution) (known : ℕ → Option Figure) (last : List ℕ → ℕ) → PoolsFit self.old share known last → PoolsFit self.new share known last) }
         ensures touched { IfOk result (λ r. (n : ℕ) → is_touched self.new n ≡ (is_touched self.old n || is_granted (option_map (λ grants. by_id grants.sums.items) r) n)) }
         ensures fewer { IfOk result (λ r. IfSome r (λ grants. length self.new.due.addresses.keys < length self.old.due.addresses.keys)) }
     {
@@ -181,7 +200,7 @@ impl Pools {
 
     /// Takes a link from the pool where it stands, which may then have grants.
     fn take_out(&mut self, number: u64) -> Result<(), AllocError>
-        ensures fits { OnOk result ((known : ℕ → Option Figure) (last : List ℕ → ℕ) → PoolsFitBut number self.old known last → PoolsFitBut number self.new known last) }
+        ensures fits { OnOk result ((share : List ℕ → Distribution) (known : ℕ → Option Figure) (last : List ℕ → ℕ) → PoolsFitBut number self.old share known last → PoolsFitBut number self.new share known last) }
         ensures nowhere { OnOk result (place_of self.new number ≡ None) }
         ensures due { OnOk result ((a : List ℕ) → is_due self.new a ≡ false → is_due self.old a ≡ false) }
         ensures touched { OnOk result (self.new.touched ≡ self.old.touched) }
@@ -199,7 +218,7 @@ impl Pools {
 
     /// Gives a link its place at an address, which may then have grants, and takes it from where it was before.
     fn place(&mut self, number: u64, address: &[u8]) -> Result<(), AllocError>
-        ensures fits { OnOk result ((known : ℕ → Option Figure) (last : List ℕ → ℕ) → PoolsFitBut number self.old known last → PoolsFitBut number self.new known last) }
+        ensures fits { OnOk result ((share : List ℕ → Distribution) (known : ℕ → Option Figure) (last : List ℕ → ℕ) → PoolsFitBut number self.old share known last → PoolsFitBut number self.new share known last) }
         ensures there { OnOk result (place_of self.new number ≡ Some address.now) }
         ensures due { OnOk result (is_due self.new address.now ≡ true) }
         ensures touched { OnOk result (self.new.touched ≡ self.old.touched) }

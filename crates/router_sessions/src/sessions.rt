@@ -1,8 +1,10 @@
 //! The table of sessions of all connections.
-ghost use Rattle.std.specs.Prelude.{◌≡◌, ◌<◌, ◌∷◌, ◌++◌, [], List, ℕ, Bool, true, false, is_some, OnOk};
+ghost use Rattle.std.specs.Prelude.{◌≡◌, ◌<◌, ◌∷◌, ◌++◌, List, ℕ, Bool, true, false, is_some, OnOk};
 ghost use Rattle.std.specs.Ordering.{nat_cmp};
 ghost use Rattle.std.specs.BTreeMap.{get};
 ghost use Rattle.std.specs.BTreeSet.{contains};
+ghost use Rattle.route_table.specs.Places.{Routing};
+ghost use Rattle.router_trace.specs.Configuration.{configured};
 ghost use Rattle.router_trace.specs.Trace.{Entry, Out, did, puts_of};
 ghost use Rattle.std.specs.List.{find};
 ghost use Rattle.router_trace.specs.Sessions.{place, session, is_free, free_channel, is_channel, maps, theirs};
@@ -42,7 +44,7 @@ pub struct Sessions {
 impl Sessions {
     /// No sessions.
     pub fn new(alloc: Global) -> Sessions
-        ensures { SessionsFit result [] }
+        ensures { (g : Routing) → SessionsFit result (configured g) }
     {
         Sessions {
             alloc,

@@ -2,6 +2,8 @@
 ghost use Rattle.std.specs.Prelude.{◌≡◌, ◌==◌, ◌≤◌, ◌&&◌, nat_lt, if◌then◌else◌, ◌∷◌, ◌++◌, ℕ, List, [], true, Option, option_map, OnOk, IfOk};
 ghost use Rattle.std.specs.Ordering.{nat_cmp};
 ghost use Rattle.std.specs.Prelude.{is_some};
+ghost use Rattle.route_table.specs.Places.{Routing};
+ghost use Rattle.router_trace.specs.Configuration.{configured};
 ghost use Rattle.router_trace.specs.Sessions.{theirs, maps, session};
 ghost use Rattle.router_trace.specs.Frames.{told_of};
 ghost use Rattle.router_trace.specs.Links.{place_of, is_attached};
@@ -63,7 +65,7 @@ pub struct State {
 impl State {
     /// The tables of a router to which nothing happened.
     pub fn new(alloc: Global) -> State
-        ensures { TablesFit result [] }
+        ensures { (g : Routing) → TablesFit result (configured g) }
     {
         State {
             alloc,

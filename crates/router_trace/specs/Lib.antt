@@ -1,4 +1,5 @@
 pub mod Trace
+pub mod Configuration
 pub mod Connection
 pub mod Refusing
 pub mod Order

@@ -7,7 +7,7 @@ use Rattle.amqp_frames.specs.declared.item.Item.{Item}
 use Rattle.amqp_frames.specs.declared.item.Item.TheVariants as item
 use Rattle.router_trace.specs.declared.event.Event.{Event}
 use Rattle.router_trace.specs.declared.event.Event.TheVariants as event
-use Rattle.router_trace.specs.Trace.{Did, Out, Took, Bound, Trace}
+use Rattle.router_trace.specs.Trace.{Did, Out, Took, Bound, Configured, Trace}
 use Rattle.router_trace.specs.Sessions.{unless_close}
 
 -- the user of a connection; none where the connection is closed or lost
@@ -22,6 +22,7 @@ user (Did s ∷ t) c = user_at s.event c (user t c)
 user (Out d i ∷ t) c = if d == c then unless_close i (user t c) else user t c
 user (Took d n ∷ t) c = user t c
 user (Bound b ∷ t) c = user t c
+user (Configured g ∷ t) c = user t c
 
 -- what the peer's first open tells that a link needs: its container, and the largest frame that it takes
 pub record Container : Type 0 where
@@ -54,6 +55,7 @@ container (Did s ∷ t) c = container_at s.event c (container t c)
 container (Out d i ∷ t) c = if d == c then unless_close i (container t c) else container t c
 container (Took d n ∷ t) c = container t c
 container (Bound b ∷ t) c = container t c
+container (Configured g ∷ t) c = container t c
 
 -- the largest frame that the peer takes, in bytes; 4,294,967,295 where it tells nothing
 abbrev pub largest_frame : Trace → ℕ → ℕ

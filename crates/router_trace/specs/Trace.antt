@@ -1,6 +1,7 @@
 -- What happened, as a list of entries, the newest first. All definitions search it; the router keeps none of it.
 use Rattle.std.specs.Prelude.{ℕ, List, [], ◌∷◌, ◌++◌, map, Option, Some, None}
 use Rattle.amqp_frames.specs.declared.item.Item.{Item}
+use Rattle.route_table.specs.Places.{Routing}
 use Rattle.router_trace.specs.declared.event.Event.{Event}
 use Rattle.router_trace.specs.declared.outgoing.Outgoing.{Outgoing}
 use Rattle.router_trace.specs.declared.binding.Binding.{Binding}
@@ -28,6 +29,8 @@ pub data Entry : Type 0 where
   Took : (conn : ℕ) (count : ℕ) → Entry
   -- a message was bound to the link of a consumer; no item says so
   Bound : (binding : Binding) → Entry
+  -- the configuration that the router was opened with
+  Configured : (routing : Routing) → Entry
 
 abbrev pub Trace : Type 0
 Trace = List Entry
@@ -67,6 +70,7 @@ ups (Did s ∷ t) = with_up s.event (ups t)
 ups (Out c i ∷ t) = ups t
 ups (Took c n ∷ t) = ups t
 ups (Bound b ∷ t) = ups t
+ups (Configured g ∷ t) = ups t
 
 -- the number of the connection that came up last
 abbrev pub newer : Event → Option ℕ → Option ℕ
@@ -79,3 +83,4 @@ newest (Did s ∷ t) = newer s.event (newest t)
 newest (Out c i ∷ t) = newest t
 newest (Took c n ∷ t) = newest t
 newest (Bound b ∷ t) = newest t
+newest (Configured g ∷ t) = newest t

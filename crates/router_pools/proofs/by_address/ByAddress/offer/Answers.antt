@@ -9,8 +9,8 @@ returns-in-None c = absurd (missing (λ k. k.items) c.found.new.self.pools.entri
 
 pub returns-in-Some : goal.returns-in-Some
 returns-in-Some c =
-    on_ok_then c.offer.result _ _ c.offer.ensures.offered (λ is a.
+    on_ok_then c.offer.result _ _ c.offer.ensures.offered (λ is share same a.
     let change : Sharing → Sharing = λ pool. offered (without_producer pool c.args.number) c.args.number c.args.free c.args.undecided in
-    written (λ k. k.items) c.found.new.self.pools.entries c.args.address.now (c.get_mut.follows.lender c.offer.new.self).entries c.in-Some.pool.now c.offer.new.self change c.in-Some.ensures.value
+    written (λ k. k.items) share c.found.new.self.pools.entries c.args.address.now (c.get_mut.follows.lender c.offer.new.self).entries c.in-Some.pool.now c.offer.new.self change c.in-Some.ensures.value
     (c.get_mut.follows.holds c.offer.new.self).0 (is ∙ ap (λ pool. offered pool c.args.number c.args.free c.args.undecided) c.drop_producer.ensures) a
-    ∙ same_elsewhere (pool_in c.found.new.self) (pool_in c.args.self.now) c.args.address.now change c.in_ok-found.ensures.same a)
+    ∙ same_elsewhere (pool_in share c.found.new.self) (pool_in share c.args.self.now) c.args.address.now change (c.in_ok-found.ensures.same share same) a)

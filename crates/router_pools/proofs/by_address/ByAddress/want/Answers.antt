@@ -9,8 +9,8 @@ returns-in-None c = absurd (missing (λ k. k.items) c.found.new.self.pools.entri
 
 pub returns-in-Some : goal.returns-in-Some
 returns-in-Some c =
-    on_ok_then c.want.result _ _ c.want.ensures.wanted (λ is a.
+    on_ok_then c.want.result _ _ c.want.ensures.wanted (λ is share same a.
     let change : Sharing → Sharing = λ pool. wanted (without_consumer pool c.args.number) c.args.number c.args.unused 0 c.args.held in
-    written (λ k. k.items) c.found.new.self.pools.entries c.args.address.now (c.get_mut.follows.lender c.want.new.self).entries c.in-Some.pool.now c.want.new.self change c.in-Some.ensures.value
+    written (λ k. k.items) share c.found.new.self.pools.entries c.args.address.now (c.get_mut.follows.lender c.want.new.self).entries c.in-Some.pool.now c.want.new.self change c.in-Some.ensures.value
     (c.get_mut.follows.holds c.want.new.self).0 (is ∙ ap (λ pool. wanted pool c.args.number c.args.unused 0 c.args.held) c.drop_consumer.ensures) a
-    ∙ same_elsewhere (pool_in c.found.new.self) (pool_in c.args.self.now) c.args.address.now change c.in_ok-found.ensures.same a)
+    ∙ same_elsewhere (pool_in share c.found.new.self) (pool_in share c.args.self.now) c.args.address.now change (c.in_ok-found.ensures.same share same) a)

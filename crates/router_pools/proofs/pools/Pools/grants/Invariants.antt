@@ -1,11 +1,12 @@
 use Rattle.std.proofs.Common.{◌≡◌, ℕ, List, Option, length}
+use Rattle.route_table.specs.declared.sections.Distribution.{Distribution}
 use Rattle.router_pools.specs.Fits.{is_touched, PoolsFit}
 use Rattle.router_pools.specs.Sharing.{Figure}
 use Rattle.router_pools.proofs.pools.Pools.grants.Given as goal
 
 -- what fitted at the start fits still, and nobody was touched
 abbrev pub invariant-loop-grants : goal.invariant-loop-grants
-invariant-loop-grants l = ((known : ℕ → Option Figure) (last : List ℕ → ℕ) → PoolsFit l.fn.self known last → PoolsFit l.self known last) × ((n : ℕ) → is_touched l.self n ≡ is_touched l.fn.self n)
+invariant-loop-grants l = ((share : List ℕ → Distribution) (known : ℕ → Option Figure) (last : List ℕ → ℕ) → PoolsFit l.fn.self share known last → PoolsFit l.self share known last) × ((n : ℕ) → is_touched l.self n ≡ is_touched l.fn.self n)
 
 abbrev pub decreases-loop-grants : goal.decreases-loop-grants
 decreases-loop-grants l = length l.self.due.addresses.keys

@@ -1,12 +1,12 @@
 use Rattle.std.proofs.Common.{◌==◌, ◌||◌}
-use Rattle.router_pools.specs.Fits.{is_due, is_touched, place_of, pool_at}
+use Rattle.router_pools.specs.Fits.{is_due, is_touched, place_of, pool_at, table_of}
 use Rattle.router_pools.proofs.Fitting.{but_one, gone, untouched, widened}
 use Rattle.router_pools.proofs.pools.Pools.leave.Goals as goal
 
 pub returns-clause-fits : goal.returns-clause-fits
-returns-clause-fits c known other last fits nothing others =
+returns-clause-fits c share known other last fits nothing others =
     let old = c.args.self.now in
     let mid = c.take_out.new.self in
-    gone (λ m. c.args.number == m || is_touched mid m) (pool_at mid) (place_of mid) (is_due mid) known last
-    (c.in_ok-take_out.ensures.fits known last (widened (is_touched old) (pool_at old) (place_of old) (is_due old) known last fits (λ m. c.args.number == m || is_touched old m) (is_due old) known (but_one c.args.number (is_touched old) known) (λ a is. is)))
+    gone (λ m. c.args.number == m || is_touched mid m) (table_of mid) share (pool_at mid) (place_of mid) (is_due mid) known last
+    (c.in_ok-take_out.ensures.fits share known last (widened (is_touched old) (table_of old) share (pool_at old) (place_of old) (is_due old) known last fits (λ m. c.args.number == m || is_touched old m) (is_due old) known (but_one c.args.number (is_touched old) known) (λ a is. is)))
     c.args.number c.in_ok-take_out.ensures.nowhere _ (untouched (is_touched mid) _ c.args.number c.remove.ensures.updates.0) other nothing others

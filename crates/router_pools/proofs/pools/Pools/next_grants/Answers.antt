@@ -3,33 +3,33 @@ use Rattle.route_credit.specs.Granting.{all_granted, grants_of}
 use Rattle.route_credit.specs.Links.{link_at}
 use Rattle.route_credit.specs.Pool.{by_id}
 use Rattle.router_pools.specs.Addresses.{with_pool}
-use Rattle.router_pools.specs.Fits.{is_due, is_touched, place_of, pool_at, pool_in}
+use Rattle.router_pools.specs.Fits.{is_due, is_touched, place_of, pool_at, pool_in, table_of}
 use Rattle.router_pools.proofs.Fitting.{granted_fits, more_apart}
 use Rattle.router_pools.proofs.Listed.{pool_is}
 use Rattle.router_pools.proofs.pools.Pools.next_grants.Goals as goal
 
 pub returns-in-None-clause-none : goal.returns-in-None-clause-none
-returns-in-None-clause-none c known last count fits none numbered a =
+returns-in-None-clause-none c share known last count fits none numbered a =
     let old = c.args.self.now in
-    sym (ap grants_of (pool_is (is_touched old) (pool_at old) (place_of old) (is_due old) known last count a fits none numbered)) ∙ fits.quiet a (c.in-None.ensures.none a)
+    sym (ap grants_of (pool_is (is_touched old) (table_of old) share (pool_at old) (place_of old) (is_due old) known last count a fits none numbered)) ∙ fits.quiet a (c.in-None.ensures.none a)
 
 pub returns-clause-sums : goal.returns-clause-sums
-returns-clause-sums c known last count fits none numbered =
+returns-clause-sums c share known last count fits none numbered =
     let old = c.args.self.now in
-    c.in_ok-sums.ensures.sums ∙ ap (λ a. grants_of (pool_at old a)) c.as_slice-place.ensures.value
-    ∙ ap grants_of (pool_is (is_touched old) (pool_at old) (place_of old) (is_due old) known last count c.in-Some.address.items fits none numbered)
+    c.in_ok-sums.ensures.sums (table_of old) ∙ ap (λ a. grants_of (pool_at old a)) c.as_slice-place.ensures.value
+    ∙ ap grants_of (pool_is (is_touched old) (table_of old) share (pool_at old) (place_of old) (is_due old) known last count c.in-Some.address.items fits none numbered)
 
 pub returns-clause-below : goal.returns-clause-below
-returns-clause-below c known last count fits none numbered a less =
+returns-clause-below c share known last count fits none numbered a less =
     let old = c.args.self.now in
-    sym (ap grants_of (pool_is (is_touched old) (pool_at old) (place_of old) (is_due old) known last count a fits none numbered)) ∙ fits.quiet a (c.in-Some.ensures.first a less)
+    sym (ap grants_of (pool_is (is_touched old) (table_of old) share (pool_at old) (place_of old) (is_due old) known last count a fits none numbered)) ∙ fits.quiet a (c.in-Some.ensures.first a less)
 
 pub returns-clause-fits : goal.returns-clause-fits
-returns-clause-fits c known last fits =
+returns-clause-fits c share known last fits =
     let old = c.args.self.now in
-    let sums_are = ap by_id c.as_slice-granted.ensures.value ∙ c.in_ok-sums.ensures.sums ∙ ap (λ a. grants_of (pool_at old a)) c.as_slice-place.ensures.value in
-    granted_fits (is_touched old) (pool_at old) (place_of old) (is_due old) known last fits
-    _ c.in-Some.address.items (subst (λ (b : List ℕ). (a : List ℕ) → pool_in c.grants.new.self a ≡ with_pool (pool_in old.pools) b all_granted a) c.as_slice-place.ensures.value c.in_ok-sums.ensures.filled)
+    let sums_are = ap by_id c.as_slice-granted.ensures.value ∙ c.in_ok-sums.ensures.sums (table_of old) ∙ ap (λ a. grants_of (pool_at old a)) c.as_slice-place.ensures.value in
+    granted_fits (is_touched old) (table_of old) share (pool_at old) (place_of old) (is_due old) known last fits
+    _ c.in-Some.address.items (subst (λ (b : List ℕ). (a : List ℕ) → pool_in (table_of old) c.grants.new.self a ≡ with_pool (pool_in (table_of old) old.pools) b all_granted a) c.as_slice-place.ensures.value (c.in_ok-sums.ensures.filled (table_of old)))
     _ (λ n is. let both = more_apart _ (is_touched old n) (link_at (by_id c.as_slice-granted.result.now) n) (c.in_ok-touch_all.ensures n) is in
     (both.0, ap (λ sums. link_at sums n) (sym sums_are) ∙ both.1))
     _ (λ a other none. c.in-Some.ensures.others a other none)
