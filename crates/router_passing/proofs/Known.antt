@@ -9,6 +9,7 @@ use Rattle.amqp_frames.specs.declared.item.Item.TheVariants as item
 use Rattle.book_core.specs.Keys.{key_cmp}
 use Rattle.router_trace.specs.declared.event.Event.{Event}
 use Rattle.router_trace.specs.declared.handle.Attachment.{Attachment}
+use Rattle.router_trace.specs.Configuration.{distribution}
 use Rattle.router_trace.specs.Links.{if_attached, last_of_key, numbered}
 use Rattle.router_trace.specs.Trace.{Trace, Out, Bound, did}
 use Rattle.router_trace.specs.declared.binding.Binding.{Binding}
@@ -26,6 +27,7 @@ use Rattle.router_links.specs.declared.links.Links.{Links}
 use Rattle.router_links.specs.Fits.{LinksFit, channel_of as of_links}
 use Rattle.router_links.specs.Naming.{Remembers}
 use Rattle.router_links.specs.Touching as links
+use Rattle.route_table.specs.declared.sections.Distribution.{Distribution}
 use Rattle.router_pools.specs.declared.pools.Pools.{Pools}
 use Rattle.router_pools.specs.Fits.{PoolsFit}
 use Rattle.router_pools.specs.Sharing.{Figure, demand_at, offer_at}
@@ -36,14 +38,15 @@ use Rattle.router_passing.specs.Passing.{binding_to, last_behind, last_chosen, w
 use Rattle.router_passing.proofs.Seen.{by_test, figure_same}
 
 -- Other functions that say the same serve the pools as well.
-pub exchanged : (s : Pools) (known other : ℕ → Option Figure) (last now : List ℕ → ℕ) → ((n : ℕ) → other n ≡ known n) → ((a : List ℕ) → now a ≡ last a)
-    → PoolsFit s known last → PoolsFit s other now
-exchanged s known other last now same chosen fits = record {
+pub exchanged : (s : Pools) (share shares : List ℕ → Distribution) (known other : ℕ → Option Figure) (last now : List ℕ → ℕ) → ((a : List ℕ) → shares a ≡ share a)
+    → ((n : ℕ) → other n ≡ known n) → ((a : List ℕ) → now a ≡ last a) → PoolsFit s share known last → PoolsFit s shares other now
+exchanged s share shares known other last now alike same chosen fits = record {
   consumers = λ n a is. fits.consumers n a is ∙ ap (offer_at a) (sym (same n));
   producers = λ n a is. fits.producers n a is ∙ ap (demand_at a) (sym (same n));
   no_consumer = fits.no_consumer;
   no_producer = fits.no_producer;
-  distribution = fits.distribution;
+  same = λ a. fits.same a ∙ sym (alike a);
+  distribution = λ a. fits.distribution a ∙ sym (alike a);
   chosen = λ a. fits.chosen a ∙ sym (chosen a);
   consumers_rise = fits.consumers_rise;
   producers_rise = fits.producers_rise;
@@ -51,8 +54,8 @@ exchanged s known other last now same chosen fits = record {
 }
 
 -- once all was told the pools know all
-pub all_known : (s : Passing) (t : Trace) (last : List ℕ → ℕ) → Untouched s → PoolsKnow s t last → PoolsFit s.pools (figure t) last
-all_known s t last none know = exchanged s.pools know.known (figure t) last last (λ n. sym (know.same n (none.links n) (none.deliveries n))) (λ a. refl) know.fits
+pub all_known : (s : Passing) (t : Trace) (last : List ℕ → ℕ) → Untouched s → PoolsKnow s t last → PoolsFit s.pools (distribution t) (figure t) last
+all_known s t last none know = exchanged s.pools (distribution t) (distribution t) know.known (figure t) last last (λ a. refl) (λ n. sym (know.same n (none.links n) (none.deliveries n))) (λ a. refl) know.fits
 
 -- How many deliveries pass is the same where the same ones do.
 pub count_alike : (b : ℕ) (p q : ℕ → Bool) → ((n : ℕ) → p n ≡ q n) → count_below b p ≡ count_below b q
@@ -89,10 +92,11 @@ figures_same s u d e t w fit fit' stand stand' one other counts n quiet silent =
 
 -- So what the pools know they know behind any change that touches what it changes.
 pub knows_still : (s u : Passing) (t w : Trace) (last now : List ℕ → ℕ) → u.pools ≡ s.pools → LinksFit s.links t → LinksFit u.links w → DeliveriesFit s.deliveries t → DeliveriesFit u.deliveries w
-    → links.Touches s.links u.links → deliveries.Touches s.deliveries u.deliveries → CountSame t w → ((a : List ℕ) → now a ≡ last a) → PoolsKnow s t last → PoolsKnow u w now
-knows_still s u t w last now pools fit fit' stand stand' one other counts chosen know = record {
+    → links.Touches s.links u.links → deliveries.Touches s.deliveries u.deliveries → CountSame t w
+    → ((a : List ℕ) → distribution w a ≡ distribution t a) → ((a : List ℕ) → now a ≡ last a) → PoolsKnow s t last → PoolsKnow u w now
+knows_still s u t w last now pools fit fit' stand stand' one other counts alike chosen know = record {
   known = know.known;
-  fits = subst (λ p. PoolsFit p know.known now) (sym pools) (exchanged s.pools know.known know.known last now (λ n. refl) chosen know.fits);
+  fits = subst (λ p. PoolsFit p (distribution w) know.known now) (sym pools) (exchanged s.pools (distribution t) (distribution w) know.known know.known last now alike (λ n. refl) chosen know.fits);
   same = λ n quiet silent. know.same n (one.before n quiet) (other.before n silent)
       ∙ figures_same s.links u.links s.deliveries u.deliveries t w fit fit' stand stand' one other counts n quiet silent;
 }
@@ -104,7 +108,7 @@ pub knows_told : (s u : Passing) (t : Trace) (last : List ℕ → ℕ) (n : ℕ)
     → PoolsKnow s t last → PoolsKnow u t last
 knows_told s u t last n told quiet silent know = record {
   known = other;
-  fits = told know.known other last know.fits here (λ k e. ap (λ b. if b then figure t k else know.known k) e);
+  fits = told (distribution t) know.known other last know.fits here (λ k e. ap (λ b. if b then figure t k else know.known k) e);
   same = λ k e f. by_test (n == k)
       (λ is. ap (λ b. if b then figure t k else know.known k) is)
       (λ is. ap (λ b. if b then figure t k else know.known k) is
@@ -125,12 +129,13 @@ did_counts x t p none same = count_alike (bindings t + 1) (λ n. p (delivery t n
 
 -- All tables behind such a change.
 pub moved : (s u : Passing) (t w : Trace) (last now : List ℕ → ℕ) → u.pools ≡ s.pools → LinksFit u.links w → DeliveriesFit u.deliveries w → ClaimsFit u.claims w
-    → links.Touches s.links u.links → deliveries.Touches s.deliveries u.deliveries → CountSame t w → ((a : List ℕ) → now a ≡ last a) → NotedFit s t last → NotedFit u w now
-moved s u t w last now pools fit stand claimed one other counts chosen old = record {
+    → links.Touches s.links u.links → deliveries.Touches s.deliveries u.deliveries → CountSame t w
+    → ((a : List ℕ) → distribution w a ≡ distribution t a) → ((a : List ℕ) → now a ≡ last a) → NotedFit s t last → NotedFit u w now
+moved s u t w last now pools fit stand claimed one other counts alike chosen old = record {
   links = fit;
   deliveries = stand;
   claims = claimed;
-  pools = knows_still s u t w last now pools old.links fit old.deliveries stand one other counts chosen old.pools;
+  pools = knows_still s u t w last now pools old.links fit old.deliveries stand one other counts alike chosen old.pools;
 }
 
 -- Behind telling.
@@ -174,7 +179,7 @@ bound_fits s u b t pools same claimed stand other old =
     moved s u t (Bound b ∷ t) (last_behind t (Some b.consumer)) (last_chosen (Bound b ∷ t)) pools
     (subst (λ l. LinksFit l (Bound b ∷ t)) (sym same) (links_bound s.links b t old.links)) stand (subst (λ l. ClaimsFit l (Bound b ∷ t)) (sym claimed) (claims_bound s.claims b t old.claims))
     (subst (λ l. links.Touches s.links l) (sym same) (record { before = λ k e. e; links = λ k e c o h. refl; numbers = λ k e. refl }))
-    other (bound_counts b t) (λ a. refl) old
+    other (bound_counts b t) (λ a. refl) (λ a. refl) old
 
 -- both tables read the same channel of an item
 pub channel_same : (i : Item) → of_links i ≡ of_deliveries i

@@ -10,6 +10,7 @@ use Rattle.router_trace.specs.declared.event.Peer.{Peer}
 use Rattle.router_trace.specs.declared.event.Event.TheVariants as event
 use Rattle.router_trace.specs.declared.handle.Attachment.{Attachment}
 use Rattle.router_trace.specs.Trace.{Trace, Took, did}
+use Rattle.router_trace.specs.Configuration.{distribution}
 use Rattle.router_trace.specs.Links.{asked, told_handle_max, highest_handle, answered_handle, their_handle, link, attachments, last_of_key, numbered, holder, place_of, if_attached, has_number}
 use Rattle.router_trace.specs.Deliveries.{bindings, delivery, sending, named, next_id}
 use Rattle.router_trace.specs.Claims.{claims}
@@ -31,7 +32,7 @@ use Rattle.router_passing.specs.Passing.{last_chosen}
 use Rattle.router_passing.proofs.Known.{CountSame, count_alike, moved}
 use Rattle.std.specs.Option.{option_map}
 
--- two traces say the same of links, deliveries and claims
+-- two traces say the same of links, deliveries and claims, and of how addresses are shared
 pub record IsQuiet (t u : Trace) : Type 0 where
   pub handle_max : (c : ℕ) → asked u c ≡ asked t c
   pub told_max : (c : ℕ) → told_handle_max u c ≡ told_handle_max t c
@@ -48,6 +49,7 @@ pub record IsQuiet (t u : Trace) : Type 0 where
   pub names : (c o id : ℕ) → named u c o id ≡ named t c o id
   pub next_ids : (c o : ℕ) → next_id u c o ≡ next_id t c o
   pub claimed : (c o id : ℕ) → claims u c o id ≡ claims t c o id
+  pub shared : (a : List ℕ) → distribution u a ≡ distribution t a
   pub chosen : (a : List ℕ) → last_chosen u a ≡ last_chosen t a
 
 attached_same : (t u : Trace) → IsQuiet t u → (v : Option Attachment) → if_attached u v ≡ if_attached t v
@@ -111,7 +113,7 @@ quiet_fits s t u q old =
     (record { ids = λ c o id. old.claims.ids c o id ∙ sym (q.claimed c o id); small = old.claims.small; marked = old.claims.marked })
     (record { before = λ n e. e; links = λ n e c o h. refl; numbers = λ n e. refl })
     (record { before = λ n e. e; same = λ n m e. record { waits = refl; undecided = refl; held = refl } })
-    (counts_quiet t u q) q.chosen old
+    (counts_quiet t u q) q.shared q.chosen old
 
 -- so it is with a take of an outbox, a connection that comes up, a tick, and a start
 pub taken_fits : (s : Passing) (d k : ℕ) (t : Trace) → PassingFit s t → PassingFit s (Took d k ∷ t)
@@ -134,6 +136,7 @@ taken_fits s d k t old = quiet_fits s t (Took d k ∷ t) quiet old
       names = λ c o id. refl;
       next_ids = λ c o. refl;
       claimed = λ c o id. refl;
+      shared = λ a. refl;
       chosen = λ a. refl;
     }
 
@@ -157,6 +160,7 @@ risen_fits s d p t old = quiet_fits s t (did (event.Up d p) ∷ t) quiet old
       names = λ c o id. refl;
       next_ids = λ c o. refl;
       claimed = λ c o id. refl;
+      shared = λ a. refl;
       chosen = λ a. refl;
     }
 
@@ -180,6 +184,7 @@ ticked_fits s moment t old = quiet_fits s t (did (event.Tick moment) ∷ t) quie
       names = λ c o id. refl;
       next_ids = λ c o. refl;
       claimed = λ c o id. refl;
+      shared = λ a. refl;
       chosen = λ a. refl;
     }
 
@@ -203,5 +208,6 @@ started_fits s t old = quiet_fits s t (did event.Start ∷ t) quiet old
       names = λ c o id. refl;
       next_ids = λ c o. refl;
       claimed = λ c o id. refl;
+      shared = λ a. refl;
       chosen = λ a. refl;
     }

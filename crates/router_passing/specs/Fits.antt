@@ -1,9 +1,11 @@
 -- When links, deliveries, claims and pools are those that a trace gives.
 use Rattle.std.specs.Prelude.{◌≡◌, ℕ, false, List, Option}
+use Rattle.route_table.specs.declared.sections.Distribution.{Distribution}
 use Rattle.router_pools.specs.Fits.{AgreeBut, PoolsFit, NoneTouched}
 use Rattle.router_pools.specs.declared.pools.Pools.{Pools}
 use Rattle.router_pools.specs.Sharing.{Figure}
 use Rattle.router_trace.specs.Trace.{Trace}
+use Rattle.router_trace.specs.Configuration.{distribution}
 use Rattle.router_deliveries.specs.Claiming.{ClaimsFit}
 use Rattle.router_deliveries.specs.Fits.{DeliveriesFit}
 use Rattle.router_deliveries.specs.Touching as deliveries
@@ -13,10 +15,10 @@ use Rattle.router_passing.specs.declared.passing.Passing.{Passing}
 use Rattle.router_passing.specs.Figures.{figure}
 use Rattle.router_passing.specs.Passing.{last_chosen}
 
--- The pools have what the links had that were touched since, and what the others have; these were last chosen.
+-- The pools have what the links had that were touched since, and what the others have; addresses are shared as the configuration says, and these were last chosen.
 pub record PoolsKnow (s : Passing) (t : Trace) (last : List ℕ → ℕ) : Type 0 where
   pub known : ℕ → Option Figure
-  pub fits : PoolsFit s.pools known last
+  pub fits : PoolsFit s.pools (distribution t) known last
   pub same : (n : ℕ) → links.is_touched s.links n ≡ false → deliveries.is_touched s.deliveries n ≡ false → known n ≡ figure t n
 
 -- all tables are those of the trace, and these consumers were last chosen
@@ -38,4 +40,5 @@ pub record Untouched (s : Passing) : Type 0 where
 
 -- the pools are told what a link has now
 abbrev pub IsTold : Pools → Pools → ℕ → Option Figure → Type 0
-IsTold old new number now = (known other : ℕ → Option Figure) (last : List ℕ → ℕ) → PoolsFit old known last → other number ≡ now → AgreeBut number other known → PoolsFit new other last
+IsTold old new number now = (share : List ℕ → Distribution) (known other : ℕ → Option Figure) (last : List ℕ → ℕ) → PoolsFit old share known last → other number ≡ now → AgreeBut number other known
+    → PoolsFit new share other last

@@ -13,6 +13,7 @@ use Rattle.router_trace.specs.declared.binding.Binding.{Binding}
 use Rattle.router_trace.specs.declared.binding.Origin.{Origin}
 use Rattle.router_trace.specs.declared.handle.Attachment.{Attachment}
 use Rattle.router_trace.specs.Trace.{Trace, Put, Did, Out, Took, Bound, Configured}
+use Rattle.router_trace.specs.Configuration.{distribution}
 use Rattle.router_trace.specs.Frames.{told_of}
 use Rattle.router_trace.specs.LinkFrames.{link_flow_item}
 use Rattle.router_trace.specs.Links.{Link, Happened, sends, receives, link, numbered, attachments}
@@ -41,7 +42,7 @@ last_behind t (Some a) address = if is_of address (link_of t a) a.number then a.
 
 -- what the links of an address offer and want
 abbrev pub pool_of : Trace → List ℕ → Sharing
-pool_of t address = sharing (figure t) (attachments t) (last_chosen t address) address
+pool_of t address = sharing (distribution t address) (figure t) (attachments t) (last_chosen t address) address
 
 -- the consumer that is chosen for an address
 unfoldable pub choice_of : Trace → List ℕ → Option ℕ

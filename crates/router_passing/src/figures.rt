@@ -62,7 +62,7 @@ fn tell_link(
     ensures { OnOk result ((t : List Entry) (l : View) → link.now ≡ link_of l → l.number ≡ number → DeliveriesFit deliveries.now t
         → IsTold pools.old pools.new number (Some (figure_by t l l.happened))) }
 {
-    let address = link.address.as_str().as_bytes();
+    let address = link.address.as_str();
     if link.is_consumer() {
         let undecided = deliveries.undecided(number) as u64;
         let free = free(link, deliveries.waiting(number) as u64, undecided);

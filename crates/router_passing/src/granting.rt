@@ -1,6 +1,8 @@
 //! The consumer that is chosen for a message, and the credit that producers are granted.
 ghost use Rattle.std.specs.Prelude.{◌≡◌, ◌++◌, ℕ, List, Option, Some, None, IfOk, IfNone, OnOk, is_some, option_and_then};
 ghost use Rattle.router_trace.specs.Trace.{Entry};
+ghost use Rattle.route_table.specs.declared.sections.Distribution.{Distribution};
+ghost use Rattle.router_trace.specs.Configuration.{distribution};
 ghost use Rattle.router_trace.specs.Following.{link_of};
 ghost use Rattle.router_trace.specs.Links.{Link as View, numbered};
 ghost use Rattle.router_links.specs.Ends.{link_of as link_of_view};
@@ -97,11 +99,7 @@ impl Passing {
     {
         match self.links.link(from) {
             None => None,
-            Some(link) => choose_of(
-                &mut self.pools,
-                &self.links,
-                link.address.as_str().as_bytes(),
-            ),
+            Some(link) => choose_of(&mut self.pools, &self.links, link.address.as_str()),
         }
     }
 
@@ -117,11 +115,11 @@ impl Passing {
 }
 
 /// The consumer that is chosen for an address, once the pools know what all links have; it is noted as the last one.
-fn choose_of(pools: &mut Pools, links: &Links, address: &[u8]) -> Option<Attachment>
-    ensures chosen { (t : List Entry) → LinksFit links.now t → NoneTouched pools.old → PoolsFit pools.old (figure t) (last_chosen t)
+fn choose_of(pools: &mut Pools, links: &Links, address: &str) -> Option<Attachment>
+    ensures chosen { (t : List Entry) → LinksFit links.now t → NoneTouched pools.old → PoolsFit pools.old (distribution t) (figure t) (last_chosen t)
         → result ≡ option_and_then (numbered t) (choice_of t address.now) }
-    ensures fits { (t : List Entry) → LinksFit links.now t → NoneTouched pools.old → PoolsFit pools.old (figure t) (last_chosen t)
-        → PoolsFit pools.new (figure t) (last_behind t result) }
+    ensures fits { (t : List Entry) → LinksFit links.now t → NoneTouched pools.old → PoolsFit pools.old (distribution t) (figure t) (last_chosen t)
+        → PoolsFit pools.new (distribution t) (figure t) (last_behind t result) }
 {
     match pools.choose(address) {
         None => None,
@@ -131,8 +129,8 @@ fn choose_of(pools: &mut Pools, links: &Links, address: &[u8]) -> Option<Attachm
 
 /// The grants that the producers of the first address that has some are due, once the pools know what all links have.
 fn grants_due(alloc: Global, pools: &mut Pools, links: &Links) -> Result<Vec<LinkGrant>, AllocError>
-    ensures due { IfOk result (λ due. (t : List Entry) → LinksFit links.now t → NoneTouched pools.old → PoolsFit pools.old (figure t) (last_chosen t) → due.items ≡ grants t) }
-    ensures fits { OnOk result ((known : ℕ → Option Figure) (last : List ℕ → ℕ) → PoolsFit pools.old known last → PoolsFit pools.new known last) }
+    ensures due { IfOk result (λ due. (t : List Entry) → LinksFit links.now t → NoneTouched pools.old → PoolsFit pools.old (distribution t) (figure t) (last_chosen t) → due.items ≡ grants t) }
+    ensures fits { OnOk result ((share : List ℕ → Distribution) (known : ℕ → Option Figure) (last : List ℕ → ℕ) → PoolsFit pools.old share known last → PoolsFit pools.new share known last) }
 {
     match pools.grants()? {
         None => Ok(Vec::new(alloc)),

@@ -9,6 +9,7 @@ mod granting;
 mod hearing;
 mod owing;
 mod passing;
+mod sharing;
 
 pub use grant::LinkGrant;
 pub use passing::Passing;

@@ -1,6 +1,6 @@
 //! Links, the deliveries on them and the pools of their addresses.
 ghost use Rattle.std.specs.Prelude.{◌≡◌, ℕ, List, ◌∷◌, OnOk, IfOk};
-ghost use Rattle.route_table.specs.Places.{Routing};
+ghost use Rattle.route_table.specs.Places.{FindsAs, Routing};
 ghost use Rattle.router_trace.specs.Configuration.{configured};
 ghost use Rattle.router_trace.specs.Trace.{Entry, Out, did};
 ghost use Rattle.router_trace.specs.Sessions.{is_channel, maps, theirs};
@@ -15,6 +15,7 @@ use crate::hearing::receiving;
 use amqp_frames::Item;
 use amqp_link::Part;
 use book_core::LinkKey;
+use route_table::Table;
 use router_deliveries::{Claims, Deliveries};
 use router_links::Links;
 use router_pools::Pools;
@@ -23,7 +24,7 @@ use std::alloc::{AllocError, Global};
 
 /// Links, the deliveries on them, what peers have not settled, and the pools of addresses. Behind a refused growth nothing can be said of
 /// them.
-#[derive(Debug, Drop)]
+#[derive(Drop)]
 pub struct Passing {
     pub(crate) alloc: Global,
     pub(crate) links: Links,
@@ -33,16 +34,16 @@ pub struct Passing {
 }
 
 impl Passing {
-    /// No links.
-    pub fn new(alloc: Global) -> Passing
-        ensures { (g : Routing) → PassingFit result (configured g) }
+    /// No links, where addresses are shared as this table says.
+    pub fn new(alloc: Global, table: Table) -> Passing
+        ensures { (g : Routing) → FindsAs table g → PassingFit result (configured g) }
     {
         Passing {
             alloc,
             links: Links::new(alloc),
             deliveries: Deliveries::new(alloc),
             claims: Claims::new(alloc),
-            pools: Pools::new(alloc),
+            pools: Pools::new(alloc, table),
         }
     }
 

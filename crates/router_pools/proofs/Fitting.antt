@@ -4,10 +4,11 @@ use Rattle.std.specs.Prelude.{◌==◌}
 use Rattle.std.specs.BTreeMap.{is_at}
 use Rattle.std.specs.Ordering.{nat_cmp}
 use Rattle.std.specs.Str.{bytes_eq}
+use Rattle.std.specs.List.Sorted.{IsStrictlySortedBy}
 use Rattle.std.proofs.lemmas.Bool.{eqb-true, eq-eqb}
 use Rattle.route_credit.specs.Granting.{all_granted, grants_of}
 use Rattle.route_credit.specs.Links.{link_at}
-use Rattle.route_credit.specs.Pool.{chose, demand_of, offered, Sharing, wanted, without_consumer, without_producer}
+use Rattle.route_credit.specs.Pool.{chose, demand_of, no_links, offered, Sharing, wanted, without_consumer, without_producer}
 use Rattle.route_credit.specs.declared.demand.Demand.{Demand}
 use Rattle.route_credit.specs.declared.offer.Offer.{Offer}
 use Rattle.route_credit.proofs.Entries.{InOrder, with_ordered, without_ordered}
@@ -304,6 +305,23 @@ module _ (apart : ℕ → Bool) (table share : List ℕ → Distribution) (pools
       (λ a. refl) (λ a. refl)
       (λ a. without_ordered (pools a).consumers n)
       (λ a. with_ordered (pools a).producers n demand)
+
+-- no links at all
+pub none_fits : (apart : ℕ → Bool) (table share : List ℕ → Distribution) (pools : List ℕ → Sharing) (place : ℕ → Option (List ℕ)) (due : List ℕ → Bool) (known : ℕ → Option Figure)
+    → ((a : List ℕ) → table a ≡ share a) → ((a : List ℕ) → pools a ≡ no_links (table a)) → ((n : ℕ) → known n ≡ None) → Fits apart table share pools place due known (λ a. 0)
+unfolding IsStrictlySortedBy
+none_fits apart table share pools place due known same new none = record {
+  consumers = λ n a is. ap (λ p. link_at p.consumers n) (new a) ∙ sym (ap (offer_at a) (none n));
+  producers = λ n a is. ap (λ p. link_at p.producers n) (new a) ∙ sym (ap (demand_at a) (none n));
+  no_consumer = λ n a is. ap (λ p. link_at p.consumers n) (new a);
+  no_producer = λ n a is. ap (λ p. link_at p.producers n) (new a);
+  same = same;
+  distribution = λ a. ap (λ p. p.distribution) (new a) ∙ same a;
+  chosen = λ a. ap (λ p. p.last) (new a);
+  consumers_rise = λ a. subst (λ p. InOrder p.consumers) (sym (new a)) tt;
+  producers_rise = λ a. subst (λ p. InOrder p.producers) (sym (new a)) tt;
+  quiet = λ a is. ap grants_of (new a);
+}
 
 -- as maps and sets by number tell a change
 pub places_moved : {V : Type 0} (read : V → List ℕ) (f g : ℕ → Option V) (n : ℕ) (x : Option V) → ((q : ℕ) → g q ≡ cond (is_at (nat_cmp n) q) x (f q))

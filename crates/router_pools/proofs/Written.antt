@@ -1,5 +1,5 @@
 -- The pools behind a change of one.
-use Rattle.std.proofs.Common.{◌≡◌, ◌∙◌, sym, ap, refl, ℕ, Bool, true, false, true≢false, cond, if◌then◌else◌, Result, Ok, Err, OnOk, IfOk, Option, Some, None, is_some, List}
+use Rattle.std.proofs.Common.{◌≡◌, ◌∙◌, sym, ap, refl, subst, ℕ, Bool, true, false, true≢false, cond, if◌then◌else◌, Result, Ok, Err, OnOk, IfOk, Option, Some, None, is_some, List}
 use Rattle.std.specs.BTreeMap.{insert_entry}
 use Rattle.std.specs.Cmp.Lexicographic.{slice_cmp}
 use Rattle.std.specs.Map.{lookup, set_value}
@@ -60,7 +60,7 @@ module _ {K : Type 0} (read : K → List ℕ) (share : List ℕ → Distribution
   unwritten fs unchanged change kept is a = ap (λ l. pools_of l a) unchanged ∙ by_test (bytes_eq q a)
       (λ e. let same : q ≡ a = same_bytes q a e in
       let at : at_address es read a ≡ None = ap (at_address es read) (sym same) ∙ sym (lookup_is read es q) ∙ sym is in
-      rw (e, at) (sym kept))
+      rw (e, at) (subst (λ b. no_links (share b) ≡ change (no_links (share b))) same (sym kept)))
       (λ e. rw e refl)
 
   -- one of no links came
@@ -70,7 +70,7 @@ module _ {K : Type 0} (read : K → List ℕ) (share : List ℕ → Distribution
       ap (λ l. pool_or (share a) (at_address l read a)) set ∙ ap (pool_or (share a)) (insert_at read es k pool a) ∙ by_test (bytes_eq (read k) a)
       (λ e. let same : q ≡ a = sym is ∙ same_bytes (read k) a e in
       let at : at_address es read a ≡ None = ap (at_address es read) (sym same) ∙ sym (lookup_is read es q) ∙ sym none in
-      rw (e, at) new)
+      rw (e, at) (new ∙ ap (λ b. no_links (share b)) same))
       (λ e. rw e refl)
 
 -- pools that are the same everywhere

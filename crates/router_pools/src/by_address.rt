@@ -37,10 +37,7 @@ impl ByAddress {
             return Ok(());
         }
         let key = address.to_vec(self.alloc)?;
-        match self
-            .pools
-            .insert(key, Pool::new(self.alloc, distribution))
-        {
+        match self.pools.insert(key, Pool::new(self.alloc, distribution)) {
             Ok(_) => Ok(()),
             Err(_) => Err(AllocError),
         }

@@ -121,8 +121,7 @@ impl Pools {
         let place = address.as_bytes();
         self.place(number, place)?;
         let distribution = self.table.find(address).distribution;
-        self.pools
-            .want(place, distribution, number, unused, held)?;
+        self.pools.want(place, distribution, number, unused, held)?;
         let _ = self.touched.remove(&number);
         Ok(())
     }

@@ -2,8 +2,8 @@
 ghost use Rattle.std.specs.Prelude.{◌≡◌, ◌==◌, ◌≤◌, ◌&&◌, nat_lt, if◌then◌else◌, ◌∷◌, ◌++◌, ℕ, List, [], true, Option, option_map, OnOk, IfOk};
 ghost use Rattle.std.specs.Ordering.{nat_cmp};
 ghost use Rattle.std.specs.Prelude.{is_some};
-ghost use Rattle.route_table.specs.Places.{Routing};
-ghost use Rattle.router_trace.specs.Configuration.{configured};
+ghost use Rattle.route_table.specs.Places.{FindsAs, Routing};
+ghost use Rattle.router_trace.specs.Configuration.{configured, distribution, is_multicast};
 ghost use Rattle.router_trace.specs.Sessions.{theirs, maps, session};
 ghost use Rattle.router_trace.specs.Frames.{told_of};
 ghost use Rattle.router_trace.specs.Links.{place_of, is_attached};
@@ -40,6 +40,7 @@ use amqp_perf::{Attach, Perf};
 use amqp_session::{FlowState, Window};
 use book_core::LinkKey;
 use bytes::Bytes;
+use route_table::Table;
 use router_conns::{Clocks, Connections, Peers, Ready, Taken};
 use router_deliveries::Delivery as Bound;
 use router_passing::{LinkGrant, Passing};
@@ -51,7 +52,7 @@ use router_trace::{
 use std::alloc::{AllocError, Global};
 
 /// The router's tables. Behind a refused growth nothing can be said of them.
-#[derive(Debug, Drop)]
+#[derive(Drop)]
 pub struct State {
     alloc: Global,
     connections: Connections,
@@ -63,9 +64,9 @@ pub struct State {
 }
 
 impl State {
-    /// The tables of a router to which nothing happened.
-    pub fn new(alloc: Global) -> State
-        ensures { (g : Routing) → TablesFit result (configured g) }
+    /// The tables of a router to which nothing happened, where addresses are shared as this table says.
+    pub fn new(alloc: Global, table: Table) -> State
+        ensures { (g : Routing) → FindsAs table g → TablesFit result (configured g) }
     {
         State {
             alloc,
@@ -74,7 +75,7 @@ impl State {
             clocks: Clocks::new(alloc),
             peers: Peers::new(alloc),
             sessions: Sessions::new(alloc),
-            passing: Passing::new(alloc),
+            passing: Passing::new(alloc, table),
         }
     }
 
@@ -133,6 +134,14 @@ impl State {
         ensures at { (t : List Entry) (e : E) (ends : List ℕ) → TablesAt self.now t e ends → result ≡ free_handle t conn own }
     {
         self.passing.links().free_handle(conn, own)
+    }
+
+    /// Whether each message of an address goes to every consumer.
+    pub fn is_multicast(&self, address: &str) -> bool
+        ensures now { (t : List Entry) → TablesFit self.now t → result ≡ is_multicast (distribution t address.now) }
+        ensures at { (t : List Entry) (e : E) (ends : List ℕ) → TablesAt self.now t e ends → result ≡ is_multicast (distribution t address.now) }
+    {
+        self.passing.is_multicast(address)
     }
 
     /// The attachment that has a key.

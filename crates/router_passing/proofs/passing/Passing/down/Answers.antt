@@ -8,4 +8,4 @@ use Rattle.router_passing.proofs.passing.Passing.down.Goals as goal
 pub returns : goal.returns
 returns c = λ t old.
     moved c.args.self.now _ t (did (event.Down c.args.conn) ∷ t) (last_chosen t) (last_chosen (did (event.Down c.args.conn) ∷ t)) refl (search rules) (search rules) (c.down-3.ensures t old.claims) (search rules) (search rules)
-    (did_counts (event.Down c.args.conn) t) (λ a. refl) old
+    (did_counts (event.Down c.args.conn) t) (λ a. refl) (λ a. refl) old

@@ -13,4 +13,4 @@ returns-clause-fits c = λ t own old.
     λ o. own o ∙ ap (λ channel. maps (theirs t c.args.conn.0 channel) o) (channel_same c.args.item.now) in
     moved c.args.self.now _ t (did (event.Item c.args.conn c.args.item.now) ∷ t) (last_chosen t) (last_chosen (did (event.Item c.args.conn c.args.item.now) ∷ t)) refl
     (search rules) (c.in_ok-hear-2.ensures.fits t its old.deliveries) (c.in_ok-hear.ensures t its (c.receiving-found.ensures t old.links) old.claims) (search rules) (search rules)
-    (did_counts (event.Item c.args.conn c.args.item.now) t) (λ a. refl) old
+    (did_counts (event.Item c.args.conn c.args.item.now) t) (λ a. refl) (λ a. refl) old

@@ -12,5 +12,5 @@ returns-clause-fits c share known other last fits is others =
     (c.in_ok-place.ensures.fits share known last (widened (is_touched old) (table_of old) share (pool_at old) (place_of old) (is_due old) known last fits (λ m. c.args.number == m || is_touched old m) (is_due old) known (but_one c.args.number (is_touched old) known) (λ a is. is)))
     (pool_in (table_of mid) c.offer.new.self) c.as_bytes-place.result.now c.args.number c.in_ok-place.ensures.there c.in_ok-place.ensures.due
     _ (untouched (is_touched mid) _ c.args.number c.remove.ensures.updates.0) other others c.args.free c.args.undecided
-    (c.in_ok-offer.ensures (table_of mid) (c.find.ensures.distribution ∙ ap (table_of mid) (sym c.as_bytes-place.ensures.value)))
+    (c.in_ok-offer.ensures (table_of mid) (c.find-distribution.ensures.distribution ∙ ap (table_of mid) (sym c.as_bytes-place.ensures.value)))
     (is ∙ ap (λ a. Some (consumer a c.args.free c.args.undecided)) (sym c.as_bytes-place.ensures.value))
