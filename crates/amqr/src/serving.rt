@@ -1,7 +1,8 @@
 //! The command that serves clients.
-ghost use Rattle.std.specs.Prelude.{◌≡◌, ◌^◌, [], IfOk};
-ghost use Rattle.router_core.specs.Handling.{Fits, counts_of};
+ghost use Rattle.std.specs.Prelude.{◌≡◌, ◌^◌, IfOk};
+ghost use Rattle.router_core.specs.Handling.{counts_of};
 ghost use Rattle.router_core.specs.Counting.{uncounted};
+ghost use Rattle.router_serve.specs.History.{IsOpened};
 
 use crate::hub::{Hub, Taking};
 use crate::lines::Lines;
@@ -137,7 +138,7 @@ fn counted<
     core: Core,
     blanks: Blanks,
 ) -> Result<Status, AllocError>
-    requires fits { Fits core [] }
+    requires opened { IsOpened core }
     requires counts { counts_of core ≡ uncounted }
     requires ups { (blanks.ups.name ≡ U.name) × (blanks.ups.parts ≡ U.parts) × (U.seats ≡ U.parts) × (U.seats ≡ 4611686018427387904) }
     requires items { (blanks.items.name ≡ I.name) × (blanks.items.parts ≡ I.parts) × (I.seats ≡ I.parts) × (I.seats ≡ 4611686018427387904) }

@@ -3,6 +3,8 @@ use Rattle.std.proofs.Common.{◌≡◌, ◌∙◌, sym, ap, refl, subst, true�
 use Rattle.std.specs.Prelude.{is_some, if◌then◌else◌, Option, Some, None}
 use Rattle.std.specs.List.{list_any}
 use Rattle.std.proofs.lemmas.Bool.{eqb-true}
+use Rattle.route_table.specs.Places.{Routing}
+use Rattle.router_trace.specs.Configuration.{configured}
 use Rattle.router_trace.specs.declared.binding.Binding.{Binding}
 use Rattle.router_trace.specs.declared.event.Event.{Event}
 use Rattle.router_trace.specs.declared.event.Event.TheVariants as event
@@ -30,7 +32,7 @@ use Rattle.router_core.proofs.Idle.{unnamed_goes, unnamed_did, unclaimed_did, un
 use Rattle.router_core.proofs.Kept.{none_row, none_window}
 use Rattle.router_core.proofs.Ordered.{Ordered, Spares, Without, goes_spares, spares_self, spares_on, bound_spares}
 use Rattle.router_core.proofs.PassedOrder.{passed_turns}
-use Rattle.router_core.proofs.Order.{took_turns, ordered_empty}
+use Rattle.router_core.proofs.Order.{took_turns, ordered_start}
 use Rattle.router_core.proofs.Told.{Told}
 use Rattle.router_core.proofs.Replied.{heard_spares, replied_turns, answered_turns, answered_told}
 use Rattle.router_core.proofs.Headed.{item_without, on_without, took_told}
@@ -267,9 +269,9 @@ own_moves id c (handles s ∷ ms) t u fine alone never went =
     (λ e. rw e (rest ∙ ap (own_all id c (own_events c (events_of ms))) (next.other e)))
 own_moves id c (takes x ∷ ms) t u fine alone never went = own_moves id c ms (took_one x t) u (fine_took c t x fine) alone never went
 
-fine_empty : (c : ℕ) → Fine c []
-fine_empty c = record {
-  ordered = ordered_empty;
+fine_start : (c : ℕ) (g : Routing) → Fine c (configured g)
+fine_start c g = record {
+  ordered = ordered_start g;
   told = record { told = λ k v is live some. absurd cc; strange = λ k absent. refl };
   eased = tt;
   unlinked = λ o h. refl;
@@ -278,11 +280,12 @@ fine_empty c = record {
   settled = refl;
 }
 
-pub answered_alone : (id : List ℕ) (c : ℕ) (ms ns : List Move) (t u : List Entry) → Goes id ms [] t → Goes id ns [] u → Undisturbed id c ms [] → Undisturbed id c ns []
+pub answered_alone : (id : List ℕ) (g : Routing) (c : ℕ) (ms ns : List Move) (t u : List Entry) → Goes id ms (configured g) t → Goes id ns (configured g) u
+    → Undisturbed id c ms (configured g) → Undisturbed id c ns (configured g)
     → own_events c (events_of ms) ≡ own_events c (events_of ns) → NeverAttaches c (events_of ms) → (own_part c t ≡ own_part c u) × (outs t c ≡ outs u c)
-answered_alone id c ms ns t u went too alone alone_too same never =
+answered_alone id g c ms ns t u went too alone alone_too same never =
     let never_too : NeverAttaches c (events_of ns) = ap (λ (ss : List Step). list_any (λ s. brings_attach s.event) ss) (sym same) ∙ never
     in let alike : own_part c t ≡ own_part c u
-    = own_moves id c ms [] t (fine_empty c) alone never went ∙ ap (λ (ss : List Step). own_all id c ss []) same
-    ∙ sym (own_moves id c ns [] u (fine_empty c) alone_too never_too too)
+    = own_moves id c ms (configured g) t (fine_start c g) alone never went ∙ ap (λ (ss : List Step). own_all id c ss (configured g)) same
+    ∙ sym (own_moves id c ns (configured g) u (fine_start c g) alone_too never_too too)
     in (alike, own_outs t c ∙ ap (λ (x : List Entry). outs x c) alike ∙ sym (own_outs u c))

@@ -7,6 +7,8 @@ use Rattle.amqp_frames.specs.declared.item.Item.{Item}
 use Rattle.amqp_frames.specs.declared.item.Item.TheVariants as item
 use Rattle.amqp_conn.specs.declared.conn.Conn.{Conn}
 use Rattle.amqp_session.specs.Session.{Session}
+use Rattle.route_table.specs.Places.{Routing}
+use Rattle.router_trace.specs.Configuration.{configured}
 use Rattle.router_trace.specs.declared.binding.Binding.{Binding}
 use Rattle.router_trace.specs.declared.terms.Terms.{Terms}
 use Rattle.router_trace.specs.declared.condition.Condition.TheVariants.{ResourceLimitExceeded}
@@ -14,7 +16,7 @@ use Rattle.router_trace.specs.declared.event.ConnectionId.{ConnectionId}
 use Rattle.router_trace.specs.declared.event.Event.{Event}
 use Rattle.router_trace.specs.declared.handle.Attachment.{Attachment}
 use Rattle.router_trace.specs.declared.event.Event.TheVariants as event
-use Rattle.router_trace.specs.Trace.{Entry, Put, Did, Out, Took, Bound, did, goes, puts, each_to, ups, step_of}
+use Rattle.router_trace.specs.Trace.{Entry, Put, Did, Out, Took, Bound, Configured, did, goes, puts, each_to, ups, step_of}
 use Rattle.router_trace.specs.Connection.{Connection, conn, ended, took, unless_empty, drained, standing, is_live, is_full, is_due, has, due, found, live, live_of, at_event}
 use Rattle.router_trace.specs.Refusing.{refuses}
 use Rattle.router_trace.specs.Frames.{header_item}
@@ -47,7 +49,7 @@ use Rattle.router_core.proofs.Lively.{Lively, answered_lively, took_lively}
 use Rattle.router_core.proofs.Once.{filter_has}
 use Rattle.router_core.proofs.Ordered.{Ordered, Without, written_all, goes_spares, each_without, bound_spares, ends_spares}
 use Rattle.router_core.proofs.Told.{Told, goes_strange}
-use Rattle.router_core.proofs.Order.{push_some, heard_turns, no_session, took_inv, took_turns, ordered_empty}
+use Rattle.router_core.proofs.Order.{push_some, heard_turns, no_session, took_inv, took_turns, ordered_start}
 use Rattle.router_core.proofs.PassedOrder.{passed_steps}
 use Rattle.router_core.proofs.Replied.{replied_turns, answered_turns, answered_told}
 
@@ -82,6 +84,7 @@ quiet (Did s ∷ t) c h =
 quiet (Out d i ∷ t) c h =
     by_test (d == c) (λ e. absurd (push_some (outs t c) i (rw e at h))) (λ e. rw e (quiet t c (rw e at h)))
 quiet (Bound b ∷ t) c h = quiet t c h
+quiet (Configured g ∷ t) c h = quiet t c h
 quiet (Took d n ∷ t) c h =
     by_test (d == c) (λ e. rw e (waits_took n (conn t c) (quiet t c h))) (λ e. rw e (quiet t c h))
 
@@ -159,6 +162,7 @@ untold (Did s ∷ t) c h = untold_at s.event c (ins t c) (terms t c) h (untold t
 untold (Out d i ∷ t) c h = goes_strange (record { conn = d; item = i } ∷ []) t c (untold t c h)
 untold (Took d n ∷ t) c h = untold t c h
 untold (Bound b ∷ t) c h = untold t c h
+untold (Configured g ∷ t) c h = untold t c h
 
 -- an item of another connection puts nothing where no link is attached
 
@@ -382,20 +386,20 @@ goes_kept id (takes x ∷ ms) t u was goes =
     })
     goes
 
-kept_empty : Kept []
-kept_empty = record {
-  ordered = ordered_empty;
+kept_start : (g : Routing) → Kept (configured g)
+kept_start g = record {
+  ordered = ordered_start g;
   lively = λ c o h some. absurd cc;
   told = record { told = λ c v is live some. absurd cc; strange = λ c absent. refl };
   headed = record { header = λ c h. absurd cc; silent = λ c h. refl };
 }
 
-pub trace_kept : (id : List ℕ) (u : List Entry) → IsTrace id u → Kept u
-trace_kept id u trace = goes_kept id trace.0 [] u kept_empty trace.1
+pub trace_kept : (id : List ℕ) (g : Routing) (u : List Entry) → IsTrace id g u → Kept u
+trace_kept id g u trace = goes_kept id trace.0 (configured g) u (kept_start g) trace.1
 
-pub trace_keeps_order : (id : List ℕ) (u : List Entry) → IsTrace id u → KeepsOrder u
-trace_keeps_order id u trace =
-    let kept : Kept u = trace_kept id u trace
+pub trace_keeps_order : (id : List ℕ) (g : Routing) (u : List Entry) → IsTrace id g u → KeepsOrder u
+trace_keeps_order id g u trace =
+    let kept : Kept u = trace_kept id g u trace
     in record {
       turns = kept.ordered.turns;
       header = kept.headed.header;

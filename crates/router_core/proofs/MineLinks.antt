@@ -6,12 +6,14 @@ use Rattle.router_trace.specs.declared.handle.Asked.{Asked}
 use Rattle.router_trace.specs.declared.handle.PeerHandle.{PeerHandle}
 use Rattle.router_trace.specs.declared.event.Event.{Event}
 use Rattle.router_trace.specs.declared.event.Event.TheVariants as event
-use Rattle.router_trace.specs.Trace.{Entry, Did, Out, Took, Bound}
+use Rattle.router_trace.specs.Trace.{Entry, Did, Out, Took, Bound, Configured}
+use Rattle.route_table.specs.Places.{distribution_of}
+use Rattle.router_trace.specs.Configuration.{routing, is_multicast}
 use Rattle.router_trace.specs.Links.{asked, asked_at, is_lost, answers_by, answered_handle, their_handle_at, their_handle_behind, their_handle, link_place_by, handle_max_at, told_handle_max, most_behind, highest_handle, is_free_handle, first_free_below, free_handle}
 use Rattle.router_trace.specs.Claims.{claims}
 use Rattle.router_trace.specs.Sessions.{unless_close, place}
 use Rattle.router_reply.specs.Rows.{Finds}
-use Rattle.router_reply.specs.Replies.{finds, free_for}
+use Rattle.router_reply.specs.Replies.{finds, free_for, multicast_of}
 use Rattle.router_core.specs.Laws.{is_about, own_part}
 use Rattle.router_conns.proofs.Lists.{by_test}
 use Rattle.router_core.proofs.Attachless.{Unlinked}
@@ -59,6 +61,7 @@ own_asked (Did s ∷ t) c =
 own_asked (Out d i ∷ t) c = by_test (d == c) (λ e. rw e (rw e (ap (unless_close i) (own_asked t c)))) (λ e. rw e (own_asked t c))
 own_asked (Took d n ∷ t) c = own_asked t c
 own_asked (Bound b ∷ t) c = own_asked t c
+own_asked (Configured g ∷ t) c = own_asked t c
 
 own_answers : (t : List Entry) (c o h : ℕ) → answered_handle t c o h ≡ answered_handle (own_part c t) c o h
 own_answers [] c o h = refl
@@ -69,6 +72,7 @@ own_answers (Out d i ∷ t) c o h =
     by_test (d == c) (λ e. rw e (rw e (λ j. answers_by i o h (own_asked t c j) (own_answers t c o h j)))) (λ e. rw e (own_answers t c o h))
 own_answers (Took d n ∷ t) c o h = own_answers t c o h
 own_answers (Bound b ∷ t) c o h = own_answers t c o h
+own_answers (Configured g ∷ t) c o h = own_answers t c o h
 
 own_handle : (t : List Entry) (c o p : ℕ) → their_handle t c o p ≡ their_handle (own_part c t) c o p
 own_handle [] c o p = refl
@@ -81,6 +85,7 @@ own_handle (Out d i ∷ t) c o p =
     (λ e. rw e (own_handle t c o p))
 own_handle (Took d n ∷ t) c o p = own_handle t c o p
 own_handle (Bound b ∷ t) c o p = own_handle t c o p
+own_handle (Configured g ∷ t) c o p = own_handle t c o p
 
 own_told : (t : List Entry) (c : ℕ) → told_handle_max t c ≡ told_handle_max (own_part c t) c
 own_told [] c = refl
@@ -89,6 +94,7 @@ own_told (Did s ∷ t) c =
 own_told (Out d i ∷ t) c = by_test (d == c) (λ e. rw e (rw e (ap (unless_close i) (own_told t c)))) (λ e. rw e (own_told t c))
 own_told (Took d n ∷ t) c = own_told t c
 own_told (Bound b ∷ t) c = own_told t c
+own_told (Configured g ∷ t) c = own_told t c
 
 own_highest : (t : List Entry) (c o : ℕ) → highest_handle t c o ≡ highest_handle (own_part c t) c o
 own_highest [] c o = refl
@@ -99,10 +105,19 @@ own_highest (Out d i ∷ t) c o =
     by_test (d == c) (λ e. rw e (rw e (λ j. most_behind i o (own_told t c j) (own_highest t c o j)))) (λ e. rw e (own_highest t c o))
 own_highest (Took d n ∷ t) c o = own_highest t c o
 own_highest (Bound b ∷ t) c o = own_highest t c o
+own_highest (Configured g ∷ t) c o = own_highest t c o
 
 own_free_handle : (t : List Entry) (c o : ℕ) → free_handle t c o ≡ free_handle (own_part c t) c o
 unfolding free_handle
 own_free_handle t c o = λ j. first_free_below 64 (is_free_handle (unwrap_or (own_highest t c o j) 63) (λ h. own_answers t c o h j)) 0
+
+own_routing : (t : List Entry) (c : ℕ) → routing t ≡ routing (own_part c t)
+own_routing [] c = refl
+own_routing (Did s ∷ t) c = by_test (is_about c s.event) (λ e. rw e (own_routing t c)) (λ e. rw e (own_routing t c))
+own_routing (Out d i ∷ t) c = by_test (d == c) (λ e. rw e (own_routing t c)) (λ e. rw e (own_routing t c))
+own_routing (Took d n ∷ t) c = own_routing t c
+own_routing (Bound b ∷ t) c = own_routing t c
+own_routing (Configured g ∷ t) c = refl
 
 -- what an item finds on a connection without links
 abbrev pub linkless : List Entry → ℕ → Finds
@@ -112,6 +127,7 @@ linkless t c = record {
   links = λ o p. link_place_by (their_handle t c o p) (λ h. None);
   free_handle = free_handle t c;
   claimed = λ o id. false;
+  multicast = multicast_of t;
 }
 
 -- no delivery of the peer is unsettled there
@@ -125,4 +141,5 @@ own_finds t c none unclaimed = λ j. record {
   links = λ o p. link_place_by (own_handle t c o p j) (λ h. none o h j);
   free_handle = λ o. own_free_handle t c o j;
   claimed = λ o id. is_some (unclaimed o id j);
+  multicast = λ address. is_multicast (distribution_of (own_routing t c j) address);
 }

@@ -5,7 +5,9 @@ use Rattle.amqp_link.specs.Credit as credit
 use Rattle.route_credit.specs.Granting.{choice, grants_of}
 use Rattle.router_pools.specs.Sharing.{Figure, consumer, producer, sharing}
 use Rattle.router_trace.specs.declared.handle.Attachment.{Attachment}
-use Rattle.router_trace.specs.Trace.{Entry, Did, Out, Took, Bound}
+use Rattle.router_trace.specs.Trace.{Entry, Did, Out, Took, Bound, Configured}
+use Rattle.route_table.specs.Places.{Routing, distribution_of}
+use Rattle.router_trace.specs.Configuration.{routing, distribution}
 use Rattle.router_trace.specs.Links.{Link, Happened, sends, receives, numbered, attachments}
 use Rattle.router_trace.specs.Deliveries.{waits_on, undecided_on, held_from}
 use Rattle.router_trace.specs.Following.{link_of}
@@ -46,6 +48,19 @@ same_figure_at t number (Some a) =
 same_figure : (t : List Entry) (number : ℕ) → figure t number ≡ figure (untaken t) number
 same_figure t number = (λ j. figure_at t number (same_numbered t number j)) ∙ same_figure_at t number (numbered (untaken t) number)
 
+-- how addresses are shared
+
+same_routing : (t : List Entry) → routing t ≡ routing (untaken t)
+same_routing [] = refl
+same_routing (Did s ∷ t) = same_routing t
+same_routing (Out c i ∷ t) = same_routing t
+same_routing (Took c n ∷ t) = same_routing t
+same_routing (Bound b ∷ t) = same_routing t
+same_routing (Configured g ∷ t) = refl
+
+pub same_distribution : (t : List Entry) (address : List ℕ) → distribution t address ≡ distribution (untaken t) address
+same_distribution t address = λ j. distribution_of (same_routing t j) address
+
 -- pools, and who is chosen
 
 same_last : (t : List Entry) (address : List ℕ) → last_chosen t address ≡ last_chosen (untaken t) address
@@ -53,11 +68,12 @@ same_last [] address = refl
 same_last (Did s ∷ t) address = same_last t address
 same_last (Out c i ∷ t) address = same_last t address
 same_last (Took c n ∷ t) address = same_last t address
+same_last (Configured g ∷ t) address = same_last t address
 same_last (Bound b ∷ t) address =
     λ j. if is_of address (same_link t b.consumer.conn.0 b.consumer.channel b.consumer.handle j) b.consumer.number then b.consumer.number else same_last t address j
 
 same_pool : (t : List Entry) (address : List ℕ) → pool_of t address ≡ pool_of (untaken t) address
-same_pool t address = λ j. sharing (λ n. same_figure t n j) (same_attachments t j) (same_last t address j) address
+same_pool t address = λ j. sharing (same_distribution t address j) (λ n. same_figure t n j) (same_attachments t j) (same_last t address j) address
 
 pub same_choice : (t : List Entry) (address : List ℕ) → choice_of t address ≡ choice_of (untaken t) address
 unfolding choice_of

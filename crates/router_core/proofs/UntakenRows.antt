@@ -15,6 +15,7 @@ use Rattle.amqp_link.specs.declared.part.Part.TheVariants as part
 use Rattle.router_trace.specs.declared.condition.Condition.TheVariants.{ResourceLimitExceeded}
 use Rattle.router_trace.specs.declared.handle.Attachment.{Attachment}
 use Rattle.router_trace.specs.Trace.{Entry, Put, goes, puts, each_to}
+use Rattle.router_trace.specs.Configuration.{is_multicast}
 use Rattle.router_trace.specs.LinkFrames.{answer_to, detach_item}
 use Rattle.router_trace.specs.Links.{Link, link, free_handle, holder, key_at, link_place}
 use Rattle.router_trace.specs.Deliveries.{terminal, last_of, named}
@@ -28,7 +29,7 @@ use Rattle.router_reply.specs.Replies.{finds, stolen_by, attach_answer, taken_be
 use Rattle.router_core.specs.Laws.{untaken}
 use Rattle.router_core.proofs.Untaken.{untaken_goes, same_place, same_free}
 use Rattle.router_core.proofs.UntakenDeliveries.{same_named, same_delivery, same_claims, same_numbered}
-use Rattle.router_core.proofs.UntakenGrants.{same_choice}
+use Rattle.router_core.proofs.UntakenGrants.{same_distribution, same_choice}
 use Rattle.router_core.proofs.UntakenLinks.{same_largest, same_free_handle, same_link, same_link_place, same_holder}
 
 same_finds : (t : List Entry) (c : ℕ) → finds t c ≡ finds (untaken t) c
@@ -38,6 +39,7 @@ same_finds t c = λ j. record {
   links = λ o p. same_link_place t c o p j;
   free_handle = λ o. same_free_handle t c o j;
   claimed = λ o id. is_some (same_claims t c o id j);
+  multicast = λ address. is_multicast (same_distribution t address j);
 }
 
 -- an attach

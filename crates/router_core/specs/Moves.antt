@@ -2,9 +2,11 @@
 -- on a connection.
 use Rattle.std.specs.Prelude.{◌≡◌, ◌==◌, ℕ, false, if◌then◌else◌, List, [], ◌∷◌, ◌++◌}
 use Rattle.amqp_frames.specs.declared.item.Item.{Item}
+use Rattle.route_table.specs.Places.{Routing}
 use Rattle.router_trace.specs.declared.event.Event.{Event}
 use Rattle.router_trace.specs.declared.event.Event.TheVariants as event
-use Rattle.router_trace.specs.Trace.{Trace, Did, Out, Took, Bound, Step}
+use Rattle.router_trace.specs.Trace.{Trace, Did, Out, Took, Bound, Configured, Step}
+use Rattle.router_trace.specs.Configuration.{configured}
 use Rattle.router_trace.specs.Refusing.{refuses}
 use Rattle.router_core.specs.Replies.{answered}
 use Rattle.router_core.specs.Runs.{Taking, took_one}
@@ -20,9 +22,9 @@ Goes id [] t u = u ≡ t
 Goes id (handles s ∷ ms) t u = (refuses t s.event ≡ false) × Goes id ms (answered id t s) u
 Goes id (takes x ∷ ms) t u = Goes id ms (took_one x t) u
 
--- a trace of the router of this id
-abbrev pub IsTrace : List ℕ → Trace → Type 0
-IsTrace id u = (moves : List Move) × Goes id moves [] u
+-- a trace of the router of this id, opened with this configuration
+abbrev pub IsTrace : List ℕ → Routing → Trace → Type 0
+IsTrace id g u = (moves : List Move) × Goes id moves (configured g) u
 
 -- the items of the events that came on a connection, the first of them first
 abbrev pub with_came : Event → ℕ → List Item → List Item
@@ -35,6 +37,7 @@ ins (Did s ∷ t) c = with_came s.event c (ins t c)
 ins (Out d i ∷ t) c = ins t c
 ins (Took d n ∷ t) c = ins t c
 ins (Bound b ∷ t) c = ins t c
+ins (Configured g ∷ t) c = ins t c
 
 -- the items put out for a connection, the first of them first
 abbrev pub outs : Trace → ℕ → List Item
@@ -43,3 +46,4 @@ outs (Did s ∷ t) c = outs t c
 outs (Out d i ∷ t) c = if d == c then outs t c ++ i ∷ [] else outs t c
 outs (Took d n ∷ t) c = outs t c
 outs (Bound b ∷ t) c = outs t c
+outs (Configured g ∷ t) c = outs t c

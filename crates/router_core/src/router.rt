@@ -1,5 +1,7 @@
 //! The router: one event or one take at a time.
 ghost use Rattle.std.specs.Prelude.{◌≡◌, ◌≤◌, ◌∷◌, ◌&&◌, nat_lt, ℕ, List, [], length, true, false, Ok, Err, None, option_map, is_some, OnOk, OnErr, IfOk, IfErr};
+ghost use Rattle.route_table.specs.Places.{routing_of};
+ghost use Rattle.router_trace.specs.Configuration.{configured};
 ghost use Rattle.router_trace.specs.Trace.{Entry, Took, step_of};
 ghost use Rattle.router_trace.specs.Connection.{conn as known, is_ready, is_live};
 ghost use Rattle.router_trace.specs.Refusing.{refuses};
@@ -13,7 +15,7 @@ ghost use Rattle.router_core.specs.declared.fault.CoreFault.TheVariants.{Disk, M
 use crate::counts::Counts;
 use crate::fault::CoreFault;
 use amqp_frames::Item;
-use route_table::Config;
+use route_table::{Config, Table};
 use router_after::after;
 use router_reply::reply;
 use router_state::State;
@@ -71,7 +73,7 @@ impl Batch {
 }
 
 /// The router. It handles one event at a time, and gives the items that it puts out where they are asked for.
-#[derive(Debug, Drop)]
+#[derive(Drop)]
 pub struct Core {
     id: RouterId,
     state: State,
@@ -80,16 +82,17 @@ pub struct Core {
 }
 
 impl Core {
-    /// A router to which nothing happened.
+    /// A router to which nothing happened, but that it was opened with a configuration.
     pub fn open(alloc: Global, config: &Config) -> Result<Core, AllocError>
-        ensures fits { IfOk result (λ core. Fits core []) }
+        ensures fits { IfOk result (λ core. Fits core (configured (routing_of config.now))) }
         ensures works { IfOk result (λ core. is_failed core ≡ false) }
         ensures named { IfOk result (λ core. id_of core ≡ config.now.router_id) }
         ensures counts { IfOk result (λ core. counts_of core ≡ uncounted) }
     {
+        let table = Table::new(alloc, config)?;
         Ok(Core {
             id: RouterId::new(alloc, config.router_id())?,
-            state: State::new(alloc),
+            state: State::new(alloc, table),
             counts: Counts::none(),
             failed: false,
         })

@@ -7,7 +7,7 @@ use Rattle.amqp_perf.specs.declared.perf.Transfer.{Transfer}
 use Rattle.amqp_frames.specs.declared.item.Item.{Item}
 use Rattle.amqp_frames.specs.declared.item.Item.TheVariants as item
 use Rattle.router_trace.specs.declared.binding.Binding.{Binding}
-use Rattle.router_trace.specs.Trace.{Trace, Did, Out, Took, Bound}
+use Rattle.router_trace.specs.Trace.{Trace, Did, Out, Took, Bound, Configured}
 use Rattle.router_trace.specs.Deliveries.{Delivery, bindings, delivery, sending, carried, tag_in, tag_of, is_number}
 
 -- The first frame of a delivery: it has an id, the tag of the delivery and the format of the message, and nothing of it went before.
@@ -67,6 +67,7 @@ bytes_out (Did s ∷ t) n = bytes_out t n
 bytes_out (Out c i ∷ t) n = bytes_by i n (sending t c) (bytes_out t n)
 bytes_out (Took c k ∷ t) n = bytes_out t n
 bytes_out (Bound b ∷ t) n = bytes_out t n
+bytes_out (Configured g ∷ t) n = bytes_out t n
 
 -- It is a beginning of the message that was bound, and behind a frame that says that no more are to come it is the message. (A tag has
 -- 8 bytes of the number.)

@@ -9,6 +9,8 @@ use Rattle.router_trace.specs.declared.event.PeerRole.{PeerRole}
 use Rattle.router_trace.specs.declared.event.Event.{Event}
 use Rattle.router_trace.specs.declared.event.Event.TheVariants as event
 use Rattle.route_table.specs.Settings.{Settings}
+use Rattle.route_table.specs.Places.{routing_of}
+use Rattle.router_trace.specs.Configuration.{configured}
 use Rattle.router_core.specs.declared.door.Door.{Door as DoorState}
 use Rattle.router_play.specs.declared.line.Line.{Line}
 use Rattle.router_play.specs.declared.line.Line.TheVariants as line
@@ -35,7 +37,7 @@ pub record Scene : Type 0 where
 
 -- before the first step
 abbrev pub opening : Settings → Scene
-opening config = record { id = config.router_id; config = config; trace = []; last = None; sockets = λ c. None; lines = [] }
+opening config = record { id = config.router_id; config = config; trace = configured (routing_of config); last = None; sockets = λ c. None; lines = [] }
 
 -- lines more
 abbrev pub say_all : List Line → Scene → Scene

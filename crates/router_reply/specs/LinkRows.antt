@@ -55,28 +55,53 @@ abbrev pub target_refusal : Option TargetTerminus → List ℕ → Option Condit
 target_refusal (Some (target.Target x)) name = terminus_refusal x.dynamic x.address x.durable name
 target_refusal _ name = Some NotImplemented
 
-abbrev pub refusal : Role → AnAttach → Option Condition
-refusal Sender a = target_refusal a.target a.name
-refusal Receiver a = source_refusal a.source a.name
+abbrev pub side_refusal : Role → AnAttach → Option Condition
+side_refusal Sender a = target_refusal a.target a.name
+side_refusal Receiver a = source_refusal a.source a.name
+
+-- Whether each message of the address at the router's side of a link goes to every consumer, where addresses are shared so.
+abbrev pub is_multicast_at : (List ℕ → Bool) → Option Address → Bool
+is_multicast_at multicast (Some (address.Text text)) = multicast text
+is_multicast_at multicast _ = false
+
+abbrev pub is_multicast_source : (List ℕ → Bool) → Option SourceTerminus → Bool
+is_multicast_source multicast (Some (source.Source s)) = is_multicast_at multicast s.address
+is_multicast_source multicast _ = false
+
+abbrev pub is_multicast_target : (List ℕ → Bool) → Option TargetTerminus → Bool
+is_multicast_target multicast (Some (target.Target x)) = is_multicast_at multicast x.address
+is_multicast_target multicast _ = false
+
+abbrev pub is_multicast_link : (List ℕ → Bool) → Role → AnAttach → Bool
+is_multicast_link multicast Sender a = is_multicast_target multicast a.target
+is_multicast_link multicast Receiver a = is_multicast_source multicast a.source
+
+-- An address whose messages go to every consumer isn't served yet; whatever else refuses a link goes before this.
+abbrev pub unless_multicast : Bool → Option Condition → Option Condition
+unless_multicast multicast (Some x) = Some x
+unless_multicast multicast None = if multicast then Some NotImplemented else None
+
+abbrev pub refusal : Bool → AnAttach → Option Condition
+refusal multicast a = unless_multicast multicast (side_refusal a.role a)
 
 -- an attach on a handle of the peer that stands for nothing: where no handle of the router is free that the peer takes, there is no room
 abbrev pub attach_or : Option Condition → ℕ → ℕ → Answer
 attach_or (Some x) own handle = Refuse own handle x
 attach_or None own handle = Attach own
 
-abbrev pub attach_fresh : ℕ → Option ℕ → AnAttach → Answer
-attach_fresh own None a = End own (Some ResourceLimitExceeded)
-attach_fresh own (Some handle) a = attach_or (refusal a.role a) own handle
+abbrev pub attach_fresh : ℕ → Option ℕ → Bool → AnAttach → Answer
+attach_fresh own None multicast a = End own (Some ResourceLimitExceeded)
+attach_fresh own (Some handle) multicast a = attach_or (refusal multicast a) own handle
 
 -- an attach on a session: a handle above 63 is a framing error, and one that stands for a link ends the session; where the peer's
 -- detach is awaited it is dropped
-abbrev pub attach_at : ℕ → LinkPlace → Option ℕ → AnAttach → Answer
-attach_at own nowhere free a = attach_fresh own free a
-attach_at own detaching free a = Nothing
-attach_at own (on h l) free a = End own (Some HandleInUse)
+abbrev pub attach_at : ℕ → LinkPlace → Option ℕ → Bool → AnAttach → Answer
+attach_at own nowhere free multicast a = attach_fresh own free multicast a
+attach_at own detaching free multicast a = Nothing
+attach_at own (on h l) free multicast a = End own (Some HandleInUse)
 
-abbrev pub session_attach_reply : ℕ → LinkPlace → Option ℕ → AnAttach → Answer
-session_attach_reply own at free a = if nat_lt 63 a.handle then CloseWith FramingError else attach_at own at free a
+abbrev pub session_attach_reply : ℕ → LinkPlace → Option ℕ → Bool → AnAttach → Answer
+session_attach_reply own at free multicast a = if nat_lt 63 a.handle then CloseWith FramingError else attach_at own at free multicast a
 
 -- a detach: the router's, closed as the peer's is; none to the detach that the router's own awaits
 abbrev pub session_detach_reply : ℕ → LinkPlace → ADetach → Answer

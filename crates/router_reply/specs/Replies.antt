@@ -1,5 +1,5 @@
 -- What stands behind an event in a trace.
-use Rattle.std.specs.Prelude.{ℕ, true, false, nat_lt, if◌then◌else◌, List, [], ◌∷◌, ◌++◌, map, Option, Some, None, option_map, unwrap_or}
+use Rattle.std.specs.Prelude.{ℕ, Bool, true, false, nat_lt, if◌then◌else◌, List, [], ◌∷◌, ◌++◌, map, Option, Some, None, option_map, unwrap_or}
 use Rattle.amqp_perf.specs.declared.perf.Attach.{Attach as AnAttach}
 use Rattle.amqp_perf.specs.declared.perf.Perf.{Perf}
 use Rattle.amqp_perf.specs.declared.perf.Perf.TheVariants as perf
@@ -18,6 +18,7 @@ use Rattle.router_trace.specs.declared.condition.Condition.TheVariants.{Resource
 use Rattle.router_trace.specs.declared.event.Event.{Event}
 use Rattle.router_trace.specs.declared.event.Event.TheVariants as event
 use Rattle.router_trace.specs.Trace.{Trace, Step, Put, Did, puts, each_to, goes}
+use Rattle.router_trace.specs.Configuration.{distribution, is_multicast}
 use Rattle.router_trace.specs.Connection.{Connection, conn, standing, found, due}
 use Rattle.router_trace.specs.Frames.{closing}
 use Rattle.router_trace.specs.Sessions.{place, free_channel}
@@ -55,9 +56,20 @@ heard id t s = ends id (due t s.event) (Did s ∷ t)
 abbrev pub free_for : Trace → ℕ → Option ℕ
 free_for t c = free_channel t c (channel_max_of (terms t c))
 
+-- the addresses whose messages go to every consumer
+abbrev pub multicast_of : Trace → List ℕ → Bool
+multicast_of t address = is_multicast (distribution t address)
+
 -- what an item on a connection finds
 abbrev pub finds : Trace → ℕ → Finds
-finds t c = record { places = place t c; free_channel = free_for t c; links = link_place t c; free_handle = free_handle t c; claimed = is_claimed t c }
+finds t c = record {
+  places = place t c;
+  free_channel = free_for t c;
+  links = link_place t c;
+  free_handle = free_handle t c;
+  claimed = is_claimed t c;
+  multicast = multicast_of t;
+}
 
 -- An attach that is taken: the older link of its key, if one is attached, is detached as stolen, and then the answer is put, on the
 -- lowest handle that is free by then. Where the answer doesn't fit what the peer takes, a detach tells so in its place.

@@ -8,7 +8,7 @@ ghost use Rattle.router_sessions.specs.Fits.{found_of};
 ghost use Rattle.router_state.specs.Tables.{TablesAt};
 ghost use Rattle.router_reply.specs.Rows.{attach_reply, flow_reply, transfer_reply, detach_reply, in_turn, turn_by, perf_reply, item_reply};
 ghost use Rattle.router_reply.specs.LinkRows.{is_among};
-ghost use Rattle.router_reply.specs.Replies.{finds};
+ghost use Rattle.router_reply.specs.Replies.{finds, multicast_of};
 ghost use Rattle.router_trace.specs.Settling.{is_claimed};
 ghost use Rattle.router_trace.specs.declared.event.Event.{Event as E};
 
@@ -16,6 +16,7 @@ use crate::answer::Answer;
 use crate::link_rows::{
     link_flow_reply, session_attach_reply, session_detach_reply, session_transfer_reply,
 };
+use crate::multicast::is_multicast_link;
 use crate::rows::{
     bad_frame_reply, beat_reply, begin_reply, channel_reply, close_reply, disposition_reply,
     early_frame_reply, end_reply, header_reply, no_session_reply, open_reply, session_flow_reply,
@@ -29,7 +30,7 @@ use router_state::State;
 /// An attach on what was found on its channel.
 fn attach_reply(state: &State, conn: u64, place: Place, attach: &Attach) -> Answer
     ensures { (t : List Entry) (e : E) (ends : List ℕ) (at : At) → TablesAt state.now t e ends → place ≡ found_of at
-        → result ≡ attach_reply at (link_place t conn) (free_handle t conn) attach.now }
+        → result ≡ attach_reply at (link_place t conn) (free_handle t conn) (multicast_of t) attach.now }
 {
     match place {
         Place::Nowhere => no_session_reply(),
@@ -37,7 +38,8 @@ fn attach_reply(state: &State, conn: u64, place: Place, attach: &Attach) -> Answ
         Place::On { own, .. } => {
             let at = state.link_place(conn, own, attach.handle);
             let free = state.free_handle(conn, own);
-            session_attach_reply(own, at, free, attach)
+            let multicast = is_multicast_link(state, attach);
+            session_attach_reply(own, at, free, multicast, attach)
         }
     }
 }

@@ -7,6 +7,7 @@ mod closing;
 mod deciding;
 mod events;
 mod link_rows;
+mod multicast;
 mod passing;
 mod rows;
 

@@ -8,7 +8,7 @@ ghost use Rattle.amqp_link.specs.Receiving.{Received, delivery_count, unused as 
 ghost use Rattle.router_trace.specs.Sessions.{flow_state};
 ghost use Rattle.amqp_session.specs.Figures.{window_of};
 ghost use Rattle.router_trace.specs.Links.{LinkPlace, found_link, sends, receives};
-ghost use Rattle.router_reply.specs.LinkRows.{address_refusal, terminus_refusal, source_refusal, target_refusal, refusal, attach_fresh, session_attach_reply, session_detach_reply, link_echo, flow_on, link_flow_reply, is_among, start_on, is_same_id, is_same_tag, continue_on, delivery_on, session_transfer_reply, session_disposition_reply};
+ghost use Rattle.router_reply.specs.LinkRows.{address_refusal, terminus_refusal, source_refusal, target_refusal, side_refusal, refusal, attach_fresh, session_attach_reply, session_detach_reply, link_echo, flow_on, link_flow_reply, is_among, start_on, is_same_id, is_same_tag, continue_on, delivery_on, session_transfer_reply, session_disposition_reply};
 ghost use Rattle.router_reply.specs.declared.answer.Answer.TheVariants as answers;
 ghost use Rattle.router_trace.specs.declared.condition.Condition.TheVariants.{NotAllowed};
 ghost use Rattle.router_trace.specs.Deliveries.{terminal};
@@ -94,9 +94,9 @@ fn target_refusal(target: &Option<TargetTerminus>, name: &Text) -> Option<Condit
     }
 }
 
-/// Why a link is refused, if it is: by the terminus at the router's side.
-fn refusal(attach: &Attach) -> Option<Condition>
-    ensures { result ≡ refusal attach.now.role attach.now }
+/// Why a link is refused for its terminus at the router's side, if it is.
+fn side_refusal(attach: &Attach) -> Option<Condition>
+    ensures { result ≡ side_refusal attach.now.role attach.now }
 {
     match attach.role {
         Role::Sender => target_refusal(&attach.target, &attach.name),
@@ -104,9 +104,20 @@ fn refusal(attach: &Attach) -> Option<Condition>
     }
 }
 
+/// Why a link is refused, if it is: for its terminus at the router's side, or as its address is a multicast one.
+fn refusal(multicast: bool, attach: &Attach) -> Option<Condition>
+    ensures { result ≡ refusal multicast attach.now }
+{
+    match side_refusal(attach) {
+        Some(condition) => Some(condition),
+        None if multicast => Some(Condition::NotImplemented),
+        None => None,
+    }
+}
+
 /// An attach on a handle of the peer that stands for nothing.
-fn attach_fresh(own: u16, free: Option<u32>, attach: &Attach) -> Answer
-    ensures { result ≡ attach_fresh own free attach.now }
+fn attach_fresh(own: u16, free: Option<u32>, multicast: bool, attach: &Attach) -> Answer
+    ensures { result ≡ attach_fresh own free multicast attach.now }
 {
     let Some(handle) = free else {
         return Answer::End {
@@ -114,7 +125,7 @@ fn attach_fresh(own: u16, free: Option<u32>, attach: &Attach) -> Answer
             error: Some(Condition::ResourceLimitExceeded),
         };
     };
-    match refusal(attach) {
+    match refusal(multicast, attach) {
         None => Answer::Attach { own },
         Some(error) => Answer::Refuse { own, handle, error },
     }
@@ -122,16 +133,22 @@ fn attach_fresh(own: u16, free: Option<u32>, attach: &Attach) -> Answer
 
 /// An attach on a session: a handle above 63 closes with `amqp:connection:framing-error`; one that stands for a link ends the session with
 /// `amqp:session:handle-in-use`; where no handle of the router is free that the peer takes, it ends with `amqp:resource-limit-exceeded`. A
-/// link whose terminus at the router's side can't be had is refused; any other is taken. Where the peer's detach is awaited the attach is
-/// dropped (AMQP 1.0 part 2, sections 2.6.3 and 2.7.3).
-pub fn session_attach_reply(own: u16, at: LinkAt, free: Option<u32>, attach: &Attach) -> Answer
-    ensures { (link : LinkPlace) → at ≡ found_link link → result ≡ session_attach_reply own link free attach.now }
+/// link whose terminus at the router's side can't be had is refused, as is one of a multicast address; any other is taken. Where the peer's
+/// detach is awaited the attach is dropped (AMQP 1.0 part 2, sections 2.6.3 and 2.7.3).
+pub fn session_attach_reply(
+    own: u16,
+    at: LinkAt,
+    free: Option<u32>,
+    multicast: bool,
+    attach: &Attach,
+) -> Answer
+    ensures { (link : LinkPlace) → at ≡ found_link link → result ≡ session_attach_reply own link free multicast attach.now }
 {
     if attach.handle > HANDLE_MAX {
         return Answer::CloseWith(Condition::FramingError);
     }
     match at {
-        LinkAt::Nowhere => attach_fresh(own, free, attach),
+        LinkAt::Nowhere => attach_fresh(own, free, multicast, attach),
         LinkAt::Detaching => Answer::Nothing,
         LinkAt::Sends { .. } | LinkAt::Receives { .. } => Answer::End {
             own,

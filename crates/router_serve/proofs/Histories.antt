@@ -5,6 +5,7 @@ use Rattle.router_core.specs.declared.fault.CoreFault.{CoreFault}
 use Rattle.router_core.specs.declared.fault.CoreFault.TheVariants.{Disk, Memory, Failed, NoConnection}
 use Rattle.router_trace.specs.declared.event.Event.{Event}
 use Rattle.router_trace.specs.declared.event.ConnectionId.{ConnectionId}
+use Rattle.router_trace.specs.Configuration.{configured}
 use Rattle.router_trace.specs.Trace.{Entry, Took, step_of}
 use Rattle.router_trace.specs.Refusing.{refuses}
 use Rattle.router_trace.specs.Connection.{Connection, conn}
@@ -17,7 +18,7 @@ use Rattle.router_core.specs.Moves.{Move, handles, takes, Goes}
 use Rattle.router_core.specs.Counting.{uncounted, with_event, with_batch}
 use Rattle.router_core.specs.Handling.{Fits, is_failed, id_of, counts_of, IsBatchOf}
 use Rattle.router_core.proofs.Moves.{goes_on}
-use Rattle.router_serve.specs.History.{tally, IsHistory, HasHistory}
+use Rattle.router_serve.specs.History.{tally, IsOpened, IsHistory, HasHistory}
 
 -- the counts of moves, and of more of them
 tally_more : (ms ns : List Move) (n : Counts) → tally (ms ++ ns) n ≡ tally ns (tally ms n)
@@ -33,15 +34,16 @@ pub event_more : (old new : Core) (e : Event) → HasHistory old → is_failed o
 event_more old new e lived works fits taken counted named = λ _.
     let h = lived works in
     let id = id_of old in
-    let f = fits h.1 h.2.fits in
-    let last : Goes id (handles (step_of e) ∷ []) h.1 f.0 = (taken h.1 h.2.fits, f.1.answers) in
-    let all : Goes id (h.0 ++ handles (step_of e) ∷ []) [] f.0 = goes_on id h.0 (handles (step_of e) ∷ []) [] h.1 f.0 h.2.goes last in (
-      h.0 ++ handles (step_of e) ∷ [],
+    let f = fits h.2 h.3.fits in
+    let last : Goes id (handles (step_of e) ∷ []) h.2 f.0 = (taken h.2 h.3.fits, f.1.answers) in
+    let all : Goes id (h.1 ++ handles (step_of e) ∷ []) (configured h.0) f.0 = goes_on id h.1 (handles (step_of e) ∷ []) (configured h.0) h.2 f.0 h.3.goes last in (
+      h.0,
+      h.1 ++ handles (step_of e) ∷ [],
       f.0,
       record {
-        goes = subst (λ (i : List ℕ). Goes i (h.0 ++ handles (step_of e) ∷ []) [] f.0) (sym named) all;
+        goes = subst (λ (i : List ℕ). Goes i (h.1 ++ handles (step_of e) ∷ []) (configured h.0) f.0) (sym named) all;
         fits = f.2;
-        counted = counted ∙ (ap (with_event e) h.2.counted ∙ sym (tally_more h.0 (handles (step_of e) ∷ []) uncounted));
+        counted = counted ∙ (ap (with_event e) h.3.counted ∙ sym (tally_more h.1 (handles (step_of e) ∷ []) uncounted));
       },
     )
 
@@ -58,21 +60,22 @@ pub take_more : (old new : Core) (c : ConnectionId) (b : Batch) → HasHistory o
 take_more old new c b lived works fits batch counted named = λ _.
     let h = lived works in
     let id = id_of old in
-    let same : length b.items.items ≡ length (items_of (taking c) h.1) = batch_length (conn h.1 c.0) b (batch h.1 h.2.fits) in
-    let all : Goes id (h.0 ++ takes (taking c) ∷ []) [] (took_one (taking c) h.1)
-    = goes_on id h.0 (takes (taking c) ∷ []) [] h.1 (took_one (taking c) h.1) h.2.goes refl in (
-      h.0 ++ takes (taking c) ∷ [],
-      took_one (taking c) h.1,
+    let same : length b.items.items ≡ length (items_of (taking c) h.2) = batch_length (conn h.2 c.0) b (batch h.2 h.3.fits) in
+    let all : Goes id (h.1 ++ takes (taking c) ∷ []) (configured h.0) (took_one (taking c) h.2)
+    = goes_on id h.1 (takes (taking c) ∷ []) (configured h.0) h.2 (took_one (taking c) h.2) h.3.goes refl in (
+      h.0,
+      h.1 ++ takes (taking c) ∷ [],
+      took_one (taking c) h.2,
       record {
-        goes = subst (λ (i : List ℕ). Goes i (h.0 ++ takes (taking c) ∷ []) [] (took_one (taking c) h.1)) (sym named) all;
-        fits = subst (λ (n : ℕ). Fits new (Took c.0 n ∷ h.1)) same (fits h.1 h.2.fits);
-        counted = counted ∙ (ap with_batch h.2.counted ∙ sym (tally_more h.0 (takes (taking c) ∷ []) uncounted));
+        goes = subst (λ (i : List ℕ). Goes i (h.1 ++ takes (taking c) ∷ []) (configured h.0) (took_one (taking c) h.2)) (sym named) all;
+        fits = subst (λ (n : ℕ). Fits new (Took c.0 n ∷ h.2)) same (fits h.2 h.3.fits);
+        counted = counted ∙ (ap with_batch h.3.counted ∙ sym (tally_more h.1 (takes (taking c) ∷ []) uncounted));
       },
     )
 
 -- nothing happened yet
-pub none_yet : (core : Core) → Fits core [] → counts_of core ≡ uncounted → HasHistory core
-none_yet core fits counts = λ _. ([], [], record { goes = refl; fits = fits; counted = counts })
+pub none_yet : (core : Core) → IsOpened core → counts_of core ≡ uncounted → HasHistory core
+none_yet core opened counts = λ _. (opened.0, [], configured opened.0, record { goes = refl; fits = opened.1; counted = counts })
 
 -- a router that fails has none to tell
 pub failed_now : (core : Core) → is_failed core ≡ true → HasHistory core

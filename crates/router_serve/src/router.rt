@@ -1,8 +1,8 @@
 //! The router with its history: what lies under the lock.
-ghost use Rattle.std.specs.Prelude.{◌≡◌, ◌≤◌, [], length, OnOk, OnErr, IfOk};
-ghost use Rattle.router_core.specs.Handling.{Fits, counts_of, is_failed};
+ghost use Rattle.std.specs.Prelude.{◌≡◌, ◌≤◌, length, OnOk, OnErr, IfOk};
+ghost use Rattle.router_core.specs.Handling.{counts_of, is_failed};
 ghost use Rattle.router_core.specs.Counting.{uncounted, with_event, with_batch};
-ghost use Rattle.router_serve.specs.History.{HasHistory};
+ghost use Rattle.router_serve.specs.History.{IsOpened, HasHistory};
 
 use router_core::{Batch, ConnectionId, Core, CoreFault, Counts, Event};
 
@@ -20,7 +20,7 @@ pub struct Router {
 impl Router {
     /// A router to which nothing happened.
     pub fn new(core: Core) -> Router
-        requires fits { Fits core [] }
+        requires opened { IsOpened core }
         requires counts { counts_of core ≡ uncounted }
         ensures { result.core ≡ core }
     {

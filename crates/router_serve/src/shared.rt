@@ -1,9 +1,9 @@
 //! The lock, and the bells beside it.
-ghost use Rattle.std.specs.Prelude.{◌≡◌, ◌<◌, ◌≤◌, [], true, length, vec_len, OnOk, OnErr, IfOk, IfSome};
-ghost use Rattle.router_core.specs.Handling.{Fits, counts_of};
+ghost use Rattle.std.specs.Prelude.{◌≡◌, ◌<◌, ◌≤◌, true, length, vec_len, OnOk, OnErr, IfOk, IfSome};
+ghost use Rattle.router_core.specs.Handling.{counts_of};
 ghost use Rattle.router_core.specs.Counting.{uncounted, with_event, with_batch};
 ghost use Rattle.router_serve.specs.Adding.{sums};
-ghost use Rattle.router_serve.specs.History.{HasHistory};
+ghost use Rattle.router_serve.specs.History.{IsOpened, HasHistory};
 
 use crate::bells::{BELLS, Bells, bell_of};
 use crate::ledgers::{Blanks, Ledgers};
@@ -35,7 +35,7 @@ impl<L: Log, G: Ledgers> Shared<L, G> {
         blanks: Blanks,
         seats: u64,
     ) -> Result<Shared<L, G>, AllocError>
-        requires fits { Fits core [] }
+        requires opened { IsOpened core }
         requires counts { counts_of core ≡ uncounted }
         requires ups { (blanks.ups.name ≡ G.Ups.name) × (blanks.ups.parts ≡ G.Ups.parts) × (seats ≡ G.Ups.seats) × (G.Ups.seats ≡ G.Ups.parts) }
         requires items { (blanks.items.name ≡ G.Items.name) × (blanks.items.parts ≡ G.Items.parts) × (seats ≡ G.Items.seats) × (G.Items.seats ≡ G.Items.parts) }

@@ -6,4 +6,4 @@ pub returns-clause-traces : goal.returns-clause-traces
 returns-clause-traces c = trace_keeps_windows
 
 pub returns-clause-runs : goal.returns-clause-runs
-returns-clause-runs c = λ id events xs u run. trace_keeps_windows id u (run_is_trace id events xs u run)
+returns-clause-runs c = λ id g events xs u run. trace_keeps_windows id g u (run_is_trace id g events xs u run)

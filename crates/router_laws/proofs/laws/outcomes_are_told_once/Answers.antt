@@ -10,7 +10,7 @@ pub returns-clause-anew : goal.returns-clause-anew
 returns-clause-anew c = told_anew
 
 pub returns-clause-traces : goal.returns-clause-traces
-returns-clause-traces c = λ id u trace. (trace_sound id u trace).tells
+returns-clause-traces c = λ id g u trace. (trace_sound id g u trace).tells
 
 pub returns-clause-runs : goal.returns-clause-runs
-returns-clause-runs c = λ id events xs u run. (trace_sound id u (run_is_trace id events xs u run)).tells
+returns-clause-runs c = λ id g events xs u run. (trace_sound id g u (run_is_trace id g events xs u run)).tells
