@@ -108,10 +108,13 @@ fn refuse_link(
 {
     let largest = state.largest_frame(conn);
     let refusal = attach_item(own, id.refusal_of(attach, handle));
-    if let Some(item) = within(id, largest, refusal)? {
-        state.put(conn, item)?;
+    match within(id, largest, refusal)? {
+        None => write_detach(state, id, conn, own, handle, error)?,
+        Some(item) => {
+            state.put(conn, item)?;
+            write_detach(state, id, conn, own, handle, error)?;
+        }
     }
-    write_detach(state, id, conn, own, handle, error)?;
     Ok(())
 }
 
