@@ -1,5 +1,5 @@
 //! Attaches, taken or refused.
-ghost use Rattle.std.specs.Prelude.{◌≡◌, ◌∷◌, [], List, ℕ, OnOk, IfOk};
+ghost use Rattle.std.specs.Prelude.{◌≡◌, ◌∷◌, [], List, ℕ, OnOk, IfOk, Some, None, if◌then◌else◌};
 ghost use Rattle.router_trace.specs.Trace.{Entry, goes, puts};
 ghost use Rattle.router_trace.specs.Links.{holder};
 ghost use Rattle.router_trace.specs.LinkFrames.{fits};
@@ -8,6 +8,7 @@ ghost use Rattle.router_reply.specs.Replies.{stolen_by, unless_too_large, attach
 ghost use Rattle.router_trace.specs.Peers.{largest_frame};
 
 use crate::answer::Answer;
+use crate::closing::write_detach;
 use amqp_frames::{Item, item_len};
 use amqp_perf::{Attach, Perf};
 use book_core::LinkKey;
@@ -35,6 +36,23 @@ fn steal(state: &mut State, id: &RouterId, key: &LinkKey) -> Result<(), AllocErr
     Ok(())
 }
 
+/// An item whose frame is no longer than the peer takes, in bytes.
+fn within(id: &RouterId, largest: u32, item: Item) -> Result<Option<Item>, AllocError>
+    ensures { IfOk result (λ r. r ≡ (if fits largest item then Some item else None)) }
+{
+    match fits(id, largest, &item) {
+        Ok(true) => Ok(Some(item)),
+        Ok(false) => {
+            drop(item);
+            Ok(None)
+        }
+        Err(error) => {
+            drop(item);
+            Err(error)
+        }
+    }
+}
+
 /// Puts the answer to an attach, or a detach in its place where it doesn't fit.
 fn put_answer(
     state: &mut State,
@@ -47,13 +65,10 @@ fn put_answer(
     ensures { OnOk result ((t : List Entry) → TablesFit state.old t → TablesFit state.new (puts conn (unless_too_large largest own answer.handle answer) t)) }
 {
     let handle = answer.handle;
-    let item = attach_item(own, answer);
-    if fits(id, largest, &item)? {
-        state.put(conn, item)?;
-        return Ok(());
+    match within(id, largest, attach_item(own, answer))? {
+        Some(item) => state.put(conn, item)?,
+        None => write_detach(state, id, conn, own, handle, Condition::FrameSizeTooSmall)?,
     }
-    let item = id.detach_item(own, handle, true, Some(Condition::FrameSizeTooSmall))?;
-    state.put(conn, item)?;
     Ok(())
 }
 
@@ -92,21 +107,14 @@ fn refuse_link(
     ensures { OnOk result ((t : List Entry) → TablesFit state.old t → TablesFit state.new (puts conn (refused (largest_frame t conn) own handle error attach) t)) }
 {
     let largest = state.largest_frame(conn);
-    let item = attach_item(own, id.refusal_of(attach, handle));
-    let detach = id.detach_item(own, handle, true, Some(error))?;
-    if !fits(id, largest, &item)? {
-        state.put(conn, detach)?;
-        return Ok(());
+    let refusal = attach_item(own, id.refusal_of(attach, handle));
+    match within(id, largest, refusal)? {
+        None => write_detach(state, id, conn, own, handle, error)?,
+        Some(item) => {
+            state.put(conn, item)?;
+            write_detach(state, id, conn, own, handle, error)?;
+        }
     }
-    put_both(state, conn, item, detach)
-}
-
-/// Puts two items in the outbox of a connection, one behind the other.
-fn put_both(state: &mut State, conn: u64, first: Item, second: Item) -> Result<(), AllocError>
-    ensures { OnOk result ((t : List Entry) → TablesFit state.old t → TablesFit state.new (puts conn (first ∷ second ∷ []) t)) }
-{
-    state.put(conn, first)?;
-    state.put(conn, second)?;
     Ok(())
 }
 

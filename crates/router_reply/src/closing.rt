@@ -1,7 +1,8 @@
 //! The items that say an answer, and the ends for full outboxes.
-ghost use Rattle.std.specs.Prelude.{◌∷◌, List, [], OnOk};
+ghost use Rattle.std.specs.Prelude.{◌∷◌, List, [], OnOk, Some, true};
 ghost use Rattle.router_trace.specs.Trace.{Entry, puts};
 ghost use Rattle.router_state.specs.Tables.{TablesFit};
+ghost use Rattle.router_trace.specs.LinkFrames.{detach_item};
 ghost use Rattle.router_trace.specs.Frames.{closing, open_item, close_item};
 ghost use Rattle.router_reply.specs.Rows.{said};
 ghost use Rattle.router_reply.specs.Replies.{ends};
@@ -51,6 +52,22 @@ pub fn write_close(
     ensures { OnOk result ((t : List Entry) → TablesFit state.old t → TablesFit state.new (puts conn (close_item condition ∷ []) t)) }
 {
     let item = id.close_item(condition)?;
+    state.put(conn, item)?;
+    Ok(())
+}
+
+/// Writes a detach for good, with an error.
+pub fn write_detach(
+    state: &mut State,
+    id: &RouterId,
+    conn: u64,
+    own: u16,
+    handle: u32,
+    error: Condition,
+) -> Result<(), AllocError>
+    ensures { OnOk result ((t : List Entry) → TablesFit state.old t → TablesFit state.new (puts conn (detach_item own handle true (Some error) ∷ []) t)) }
+{
+    let item = id.detach_item(own, handle, true, Some(error))?;
     state.put(conn, item)?;
     Ok(())
 }

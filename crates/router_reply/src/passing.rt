@@ -3,7 +3,6 @@ ghost use Rattle.std.specs.Prelude.{◌∷◌, [], List, ℕ, OnOk, Some, None, 
 ghost use Rattle.amqp_perf.specs.declared.perf.Role.TheVariants.{Sender};
 ghost use Rattle.router_trace.specs.Trace.{Entry, puts};
 ghost use Rattle.router_trace.specs.Links.{link};
-ghost use Rattle.router_trace.specs.LinkFrames.{detach_item};
 ghost use Rattle.router_trace.specs.Deliveries.{terminal, last_of};
 ghost use Rattle.router_trace.specs.DeliveryFrames.{outcome_item};
 ghost use Rattle.router_passing.specs.Passing.{with_bound, passing, consumer_of};
@@ -11,6 +10,7 @@ ghost use Rattle.router_trace.specs.Following.{link_of};
 ghost use Rattle.router_state.specs.Tables.{TablesFit};
 ghost use Rattle.router_reply.specs.Replies.{claimed_id, origin_of, released, ignored_put, unbound_put, whole_put, whole_bound, fresh_bound, part_put, part_bound, settled_answers, disposition_in, disposition_of};
 
+use crate::closing::write_detach;
 use amqp_frames::Item;
 use amqp_link::{Delivery, Part};
 use amqp_perf::{DeliveryState, Disposition, Perf, Role};
@@ -43,22 +43,6 @@ fn origin_of(from: Attachment, claimed: Option<u32>) -> Option<Origin>
         None => None,
         Some(id) => Some(Origin { link: from, id }),
     }
-}
-
-/// Detaches a link for good, with an error.
-fn put_detach(
-    state: &mut State,
-    id: &RouterId,
-    conn: u64,
-    own: u16,
-    handle: u32,
-    error: Condition,
-) -> Result<(), AllocError>
-    ensures { OnOk result ((t : List Entry) → TablesFit state.old t → TablesFit state.new (puts conn (detach_item own handle true (Some error) ∷ []) t)) }
-{
-    let item = id.detach_item(own, handle, true, Some(error))?;
-    state.put(conn, item)?;
-    Ok(())
 }
 
 /// Tells the outcome of one delivery, and settles it.
@@ -112,7 +96,7 @@ fn ignore(
     if state.ignored(conn, own, handle) <= IGNORED {
         return Ok(());
     }
-    put_detach(
+    write_detach(
         state,
         id,
         conn,
@@ -213,7 +197,7 @@ pub fn take_part(
             pass_whole(state, id, conn, own, handle, &delivery, payload)?;
         }
         Some(Part::TooLarge) => {
-            put_detach(state, id, conn, own, handle, Condition::MessageSizeExceeded)?;
+            write_detach(state, id, conn, own, handle, Condition::MessageSizeExceeded)?;
         }
         Some(Part::More) => {}
         Some(Part::Aborted) => {}
