@@ -17,7 +17,7 @@ use Rattle.amqp_session.specs.Ranges.{has, in_range}
 use Rattle.router_deliveries.specs.declared.change.Gone.{Gone}
 use Rattle.router_deliveries.specs.declared.spots.Spot.{Spot}
 use Rattle.router_deliveries.specs.declared.spots.Spots.{Spots}
-use Rattle.router_deliveries.specs.Placing.{Key, key, key_cmp, numbers_of, stands, same_spot, is_spot, IsSmall, SpotsFit, IsWithin, is_gone_at, is_gone_there, is_id_there}
+use Rattle.router_deliveries.specs.Placing.{Key, key, key_cmp, numbers_of, stands, is_spot, IsSmall, SpotsFit, IsWithin, is_gone_at, is_gone_there, is_id_there}
 
 both_first : (a b : Bool) → (a && b) ≡ true → a ≡ true
 both_first true b e = refl
@@ -142,7 +142,8 @@ same_key k x e =
       eqb-true k.0 x.0 (both_first (k.0 == x.0) (k.1 == x.1) two) i,
       eqb-true k.1 x.1 (both_second (k.0 == x.0) (k.1 == x.1) two) i,
       eqb-true k.2 x.2 (both_second ((k.0 == x.0) && (k.1 == x.1)) (k.2 == x.2) three) i,
-      eqb-true k.3 x.3 (both_second (((k.0 == x.0) && (k.1 == x.1)) && (k.2 == x.2)) (k.3 == x.3) all) i)
+      eqb-true k.3 x.3 (both_second (((k.0 == x.0) && (k.1 == x.1)) && (k.2 == x.2)) (k.3 == x.3) all) i,
+    )
 
 listed : (test : Key → Bool) (ks : List Key) (k : Key) → list_any (is_at (key_cmp k)) ks ≡ true → test k ≡ true → has k.3 (numbers_of (filter test ks)) ≡ true
 listed test [] k e t = e

@@ -208,9 +208,7 @@ impl Index {
                 own,
                 first,
                 last,
-            } => self
-                .by_id
-                .append_ids(*conn, *own, *first, *last, numbers)?,
+            } => self.by_id.append_ids(*conn, *own, *first, *last, numbers)?,
             Change::Decided { conn, own, .. } => {
                 let (conn, own) = (*conn, *own);
                 self.on.append_gone(Gone::Session { conn, own }, numbers)?
