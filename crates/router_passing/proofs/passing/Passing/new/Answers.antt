@@ -1,11 +1,11 @@
-use Rattle.std.proofs.Common.{rules, refl}
+use Rattle.std.proofs.Common.{refl}
 use Rattle.std.specs.Prelude.{None}
 use Rattle.router_passing.proofs.passing.Passing.new.Goals as goal
 
 pub returns : goal.returns
-returns c = λ g finds. record {
-  links = search rules;
-  deliveries = search rules;
-  claims = search rules;
+returns c g finds = record {
+  links = c.new.ensures.fits g;
+  deliveries = c.new-2.ensures g;
+  claims = c.new-3.ensures g;
   pools = record { known = λ n. None; fits = c.new-4.ensures g finds (λ n. None) (λ n. refl); same = λ n quiet silent. refl };
 }
