@@ -5,3 +5,4 @@ pub mod Unlinked
 pub mod Mapped
 pub mod Behind
 mod Given
+mod Refused
