@@ -1,51 +1,51 @@
--- The numbers that a change concerns.
-use Rattle.std.proofs.Common.{◌≡◌, ◌∙◌, ◌++◌, ◌||◌, ℕ, Bool, true, false, refl, sym, ap, arith, List, Option, None, Some}
-use Rattle.std.specs.Prelude.{◌&&◌, ◌==◌, not, if◌then◌else◌, is_none, option_map}
-use Rattle.std.specs.List.{list_any}
-use Rattle.std.specs.Ordering.{nat_cmp}
-use Rattle.std.specs.BTreeMap.{is_at}
-use Rattle.std.specs.BTreeSet.{BTreeSet, contains}
-use Rattle.std.proofs.lemmas.Bool.Decides.{nat_tests}
-use Rattle.std.proofs.lemmas.List.Folds.{list_any-append}
-use Rattle.amqp_session.specs.Ranges.{has}
+-- The deliveries that a change concerns.
+use Rattle.std.proofs.Common.{◌≡◌, ◌∙◌, ◌||◌, ℕ, Bool, true, false, refl, sym, ap, Option, None, Some}
+use Rattle.std.specs.Prelude.{◌&&◌, ◌==◌, not, if◌then◌else◌, is_none}
 use Rattle.amqp_perf.specs.declared.state.DeliveryState.{DeliveryState}
 use Rattle.router_trace.specs.declared.binding.Origin.{Origin}
 use Rattle.router_trace.specs.declared.handle.Attachment.{Attachment}
-use Rattle.router_trace.specs.Deliveries.{Delivery, unless_over, is_number, is_undecided, stands_on, behind_ends, behind_origin, is_gone_with, ended, untold, failed}
+use Rattle.router_trace.specs.Deliveries.{Delivery, unless_over, is_undecided, stands_on, behind_ends, behind_origin, is_gone_with, ended, untold, failed}
 use Rattle.router_deliveries.specs.declared.change.Change.{Change}
 use Rattle.router_deliveries.specs.declared.change.Change.TheVariants as change
 use Rattle.router_deliveries.specs.declared.change.Gone.{Gone}
 use Rattle.router_deliveries.specs.declared.change.Gone.TheVariants as gone
-use Rattle.router_deliveries.specs.Indexing.{standing, conn_of, conn_of_gone, on_link}
+use Rattle.router_deliveries.specs.declared.spots.Spot.{Spot}
+use Rattle.router_deliveries.specs.Indexing.{standing, concerns}
+use Rattle.router_deliveries.specs.Placing.{spot_of, on_spot, from_spot, id_spot, is_gone_at, is_gone_there, is_id_there}
 use Rattle.router_deliveries.specs.Stepping.{is_gone, comes_with_id, is_decided_by, is_in, changed, behind, IsKept}
+use Rattle.router_deliveries.proofs.Again.{equal_back}
 
-same_test : (a b : ℕ) → is_at (nat_cmp a) b ≡ (a == b)
-same_test a b = grind (arith, nat_tests)
+or_first : (a b : Bool) → (a || b) ≡ false → a ≡ false
+or_first true b e = e
+or_first false b e = refl
 
--- a set behind a list
-pub has_append : (n : ℕ) (items old : List ℕ) (s : BTreeSet ℕ) → items ≡ old ++ s.keys → has n items ≡ (has n old || contains nat_cmp s n)
-has_append n items old s is = ap (has n) is ∙ list_any-append (λ k. n == k) old s.keys
-    ∙ ap (λ test. has n old || list_any test s.keys) (λ i k. sym (same_test n k) i)
+or_second : (a b : Bool) → (a || b) ≡ false → b ≡ false
+or_second true b e = absurd cc
+or_second false b e = e
 
--- links that go are of one connection
-of_conn : (g : Gone) (a : Attachment) → (a.conn.0 == conn_of_gone g) ≡ false → is_gone g a ≡ false
-of_conn (gone.Link c o h) a e = rw e refl
-of_conn (gone.Session c o) a e = rw e refl
-of_conn (gone.Connection c) a e = e
+pub either_of : {P : Type 0} (a b : Bool) → (a ≡ true → P) → (b ≡ true → P) → (a || b) ≡ true → P
+either_of true b f g e = f e
+either_of false b f g e = g e
 
-origin_stays : (g : Gone) (p : Option Origin) → is_number (option_map (λ (q : Origin). q.link.conn.0) p) (conn_of_gone g) ≡ false → is_gone_with (is_gone g) p ≡ false
+-- links that go are found by their places
+by_place : (g : Gone) (a : Attachment) → is_gone g a ≡ is_gone_at g (spot_of a)
+by_place (gone.Link c o h) a = refl
+by_place (gone.Session c o) a = refl
+by_place (gone.Connection c) a = refl
+
+origin_stays : (g : Gone) (p : Option Origin) → is_gone_there g (from_spot p) ≡ false → is_gone_with (is_gone g) p ≡ false
 origin_stays g None e = refl
-origin_stays g (Some p) e = of_conn g p.link e
+origin_stays g (Some p) e = by_place g p.link ∙ e
 
-on_false : (link k : ℕ) (holds : Bool) → is_number (on_link link holds) k ≡ false → holds ≡ true → (link == k) ≡ false
-on_false link k true e h = e
-on_false link k false e h = absurd cc
+on_false : (g : Gone) (p : Spot) (holds : Bool) → is_gone_there g (on_spot p holds) ≡ false → holds ≡ true → is_gone_at g p ≡ false
+on_false g p true e h = e
+on_false g p false e h = absurd cc
 
-link_stays : (g : Gone) (d : Delivery) → is_number (on_link d.link.conn.0 (d.going_on || is_none d.outcome)) (conn_of_gone g) ≡ false → (if is_gone g d.link then ended d else d) ≡ d
+link_stays : (g : Gone) (d : Delivery) → is_gone_there g (on_spot (spot_of d.link) (d.going_on || is_none d.outcome)) ≡ false → (if is_gone g d.link then ended d else d) ≡ d
 link_stays g d e = by_rest d.going_on d.outcome refl refl
   where
     not_gone : (d.going_on || is_none d.outcome) ≡ true → (if is_gone g d.link then ended d else d) ≡ d
-    not_gone h = ap (λ b. if b then ended d else d) (of_conn g d.link (on_false d.link.conn.0 (conn_of_gone g) (d.going_on || is_none d.outcome) e h))
+    not_gone h = ap (λ b. if b then ended d else d) (by_place g d.link ∙ on_false g (spot_of d.link) (d.going_on || is_none d.outcome) e h)
 
     either : (b : Bool) → ended d ≡ d → (if b then ended d else d) ≡ d
     either true same = same
@@ -58,19 +58,20 @@ link_stays g d e = by_rest d.going_on d.outcome refl refl
         (ap (λ (v : Option DeliveryState). record d { going_on = false; outcome = (if is_none v then Some failed else v) }) y
         ∙ ap (λ (v : Option DeliveryState). record d { going_on = false; outcome = v }) (sym y) ∙ ap (λ b. record d { going_on = b }) (sym x))
 
-ends_nothing : (g : Gone) (d : Delivery) → is_number (on_link d.link.conn.0 (d.going_on || is_none d.outcome)) (conn_of_gone g) ≡ false
-    → is_number (option_map (λ (q : Origin). q.link.conn.0) d.origin) (conn_of_gone g) ≡ false → behind_ends (is_gone g) d ≡ d
+ends_nothing : (g : Gone) (d : Delivery) → is_gone_there g (on_spot (spot_of d.link) (d.going_on || is_none d.outcome)) ≡ false
+    → is_gone_there g (from_spot d.origin) ≡ false → behind_ends (is_gone g) d ≡ d
 ends_nothing g d e f = ap (behind_origin (is_gone g)) (link_stays g d e) ∙ ap (λ b. if b then untold d else d) (origin_stays g d.origin f)
 
-untells_nothing : (p : Option Origin) (c o first last : ℕ) → is_number (option_map (λ (q : Origin). q.link.conn.0) p) c ≡ false → comes_with_id p c o first last ≡ false
+untells_nothing : (p : Option Origin) (c o first last : ℕ) → is_id_there c o first last (id_spot p) ≡ false → comes_with_id p c o first last ≡ false
 untells_nothing None c o first last e = refl
-untells_nothing (Some p) c o first last e = rw e refl
+untells_nothing (Some p) c o first last e = e
 
-decides_nothing : (d : Delivery) (c o first last : ℕ) → is_number (on_link d.link.conn.0 (d.going_on || is_none d.outcome)) c ≡ false → is_decided_by d c o first last ≡ false
+decides_nothing : (d : Delivery) (c o first last : ℕ) → is_gone_there (gone.Session c o) (on_spot (spot_of d.link) (d.going_on || is_none d.outcome)) ≡ false → is_decided_by d c o first last ≡ false
 decides_nothing d c o first last e = by_outcome d.outcome refl
   where
-    no : (u s i : Bool) → (u ≡ true → s ≡ false) → (u && (s && i)) ≡ false
-    no true s i h = rw (h refl) refl
+    no : (u s i : Bool) → s ≡ false → (u && (s && i)) ≡ false
+    no true true i h = absurd cc
+    no true false i h = refl
     no false s i h = refl
 
     or_true : (b : Bool) → (b || true) ≡ true
@@ -78,22 +79,28 @@ decides_nothing d c o first last e = by_outcome d.outcome refl
     or_true false = refl
 
     here : d.outcome ≡ None → stands_on d.link c o ≡ false
-    here y = ap (λ b. b && (d.link.channel == o)) (on_false d.link.conn.0 c (d.going_on || is_none d.outcome) e (ap (λ v. d.going_on || is_none v) y ∙ or_true d.going_on))
+    here y = ap (λ b. (d.link.conn.0 == c) && b) (equal_back o d.link.channel)
+        ∙ on_false (gone.Session c o) (spot_of d.link) (d.going_on || is_none d.outcome) e (ap (λ v. d.going_on || is_none v) y ∙ or_true d.going_on)
 
     by_outcome : (v : Option DeliveryState) → d.outcome ≡ v → is_decided_by d c o first last ≡ false
-    by_outcome None y = no (is_undecided d) (stands_on d.link c o) (is_in d.id first last) (λ u. here y)
+    by_outcome None y = no (is_undecided d) (stands_on d.link c o) (is_in d.id first last) (here y)
     by_outcome (Some s) y = ap (λ v. (is_none v && not d.presettled) && (stands_on d.link c o && is_in d.id first last)) y
 
-changes_nothing : (x : Change) (d : Delivery) → is_number (standing (Some d)).on_conn (conn_of x) ≡ false → is_number (standing (Some d)).from_conn (conn_of x) ≡ false → changed x d ≡ d
-changes_nothing (change.Ends g) d e f = ends_nothing g d e f
-changes_nothing (change.Untold c o first last) d e f = ap (λ b. if b then untold d else d) (untells_nothing d.origin c o first last f)
-changes_nothing (change.Decided c o first last made) d e f = ap (λ b. if b then record d { outcome = Some made } else d) (decides_nothing d c o first last e)
+changes_nothing : (x : Change) (d : Delivery) → concerns x (standing (Some d)) ≡ false → changed x d ≡ d
+changes_nothing (change.Ends g) d e =
+    let on = is_gone_there g (on_spot (spot_of d.link) (d.going_on || is_none d.outcome)) in
+    let from = is_gone_there g (from_spot d.origin) in
+    ends_nothing g d (or_first on from e) (or_second on from e)
+changes_nothing (change.Untold c o first last) d e = ap (λ b. if b then untold d else d) (untells_nothing d.origin c o first last e)
+changes_nothing (change.Decided c o first last made) d e = ap (λ b. if b then record d { outcome = Some made } else d) (decides_nothing d c o first last e)
 
--- what is done to those of a connection is done to all
-pub where_stands : (x : Change) (b on from : Bool) (old new : Option Delivery) → new ≡ (if b then behind x old else old) → b ≡ (on || from)
-    → on ≡ is_number (standing old).on_conn (conn_of x) → from ≡ is_number (standing old).from_conn (conn_of x) → IsKept old → new ≡ behind x old
-where_stands x true on from old new is any o f keeps = is
-where_stands x false on from None new is any o f keeps = is
-where_stands x false true from (Some d) new is any o f keeps = absurd cc
-where_stands x false false true (Some d) new is any o f keeps = absurd cc
-where_stands x false false false (Some d) new is any o f keeps = is ∙ sym keeps ∙ ap unless_over (sym (changes_nothing x d (sym o) (sym f)))
+-- what is done to those that a change concerns is done to all
+pub where_stands : (x : Change) (b : Bool) (old new : Option Delivery) → new ≡ (if b then behind x old else old)
+    → (concerns x (standing old) ≡ true → b ≡ true) → IsKept old → new ≡ behind x old
+where_stands x true old new is there keeps = is
+where_stands x false None new is there keeps = is
+where_stands x false (Some d) new is there keeps = by_test (concerns x (standing (Some d))) refl
+  where
+    by_test : (b : Bool) → concerns x (standing (Some d)) ≡ b → new ≡ behind x (Some d)
+    by_test true e = let wrong : false ≡ true = there e in absurd cc
+    by_test false e = is ∙ sym keeps ∙ ap unless_over (sym (changes_nothing x d e))

@@ -18,3 +18,4 @@ mod Ranges
 mod Opened
 pub mod Listed
 mod Marked
+pub mod Placed

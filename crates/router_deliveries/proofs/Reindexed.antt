@@ -6,6 +6,7 @@ use Rattle.router_trace.specs.Deliveries.{Delivery, is_number}
 use Rattle.router_deliveries.specs.declared.index.Index.{Index}
 use Rattle.router_deliveries.specs.declared.index.Keys.{Keys}
 use Rattle.router_deliveries.specs.Indexing.{Indexes, standing}
+use Rattle.router_deliveries.proofs.Placed.{fits_same}
 
 pub indexes_same : (s : Index) (f g : ℕ → Keys) → ((n : ℕ) → f n ≡ g n) → Indexes s f → Indexes s g
 indexes_same s f g same x = record {
@@ -14,8 +15,9 @@ indexes_same s f g same x = record {
   undecided = λ k n. x.undecided k n ∙ ap (λ (q : Keys). is_number q.undecided k) (same n);
   held = λ k n. x.held k n ∙ ap (λ (q : Keys). is_number q.held k) (same n);
   to_tell = λ n. x.to_tell n ∙ ap (λ (q : Keys). q.to_tell) (same n);
-  on_conn = λ k n. x.on_conn k n ∙ ap (λ (q : Keys). is_number q.on_conn k) (same n);
-  from_conn = λ k n. x.from_conn k n ∙ ap (λ (q : Keys). is_number q.from_conn k) (same n);
+  on = fits_same s.on (λ n. (f n).on) (λ n. (g n).on) (λ n. ap (λ (q : Keys). q.on) (same n)) x.on;
+  from = fits_same s.from (λ n. (f n).from) (λ n. (g n).from) (λ n. ap (λ (q : Keys). q.from) (same n)) x.from;
+  by_id = fits_same s.by_id (λ n. (f n).by_id) (λ n. (g n).by_id) (λ n. ap (λ (q : Keys). q.by_id) (same n)) x.by_id;
 }
 
 -- one delivery was taken out, changed and put back

@@ -1,5 +1,5 @@
 -- Deliveries found by what is asked of them: the indexes of a table.
-use Rattle.std.specs.Prelude.{◌≡◌, ℕ, Bool, false, not, ◌&&◌, ◌||◌, option_map, if◌then◌else◌, is_none, is_some, Option, Some, None}
+use Rattle.std.specs.Prelude.{◌≡◌, ℕ, Bool, false, not, ◌&&◌, ◌||◌, if◌then◌else◌, is_none, is_some, Option, Some, None}
 use Rattle.std.specs.Ordering.{nat_cmp}
 use Rattle.std.specs.BTreeMap.{get}
 use Rattle.std.specs.BTreeSet.{BTreeSet, contains}
@@ -7,11 +7,11 @@ use Rattle.router_trace.specs.declared.binding.Origin.{Origin}
 use Rattle.router_trace.specs.Deliveries.{Delivery, is_number}
 use Rattle.router_deliveries.specs.declared.change.Change.{Change}
 use Rattle.router_deliveries.specs.declared.change.Change.TheVariants as change
-use Rattle.router_deliveries.specs.declared.change.Gone.{Gone}
 use Rattle.router_deliveries.specs.declared.change.Gone.TheVariants as gone
 use Rattle.router_deliveries.specs.declared.groups.Groups.{Groups}
 use Rattle.router_deliveries.specs.declared.index.Index.{Index}
 use Rattle.router_deliveries.specs.declared.index.Keys.{Keys}
+use Rattle.router_deliveries.specs.Placing.{SpotsFit, spot_of, on_spot, from_spot, id_spot, is_gone_there, is_id_there}
 
 abbrev pub in_set : Option (BTreeSet ℕ) → ℕ → Bool
 in_set None n = false
@@ -36,12 +36,13 @@ keys d = record {
   undecided = on_link d.link.number (is_none d.outcome);
   held = from_link d.origin (is_none d.outcome);
   to_tell = not (is_none d.outcome) && is_some d.origin;
-  on_conn = on_link d.link.conn.0 (d.going_on || is_none d.outcome);
-  from_conn = option_map (λ p. p.link.conn.0) d.origin;
+  on = on_spot (spot_of d.link) (d.going_on || is_none d.outcome);
+  from = from_spot d.origin;
+  by_id = id_spot d.origin;
 }
 
 abbrev pub nowhere : Keys
-nowhere = record { waiting = None; unsent = None; undecided = None; held = None; to_tell = false; on_conn = None; from_conn = None }
+nowhere = record { waiting = None; unsent = None; undecided = None; held = None; to_tell = false; on = None; from = None; by_id = None }
 
 abbrev pub standing : Option Delivery → Keys
 standing None = nowhere
@@ -54,16 +55,12 @@ pub record Indexes (s : Index) (known : ℕ → Keys) : Type 0 where
   pub undecided : (k n : ℕ) → in_group s.undecided k n ≡ is_number (known n).undecided k
   pub held : (k n : ℕ) → in_group s.held k n ≡ is_number (known n).held k
   pub to_tell : (n : ℕ) → contains nat_cmp s.to_tell n ≡ (known n).to_tell
-  pub on_conn : (k n : ℕ) → in_group s.on_conn k n ≡ is_number (known n).on_conn k
-  pub from_conn : (k n : ℕ) → in_group s.from_conn k n ≡ is_number (known n).from_conn k
+  pub on : SpotsFit s.on (λ n. (known n).on)
+  pub from : SpotsFit s.from (λ n. (known n).from)
+  pub by_id : SpotsFit s.by_id (λ n. (known n).by_id)
 
--- the connection that a change is about
-abbrev pub conn_of_gone : Gone → ℕ
-conn_of_gone (gone.Link c o h) = c
-conn_of_gone (gone.Session c o) = c
-conn_of_gone (gone.Connection c) = c
-
-abbrev pub conn_of : Change → ℕ
-conn_of (change.Ends g) = conn_of_gone g
-conn_of (change.Untold c o first last) = c
-conn_of (change.Decided c o first last made) = c
+-- a change may change a delivery that stands there
+abbrev pub concerns : Change → Keys → Bool
+concerns (change.Ends g) k = is_gone_there g k.on || is_gone_there g k.from
+concerns (change.Untold c o first last) k = is_id_there c o first last k.by_id
+concerns (change.Decided c o first last made) k = is_gone_there (gone.Session c o) k.on

@@ -1,6 +1,7 @@
 pub mod Places
 pub mod Stepping
 pub mod Hearing
+pub mod Placing
 pub mod Indexing
 pub mod Finding
 pub mod Claiming

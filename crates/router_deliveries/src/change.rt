@@ -2,7 +2,6 @@
 ghost use Rattle.std.specs.Prelude.{◌≡◌, IfOk};
 ghost use Rattle.amqp_session.specs.Ranges.{in_range};
 ghost use Rattle.router_deliveries.specs.Hearing.{heard_change, heard_in_change, disposed_change, decided_by};
-ghost use Rattle.router_deliveries.specs.Indexing.{conn_of, conn_of_gone};
 ghost use Rattle.router_deliveries.specs.Stepping.{is_gone, is_gone_from, comes_with_id, put_change, untold_by, is_in};
 
 use crate::state::decision;
@@ -66,31 +65,7 @@ pub enum Change {
     },
 }
 
-impl Change {
-    /// The connection that it is about.
-    pub(crate) fn conn(&self) -> u64
-        ensures { result ≡ conn_of self.now }
-    {
-        match self {
-            Change::Ends(gone) => gone.conn(),
-            Change::Untold { conn, .. } => *conn,
-            Change::Decided { conn, .. } => *conn,
-        }
-    }
-}
-
 impl Gone {
-    /// The connection of these links.
-    fn conn(self) -> u64
-        ensures { result ≡ conn_of_gone self }
-    {
-        match self {
-            Gone::Link { conn, .. } => conn,
-            Gone::Session { conn, .. } => conn,
-            Gone::Connection(conn) => conn,
-        }
-    }
-
     /// Whether a link ends.
     pub(crate) fn has(self, link: Attachment) -> bool
         ensures { result ≡ is_gone self link }

@@ -1,11 +1,10 @@
 //! Numbers of deliveries by the number of a link.
-ghost use Rattle.std.specs.Prelude.{◌≡◌, ◌==◌, ℕ, Bool, true, false, if◌then◌else◌, OnOk, ◌||◌, ◌&&◌, nat_lt};
+ghost use Rattle.std.specs.Prelude.{◌≡◌, ◌==◌, ℕ, Bool, true, false, if◌then◌else◌, OnOk, ◌&&◌, nat_lt};
 ghost use Rattle.std.specs.Option.{is_some};
 ghost use Rattle.std.specs.Ordering.{nat_cmp};
 ghost use Rattle.std.specs.BTreeMap.{get};
 ghost use Rattle.std.specs.BTreeSet.{contains};
 ghost use Rattle.router_trace.specs.Deliveries.{is_number};
-ghost use Rattle.amqp_session.specs.Ranges.{has};
 ghost use Rattle.router_deliveries.specs.Finding.{IsFirst, IsCount, IsFirstLink, is_above};
 ghost use Rattle.router_deliveries.specs.Indexing.{in_group};
 
@@ -107,17 +106,6 @@ impl Groups {
         }
     }
 
-    /// Puts the numbers of a link behind others.
-    pub(crate) fn append(&self, link: u64, numbers: &mut Vec<u64>) -> Result<(), AllocError>
-        ensures { OnOk result ((n : ℕ) → has n numbers.new.items ≡ (has n numbers.old.items || in_group self.now link n)) }
-    {
-        match self.sets.get(&link) {
-            None => {}
-            Some(set) => append(set, numbers)?,
-        }
-        Ok(())
-    }
-
     /// Moves a number from one link to another.
     pub(crate) fn shift(
         &mut self,
@@ -203,15 +191,4 @@ fn count(numbers: &BTreeSet<u64>) -> usize
     ensures { IsCount (contains nat_cmp numbers.now) result }
 {
     numbers.len()
-}
-
-/// Puts the numbers of a set behind others.
-#[tactic(auto, using(crate::proofs::Keys::has_append))]
-fn append(set: &BTreeSet<u64>, numbers: &mut Vec<u64>) -> Result<(), AllocError>
-    ensures { OnOk result ((n : ℕ) → has n numbers.new.items ≡ (has n numbers.old.items || contains nat_cmp set.now n)) }
-{
-    for number in set {
-        numbers.push(*number)?;
-    }
-    Ok(())
 }

@@ -1,12 +1,17 @@
 //! Deliveries found by what is asked of them.
-ghost use Rattle.std.specs.Prelude.{◌≡◌, ◌==◌, ℕ, Bool, None, true, false, if◌then◌else◌, OnOk};
+ghost use Rattle.std.specs.Prelude.{◌≡◌, ◌==◌, ℕ, Bool, None, true, false, if◌then◌else◌, OnOk, IfOk, ◌||◌};
 ghost use Rattle.std.specs.Ordering.{nat_cmp};
 ghost use Rattle.std.specs.BTreeSet.{contains};
 ghost use Rattle.router_deliveries.specs.declared.index.Keys.{Keys as TheKeys};
-ghost use Rattle.router_deliveries.specs.Indexing.{Indexes, nowhere, keys, standing, on_link};
+ghost use Rattle.router_deliveries.specs.Indexing.{Indexes, nowhere, keys, standing, on_link, concerns};
+ghost use Rattle.router_deliveries.specs.Placing.{spot_of, on_spot, from_spot, id_spot, is_gone_there};
+ghost use Rattle.amqp_session.specs.Ranges.{has};
 
+use crate::change::{Change, Gone};
 use crate::delivery::Delivery;
 use crate::groups::{Groups, add};
+use crate::spots::{Spot, Spots};
+use router_trace::{Attachment, Origin};
 use std::alloc::{AllocError, Global};
 use std::collections::BTreeSet;
 
@@ -23,10 +28,12 @@ pub(crate) struct Keys {
     pub(crate) held: Option<u64>,
     /// Whether its producer is to be told.
     pub(crate) to_tell: bool,
-    /// The connection whose end would change it, since it goes there.
-    pub(crate) on_conn: Option<u64>,
-    /// The connection of its producer, where one is to be told.
-    pub(crate) from_conn: Option<u64>,
+    /// The link whose end would change it, since it goes there.
+    pub(crate) on: Option<Spot>,
+    /// The link of its producer, where one is to be told.
+    pub(crate) from: Option<Spot>,
+    /// The id that its producer gave it, where one is to be told.
+    pub(crate) by_id: Option<Spot>,
 }
 
 /// Deliveries found by what is asked of them.
@@ -42,9 +49,10 @@ pub(crate) struct Index {
     pub(crate) held: Groups,
     // those whose producer is to be told
     pub(crate) to_tell: BTreeSet<u64>,
-    // those that the end of a consumer's connection changes, and those of a producer's connection
-    pub(crate) on_conn: Groups,
-    pub(crate) from_conn: Groups,
+    // those that the end of a consumer's link changes, those of a producer's link, and those of an id that a producer gave
+    on: Spots,
+    from: Spots,
+    by_id: Spots,
 }
 
 impl Keys {
@@ -58,8 +66,9 @@ impl Keys {
             undecided: None,
             held: None,
             to_tell: false,
-            on_conn: None,
-            from_conn: None,
+            on: None,
+            from: None,
+            by_id: None,
         }
     }
 
@@ -90,11 +99,9 @@ impl Keys {
                 Some(origin) => on_link(origin.link.number, undecided),
             },
             to_tell: !undecided && delivery.origin.is_some(),
-            on_conn: on_link(delivery.link.conn.0, delivery.going_on || undecided),
-            from_conn: match delivery.origin {
-                None => None,
-                Some(origin) => Some(origin.link.conn.0),
-            },
+            on: on_spot(spot_of(delivery.link), delivery.going_on || undecided),
+            from: from_spot(delivery.origin),
+            by_id: id_spot(delivery.origin),
         }
     }
 }
@@ -104,6 +111,48 @@ fn on_link(link: u64, holds: bool) -> Option<u64>
     ensures { result ≡ on_link link holds }
 {
     if holds { Some(link) } else { None }
+}
+
+/// The place of a link.
+fn spot_of(link: Attachment) -> Spot
+    ensures { result ≡ spot_of link }
+{
+    Spot {
+        conn: link.conn.0,
+        own: link.channel,
+        at: link.handle,
+    }
+}
+
+/// A place, where something is so.
+fn on_spot(spot: Spot, holds: bool) -> Option<Spot>
+    ensures { result ≡ on_spot spot holds }
+{
+    if holds { Some(spot) } else { None }
+}
+
+/// The place of a producer's link, where there is one.
+fn from_spot(origin: Option<Origin>) -> Option<Spot>
+    ensures { result ≡ from_spot origin }
+{
+    match origin {
+        None => None,
+        Some(origin) => Some(spot_of(origin.link)),
+    }
+}
+
+/// The place of the id that a producer gave, where there is one.
+fn id_spot(origin: Option<Origin>) -> Option<Spot>
+    ensures { result ≡ id_spot origin }
+{
+    match origin {
+        None => None,
+        Some(origin) => Some(Spot {
+            conn: origin.link.conn.0,
+            own: origin.link.channel,
+            at: origin.id,
+        }),
+    }
 }
 
 impl Index {
@@ -117,8 +166,9 @@ impl Index {
             undecided: Groups::new(alloc),
             held: Groups::new(alloc),
             to_tell: BTreeSet::new(alloc),
-            on_conn: Groups::new(alloc),
-            from_conn: Groups::new(alloc),
+            on: Spots::new(alloc),
+            from: Spots::new(alloc),
+            by_id: Spots::new(alloc),
         }
     }
 
@@ -132,9 +182,47 @@ impl Index {
             .shift(number, before.undecided, after.undecided)?;
         self.held.shift(number, before.held, after.held)?;
         mark(&mut self.to_tell, number, after.to_tell)?;
-        self.on_conn.shift(number, before.on_conn, after.on_conn)?;
-        self.from_conn
-            .shift(number, before.from_conn, after.from_conn)?;
+        self.on.shift(number, before.on, after.on)?;
+        self.from.shift(number, before.from, after.from)?;
+        self.by_id.shift(number, before.by_id, after.by_id)?;
+        Ok(())
+    }
+
+    /// The numbers of the deliveries that a change may change, and maybe some more than once.
+    pub(crate) fn concerned(&self, alloc: Global, change: &Change) -> Result<Vec<u64>, AllocError>
+        ensures { IfOk result (λ numbers. (known : ℕ → TheKeys) → Indexes self.now known → (n : ℕ) → concerns change.now (known n) ≡ true → has n numbers.items ≡ true) }
+    {
+        let mut numbers = Vec::new(alloc);
+        self.append_concerned(change, &mut numbers)?;
+        Ok(numbers)
+    }
+
+    /// Puts them behind others.
+    fn append_concerned(&self, change: &Change, numbers: &mut Vec<u64>) -> Result<(), AllocError>
+        ensures { OnOk result ((known : ℕ → TheKeys) → Indexes self.now known → (n : ℕ) → concerns change.now (known n) ≡ true → has n numbers.new.items ≡ true) }
+    {
+        match change {
+            Change::Ends(gone) => self.append_ended(*gone, numbers)?,
+            Change::Untold {
+                conn,
+                own,
+                first,
+                last,
+            } => self.by_id.append_ids(*conn, *own, *first, *last, numbers)?,
+            Change::Decided { conn, own, .. } => {
+                let (conn, own) = (*conn, *own);
+                self.on.append_gone(Gone::Session { conn, own }, numbers)?
+            }
+        }
+        Ok(())
+    }
+
+    /// Puts the numbers behind others of the deliveries whose link ends, or their producer's.
+    fn append_ended(&self, gone: Gone, numbers: &mut Vec<u64>) -> Result<(), AllocError>
+        ensures { OnOk result ((known : ℕ → TheKeys) → Indexes self.now known → (n : ℕ) → (is_gone_there gone (known n).on || is_gone_there gone (known n).from) ≡ true → has n numbers.new.items ≡ true) }
+    {
+        self.on.append_gone(gone, numbers)?;
+        self.from.append_gone(gone, numbers)?;
         Ok(())
     }
 }

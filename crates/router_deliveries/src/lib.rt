@@ -21,6 +21,7 @@ mod index;
 mod names;
 mod next_ids;
 mod sending;
+mod spots;
 mod state;
 mod store;
 mod tag;

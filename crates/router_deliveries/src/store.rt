@@ -275,14 +275,14 @@ impl Store {
         Ok(())
     }
 
-    /// Does this to all deliveries.
+    /// Does this to all deliveries. It looks at those alone that stand where the change is.
     pub(crate) fn apply(&mut self, change: &Change) -> Result<(), AllocError>
         ensures deliveries { OnOk result (((n : ℕ) → IsKept (get nat_cmp self.old.deliveries n)) → Indexed self.old
             → (n : ℕ) → get nat_cmp self.new.deliveries n ≡ behind change.now (get nat_cmp self.old.deliveries n)) }
         ensures indexed { OnOk result (Indexed self.old → Indexed self.new) }
         ensures touches { OnOk result (StoreTouches self.old self.new) }
     {
-        let numbers = self.numbers(change.conn())?;
+        let numbers = self.index.concerned(self.alloc, change)?;
         self.change_all(numbers.as_slice(), change)
     }
 
@@ -370,15 +370,5 @@ impl Store {
             Perf::Transfer(transfer) => self.note_carried(number, transfer, payload),
             _ => self.apply_any(behind_put(conn, own, perf)),
         }
-    }
-
-    /// The numbers of the deliveries of a connection, as their consumer's or their producer's.
-    fn numbers(&self, conn: u64) -> Result<Vec<u64>, AllocError>
-        ensures { IfOk result (λ numbers. (n : ℕ) → has n numbers.items ≡ (in_group self.now.index.on_conn conn n || in_group self.now.index.from_conn conn n)) }
-    {
-        let mut numbers = Vec::new(self.alloc);
-        self.index.on_conn.append(conn, &mut numbers)?;
-        self.index.from_conn.append(conn, &mut numbers)?;
-        Ok(numbers)
     }
 }
