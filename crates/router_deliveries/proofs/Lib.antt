@@ -19,3 +19,4 @@ mod Opened
 pub mod Listed
 mod Marked
 pub mod Placed
+pub mod Detached

@@ -8,6 +8,10 @@ use Rattle.router_trace.specs.Trace.{Trace}
 use Rattle.router_trace.specs.Deliveries.{Delivery, is_undecided, bindings, delivery, named, last_of}
 use Rattle.router_trace.specs.Settling.{is_open_as}
 use Rattle.router_deliveries.specs.declared.names.Names.{Names}
+use Rattle.router_deliveries.specs.declared.change.Change.TheVariants as change
+use Rattle.router_deliveries.specs.declared.change.Gone.TheVariants as gone
+use Rattle.router_deliveries.specs.declared.index.Keys.{Keys}
+use Rattle.router_deliveries.specs.Indexing.{concerns}
 use Rattle.router_deliveries.specs.Places.{at_id}
 
 abbrev pub is_open : Option Delivery → Bool
@@ -57,6 +61,15 @@ detached_in_body _ own = None
 abbrev pub detached_in : Item → Option ℕ
 detached_in (item.Frame sasl own body payload) = detached_in_body body own
 detached_in _ = None
+
+-- a delivery that stands there is on a link that an item of the router detaches, or comes from there
+abbrev pub is_detached_in : Perf → ℕ → ℕ → Keys → Bool
+is_detached_in (perf.Detach x) c own k = concerns (change.Ends (gone.Link c own x.handle)) k
+is_detached_in _ c own k = false
+
+abbrev pub is_detached : Item → ℕ → Keys → Bool
+is_detached (item.Frame sasl own body payload) c k = is_detached_in body c own k
+is_detached _ c k = false
 
 -- whether a name is that of an undecided delivery, and of one of a session that has this id
 abbrev pub uses : (ℕ → Option Delivery) → Option ℕ → Bool

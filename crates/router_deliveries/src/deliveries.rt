@@ -244,10 +244,11 @@ impl Deliveries {
         ensures touches { OnOk result (Touches self.old self.new) }
     {
         let number = self.sending.carried_by(conn, item);
+        let ids = self.store.detached_ids(conn, item)?;
         self.store.put(conn, item, number)?;
         self.names.put(conn, item, &self.store, self.bindings)?;
         self.names
-            .settle_put(&self.store, self.bindings, conn, item)?;
+            .settle_put(&self.store, self.bindings, conn, item, ids.as_slice())?;
         self.sending.put(conn, item)?;
         self.next_ids.put(conn, item)?;
         Ok(())

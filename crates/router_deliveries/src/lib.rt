@@ -4,8 +4,8 @@
 //! router put out, `hear` an item that came, with the router's channel of its session, and `down` a lost connection. It is asked
 //! by `delivery`, `next_waiting`, `undecided`, `held`, `first_to_tell`, `named`, `sending` and `next_id`.
 //!
-//! A delivery stands in it from its binding until it is over, and no longer. What ends or settles goes through the deliveries of
-//! its connection, and a consumer's disposition through those that its ids name. An id is forgotten once its delivery is decided.
+//! A delivery stands in it from its binding until it is over, and no longer. What ends goes through the deliveries that go there or
+//! come from there, and a disposition through those that its ids name. An id is forgotten once its delivery is decided.
 #![tactic(auto)]
 
 mod by_handle;

@@ -261,19 +261,36 @@ impl Names {
         Ok(())
     }
 
-    /// Behind an item of the router, forgets the ids of deliveries whose link it detached.
+    /// Behind an item of the router, forgets those of these ids that name deliveries which are bound and not undecided, on its session.
     pub(crate) fn settle_put(
         &mut self,
         store: &Store,
         count: u64,
         conn: u64,
         item: &Item,
+        ids: &[u32],
     ) -> Result<(), AllocError>
         ensures { OnOk result ((t : List Entry) → count ≡ bindings t → ((n : ℕ) → get nat_cmp store.now.deliveries n ≡ delivery t n) → NamesFit self.old t → NamesFit self.new t) }
     {
         if let Some(own) = detached_in(item) {
-            self.settle(store, count, conn, own, 0, HALF - 1)?;
-            self.settle(store, count, conn, own, HALF, u32::MAX)?;
+            self.settle_all(store, count, conn, own, ids)?;
+        }
+        Ok(())
+    }
+
+    /// Forgets those of these ids that name deliveries which are bound and not undecided.
+    fn settle_all(
+        &mut self,
+        store: &Store,
+        count: u64,
+        conn: u64,
+        own: u16,
+        ids: &[u32],
+    ) -> Result<(), AllocError>
+        ensures { OnOk result ((t : List Entry) → count ≡ bindings t → ((n : ℕ) → get nat_cmp store.now.deliveries n ≡ delivery t n) → NamesFit self.old t → NamesFit self.new t) }
+    {
+        for id in ids {
+            self.settle_one(store, count, conn, own, *id)?;
         }
         Ok(())
     }

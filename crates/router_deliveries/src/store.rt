@@ -1,5 +1,5 @@
 //! Deliveries by their numbers.
-ghost use Rattle.std.specs.Prelude.{◌≡◌, ◌==◌, ◌+◌, ℕ, Some, None, if◌then◌else◌, OnOk, IfOk, length, ◌||◌, ◌&&◌, nat_lt, ◌∷◌, List, Bool, false};
+ghost use Rattle.std.specs.Prelude.{◌≡◌, ◌==◌, ℕ, Some, None, true, if◌then◌else◌, OnOk, IfOk, length, ◌||◌, ◌&&◌, nat_lt, ◌∷◌, List, Bool, false};
 ghost use Rattle.std.specs.Option.{option_map, option_and_then};
 ghost use Rattle.std.specs.Ordering.{nat_cmp};
 ghost use Rattle.std.specs.Map.{keys_of};
@@ -12,12 +12,12 @@ ghost use Rattle.amqp_frames.specs.declared.item.Item.TheVariants as item;
 ghost use Rattle.router_trace.specs.declared.event.Event.TheVariants as event;
 ghost use Rattle.router_deliveries.specs.Fits.{Indexed, StoreFit, carried_in, carried_by};
 ghost use Rattle.router_deliveries.specs.declared.index.Keys.{Keys as TheKeys};
-ghost use Rattle.router_deliveries.specs.Indexing.{Indexes, standing, in_group};
+ghost use Rattle.router_deliveries.specs.Indexing.{Indexes, standing, in_group, concerns};
 ghost use Rattle.std.specs.BTreeSet.{contains};
 ghost use Rattle.router_deliveries.specs.Finding.{IsFirst, IsCount, IsFirstLink, is_above};
 ghost use Rattle.router_deliveries.specs.Touching.{is_touched_in, StandsSame, StoreTouches};
 ghost use Rattle.router_deliveries.specs.Hearing.{id_of};
-ghost use Rattle.router_deliveries.specs.Naming.{is_open};
+ghost use Rattle.router_deliveries.specs.Naming.{is_open, is_detached, is_detached_in};
 ghost use Rattle.router_deliveries.specs.Stepping.{behind, behind_any, IsKept};
 
 use crate::change::{Change, Gone, behind_put};
@@ -330,6 +330,44 @@ impl Store {
         self.apply(&Change::Ends(Gone::Connection(conn.0)))
     }
 
+    /// The ids of the deliveries whose link an item of the router detaches.
+    pub(crate) fn detached_ids(&self, conn: u64, item: &Item) -> Result<Vec<u32>, AllocError>
+        ensures { IfOk result (λ ids. Indexed self.now → (n id : ℕ) → is_detached item.now conn (standing (get nat_cmp self.now.deliveries n)) ≡ true
+            → is_id (id_of (get nat_cmp self.now.deliveries n)) id ≡ true → has id ids.items ≡ true) }
+    {
+        match item {
+            Item::Frame { channel, perf, .. } => Ok(self.ids_detached_in(conn, *channel, perf)?),
+            _ => Ok(Vec::new(self.alloc)),
+        }
+    }
+
+    /// The ids of the deliveries whose link a performative of the router detaches.
+    fn ids_detached_in(&self, conn: u64, own: u16, perf: &Perf) -> Result<Vec<u32>, AllocError>
+        ensures { IfOk result (λ ids. Indexed self.now → (n id : ℕ) → is_detached_in perf.now conn own (standing (get nat_cmp self.now.deliveries n)) ≡ true
+            → is_id (id_of (get nat_cmp self.now.deliveries n)) id ≡ true → has id ids.items ≡ true) }
+    {
+        match perf {
+            Perf::Detach(detach) => {
+                let handle = detach.handle;
+                Ok(self.ids_on(&Change::Ends(Gone::Link { conn, own, handle }))?)
+            }
+            _ => Ok(Vec::new(self.alloc)),
+        }
+    }
+
+    /// The ids of the deliveries that a change may change.
+    fn ids_on(&self, change: &Change) -> Result<Vec<u32>, AllocError>
+        ensures { IfOk result (λ ids. Indexed self.now → (n id : ℕ) → concerns change.now (standing (get nat_cmp self.now.deliveries n)) ≡ true
+            → is_id (id_of (get nat_cmp self.now.deliveries n)) id ≡ true → has id ids.items ≡ true) }
+    {
+        let numbers = self.index.concerned(self.alloc, change)?;
+        let mut ids = Vec::new(self.alloc);
+        for number in &numbers {
+            add_id(&mut ids, self.get(*number))?;
+        }
+        Ok(ids)
+    }
+
     /// An item is put in the outbox of a connection; a transfer carries the delivery of this number.
     #[tactic(auto, using(crate::proofs::Touching::touches_self))]
     pub(crate) fn put(
@@ -371,4 +409,16 @@ impl Store {
             _ => self.apply_any(behind_put(conn, own, perf)),
         }
     }
+}
+
+/// Puts the id of a delivery behind others, where it has one.
+fn add_id(ids: &mut Vec<u32>, delivery: Option<&Delivery>) -> Result<(), AllocError>
+    ensures { OnOk result ((id : ℕ) → has id ids.new.items ≡ (has id ids.old.items || is_id (id_of (option_map (λ d. d.now) delivery.entry)) id)) }
+{
+    if let Some(delivery) = delivery {
+        if let Some(id) = delivery.id {
+            ids.push(id)?;
+        }
+    }
+    Ok(())
 }
