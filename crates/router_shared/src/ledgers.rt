@@ -1,0 +1,69 @@
+//! The ledgers in which the threads' counts add up to the router's.
+ghost use Rattle.std.specs.Prelude.{ℕ};
+
+use std::marker::{Brand, PhantomData};
+use std::sync::ledger::{Blank, Ledger};
+
+/// So many seats can be given out.
+pub const SEATS: u64 = 1 << 62;
+
+/// A ledger and into how many parts it is cut, which fields beside its tokens can name.
+pub trait Hall: Ledger {
+    ghost seats: { ℕ };
+}
+
+impl Hall for Brand {
+    ghost seats = { 0 };
+}
+
+/// A ledger for each number that a router counts.
+pub trait Ledgers {
+    /// Of connections that came up.
+    type Ups: Hall;
+    /// Of items that came.
+    type Items: Hall;
+    /// Of connections that were lost.
+    type Downs: Hall;
+    /// Of ticks.
+    type Ticks: Hall;
+    /// Of starts.
+    type Starts: Hall;
+    /// Of batches that were taken.
+    type Batches: Hall;
+}
+
+/// Six ledgers.
+pub struct Six<U, I, D, T, S, B> {
+    of: PhantomData<(U, I, D, T, S, B)>,
+}
+
+impl<U: Hall, I: Hall, D: Hall, T: Hall, S: Hall, B: Hall> Ledgers for Six<U, I, D, T, S, B> {
+    type Ups = U;
+
+    type Items = I;
+
+    type Downs = D;
+
+    type Ticks = T;
+
+    type Starts = S;
+
+    type Batches = B;
+}
+
+/// The blanks of six ledgers.
+#[derive(Drop)]
+pub struct Blanks {
+    /// Of connections that came up.
+    pub ups: Blank,
+    /// Of items that came.
+    pub items: Blank,
+    /// Of connections that were lost.
+    pub downs: Blank,
+    /// Of ticks.
+    pub ticks: Blank,
+    /// Of starts.
+    pub starts: Blank,
+    /// Of batches that were taken.
+    pub batches: Blank,
+}
