@@ -2,7 +2,7 @@
 ghost use Rattle.std.specs.Prelude.{◌≡◌, ◌^◌, IfOk};
 ghost use Rattle.router_core.specs.Handling.{counts_of};
 ghost use Rattle.router_core.specs.Counting.{uncounted};
-ghost use Rattle.router_serve.specs.History.{IsOpened};
+ghost use Rattle.router_shared.specs.History.{IsOpened};
 
 use crate::hub::{Hub, Taking};
 use crate::lines::Lines;

@@ -8,5 +8,6 @@ pub mod Lawful
 pub mod Leasts
 pub mod Lookups
 pub mod Moved
+pub mod Remembered
 pub mod Steps
 pub mod Sums

@@ -3,9 +3,9 @@ use Rattle.std.specs.Prelude.{◌≡◌, ◌+◌, ◌<◌, ◌≤◌, ◌⊎◌,
 use Rattle.std.specs.List.Sorted.{IsStrictlySortedBy}
 use Rattle.std.specs.Map.{keys_of}
 use Rattle.std.specs.Ordering.{nat_cmp}
-use Rattle.route_credit.specs.Granting.{all_granted, grants_of}
+use Rattle.route_credit.specs.Granting.{all_granted, choice, grants_of}
 use Rattle.route_credit.specs.Links.{link_at}
-use Rattle.route_credit.specs.Pool.{free, IsChoice, IsNext, lent, Sharing}
+use Rattle.route_credit.specs.Pool.{free, IsChoice, IsNext, lent, remembering, Sharing}
 use Rattle.route_credit.specs.declared.demand.Demand.{Demand}
 use Rattle.route_credit.specs.declared.offer.Offer.{Offer}
 use Rattle.route_table.specs.declared.sections.Distribution.{Distribution}
@@ -52,3 +52,7 @@ GrantsLeaveNone = (pool : Sharing) → InOrder pool → grants_of (all_granted p
 -- whom the last delivery went to says nothing of grants
 abbrev pub GrantsButLast : Type 0
 GrantsButLast = (pool : Sharing) (last : ℕ) → grants_of (record pool { last = last }) ≡ grants_of pool
+
+-- nor of choices, but where an address goes round
+abbrev pub ChoiceButLast : Type 0
+ChoiceButLast = (pool : Sharing) → choice (remembering pool) ≡ choice pool

@@ -1,5 +1,5 @@
 -- The pool of an address: who gets the next delivery, and who gets credit.
-use Rattle.std.specs.Prelude.{◌≡◌, ◌+◌, ◌-◌, ◌≤◌, ◌<◌, ℕ, Bool, true, false, Option, None, Some, option_and_then, nat_lt, nat_le, min, List, [], map, if◌then◌else◌}
+use Rattle.std.specs.Prelude.{◌≡◌, ◌==◌, ◌&&◌, ◌+◌, ◌-◌, ◌≤◌, ◌<◌, ℕ, Bool, true, false, Option, None, Some, option_and_then, nat_lt, nat_le, min, List, [], map, length, if◌then◌else◌}
 use Rattle.std.specs.Ordering.{nat_cmp}
 use Rattle.std.specs.List.Sorted.{IsStrictlySortedBy}
 use Rattle.route_credit.specs.Links.{amount_at, link_at, with_link, without_link, total, IsLeast}
@@ -19,6 +19,10 @@ pub record Sharing : Type 0 where
 -- a pool of no links
 abbrev pub no_links : Distribution → Sharing
 no_links distribution = record { distribution = distribution; consumers = []; producers = []; last = 0 }
+
+-- whether a pool has no links
+abbrev pub has_no_links : Sharing → Bool
+has_no_links pool = length pool.consumers == 0 && length pool.producers == 0
 
 -- what a consumer has now
 abbrev pub offered : Sharing → ℕ → ℕ → ℕ → Sharing
@@ -62,6 +66,16 @@ IsChoice pool chosen = IsLeast (turn pool) chosen
 abbrev pub chose : Sharing → Option ℕ → Sharing
 chose pool None = pool
 chose pool (Some id) = record pool { last = id }
+
+-- How much of the number last chosen the next choice goes by: closest alone goes by it.
+abbrev pub remembered : Distribution → ℕ → ℕ
+remembered Balanced last = 0
+remembered Closest last = last
+remembered Multicast last = 0
+
+-- a pool, with no more of its last choice than that
+abbrev pub remembering : Sharing → Sharing
+remembering pool = record pool { last = remembered pool.distribution pool.last }
 
 -- What a producer in need of credit is chosen by: its lent credit. It is in need while its lent credit and what it holds are below 64; on a multicast address where its unused credit is 32 or less.
 abbrev pub need_of : Distribution → Demand → Option ℕ

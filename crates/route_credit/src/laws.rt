@@ -1,5 +1,5 @@
 //! Laws of choices and grants. Nothing runs here: each function is a theorem on the definitions that the contracts cite.
-ghost use Rattle.route_credit.specs.Laws.{ChoiceIsOne, ChosenIsFree, GrantsAreEnough, GrantsButLast, GrantsLeaveNone, NobodyWhereNoneIsFree};
+ghost use Rattle.route_credit.specs.Laws.{ChoiceButLast, ChoiceIsOne, ChosenIsFree, GrantsAreEnough, GrantsButLast, GrantsLeaveNone, NobodyWhereNoneIsFree};
 
 /// There is one choice at most.
 pub fn choice_is_one()
@@ -30,4 +30,9 @@ pub fn grants_leave_none()
 /// Whom the last delivery went to says nothing of grants.
 pub fn grants_but_last()
     ensures { GrantsButLast }
+{}
+
+/// Nor of choices, but on a closest address.
+pub fn choice_but_last()
+    ensures { ChoiceButLast }
 {}

@@ -1,5 +1,5 @@
 //! The links of one side of an address, with an index.
-ghost use Rattle.std.specs.Prelude.{◌≡◌, ℕ, List, [], Option, None, Some, OnOk, OnErr, option_and_then};
+ghost use Rattle.std.specs.Prelude.{◌≡◌, ◌==◌, ℕ, List, [], length, Option, None, Some, OnOk, OnErr, option_and_then};
 ghost use Rattle.std.specs.List.Sorted.{IsStrictlySortedBy};
 ghost use Rattle.std.specs.Map.{keys_of};
 ghost use Rattle.std.specs.Ordering.{nat_cmp};
@@ -38,6 +38,13 @@ impl<T: Weigh> Links<T> {
         ensures { result ≡ link_at self.now.rows.entries id }
     {
         self.rows.get(&id).copied()
+    }
+
+    /// Whether there are none.
+    pub(crate) fn is_empty(&self) -> bool
+        ensures { result ≡ (length self.now.rows.entries == 0) }
+    {
+        self.rows.is_empty()
     }
 
     /// The sum of the amounts of all links.

@@ -6,7 +6,7 @@ ghost use Rattle.std.specs.Map.{keys_of};
 ghost use Rattle.std.specs.Ordering.{nat_cmp};
 ghost use Rattle.route_credit.specs.Granting.{all_granted, choice, grants_of};
 ghost use Rattle.route_credit.specs.Links.{amount_at, link_at};
-ghost use Rattle.route_credit.specs.Pool.{by_id, chose, given, Granted, IsChoice, IsNext, IsTold, free, is_short, lent, no_links, offered, part_of, wanted, without_consumer, without_producer, WithinFree};
+ghost use Rattle.route_credit.specs.Pool.{by_id, chose, given, Granted, has_no_links, IsChoice, IsNext, IsTold, free, is_short, lent, no_links, offered, part_of, wanted, without_consumer, without_producer, WithinFree};
 ghost use Rattle.route_credit.specs.declared.demand.Demand.{Demand};
 
 use crate::demand::Demand;
@@ -55,6 +55,20 @@ impl Pool {
             producers: Links::new(alloc, distribution),
             last: 0,
         }
+    }
+
+    /// How the address shares its messages.
+    pub fn distribution(&self) -> Distribution
+        ensures { result ≡ self.now.distribution }
+    {
+        self.distribution
+    }
+
+    /// Whether it has no links.
+    pub fn is_empty(&self) -> bool
+        ensures { result ≡ has_no_links self.now }
+    {
+        self.consumers.is_empty() && self.producers.is_empty()
     }
 
     /// Notes what a consumer link has now: its free credit and its undecided deliveries. The first call for a link is

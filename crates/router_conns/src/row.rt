@@ -136,7 +136,10 @@ impl Row {
                 self.phase = phase;
                 Ok(())
             }
-            Err(_) => Err(AllocError),
+            Err(left) => {
+                drop(left);
+                Err(AllocError)
+            }
         }
     }
 
@@ -195,7 +198,10 @@ fn front(alloc: Global, queue: &mut VecDeque<Item>, count: usize) -> Result<Vec<
             None => return Err(AllocError),
             Some(item) => match items.push(item) {
                 Ok(()) => {}
-                Err(_) => return Err(AllocError),
+                Err(left) => {
+                    drop(left);
+                    return Err(AllocError);
+                }
             },
         }
     }

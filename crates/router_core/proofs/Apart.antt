@@ -17,7 +17,8 @@ use Rattle.router_trace.specs.Refusing.{refuses}
 use Rattle.router_sessions.specs.Windows.{flows_below, windows}
 use Rattle.router_state.specs.Tables.{beat_if}
 use Rattle.router_passing.specs.Passing.{grants_due, with_bound}
-use Rattle.router_reply.specs.Replies.{finds, heard, bound_by, own_row, replied}
+use Rattle.router_rows.specs.Finding.{finds}
+use Rattle.router_reply.specs.Replies.{heard, bound_by, own_row, replied}
 use Rattle.router_after.specs.After.{widened}
 use Rattle.router_core.specs.Replies.{answered}
 use Rattle.router_core.specs.Runs.{Taking, took_one}

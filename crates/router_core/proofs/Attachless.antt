@@ -30,10 +30,11 @@ use Rattle.router_passing.specs.Passing.{consumer_of}
 use Rattle.router_trace.specs.Sessions.{session, theirs}
 use Rattle.router_sessions.specs.Windows.{is_narrow, flow_due, flows_below, windows_over, windows}
 use Rattle.router_state.specs.Tables.{beat_if, beats_over}
-use Rattle.router_reply.specs.declared.answer.Answer.{Answer}
-use Rattle.router_reply.specs.declared.answer.Answer.TheVariants.{Nothing, Header, Open, Close, CloseWith, Begin, End, Flow, Attach, Refuse, Detach, LinkFlow, Taken, Settle}
-use Rattle.router_reply.specs.Rows.{Finds, said, item_reply}
-use Rattle.router_reply.specs.Replies.{closing_of, finds, claimed_id, ignored_put, unbound_put, part_put, settled_answers, links_put, item_row, own_row}
+use Rattle.router_rows.specs.declared.answer.Answer.{Answer}
+use Rattle.router_rows.specs.declared.answer.Answer.TheVariants.{Nothing, Header, Open, Close, CloseWith, Begin, End, Flow, Attach, Refuse, Detach, LinkFlow, Taken, Settle}
+use Rattle.router_rows.specs.Rows.{Finds, said, item_reply}
+use Rattle.router_rows.specs.Finding.{finds}
+use Rattle.router_reply.specs.Replies.{closing_of, claimed_id, ignored_put, unbound_put, part_put, settled_answers, links_put, item_row, own_row}
 use Rattle.router_core.specs.Laws.{is_attach_in, is_attach, brings_attach}
 use Rattle.router_conns.proofs.Lists.{by_test, filter_none}
 use Rattle.router_core.proofs.Due.{goes_on_link, AllOnLinks}

@@ -30,8 +30,9 @@ use Rattle.router_sessions.specs.Windows.{is_narrow, flow_due, flows_below, wind
 use Rattle.router_state.specs.Tables.{beat_if, beats_over}
 use Rattle.router_passing.specs.Passing.{grants_due, with_bound}
 use Rattle.router_after.specs.After.{followed}
-use Rattle.router_reply.specs.Rows.{said, item_reply}
-use Rattle.router_reply.specs.Replies.{closing_of, ends, heard, finds, stolen_by, refused, part_put, settled_answers, bound_by, item_row, own_row, replied}
+use Rattle.router_rows.specs.Rows.{said, item_reply}
+use Rattle.router_rows.specs.Finding.{finds}
+use Rattle.router_reply.specs.Replies.{closing_of, ends, heard, stolen_by, refused, part_put, settled_answers, bound_by, item_row, own_row, replied}
 use Rattle.router_core.specs.Replies.{answered}
 use Rattle.router_core.specs.Runs.{waiting_of, took_one}
 use Rattle.router_core.specs.Moves.{Move, handles, takes, Goes, IsTrace, with_came, ins, outs}

@@ -36,10 +36,11 @@ use Rattle.router_trace.specs.Clocks.{terms, written, needs_beat}
 use Rattle.router_sessions.specs.Windows.{is_narrow, flow_due, flows_below, windows_over, windows}
 use Rattle.router_state.specs.Tables.{beat_if, beats_over}
 use Rattle.router_passing.specs.Passing.{grants_due, consumer_of, with_bound}
-use Rattle.router_reply.specs.declared.answer.Answer.{Answer}
-use Rattle.router_reply.specs.declared.answer.Answer.TheVariants.{Nothing, Header, Open, Close, CloseWith, Begin, End, Flow, Attach, Refuse, Detach, LinkFlow, Taken, Settle}
-use Rattle.router_reply.specs.Rows.{said, item_reply}
-use Rattle.router_reply.specs.Replies.{closing_of, ends, heard, finds, stolen_by, attach_answer, refused, claimed_id, ignored_put, unbound_put, whole_put, part_put, settled_answers, bound_by, item_row, own_row, replied}
+use Rattle.router_rows.specs.declared.answer.Answer.{Answer}
+use Rattle.router_rows.specs.declared.answer.Answer.TheVariants.{Nothing, Header, Open, Close, CloseWith, Begin, End, Flow, Attach, Refuse, Detach, LinkFlow, Taken, Settle}
+use Rattle.router_rows.specs.Rows.{said, item_reply}
+use Rattle.router_rows.specs.Finding.{finds}
+use Rattle.router_reply.specs.Replies.{closing_of, ends, heard, stolen_by, attach_answer, refused, claimed_id, ignored_put, unbound_put, whole_put, part_put, settled_answers, bound_by, item_row, own_row, replied}
 use Rattle.router_core.specs.Replies.{answered}
 use Rattle.router_core.specs.Runs.{took_one}
 use Rattle.router_core.specs.Moves.{Move, handles, takes, Goes, IsTrace}

@@ -27,8 +27,9 @@ use Rattle.router_trace.specs.Sessions.{theirs}
 use Rattle.router_trace.specs.Following.{tells, sends_due, drains_due}
 use Rattle.router_sessions.specs.Windows.{windows}
 use Rattle.router_passing.specs.Passing.{grants_due, with_bound}
-use Rattle.router_reply.specs.Rows.{said, item_reply}
-use Rattle.router_reply.specs.Replies.{closing_of, ends, heard, finds, stolen_by, attach_answer, taken_behind, taken, refused, bound_by, item_row, own_row, replied}
+use Rattle.router_rows.specs.Rows.{said, item_reply}
+use Rattle.router_rows.specs.Finding.{finds}
+use Rattle.router_reply.specs.Replies.{closing_of, ends, heard, stolen_by, attach_answer, taken_behind, taken, refused, bound_by, item_row, own_row, replied}
 use Rattle.router_core.specs.Replies.{answered}
 use Rattle.router_core.specs.Laws.{is_attach}
 use Rattle.router_conns.proofs.Lists.{by_test}

@@ -14,7 +14,7 @@ use Rattle.router_trace.specs.Trace.{Entry, Did, Out, Took, Bound, Configured, P
 use Rattle.router_trace.specs.Connection.{conn, fresh, standing, due, has, found, live_of}
 use Rattle.router_trace.specs.Clocks.{moment, moment_at, terms, terms_at, written, written_at, channel_max_of}
 use Rattle.router_trace.specs.Sessions.{unless_close, offered, offered_at, answered_channel, answered_at, answered_by, theirs, theirs_at, theirs_behind, session, session_at, behind_item, place, place_by, free_channel, is_free, channels}
-use Rattle.router_reply.specs.Replies.{free_for}
+use Rattle.router_rows.specs.Finding.{free_for}
 use Rattle.router_core.specs.Moves.{outs}
 use Rattle.router_core.specs.Laws.{is_about, own_part, comes_up}
 use Rattle.router_conns.proofs.Lists.{by_test}

@@ -12,8 +12,8 @@ use Rattle.router_trace.specs.Configuration.{routing, is_multicast}
 use Rattle.router_trace.specs.Links.{asked, asked_at, is_lost, answers_by, answered_handle, their_handle_at, their_handle_behind, their_handle, link_place_by, handle_max_at, told_handle_max, most_behind, highest_handle, is_free_handle, first_free_below, free_handle}
 use Rattle.router_trace.specs.Claims.{claims}
 use Rattle.router_trace.specs.Sessions.{unless_close, place}
-use Rattle.router_reply.specs.Rows.{Finds}
-use Rattle.router_reply.specs.Replies.{finds, free_for, multicast_of}
+use Rattle.router_rows.specs.Rows.{Finds}
+use Rattle.router_rows.specs.Finding.{finds, free_for, multicast_of}
 use Rattle.router_core.specs.Laws.{is_about, own_part}
 use Rattle.router_conns.proofs.Lists.{by_test}
 use Rattle.router_core.proofs.Attachless.{Unlinked}

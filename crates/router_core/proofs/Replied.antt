@@ -23,9 +23,10 @@ use Rattle.router_trace.specs.Clocks.{terms, terms_in, terms_by, channel_max_of}
 use Rattle.router_trace.specs.Order.{Written, unwritten, is_open, of_session, have_turns}
 use Rattle.router_state.specs.Tables.{beats}
 use Rattle.router_passing.specs.Passing.{with_bound}
-use Rattle.router_reply.specs.declared.answer.Answer.{Answer}
-use Rattle.router_reply.specs.Rows.{Finds, said, perf_reply, item_reply}
-use Rattle.router_reply.specs.Replies.{heard, finds, taken, refused, part_put, settled_answers, bound_by, item_row, own_row, replied}
+use Rattle.router_rows.specs.declared.answer.Answer.{Answer}
+use Rattle.router_rows.specs.Rows.{Finds, said, perf_reply, item_reply}
+use Rattle.router_rows.specs.Finding.{finds}
+use Rattle.router_reply.specs.Replies.{heard, taken, refused, part_put, settled_answers, bound_by, item_row, own_row, replied}
 use Rattle.router_core.specs.Replies.{answered}
 use Rattle.router_conns.proofs.Lists.{by_test, has_push}
 use Rattle.router_conns.proofs.Turns.{known}

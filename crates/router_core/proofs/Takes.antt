@@ -12,7 +12,7 @@ use Rattle.router_trace.specs.Connection.{conn, due, is_full, live}
 use Rattle.router_sessions.specs.Windows.{windows_over}
 use Rattle.router_passing.specs.Passing.{with_bound}
 use Rattle.router_state.specs.Tables.{beats_over}
-use Rattle.router_reply.specs.Rows.{down_reply}
+use Rattle.router_rows.specs.Rows.{down_reply}
 use Rattle.router_reply.specs.Replies.{ends, item_bound, bound_by, item_row, own_row, replied_behind}
 use Rattle.router_after.specs.After.{widened, followed}
 use Rattle.router_core.specs.Replies.{answered}

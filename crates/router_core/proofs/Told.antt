@@ -16,10 +16,10 @@ use Rattle.router_trace.specs.Connection.{Connection, conn, behind, behind_perf,
 use Rattle.router_trace.specs.Frames.{open_item, close_item}
 use Rattle.router_trace.specs.Sessions.{unless_close, unless_close_in}
 use Rattle.router_trace.specs.Clocks.{terms}
-use Rattle.router_reply.specs.declared.answer.Answer.{Answer}
-use Rattle.router_reply.specs.declared.answer.Answer.TheVariants as answer
+use Rattle.router_rows.specs.declared.answer.Answer.{Answer}
+use Rattle.router_rows.specs.declared.answer.Answer.TheVariants as answer
 use Rattle.router_passing.specs.Passing.{with_bound}
-use Rattle.router_reply.specs.Rows.{said}
+use Rattle.router_rows.specs.Rows.{said}
 use Rattle.router_reply.specs.Replies.{closing_of, ends}
 use Rattle.router_conns.proofs.Lists.{by_test}
 use Rattle.router_conns.proofs.Turns.{stays}

@@ -10,7 +10,7 @@ use Rattle.router_trace.specs.Clocks.{moment, moment_at, terms, terms_at, writte
 use Rattle.router_trace.specs.Sessions.{unless_close, offered, offered_at, answered_channel, answered_at, answered_by, theirs, theirs_at, theirs_behind, session, session_at, behind_item, place, place_by, free_channel, is_free, channels}
 use Rattle.router_sessions.specs.Windows.{flows_below, windows_over}
 use Rattle.router_state.specs.Tables.{beat_if, beats_over}
-use Rattle.router_reply.specs.Replies.{free_for}
+use Rattle.router_rows.specs.Finding.{free_for}
 use Rattle.router_core.specs.Moves.{outs}
 use Rattle.router_core.specs.Laws.{untaken}
 

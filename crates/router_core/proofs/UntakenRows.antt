@@ -22,10 +22,11 @@ use Rattle.router_trace.specs.Deliveries.{terminal, last_of, named}
 use Rattle.router_trace.specs.Numbers.{count_below}
 use Rattle.router_trace.specs.Settling.{ids_between, is_open_as, names_open, is_open_id, is_of_link, is_ignored_on, ignored, part_of}
 use Rattle.router_passing.specs.Passing.{consumer_of, binding_to}
-use Rattle.router_reply.specs.declared.answer.Answer.{Answer}
-use Rattle.router_reply.specs.declared.answer.Answer.TheVariants.{Attach, Refuse, Taken, Settle}
-use Rattle.router_reply.specs.Rows.{Finds, said, item_reply}
-use Rattle.router_reply.specs.Replies.{finds, stolen_by, attach_answer, taken_behind, taken, refused, settled_answers, claimed_id, from_link, origin_of, message_bound, ignored_put, unbound_put, whole_put, part_put, whole_bound, part_bound, bound_for, item_bound, links_put, item_put, item_row}
+use Rattle.router_rows.specs.declared.answer.Answer.{Answer}
+use Rattle.router_rows.specs.declared.answer.Answer.TheVariants.{Attach, Refuse, Taken, Settle}
+use Rattle.router_rows.specs.Rows.{Finds, said, item_reply}
+use Rattle.router_rows.specs.Finding.{finds}
+use Rattle.router_reply.specs.Replies.{stolen_by, attach_answer, taken_behind, taken, refused, settled_answers, claimed_id, from_link, origin_of, message_bound, ignored_put, unbound_put, whole_put, part_put, whole_bound, part_bound, bound_for, item_bound, links_put, item_put, item_row}
 use Rattle.router_core.specs.Laws.{untaken}
 use Rattle.router_core.proofs.Untaken.{untaken_goes, same_place, same_free}
 use Rattle.router_core.proofs.UntakenDeliveries.{same_named, same_delivery, same_claims, same_numbered}

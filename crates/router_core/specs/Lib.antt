@@ -14,7 +14,7 @@ pub use Rattle.router_trace.specs.Order
 pub use Rattle.router_trace.specs.Frames
 pub use Rattle.router_conns.specs.Fits
 pub use Rattle.router_state.specs.Tables
-pub use Rattle.router_reply.specs.Rows
+pub use Rattle.router_rows.specs.Rows
 pub use Rattle.router_trace.specs.Sessions
 pub use Rattle.router_trace.specs.Clocks
 pub use Rattle.router_after.specs.After

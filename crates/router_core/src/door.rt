@@ -224,10 +224,16 @@ fn over(items: Vec<Item>) -> Answered
 fn one(alloc: Global, item: Item) -> Result<Vec<Item>, AllocError>
     ensures { IfOk result (λ v. v.items ≡ item ∷ []) }
 {
-    let mut items = Vec::with_capacity(alloc, 1)?;
+    let Ok(mut items) = Vec::with_capacity(alloc, 1) else {
+        drop(item);
+        return Err(AllocError);
+    };
     match items.push(item) {
         Ok(()) => Ok(items),
-        Err(_) => Err(AllocError),
+        Err(left) => {
+            drop(left);
+            Err(AllocError)
+        }
     }
 }
 
@@ -235,10 +241,16 @@ fn one(alloc: Global, item: Item) -> Result<Vec<Item>, AllocError>
 fn two(alloc: Global, first: Item, second: Item) -> Result<Vec<Item>, AllocError>
     ensures { IfOk result (λ v. v.items ≡ first ∷ second ∷ []) }
 {
-    let mut items = one(alloc, first)?;
+    let Ok(mut items) = one(alloc, first) else {
+        drop(second);
+        return Err(AllocError);
+    };
     match items.push(second) {
         Ok(()) => Ok(items),
-        Err(_) => Err(AllocError),
+        Err(left) => {
+            drop(left);
+            Err(AllocError)
+        }
     }
 }
 

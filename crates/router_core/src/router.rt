@@ -135,9 +135,11 @@ impl Core {
         ensures no_disk { IfErr result (λ f. f ≡ Disk → ⊥) }
     {
         if self.failed {
+            drop(event);
             return Err(CoreFault::Failed);
         }
         if self.state.refuses(&event) {
+            drop(event);
             return Err(CoreFault::NoConnection);
         }
         match self.answer(event) {
@@ -157,7 +159,10 @@ impl Core {
         ensures named { id_of self.new ≡ id_of self.old }
         ensures works { is_failed self.new ≡ is_failed self.old }
     {
-        let counts = self.counts.with_event(&event)?;
+        let Ok(counts) = self.counts.with_event(&event) else {
+            drop(event);
+            return Err(AllocError);
+        };
         answer(&mut self.state, &self.id, event)?;
         self.counts = counts;
         Ok(())
@@ -261,7 +266,10 @@ impl Core {
 fn answer(state: &mut State, id: &RouterId, event: Event) -> Result<(), AllocError>
     ensures { OnOk result ((t : List Entry) → TablesFit state.old t → refuses t event ≡ false → TablesFit state.new (answered id.now t (step_of event))) }
 {
-    let ends = state.turn(&event)?;
+    let Ok(ends) = state.turn(&event) else {
+        drop(event);
+        return Err(AllocError);
+    };
     reply(state, id, &ends, event)?;
     after(state)?;
     Ok(())

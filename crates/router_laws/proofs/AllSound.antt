@@ -27,10 +27,11 @@ use Rattle.router_trace.specs.Peers.{largest_frame}
 use Rattle.router_trace.specs.Following.{tells, sends_due, drains_due}
 use Rattle.router_sessions.specs.Windows.{windows}
 use Rattle.router_passing.specs.Passing.{grants_due, with_bound}
-use Rattle.router_reply.specs.declared.answer.Answer.{Answer}
-use Rattle.router_reply.specs.declared.answer.Answer.TheVariants.{Attach, Refuse, Taken, Settle}
-use Rattle.router_reply.specs.Rows.{said, item_reply}
-use Rattle.router_reply.specs.Replies.{closing_of, ends, heard, finds, refused, bound_for, item_put, behind_answer, item_bound, item_row, replied_behind, replied}
+use Rattle.router_rows.specs.declared.answer.Answer.{Answer}
+use Rattle.router_rows.specs.declared.answer.Answer.TheVariants.{Attach, Refuse, Taken, Settle}
+use Rattle.router_rows.specs.Rows.{said, item_reply}
+use Rattle.router_rows.specs.Finding.{finds}
+use Rattle.router_reply.specs.Replies.{closing_of, ends, heard, refused, bound_for, item_put, behind_answer, item_bound, item_row, replied_behind, replied}
 use Rattle.router_core.specs.Replies.{answered}
 use Rattle.router_core.specs.Runs.{took_one}
 use Rattle.router_core.specs.Moves.{Move, handles, takes, Goes, IsTrace}

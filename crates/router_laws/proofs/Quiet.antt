@@ -23,9 +23,9 @@ use Rattle.router_trace.specs.Following.{link_of, drain_of, drain_on, drain_by, 
 use Rattle.router_sessions.specs.Windows.{is_narrow, flow_due, flows_below, windows_over, windows}
 use Rattle.router_passing.specs.Passing.{grants_due}
 use Rattle.router_state.specs.Tables.{beat_if, beats_over}
-use Rattle.router_reply.specs.declared.answer.Answer.{Answer}
-use Rattle.router_reply.specs.declared.answer.Answer.TheVariants.{Nothing, Header, Open, Close, CloseWith, Begin, End, Flow, Attach, Refuse, Detach, LinkFlow, Taken, Settle}
-use Rattle.router_reply.specs.Rows.{said}
+use Rattle.router_rows.specs.declared.answer.Answer.{Answer}
+use Rattle.router_rows.specs.declared.answer.Answer.TheVariants.{Nothing, Header, Open, Close, CloseWith, Begin, End, Flow, Attach, Refuse, Detach, LinkFlow, Taken, Settle}
+use Rattle.router_rows.specs.Rows.{said}
 use Rattle.router_reply.specs.Replies.{closing_of, stolen_by, attach_answer, refused, taken, ignored_put, settled_answers}
 use Rattle.router_core.proofs.Granting.{AllGrants, all_grants}
 use Rattle.router_conns.proofs.Lists.{by_test}

@@ -18,11 +18,11 @@ use Rattle.router_trace.specs.Sessions.{on_session, place_by, session, theirs}
 use Rattle.router_trace.specs.Links.{Link, LinkPlace, nowhere, detaching, on, Happened, sends, receives, link_place}
 use Rattle.router_trace.specs.Deliveries.{tag_in}
 use Rattle.router_trace.specs.Settling.{middle_by}
-use Rattle.router_reply.specs.declared.answer.Answer.{Answer}
-use Rattle.router_reply.specs.declared.answer.Answer.TheVariants.{Taken}
-use Rattle.router_reply.specs.Rows.{Finds, Links, transfer_reply, in_turn, out_of_turn, turn_by, item_reply}
-use Rattle.router_reply.specs.LinkRows.{is_anonymous, is_among, is_same_id, is_same_tag, is_unattached, delivery_by, delivery_on, link_transfer_reply, session_transfer_reply}
-use Rattle.router_reply.specs.Replies.{finds}
+use Rattle.router_rows.specs.declared.answer.Answer.{Answer}
+use Rattle.router_rows.specs.declared.answer.Answer.TheVariants.{Taken}
+use Rattle.router_rows.specs.Rows.{Finds, Links, transfer_reply, in_turn, out_of_turn, turn_by, item_reply}
+use Rattle.router_rows.specs.LinkRows.{is_anonymous, is_among, is_same_id, is_same_tag, is_unattached, delivery_by, delivery_on, link_transfer_reply, session_transfer_reply}
+use Rattle.router_rows.specs.Finding.{finds}
 use Rattle.router_conns.proofs.Lists.{by_test}
 
 pub record IsOn (sasl : Bool) (v : Option PeerChannel) (at : LinkPlace) (own handle : ℕ) : Type 0 where

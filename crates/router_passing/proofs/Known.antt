@@ -28,8 +28,9 @@ use Rattle.router_links.specs.Fits.{LinksFit, channel_of as of_links}
 use Rattle.router_links.specs.Naming.{Remembers}
 use Rattle.router_links.specs.Touching as links
 use Rattle.route_table.specs.declared.sections.Distribution.{Distribution}
+use Rattle.route_credit.specs.Pool.{remembered}
 use Rattle.router_pools.specs.declared.pools.Pools.{Pools}
-use Rattle.router_pools.specs.Fits.{PoolsFit}
+use Rattle.router_pools.specs.Fits.{pool_at, PoolsFit}
 use Rattle.router_pools.specs.Sharing.{Figure, demand_at, offer_at}
 use Rattle.router_passing.specs.declared.passing.Passing.{Passing}
 use Rattle.router_passing.specs.Figures.{figure}
@@ -47,7 +48,7 @@ exchanged s share shares known other last now alike same chosen fits = record {
   no_producer = fits.no_producer;
   same = λ a. fits.same a ∙ sym (alike a);
   distribution = λ a. fits.distribution a ∙ sym (alike a);
-  chosen = λ a. fits.chosen a ∙ sym (chosen a);
+  chosen = λ a. ap (λ d. remembered d (pool_at s a).last) (alike a) ∙ fits.chosen a ∙ sym (ap (λ d. remembered d (last a)) (alike a)) ∙ sym (ap (remembered (shares a)) (chosen a));
   consumers_rise = fits.consumers_rise;
   producers_rise = fits.producers_rise;
   quiet = fits.quiet;

@@ -15,9 +15,7 @@ use Rattle.router_trace.specs.Links.{asked, told_handle_max, highest_handle, ans
 use Rattle.router_trace.specs.Deliveries.{bindings, delivery, sending, named, next_id}
 use Rattle.router_trace.specs.Claims.{claims}
 use Rattle.router_trace.specs.Numbers.{count_below}
-use Rattle.router_deliveries.specs.declared.claims.Claims.{Claims}
 use Rattle.router_deliveries.specs.declared.deliveries.Deliveries.{Deliveries}
-use Rattle.router_deliveries.specs.Claiming.{ClaimsFit}
 use Rattle.router_deliveries.specs.Fits.{DeliveriesFit}
 use Rattle.router_deliveries.specs.Naming as naming
 use Rattle.router_deliveries.specs.Places.{at_id}

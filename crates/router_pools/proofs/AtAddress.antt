@@ -2,7 +2,7 @@
 use Rattle.std.proofs.Common.{◌≡◌, ◌∙◌, sym, ap, refl, ℕ, Bool, true, false, true≢false, cond, Some, option_map, List, [], ◌∷◌}
 use Rattle.std.specs.BTreeMap.{insert_entry}
 use Rattle.std.specs.Cmp.Lexicographic.{slice_cmp}
-use Rattle.std.specs.Map.{lookup, set_value}
+use Rattle.std.specs.Map.{lookup, remove_entry, set_value}
 use Rattle.std.specs.Ordering.{nat_cmp, is_eq, match_ordering}
 use Rattle.std.specs.Str.{bytes_eq}
 use Rattle.std.specs.declared.cmp.Ordering.{Ordering}
@@ -77,3 +77,21 @@ module _ {K V : Type 0} (read : K → List ℕ) where
           (λ g. absurd (true≢false (sym (equal_bytes (read k) (read e.0) (same_bytes (read k) a g ∙ same_bytes a (read e.0) f)) ∙ other)))
           (λ g. rw (f, g) refl))
           (λ f. rw f rest)
+
+  -- where another is taken out
+  pub removed_elsewhere : (es : List (K × V)) (q a : List ℕ) → bytes_eq q a ≡ false → at_address (remove_entry (λ k. is_eq (slice_cmp nat_cmp q (read k))) es) read a ≡ at_address es read a
+  removed_elsewhere [] q a other = refl
+  removed_elsewhere (e ∷ es) q a other = by_head (bytes_eq q (read e.0)) refl (removed_elsewhere es q a other)
+    where
+      by_head : (b : Bool) → bytes_eq q (read e.0) ≡ b → at_address (remove_entry (λ k. is_eq (slice_cmp nat_cmp q (read k))) es) read a ≡ at_address es read a
+          → at_address (cond (is_eq (slice_cmp nat_cmp q (read e.0))) es (e ∷ remove_entry (λ k. is_eq (slice_cmp nat_cmp q (read k))) es)) read a ≡ at_address (e ∷ es) read a
+      by_head true is rest =
+          rw (is_eq-slice_cmp q (read e.0), is)
+          (by_test (bytes_eq a (read e.0))
+          (λ f. absurd (true≢false (sym (equal_bytes q a (same_bytes q (read e.0) is ∙ sym (same_bytes a (read e.0) f))) ∙ other)))
+          (λ f. rw f refl))
+      by_head false is rest =
+          rw (is_eq-slice_cmp q (read e.0), is)
+          (by_test (bytes_eq a (read e.0))
+          (λ f. rw f refl)
+          (λ f. rw f rest))

@@ -1,5 +1,5 @@
 -- How the pools follow what each link has.
-use Rattle.std.proofs.Common.{◌≡◌, ◌∙◌, sym, ap, refl, subst, ℕ, Bool, true, false, true≢false, ◌||◌, cond, if◌then◌else◌, Option, Some, None, option_map, is_some, List, []}
+use Rattle.std.proofs.Common.{◌≡◌, ◌∙◌, sym, ap, refl, subst, ℕ, Bool, true, false, true≢false, ◌||◌, ◌&&◌, cond, if◌then◌else◌, Option, Some, None, option_map, is_some, List, []}
 use Rattle.std.specs.Prelude.{◌==◌}
 use Rattle.std.specs.BTreeMap.{is_at}
 use Rattle.std.specs.Ordering.{nat_cmp}
@@ -8,7 +8,7 @@ use Rattle.std.specs.List.Sorted.{IsStrictlySortedBy}
 use Rattle.std.proofs.lemmas.Bool.{eqb-true, eq-eqb}
 use Rattle.route_credit.specs.Granting.{all_granted, grants_of}
 use Rattle.route_credit.specs.Links.{link_at}
-use Rattle.route_credit.specs.Pool.{chose, demand_of, no_links, offered, Sharing, wanted, without_consumer, without_producer}
+use Rattle.route_credit.specs.Pool.{chose, demand_of, has_no_links, no_links, offered, remembered, Sharing, wanted, without_consumer, without_producer}
 use Rattle.route_credit.specs.declared.demand.Demand.{Demand}
 use Rattle.route_credit.specs.declared.offer.Offer.{Offer}
 use Rattle.route_credit.proofs.Entries.{InOrder, with_ordered, without_ordered}
@@ -16,12 +16,23 @@ use Rattle.route_credit.proofs.Gains.{grants_but_last, kept_producer, no_more_gr
 use Rattle.route_credit.proofs.Grants.{all_consumers, all_distribution, all_last, all_ordered, none_by_all}
 use Rattle.route_credit.proofs.Indices.{same_test}
 use Rattle.route_credit.proofs.Lookups.{link_with, link_without}
-use Rattle.router_pools.specs.Addresses.{with_pool, without}
+use Rattle.router_pools.specs.Addresses.{forgets, rested, with_pool, without}
 use Rattle.router_pools.specs.Fits.{chosen_at, Fits, is_place, or_last}
 use Rattle.route_table.specs.declared.sections.Distribution.{Distribution}
+use Rattle.route_table.specs.declared.sections.Distribution.TheVariants.{Balanced, Closest, Multicast}
 use Rattle.router_pools.specs.Sharing.{demand_at, Figure, offer_at}
 use Rattle.router_pools.specs.Sharing.Figure.{consumer, producer}
 use Rattle.router_pools.proofs.AtAddress.{by_test, equal_bytes, same_bytes}
+
+-- a pool that rests has as much of its last choice
+rest_last : (d : Distribution) (pool : Sharing) → pool.distribution ≡ d → remembered d (rested pool).last ≡ remembered d pool.last
+rest_last Balanced pool is = refl
+rest_last Closest pool is = ap (λ b. if b then 0 else pool.last) (ap (λ d. has_no_links pool && forgets d) is ∙ never (has_no_links pool))
+  where
+    never : (b : Bool) → (b && false) ≡ false
+    never true = refl
+    never false = refl
+rest_last Multicast pool is = refl
 
 module _ (apart : ℕ → Bool) (table share : List ℕ → Distribution) (pools : List ℕ → Sharing) (place : ℕ → Option (List ℕ)) (due : List ℕ → Bool) (known : ℕ → Option Figure) (last : List ℕ → ℕ) (fits : Fits apart table share pools place due known last) where
   -- more may be apart, of which other things may be known, and more may be due
@@ -95,7 +106,7 @@ module _ (apart : ℕ → Bool) (table share : List ℕ → Distribution) (pools
             (λ f. ap (λ p. link_at p.producers m) (elsewhere a f) ∙ fits.no_producer m a (place_before m a none e)));
         same = fits.same;
         distribution = keeps (λ a p. p.distribution ≡ share a) (λ a e. ap (λ p. p.distribution) (change_is (pools a)) ∙ fits.distribution a) (λ a e. fits.distribution a);
-        chosen = keeps (λ a p. p.last ≡ last a) (λ a e. ap (λ p. p.last) (change_is (pools a)) ∙ fits.chosen a) (λ a e. fits.chosen a);
+        chosen = keeps (λ a p. remembered (share a) p.last ≡ remembered (share a) (last a)) (λ a e. ap (λ p. remembered (share a) p.last) (change_is (pools a)) ∙ fits.chosen a) (λ a e. fits.chosen a);
         consumers_rise = keeps (λ a p. InOrder p.consumers) (λ a e. subst (λ p. InOrder p.consumers) (sym (change_is (pools a))) (without_ordered (pools a).consumers n (fits.consumers_rise a))) (λ a e. fits.consumers_rise a);
         producers_rise = keeps (λ a p. InOrder p.producers) (λ a e. subst (λ p. InOrder p.producers) (sym (change_is (pools a))) (without_ordered (pools a).producers n (fits.producers_rise a))) (λ a e. fits.producers_rise a);
         quiet = quiet_still due' is_due later;
@@ -145,11 +156,29 @@ module _ (apart : ℕ → Bool) (table share : List ℕ → Distribution) (pools
             (λ f. ap (λ p. link_at p.producers m) (elsewhere a f) ∙ fits.no_producer m a none);
         same = fits.same;
         distribution = keeps (λ a p. p.distribution ≡ share a) (λ a e. same_distribution a ∙ fits.distribution a) (λ a e. fits.distribution a);
-        chosen = keeps (λ a p. p.last ≡ last a) (λ a e. same_last a ∙ fits.chosen a) (λ a e. fits.chosen a);
+        chosen = keeps (λ a p. remembered (share a) p.last ≡ remembered (share a) (last a)) (λ a e. ap (remembered (share a)) (same_last a) ∙ fits.chosen a) (λ a e. fits.chosen a);
         consumers_rise = keeps (λ a p. InOrder p.consumers) (λ a e. consumers_ordered a (fits.consumers_rise a)) (λ a e. fits.consumers_rise a);
         producers_rise = keeps (λ a p. InOrder p.producers) (λ a e. producers_ordered a (fits.producers_rise a)) (λ a e. fits.producers_rise a);
         quiet = quiet_still due is_due (λ a none. none);
       }
+
+  -- a pool may go where a new one would do as well
+  pub rested_fits : (pools' : List ℕ → Sharing) (q : List ℕ) → ((a : List ℕ) → pools' a ≡ with_pool pools q rested a) → Fits apart table share pools' place due known last
+  rested_fits pools' q changes = record {
+    consumers = λ n a is. keep (λ a p. link_at p.consumers n ≡ offer_at a (known n)) (λ a e. fits.consumers n a is) (λ a e. fits.consumers n a is) a;
+    producers = λ n a is. keep (λ a p. link_at p.producers n ≡ demand_at a (known n)) (λ a e. fits.producers n a is) (λ a e. fits.producers n a is) a;
+    no_consumer = λ n. keep (λ a p. is_place (place n) a ≡ false → link_at p.consumers n ≡ None) (λ a e. fits.no_consumer n a) (λ a e. fits.no_consumer n a);
+    no_producer = λ n. keep (λ a p. is_place (place n) a ≡ false → link_at p.producers n ≡ None) (λ a e. fits.no_producer n a) (λ a e. fits.no_producer n a);
+    same = fits.same;
+    distribution = keep (λ a p. p.distribution ≡ share a) (λ a e. fits.distribution a) (λ a e. fits.distribution a);
+    chosen = keep (λ a p. remembered (share a) p.last ≡ remembered (share a) (last a)) (λ a e. rest_last (share a) (pools a) (fits.distribution a) ∙ fits.chosen a) (λ a e. fits.chosen a);
+    consumers_rise = keep (λ a p. InOrder p.consumers) (λ a e. fits.consumers_rise a) (λ a e. fits.consumers_rise a);
+    producers_rise = keep (λ a p. InOrder p.producers) (λ a e. fits.producers_rise a) (λ a e. fits.producers_rise a);
+    quiet = keep (λ a p. due a ≡ false → grants_of p ≡ []) (λ a e none. grants_but_last (pools a) (rested (pools a)).last ∙ fits.quiet a none) (λ a e. fits.quiet a);
+  }
+    where
+      keep : (P : List ℕ → Sharing → Type 0) → ((a : List ℕ) → bytes_eq q a ≡ true → P a (rested (pools a))) → ((a : List ℕ) → bytes_eq q a ≡ false → P a (pools a)) → (a : List ℕ) → P a (pools' a)
+      keep = keeps pools' q rested changes
 
   -- a link that stands nowhere is given a place
   pub placed : (n : ℕ) (q : List ℕ) → place n ≡ None → (place' : ℕ → Option (List ℕ)) → ((m : ℕ) → place' m ≡ (if n == m then Some q else place m)) → Fits apart table share pools place' due known last
@@ -200,7 +229,7 @@ module _ (apart : ℕ → Bool) (table share : List ℕ → Distribution) (pools
     no_producer = λ n a is. ap (link_at_of n) (same_producers a) ∙ fits.no_producer n a is;
     same = fits.same;
     distribution = λ a. ap (λ p. p.distribution) (changes a) ∙ distribution_kept (bytes_eq q a) (pools a) r ∙ fits.distribution a;
-    chosen = λ a. ap (λ p. p.last) (changes a) ∙ last_kept (bytes_eq q a) (pools a) r ∙ ap (λ l. if bytes_eq q a then or_last r l else l) (fits.chosen a);
+    chosen = λ a. ap (λ p. remembered (share a) p.last) (changes a) ∙ ap (remembered (share a)) (last_kept (bytes_eq q a) (pools a) r) ∙ last_alike (share a) (bytes_eq q a) r (pools a).last (last a) (fits.chosen a);
     consumers_rise = λ a. subst (λ es. InOrder es) (sym (same_consumers a)) (fits.consumers_rise a);
     producers_rise = λ a. subst (λ es. InOrder es) (sym (same_producers a)) (fits.producers_rise a);
     quiet = λ a none. ap grants_of (changes a) ∙ quiet_kept (bytes_eq q a) (pools a) r ∙ fits.quiet a none;
@@ -228,6 +257,11 @@ module _ (apart : ℕ → Bool) (table share : List ℕ → Distribution) (pools
       last_kept true pool None = refl
       last_kept true pool (Some id) = refl
       last_kept false pool r = refl
+
+      last_alike : (d : Distribution) (b : Bool) (r : Option ℕ) (l m : ℕ) → remembered d l ≡ remembered d m → remembered d (if b then or_last r l else l) ≡ remembered d (if b then or_last r m else m)
+      last_alike d true None l m is = is
+      last_alike d true (Some id) l m is = refl
+      last_alike d false r l m is = is
 
       quiet_kept : (b : Bool) (pool : Sharing) (r : Option ℕ) → grants_of (if b then chose pool r else pool) ≡ grants_of pool
       quiet_kept true pool None = refl
@@ -257,7 +291,7 @@ module _ (apart : ℕ → Bool) (table share : List ℕ → Distribution) (pools
         (λ e. ap (λ p. link_at p.producers n) (elsewhere pools' q all_granted changes a e) ∙ fits.no_producer n a is);
     same = fits.same;
     distribution = keep (λ a p. p.distribution ≡ share a) (λ a e. all_distribution (pools a) (rise a) ∙ fits.distribution a) (λ a e. fits.distribution a);
-    chosen = keep (λ a p. p.last ≡ last a) (λ a e. all_last (pools a) (rise a) ∙ fits.chosen a) (λ a e. fits.chosen a);
+    chosen = keep (λ a p. remembered (share a) p.last ≡ remembered (share a) (last a)) (λ a e. ap (remembered (share a)) (all_last (pools a) (rise a)) ∙ fits.chosen a) (λ a e. fits.chosen a);
     consumers_rise = keep (λ a p. InOrder p.consumers) (λ a e. subst (λ es. InOrder es) (sym (all_consumers (pools a) (rise a))) (fits.consumers_rise a)) (λ a e. fits.consumers_rise a);
     producers_rise = keep (λ a p. InOrder p.producers) (λ a e. all_ordered (pools a) (rise a)) (λ a e. rise a);
     quiet = λ a none. by_test (bytes_eq q a)
@@ -317,7 +351,7 @@ none_fits apart table share pools place due known same new none = record {
   no_producer = λ n a is. ap (λ p. link_at p.producers n) (new a);
   same = same;
   distribution = λ a. ap (λ p. p.distribution) (new a) ∙ same a;
-  chosen = λ a. ap (λ p. p.last) (new a);
+  chosen = λ a. ap (λ p. remembered (share a) p.last) (new a);
   consumers_rise = λ a. subst (λ p. InOrder p.consumers) (sym (new a)) tt;
   producers_rise = λ a. subst (λ p. InOrder p.producers) (sym (new a)) tt;
   quiet = λ a is. ap grants_of (new a);

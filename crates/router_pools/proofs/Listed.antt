@@ -8,9 +8,12 @@ use Rattle.std.specs.BTreeMap.{is_at}
 use Rattle.std.specs.Ordering.{nat_cmp}
 use Rattle.std.proofs.lemmas.Bool.{eqb-true, le-leb, lt-leb, lt-ltb}
 use Rattle.route_credit.specs.Links.{link_at}
-use Rattle.route_credit.specs.Pool.{Sharing}
+use Rattle.route_credit.specs.Granting.{choice, grants_of}
+use Rattle.route_credit.specs.Pool.{remembered, remembering, Sharing}
 use Rattle.route_credit.proofs.Entries.{Above, InOrder, less_is, same_entries}
+use Rattle.route_credit.proofs.Gains.{grants_but_last}
 use Rattle.route_credit.proofs.Indices.{same_test}
+use Rattle.route_credit.proofs.Remembered.{choice_but_last}
 use Rattle.route_table.specs.declared.sections.Distribution.{Distribution}
 use Rattle.router_pools.specs.Fits.{Fits}
 use Rattle.router_pools.specs.Sharing.{AreNumbered, demand_at, entry, Figure, listed, offer_at, sharing}
@@ -110,16 +113,33 @@ module _ {X : Type 0} where
   listed_ordered f zero = tt
   listed_ordered f (suc n) = ordered_end (suc n) (f (suc n)) (listed f n) (listed_below f n) (listed_ordered f n)
 
--- where nothing is apart the pool of an address is that of what each link has
-pub pool_is : (apart : ℕ → Bool) (table share : List ℕ → Distribution) (pools : List ℕ → Sharing) (place : ℕ → Option (List ℕ)) (due : List ℕ → Bool) (known : ℕ → Option Figure) (last : List ℕ → ℕ) (count : ℕ) (address : List ℕ)
-    → Fits apart table share pools place due known last → ((n : ℕ) → apart n ≡ false) → AreNumbered known count → pools address ≡ sharing (share address) known count (last address) address
-pool_is apart table share pools place due known last count address fits none numbered =
-    λ i. record { distribution = fits.distribution address i; consumers = consumers i; producers = producers i; last = fits.chosen address i }
-  where
-    consumers : (pools address).consumers ≡ listed (λ n. offer_at address (known n)) count
-    consumers = same_entries (pools address).consumers (listed (λ n. offer_at address (known n)) count) (fits.consumers_rise address) (listed_ordered (λ n. offer_at address (known n)) count)
-        (λ q. fits.consumers q address (none q) ∙ sym (listed_at (λ n. offer_at address (known n)) count (ap (offer_at address) numbered.first) (λ m l. ap (offer_at address) (numbered.most m l)) q))
+module _ (apart : ℕ → Bool) (table share : List ℕ → Distribution) (pools : List ℕ → Sharing) (place : ℕ → Option (List ℕ)) (due : List ℕ → Bool) (known : ℕ → Option Figure) (last : List ℕ → ℕ) (count : ℕ) (address : List ℕ)
+    (fits : Fits apart table share pools place due known last) (none : (n : ℕ) → apart n ≡ false) (numbered : AreNumbered known count) where
+  -- where nothing is apart the pool of an address is that of what each link has, with as much of its last choice as the next ones go by
+  pub pool_is : remembering (pools address) ≡ sharing (share address) known count (remembered (share address) (last address)) address
+  pool_is =
+      λ i. record {
+        distribution = fits.distribution address i;
+        consumers = consumers i;
+        producers = producers i;
+        last = (ap (λ d. remembered d (pools address).last) (fits.distribution address) ∙ fits.chosen address) i;
+      }
+    where
+      consumers : (pools address).consumers ≡ listed (λ n. offer_at address (known n)) count
+      consumers = same_entries (pools address).consumers (listed (λ n. offer_at address (known n)) count) (fits.consumers_rise address) (listed_ordered (λ n. offer_at address (known n)) count)
+          (λ q. fits.consumers q address (none q) ∙ sym (listed_at (λ n. offer_at address (known n)) count (ap (offer_at address) numbered.first) (λ m l. ap (offer_at address) (numbered.most m l)) q))
 
-    producers : (pools address).producers ≡ listed (λ n. demand_at address (known n)) count
-    producers = same_entries (pools address).producers (listed (λ n. demand_at address (known n)) count) (fits.producers_rise address) (listed_ordered (λ n. demand_at address (known n)) count)
-        (λ q. fits.producers q address (none q) ∙ sym (listed_at (λ n. demand_at address (known n)) count (ap (demand_at address) numbered.first) (λ m l. ap (demand_at address) (numbered.most m l)) q))
+      producers : (pools address).producers ≡ listed (λ n. demand_at address (known n)) count
+      producers = same_entries (pools address).producers (listed (λ n. demand_at address (known n)) count) (fits.producers_rise address) (listed_ordered (λ n. demand_at address (known n)) count)
+          (λ q. fits.producers q address (none q) ∙ sym (listed_at (λ n. demand_at address (known n)) count (ap (demand_at address) numbered.first) (λ m l. ap (demand_at address) (numbered.most m l)) q))
+
+  abbrev shared : Sharing
+  shared = sharing (share address) known count (last address) address
+
+  -- so what it chooses is
+  pub choice_is : choice (pools address) ≡ choice shared
+  choice_is = sym (choice_but_last (pools address)) ∙ ap choice pool_is ∙ choice_but_last shared
+
+  -- and what it grants
+  pub grants_are : grants_of (pools address) ≡ grants_of shared
+  grants_are = sym (grants_but_last (pools address) (remembering (pools address)).last) ∙ ap grants_of pool_is ∙ grants_but_last shared (remembering shared).last

@@ -8,7 +8,7 @@ use Rattle.std.specs.Ordering.{nat_cmp}
 use Rattle.std.specs.Str.{bytes_eq}
 use Rattle.route_credit.specs.Granting.{grants_of}
 use Rattle.route_credit.specs.Links.{link_at}
-use Rattle.route_credit.specs.Pool.{Sharing}
+use Rattle.route_credit.specs.Pool.{remembered, Sharing}
 use Rattle.router_pools.specs.Addresses.{among, at_address, pool_or}
 use Rattle.route_table.specs.declared.sections.Distribution.{Distribution}
 use Rattle.route_table.specs.Places.{distribution_of}
@@ -47,8 +47,8 @@ abbrev pub is_place : Option (List ℕ) → List ℕ → Bool
 is_place None address = false
 is_place (Some place) address = bytes_eq place address
 
--- Pools say of each link, but for those apart, what it has, and of each address how it is shared and the consumer last chosen; a link stands at its place only, and an address that isn't due has
--- no grants. The table says how addresses are shared.
+-- Pools say of each link, but for those apart, what it has, and of each address how it is shared and the consumer last chosen, as far as the next choice goes by it; a link stands at its place only,
+-- and an address that isn't due has no grants. The table says how addresses are shared.
 pub record Fits (apart : ℕ → Bool) (table share : List ℕ → Distribution) (pools : List ℕ → Sharing) (place : ℕ → Option (List ℕ)) (due : List ℕ → Bool) (known : ℕ → Option Figure) (last : List ℕ → ℕ) : Type 0 where
   pub consumers : (n : ℕ) (address : List ℕ) → apart n ≡ false → link_at (pools address).consumers n ≡ offer_at address (known n)
   pub producers : (n : ℕ) (address : List ℕ) → apart n ≡ false → link_at (pools address).producers n ≡ demand_at address (known n)
@@ -56,7 +56,7 @@ pub record Fits (apart : ℕ → Bool) (table share : List ℕ → Distribution)
   pub no_producer : (n : ℕ) (address : List ℕ) → is_place (place n) address ≡ false → link_at (pools address).producers n ≡ None
   pub same : (address : List ℕ) → table address ≡ share address
   pub distribution : (address : List ℕ) → (pools address).distribution ≡ share address
-  pub chosen : (address : List ℕ) → (pools address).last ≡ last address
+  pub chosen : (address : List ℕ) → remembered (share address) (pools address).last ≡ remembered (share address) (last address)
   pub consumers_rise : (address : List ℕ) → IsStrictlySortedBy nat_cmp (keys_of (pools address).consumers)
   pub producers_rise : (address : List ℕ) → IsStrictlySortedBy nat_cmp (keys_of (pools address).producers)
   pub quiet : (address : List ℕ) → due address ≡ false → grants_of (pools address) ≡ []

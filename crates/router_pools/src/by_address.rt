@@ -3,7 +3,7 @@ ghost use Rattle.std.specs.Prelude.{◌≡◌, ℕ, List, Bool, true, None, Some
 ghost use Rattle.route_table.specs.declared.sections.Distribution.{Distribution};
 ghost use Rattle.route_credit.specs.Granting.{all_granted, choice, grants_of};
 ghost use Rattle.route_credit.specs.Pool.{by_id, chose, no_links, offered, wanted, without_consumer, without_producer};
-ghost use Rattle.router_pools.specs.Addresses.{at_address, with_pool, without};
+ghost use Rattle.router_pools.specs.Addresses.{at_address, is_spent, rested, with_pool, without};
 ghost use Rattle.router_pools.specs.Fits.{pool_in};
 
 use route_credit::{ConsumerId, Pool, ProducerId};
@@ -11,7 +11,8 @@ use route_table::Distribution;
 use std::alloc::{AllocError, Global};
 use std::collections::BTreeMap;
 
-/// Pools by the bytes of their addresses. One without links stays: it has the consumer that was chosen last.
+/// Pools by the bytes of their addresses. One without links is let go, but on a closest address: there the next choice goes by
+/// the consumer that was chosen last.
 #[derive(Debug, Drop)]
 pub(crate) struct ByAddress {
     alloc: Global,
@@ -95,6 +96,17 @@ impl ByAddress {
         }
     }
 
+    /// Lets the pool of an address go, where a new one would do as well.
+    pub(crate) fn forget(&mut self, address: &[u8])
+        ensures { (share : List ℕ → Distribution) → (pool_in share self.old address.now).distribution ≡ share address.now → (a : List ℕ) → pool_in share self.new a ≡ with_pool (pool_in share self.old) address.now rested a }
+    {
+        if let Some(pool) = self.pools.get(address) {
+            if is_spent(pool) {
+                let _ = self.pools.remove(address);
+            }
+        }
+    }
+
     /// Chooses the consumer of the next delivery of an address.
     pub(crate) fn choose(&mut self, address: &[u8]) -> Option<ConsumerId>
         ensures chosen { (share : List ℕ → Distribution) → option_map (λ c. c.0) result ≡ choice (pool_in share self.old address.now) }
@@ -116,4 +128,15 @@ impl ByAddress {
             Some(pool) => pool.grants(),
         }
     }
+}
+
+/// Whether a new pool would do as well: it has no links, and no choice goes by those before.
+fn is_spent(pool: &Pool) -> bool
+    ensures { result ≡ is_spent pool.now }
+{
+    let forgets = match pool.distribution() {
+        Distribution::Balanced | Distribution::Multicast => true,
+        Distribution::Closest => false,
+    };
+    pool.is_empty() && forgets
 }

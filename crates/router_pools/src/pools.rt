@@ -23,9 +23,9 @@ use std::collections::{BTreeMap, BTreeSet};
 /// The pools of all addresses, with the links that may have changed, and the addresses that may have grants.
 ///
 /// A link is named by its number, which is its order of attach. Each call costs a logarithm of the number of links, and
-/// `grants` that much for each credit that it gives. An address keeps its pool when its links are gone, since the
-/// consumer last chosen is part of it. How an address is shared is what the table of prefixes says. Behind a refused growth
-/// nothing can be said of the pools.
+/// `grants` that much for each credit that it gives. The pool of an address goes with the last of its links; on a closest
+/// address it stays, since the next choice goes by the consumer last chosen. How an address is shared is what the table of
+/// prefixes says. Behind a refused growth nothing can be said of the pools.
 #[derive(Drop)]
 pub struct Pools {
     alloc: Global,
@@ -197,7 +197,7 @@ impl Pools {
         Ok(Some(Grants { address, sums }))
     }
 
-    /// Takes a link from the pool where it stands, which may then have grants.
+    /// Takes a link from the pool where it stands, which may then have grants, or go.
     fn take_out(&mut self, number: u64) -> Result<(), AllocError>
         ensures fits { OnOk result ((share : List ℕ → Distribution) (known : ℕ → Option Figure) (last : List ℕ → ℕ) → PoolsFitBut number self.old share known last → PoolsFitBut number self.new share known last) }
         ensures nowhere { OnOk result (place_of self.new number ≡ None) }
@@ -210,6 +210,7 @@ impl Pools {
                 let address = place.as_slice();
                 self.due.add(address)?;
                 self.pools.leave(address, number);
+                self.pools.forget(address);
                 Ok(())
             }
         }

@@ -11,10 +11,11 @@ use Rattle.router_trace.specs.Links.{link_place}
 use Rattle.router_trace.specs.Settling.{part_of}
 use Rattle.router_trace.specs.declared.binding.Binding.{Binding}
 use Rattle.router_passing.specs.Passing.{with_bound}
-use Rattle.router_reply.specs.declared.answer.Answer.{Answer}
-use Rattle.router_reply.specs.declared.answer.Answer.TheVariants.{Taken, Settle}
-use Rattle.router_reply.specs.Rows.{said, item_reply}
-use Rattle.router_reply.specs.Replies.{finds, item_row, item_bound, item_put, links_put, put_for_transfer, put_for_disposition, bound_for, part_put, part_bound, settled_put, disposition_in, attach_put, given_behind, behind_answer}
+use Rattle.router_rows.specs.declared.answer.Answer.{Answer}
+use Rattle.router_rows.specs.declared.answer.Answer.TheVariants.{Taken, Settle}
+use Rattle.router_rows.specs.Rows.{said, item_reply}
+use Rattle.router_rows.specs.Finding.{finds}
+use Rattle.router_reply.specs.Replies.{item_row, item_bound, item_put, links_put, put_for_transfer, put_for_disposition, bound_for, part_put, part_bound, settled_put, disposition_in, attach_put, given_behind, behind_answer}
 use Rattle.router_reply.proofs.Puts.{goes_both}
 
 -- an answer takes no transfer, or answers no disposition

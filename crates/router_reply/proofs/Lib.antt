@@ -1,8 +1,5 @@
-pub mod RowOrder
 pub mod Puts
-pub mod Placed
 pub mod Unlinked
-pub mod Mapped
 pub mod Behind
 mod Given
 mod Refused

@@ -1,5 +1,3 @@
-pub mod LinkRows
-pub mod Rows
 pub mod Replies
 pub use Rattle.router_trace.specs.Trace
 pub use Rattle.router_trace.specs.Connection
@@ -15,3 +13,6 @@ pub use Rattle.router_sessions.specs.Windows
 pub use Rattle.router_trace.specs.Links
 pub use Rattle.router_trace.specs.LinkFrames
 pub use Rattle.router_trace.specs.Peers
+pub use Rattle.router_rows.specs.LinkRows
+pub use Rattle.router_rows.specs.Rows
+pub use Rattle.router_rows.specs.Finding

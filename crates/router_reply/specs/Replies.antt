@@ -18,25 +18,23 @@ use Rattle.router_trace.specs.declared.condition.Condition.TheVariants.{Resource
 use Rattle.router_trace.specs.declared.event.Event.{Event}
 use Rattle.router_trace.specs.declared.event.Event.TheVariants as event
 use Rattle.router_trace.specs.Trace.{Trace, Step, Put, Did, puts, each_to, goes}
-use Rattle.router_trace.specs.Configuration.{distribution, is_multicast}
 use Rattle.router_trace.specs.Connection.{Connection, conn, standing, found, due}
 use Rattle.router_trace.specs.Frames.{closing}
-use Rattle.router_trace.specs.Sessions.{place, free_channel}
 use Rattle.router_trace.specs.declared.binding.Binding.{Binding}
 use Rattle.router_trace.specs.declared.binding.Origin.{Origin}
 use Rattle.router_trace.specs.declared.handle.Attachment.{Attachment}
 use Rattle.router_trace.specs.Deliveries.{terminal, last_of}
 use Rattle.router_trace.specs.DeliveryFrames.{outcome_item}
-use Rattle.router_trace.specs.Settling.{open_ids, is_claimed, is_claimed_on, ignored, part_of}
+use Rattle.router_trace.specs.Settling.{open_ids, is_claimed_on, ignored, part_of}
 use Rattle.router_trace.specs.LinkFrames.{attach_item, detach_item, answer_to, refusal_of, fits}
 use Rattle.router_trace.specs.Links.{Link, link, link_place, free_handle, holder, key_at}
 use Rattle.router_trace.specs.Peers.{largest_frame}
-use Rattle.router_trace.specs.Clocks.{terms, channel_max_of}
 use Rattle.router_state.specs.Tables.{beats}
 use Rattle.router_passing.specs.Passing.{passing, consumer_of, with_bound}
-use Rattle.router_reply.specs.declared.answer.Answer.{Answer}
-use Rattle.router_reply.specs.declared.answer.Answer.TheVariants.{Attach, Refuse, Taken, Settle}
-use Rattle.router_reply.specs.Rows.{Finds, said, item_reply, down_reply}
+use Rattle.router_rows.specs.declared.answer.Answer.{Answer}
+use Rattle.router_rows.specs.declared.answer.Answer.TheVariants.{Attach, Refuse, Taken, Settle}
+use Rattle.router_rows.specs.Rows.{said, item_reply, down_reply}
+use Rattle.router_rows.specs.Finding.{finds}
 
 -- a connection is closed with an error: its open stands before the close where it isn't written yet
 abbrev pub closing_of : List ℕ → Option Connection → Condition → List Item
@@ -51,25 +49,6 @@ ends id (c ∷ cs) t = ends id cs (puts c (closing_of id (conn t c) ResourceLimi
 -- the event's entry, and behind it the ends for full outboxes
 abbrev pub heard : List ℕ → Trace → Step → Trace
 heard id t s = ends id (due t s.event) (Did s ∷ t)
-
--- the lowest channel that is free for a session of a connection
-abbrev pub free_for : Trace → ℕ → Option ℕ
-free_for t c = free_channel t c (channel_max_of (terms t c))
-
--- the addresses whose messages go to every consumer
-abbrev pub multicast_of : Trace → List ℕ → Bool
-multicast_of t address = is_multicast (distribution t address)
-
--- what an item on a connection finds
-abbrev pub finds : Trace → ℕ → Finds
-finds t c = record {
-  places = place t c;
-  free_channel = free_for t c;
-  links = link_place t c;
-  free_handle = free_handle t c;
-  claimed = is_claimed t c;
-  multicast = multicast_of t;
-}
 
 -- An attach that is taken: the older link of its key, if one is attached, is detached as stolen, and then the answer is put, on the
 -- lowest handle that is free by then. Where the answer doesn't fit what the peer takes, a detach tells so in its place.

@@ -1,17 +1,17 @@
 //! Attaches, taken or refused.
 ghost use Rattle.std.specs.Prelude.{◌≡◌, ◌∷◌, [], List, ℕ, OnOk, IfOk, Some, None, if◌then◌else◌};
 ghost use Rattle.router_trace.specs.Trace.{Entry, goes, puts};
-ghost use Rattle.router_trace.specs.Links.{holder};
+ghost use Rattle.router_trace.specs.Links.{holder, key_at, free_handle};
 ghost use Rattle.router_trace.specs.LinkFrames.{fits};
 ghost use Rattle.router_state.specs.Tables.{TablesFit};
 ghost use Rattle.router_reply.specs.Replies.{stolen_by, unless_too_large, attach_answer, taken, refused, put_for_attach, attach_put_in, attach_put};
 ghost use Rattle.router_trace.specs.Peers.{largest_frame};
 
-use crate::answer::Answer;
 use crate::closing::write_detach;
 use amqp_frames::{Item, item_len};
 use amqp_perf::{Attach, Perf};
 use book_core::LinkKey;
+use router_rows::Answer;
 use router_state::State;
 use router_trace::{Condition, RouterId, attach_item};
 use std::alloc::AllocError;
@@ -72,6 +72,22 @@ fn put_answer(
     Ok(())
 }
 
+/// Detaches the link of the answer's key, if one is attached, and gives the lowest handle that is free then.
+fn make_way(
+    state: &mut State,
+    id: &RouterId,
+    conn: u64,
+    own: u16,
+    answer: &Attach,
+) -> Result<Option<u32>, AllocError>
+    ensures fits { OnOk result ((t : List Entry) → TablesFit state.old t → TablesFit state.new (goes (stolen_by (holder t (key_at t conn answer.now))) t)) }
+    ensures handle { IfOk result (λ handle. (t : List Entry) → TablesFit state.old t → handle ≡ free_handle (goes (stolen_by (holder t (key_at t conn answer.now))) t) conn own) }
+{
+    let key = state.key_of(conn, answer)?;
+    steal(state, id, &key)?;
+    Ok(state.free_handle(conn, own))
+}
+
 /// Answers an attach that is taken: the older link of its key is detached, and the answer put on the lowest handle that is free then.
 fn take_link(
     state: &mut State,
@@ -84,11 +100,16 @@ fn take_link(
 {
     let largest = state.largest_frame(conn);
     let mut answer = id.answer_to(attach, 0);
-    let key = state.key_of(conn, &answer)?;
-    steal(state, id, &key)?;
-    if let Some(handle) = state.free_handle(conn, own) {
-        answer.handle = handle;
-        put_answer(state, id, conn, largest, own, answer)?;
+    match make_way(state, id, conn, own, &answer) {
+        Err(error) => {
+            drop(answer);
+            return Err(error);
+        }
+        Ok(None) => drop(answer),
+        Ok(Some(handle)) => {
+            answer.handle = handle;
+            put_answer(state, id, conn, largest, own, answer)?;
+        }
     }
     Ok(())
 }
@@ -133,7 +154,7 @@ fn answer_attach(
         Answer::Refuse { own, handle, error } => {
             refuse_link(state, id, conn, *own, *handle, *error, attach)?
         }
-        _ => {}
+        _ => drop(attach),
     }
     Ok(())
 }
@@ -150,7 +171,7 @@ fn answer_perf(
 {
     match perf {
         Perf::Attach(attach) => answer_attach(state, id, conn, attach, answer)?,
-        _other => {}
+        other => drop(other),
     }
     Ok(())
 }
@@ -172,7 +193,7 @@ pub fn answer_item(
             perf,
             payload: _payload,
         } => answer_perf(state, id, conn, perf, answer)?,
-        _other => {}
+        other => drop(other),
     }
     Ok(())
 }

@@ -4,11 +4,11 @@ ghost use Rattle.router_trace.specs.Trace.{Entry, puts};
 ghost use Rattle.router_state.specs.Tables.{TablesFit};
 ghost use Rattle.router_trace.specs.LinkFrames.{detach_item};
 ghost use Rattle.router_trace.specs.Frames.{closing, open_item, close_item};
-ghost use Rattle.router_reply.specs.Rows.{said};
+ghost use Rattle.router_rows.specs.Rows.{said};
 ghost use Rattle.router_reply.specs.Replies.{ends};
 
-use crate::answer::Answer;
 use amqp_conn::Conn;
+use router_rows::Answer;
 use router_state::State;
 use router_trace::{Condition, RouterId, flow_item, header_item, link_flow_item};
 use std::alloc::AllocError;

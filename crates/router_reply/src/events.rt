@@ -7,18 +7,18 @@ ghost use Rattle.router_trace.specs.Settling.{part_of};
 ghost use Rattle.router_links.specs.Fits.{channel_of};
 ghost use Rattle.router_trace.specs.Refusing.{rises, refuses};
 ghost use Rattle.router_state.specs.Tables.{TablesFit, TablesAt};
-ghost use Rattle.router_reply.specs.Rows.{item_reply};
-ghost use Rattle.router_reply.specs.Replies.{finds, replied, heard, given_behind, behind_answer, attach_put, settled_put, disposition_in};
+ghost use Rattle.router_rows.specs.Rows.{item_reply};
+ghost use Rattle.router_rows.specs.Finding.{finds};
+ghost use Rattle.router_reply.specs.Replies.{replied, heard, given_behind, behind_answer, attach_put, settled_put, disposition_in};
 ghost use Rattle.router_trace.specs.declared.event.Event.TheVariants as event;
 
-use crate::answer::Answer;
 use crate::attaching::answer_item;
 use crate::closing::{close_all, say};
-use crate::deciding::item_reply;
 use crate::passing::{disposition_in, last_of, settle, take_part};
 use amqp_conn::Conn;
 use amqp_frames::Item;
 use amqp_link::Part;
+use router_rows::{Answer, item_reply};
 use router_state::State;
 use router_trace::{ConnectionId, Event, Peer, RouterId};
 use std::alloc::AllocError;
@@ -118,11 +118,11 @@ fn hear_late(
     id: &RouterId,
     ends: &[u64],
     conn: ConnectionId,
-    item: Item,
+    item: &Item,
 ) -> Result<(), AllocError>
-    ensures { OnOk result ((t : List Entry) → TablesAt state.old t (event.Item conn item) ends.now → TablesFit state.new (heard id.now t (step_of (event.Item conn item)))) }
+    ensures { OnOk result ((t : List Entry) → TablesAt state.old t (event.Item conn item.now) ends.now → TablesFit state.new (heard id.now t (step_of (event.Item conn item.now)))) }
 {
-    hear_item(state, id, ends, conn, &item)?;
+    hear_item(state, id, ends, conn, item)?;
     Ok(())
 }
 
@@ -137,11 +137,16 @@ fn on_item(
     ensures { OnOk result ((t : List Entry) → TablesAt state.old t (event.Item conn item) ends.now → TablesFit state.new (replied id.now t (step_of (event.Item conn item)))) }
 {
     let Some(phase) = state.standing(conn.0) else {
-        hear_late(state, id, ends, conn, item)?;
+        let heard = hear_late(state, id, ends, conn, &item);
+        drop(item);
+        heard?;
         return Ok(());
     };
     let answer = item_reply(state, conn.0, phase, &item);
-    begin_item(state, id, ends, conn, phase, &item, &answer)?;
+    let Ok(()) = begin_item(state, id, ends, conn, phase, &item, &answer) else {
+        drop(item);
+        return Err(AllocError);
+    };
     answer_item(state, id, conn.0, item, &answer)?;
     Ok(())
 }

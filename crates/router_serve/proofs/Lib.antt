@@ -1,4 +1,3 @@
-pub mod Histories
 pub mod Appending
 pub mod Batches
 pub mod Submits

@@ -1,8 +1,8 @@
-pub mod Adding
 pub mod Ends
-pub mod History
 pub mod Submitting
 pub mod Wrote
+pub use Rattle.router_shared.specs.Adding
+pub use Rattle.router_shared.specs.History
 pub use Rattle.router_core.specs.Handling
 pub use Rattle.router_core.specs.Moves
 pub use Rattle.router_core.specs.Counting

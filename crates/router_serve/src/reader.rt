@@ -4,12 +4,9 @@ ghost use Rattle.router_serve.specs.Submitting.{with_items, needs_down, Submitte
 
 use crate::end::ReadEnd;
 use crate::gate::{Gate, Side};
-use crate::ledgers::Ledgers;
-use crate::locked::{Log, Receipt};
-use crate::seat::Seat;
-use crate::shared::Shared;
 use amqp_frames::{FrameFault, FrameReader, Item};
 use router_core::{ConnectionId, CoreFault, Event};
+use router_shared::{Ledgers, Log, Receipt, Seat, Shared};
 use std::alloc::Global;
 use std::io::{ErrorKind, Read};
 use std::sync::Wait;

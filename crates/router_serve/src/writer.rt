@@ -5,13 +5,10 @@ ghost use Rattle.router_serve.specs.Wrote.{spelled, Wrote};
 
 use crate::end::WriteEnd;
 use crate::gate::{Gate, Side};
-use crate::ledgers::Ledgers;
-use crate::locked::Log;
-use crate::seat::Seat;
-use crate::shared::Shared;
 use crate::writing::write_beginning;
 use amqp_frames::{Item, write_item};
 use router_core::{Batch, ConnectionId};
+use router_shared::{Ledgers, Log, Seat, Shared};
 use std::alloc::{AllocError, Global};
 use std::io::Write;
 use std::sync::Wait;

@@ -278,7 +278,10 @@ fn add(flows: &mut Vec<Outgoing>, due: Option<Outgoing>) -> Result<(), AllocErro
         None => Ok(()),
         Some(due) => match flows.push(due) {
             Ok(()) => Ok(()),
-            Err(_) => Err(AllocError),
+            Err(left) => {
+                drop(left);
+                Err(AllocError)
+            }
         },
     }
 }

@@ -268,11 +268,19 @@ impl State {
     pub fn put(&mut self, conn: u64, item: Item) -> Result<(), AllocError>
         ensures { OnOk result ((t : List Entry) → TablesFit self.old t → TablesFit self.new (Out conn item ∷ t)) }
     {
-        let key = key_by(&self.peers, conn, &item)?;
-        self.clocks.put(conn, &item)?;
+        let Ok(()) = self.clocks.put(conn, &item) else {
+            return Err(let_go(item));
+        };
+        let Ok(key) = key_by(&self.peers, conn, &item) else {
+            return Err(let_go(item));
+        };
         self.peers.put(conn, &item);
-        self.passing.put(conn, &item, key)?;
-        self.sessions.put(conn, &item)?;
+        let Ok(()) = self.passing.put(conn, &item, key) else {
+            return Err(let_go(item));
+        };
+        let Ok(()) = self.sessions.put(conn, &item) else {
+            return Err(let_go(item));
+        };
         self.connections.put(conn, item)?;
         note(&mut self.ready, &self.connections, conn)?;
         Ok(())
@@ -530,9 +538,18 @@ impl State {
         };
         match flows.push(flow) {
             Ok(()) => Ok(()),
-            Err(_) => Err(AllocError),
+            Err(left) => {
+                drop(left);
+                Err(AllocError)
+            }
         }
     }
+}
+
+/// Lets go of an item for which memory was refused.
+fn let_go(item: Item) -> AllocError {
+    drop(item);
+    AllocError
 }
 
 /// Whether a session's window is open, where there is a session.
@@ -612,7 +629,10 @@ fn add_beat(due: &mut Vec<Outgoing>, conn: u64, needed: bool) -> Result<(), Allo
     };
     match due.push(beat) {
         Ok(()) => Ok(()),
-        Err(_) => Err(AllocError),
+        Err(left) => {
+            drop(left);
+            Err(AllocError)
+        }
     }
 }
 

@@ -4,11 +4,11 @@ use Rattle.router_trace.specs.Sessions.{theirs, maps}
 use Rattle.router_trace.specs.Links.{link_place}
 use Rattle.router_trace.specs.Settling.{part_of}
 use Rattle.router_links.specs.Fits.{channel_of}
-use Rattle.router_reply.specs.declared.answer.Answer.{Answer}
-use Rattle.router_reply.specs.declared.answer.Answer.TheVariants.{Taken, Settle}
-use Rattle.router_reply.specs.Rows.{said}
+use Rattle.router_rows.specs.declared.answer.Answer.{Answer}
+use Rattle.router_rows.specs.declared.answer.Answer.TheVariants.{Taken, Settle}
+use Rattle.router_rows.specs.Rows.{said}
 use Rattle.router_reply.specs.Replies.{heard, attach_put, given_behind, behind_answer, settled_put, disposition_in}
-use Rattle.router_reply.proofs.Mapped.{IsHere, taken_here}
+use Rattle.router_rows.proofs.Mapped.{IsHere, taken_here}
 use Rattle.router_reply.proofs.Behind.{taken_is, settled_is, other_is, taken_left, settled_left}
 use Rattle.router_trace.specs.declared.event.Event.TheVariants as event
 use Rattle.router_reply.proofs.events.begin_item.Goals as goal

@@ -13,8 +13,8 @@ returns-in_default c = λ t at.
     let gone : c.standing.result ≡ None = search rules in
     let none = sym gone ∙ c.standing.ensures.at t _ _ at in
     let after : List Entry = heard c.args.id.now t (step_of (event.Item c.args.conn c.args.item)) in
-    subst (λ (p : Option Conn). TablesFit c.hear_late.new.state (behind_item c.args.id.now t after c.args.conn.0 c.args.item p))
-    none (c.in_ok-hear_late.ensures t at)
+    subst (λ (p : Option Conn). TablesFit c.hear_late-heard.new.state (behind_item c.args.id.now t after c.args.conn.0 c.args.item p))
+    none (c.in_ok-heard.ensures t at)
 
 pub returns : goal.returns
 returns c = λ t at.
@@ -24,7 +24,7 @@ returns c = λ t at.
     let phase = c.in-Some.phase in
     let after : List Entry = heard id t (step_of (event.Item c.args.conn item)) in
     let row = c.item_reply-answer.ensures t _ _ at in
-    let begun = c.in_ok-begin_item.ensures t at row in
+    let begun = c.in-Ok.ensures t at row in
     subst (λ (u : List Entry). TablesFit c.answer_item.new.state u)
     (begun.2 ∙ decided id t after conn phase item c.item_reply-answer.result _ row (c.in-Some.ensures.at t _ _ at))
     (c.in_ok-answer_item.ensures _ begun.1)

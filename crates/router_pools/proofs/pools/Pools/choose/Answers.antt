@@ -4,12 +4,12 @@ use Rattle.router_pools.specs.Addresses.{with_pool}
 use Rattle.route_credit.specs.Granting.{choice}
 use Rattle.router_pools.specs.Fits.{is_due, is_touched, place_of, pool_at, pool_in, table_of}
 use Rattle.router_pools.proofs.Fitting.{chosen_fits}
-use Rattle.router_pools.proofs.Listed.{pool_is}
+use Rattle.router_pools.proofs.Listed.{choice_is}
 use Rattle.router_pools.proofs.pools.Pools.choose.Goals as goal
 
 pub returns-clause-chosen : goal.returns-clause-chosen
 returns-clause-chosen c share known last count fits none numbered =
-    c.choose.ensures.chosen (table_of c.args.self.now) ∙ ap (λ a. choice (pool_at c.args.self.now a)) c.as_bytes.ensures.value ∙ ap choice (pool_is (is_touched c.args.self.now) (table_of c.args.self.now) share (pool_at c.args.self.now) (place_of c.args.self.now) (is_due c.args.self.now) known last count c.args.address.now fits none numbered)
+    c.choose.ensures.chosen (table_of c.args.self.now) ∙ ap (λ a. choice (pool_at c.args.self.now a)) c.as_bytes.ensures.value ∙ choice_is (is_touched c.args.self.now) (table_of c.args.self.now) share (pool_at c.args.self.now) (place_of c.args.self.now) (is_due c.args.self.now) known last count c.args.address.now fits none numbered
 
 pub returns-clause-fits : goal.returns-clause-fits
 returns-clause-fits c share known last fits =

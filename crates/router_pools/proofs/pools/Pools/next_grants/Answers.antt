@@ -5,24 +5,24 @@ use Rattle.route_credit.specs.Pool.{by_id}
 use Rattle.router_pools.specs.Addresses.{with_pool}
 use Rattle.router_pools.specs.Fits.{is_due, is_touched, place_of, pool_at, pool_in, table_of}
 use Rattle.router_pools.proofs.Fitting.{granted_fits, more_apart}
-use Rattle.router_pools.proofs.Listed.{pool_is}
+use Rattle.router_pools.proofs.Listed.{grants_are}
 use Rattle.router_pools.proofs.pools.Pools.next_grants.Goals as goal
 
 pub returns-in-None-clause-none : goal.returns-in-None-clause-none
 returns-in-None-clause-none c share known last count fits none numbered a =
     let old = c.args.self.now in
-    sym (ap grants_of (pool_is (is_touched old) (table_of old) share (pool_at old) (place_of old) (is_due old) known last count a fits none numbered)) ∙ fits.quiet a (c.in-None.ensures.none a)
+    sym (grants_are (is_touched old) (table_of old) share (pool_at old) (place_of old) (is_due old) known last count a fits none numbered) ∙ fits.quiet a (c.in-None.ensures.none a)
 
 pub returns-clause-sums : goal.returns-clause-sums
 returns-clause-sums c share known last count fits none numbered =
     let old = c.args.self.now in
     c.in_ok-sums.ensures.sums (table_of old) ∙ ap (λ a. grants_of (pool_at old a)) c.as_slice-place.ensures.value
-    ∙ ap grants_of (pool_is (is_touched old) (table_of old) share (pool_at old) (place_of old) (is_due old) known last count c.in-Some.address.items fits none numbered)
+    ∙ grants_are (is_touched old) (table_of old) share (pool_at old) (place_of old) (is_due old) known last count c.in-Some.address.items fits none numbered
 
 pub returns-clause-below : goal.returns-clause-below
 returns-clause-below c share known last count fits none numbered a less =
     let old = c.args.self.now in
-    sym (ap grants_of (pool_is (is_touched old) (table_of old) share (pool_at old) (place_of old) (is_due old) known last count a fits none numbered)) ∙ fits.quiet a (c.in-Some.ensures.first a less)
+    sym (grants_are (is_touched old) (table_of old) share (pool_at old) (place_of old) (is_due old) known last count a fits none numbered) ∙ fits.quiet a (c.in-Some.ensures.first a less)
 
 pub returns-clause-fits : goal.returns-clause-fits
 returns-clause-fits c share known last fits =

@@ -1,0 +1,12 @@
+use Rattle.std.proofs.Common.{◌∙◌, ap, sym}
+use Rattle.std.specs.Prelude.{Result}
+use Rattle.amqp_conn.specs.declared.conn.Conn.{Conn}
+use Rattle.amqp_conn.specs.declared.fault.ConnFault.{ConnFault}
+use Rattle.router_rows.specs.Rows.{turn_by}
+use Rattle.router_rows.specs.Finding.{finds}
+use Rattle.router_rows.proofs.deciding.turn_by.Goals as goal
+
+pub returns-in-Ok : goal.returns-in-Ok
+returns-in-Ok c = λ t e ends at.
+    c.in_turn.ensures t e ends at
+    ∙ ap (λ (r : Result Conn ConnFault). turn_by (finds t c.args.conn) c.args.channel c.args.perf.now r) (sym c.in-Ok.ensures)

@@ -1,0 +1,17 @@
+pub mod LinkRows
+pub mod Rows
+pub mod Finding
+pub use Rattle.router_trace.specs.Trace
+pub use Rattle.router_trace.specs.Connection
+pub use Rattle.router_trace.specs.Refusing
+pub use Rattle.router_trace.specs.Order
+pub use Rattle.router_trace.specs.Frames
+pub use Rattle.router_conns.specs.Fits
+pub use Rattle.router_state.specs.Tables
+pub use Rattle.router_trace.specs.Sessions
+pub use Rattle.router_trace.specs.Clocks
+pub use Rattle.router_conns.specs.Timing
+pub use Rattle.router_sessions.specs.Windows
+pub use Rattle.router_trace.specs.Links
+pub use Rattle.router_trace.specs.LinkFrames
+pub use Rattle.router_trace.specs.Peers

@@ -1,0 +1,168 @@
+//! Which row answers an item.
+ghost use Rattle.std.specs.Prelude.{◌≡◌, ℕ, List};
+ghost use Rattle.amqp_conn.specs.Phase.{after_frame};
+ghost use Rattle.router_trace.specs.Trace.{Entry};
+ghost use Rattle.router_trace.specs.Sessions.{Place as At};
+ghost use Rattle.router_trace.specs.Links.{link_place, free_handle};
+ghost use Rattle.router_sessions.specs.Fits.{found_of};
+ghost use Rattle.router_state.specs.Tables.{TablesAt};
+ghost use Rattle.router_rows.specs.Rows.{attach_reply, flow_reply, transfer_reply, detach_reply, in_turn, turn_by, perf_reply, item_reply};
+ghost use Rattle.router_rows.specs.LinkRows.{is_among};
+ghost use Rattle.router_rows.specs.Finding.{finds, multicast_of};
+ghost use Rattle.router_trace.specs.Settling.{is_claimed};
+ghost use Rattle.router_trace.specs.declared.event.Event.{Event as E};
+
+use crate::answer::Answer;
+use crate::link_rows::{
+    link_flow_reply, session_attach_reply, session_detach_reply, session_transfer_reply,
+};
+use crate::multicast::is_multicast_link;
+use crate::rows::{
+    bad_frame_reply, beat_reply, begin_reply, channel_reply, close_reply, disposition_reply,
+    early_frame_reply, end_reply, header_reply, no_session_reply, open_reply, session_flow_reply,
+};
+use amqp_conn::{Conn, ConnFault};
+use amqp_frames::Item;
+use amqp_perf::{Attach, Detach, Flow, Perf, Transfer};
+use router_sessions::Place;
+use router_state::State;
+
+/// An attach on what was found on its channel.
+fn attach_reply(state: &State, conn: u64, place: Place, attach: &Attach) -> Answer
+    ensures { (t : List Entry) (e : E) (ends : List ℕ) (at : At) → TablesAt state.now t e ends → place ≡ found_of at
+        → result ≡ attach_reply at (link_place t conn) (free_handle t conn) (multicast_of t) attach.now }
+{
+    match place {
+        Place::Nowhere => no_session_reply(),
+        Place::Ending => Answer::Nothing,
+        Place::On { own, .. } => {
+            let at = state.link_place(conn, own, attach.handle);
+            let free = state.free_handle(conn, own);
+            let multicast = is_multicast_link(state, attach);
+            session_attach_reply(own, at, free, multicast, attach)
+        }
+    }
+}
+
+/// A flow on what was found on its channel.
+fn flow_reply(state: &State, conn: u64, place: Place, flow: &Flow) -> Answer
+    ensures { (t : List Entry) (e : E) (ends : List ℕ) (at : At) → TablesAt state.now t e ends → place ≡ found_of at
+        → result ≡ flow_reply at (link_place t conn) flow.now }
+{
+    match place {
+        Place::Nowhere => no_session_reply(),
+        Place::Ending => Answer::Nothing,
+        Place::On { own, window } => match flow.handle {
+            None => session_flow_reply(own, window, flow),
+            Some(handle) => {
+                let at = state.link_place(conn, own, handle);
+                link_flow_reply(own, window, at, flow)
+            }
+        },
+    }
+}
+
+/// Whether a peer has not settled the delivery of an id of its own, where a transfer tells one.
+fn is_among(state: &State, conn: u64, own: u16, id: Option<u32>) -> bool
+    ensures { (t : List Entry) (e : E) (ends : List ℕ) → TablesAt state.now t e ends → result ≡ is_among (is_claimed t conn own) id }
+{
+    match id {
+        None => false,
+        Some(id) => state.is_claimed(conn, own, id),
+    }
+}
+
+/// A transfer on what was found on its channel.
+fn transfer_reply(state: &State, conn: u64, place: Place, transfer: &Transfer) -> Answer
+    ensures { (t : List Entry) (e : E) (ends : List ℕ) (at : At) → TablesAt state.now t e ends → place ≡ found_of at
+        → result ≡ transfer_reply at (link_place t conn) (is_claimed t conn) transfer.now }
+{
+    match place {
+        Place::Nowhere => no_session_reply(),
+        Place::Ending => Answer::Nothing,
+        Place::On { own, window } => {
+            let at = state.link_place(conn, own, transfer.handle);
+            let claimed = is_among(state, conn, own, transfer.delivery_id);
+            let middle = state.middle(conn, own, transfer.handle);
+            session_transfer_reply(own, window, at, claimed, middle, transfer)
+        }
+    }
+}
+
+/// A detach on what was found on its channel.
+fn detach_reply(state: &State, conn: u64, place: Place, detach: &Detach) -> Answer
+    ensures { (t : List Entry) (e : E) (ends : List ℕ) (at : At) → TablesAt state.now t e ends → place ≡ found_of at
+        → result ≡ detach_reply at (link_place t conn) detach.now }
+{
+    match place {
+        Place::Nowhere => no_session_reply(),
+        Place::Ending => Answer::Nothing,
+        Place::On { own, .. } => {
+            let at = state.link_place(conn, own, detach.handle);
+            session_detach_reply(own, at, detach)
+        }
+    }
+}
+
+/// A performative other than open in its turn.
+fn in_turn(state: &State, conn: u64, channel: u16, perf: &Perf) -> Answer
+    ensures { (t : List Entry) (e : E) (ends : List ℕ) → TablesAt state.now t e ends → result ≡ in_turn (finds t conn) channel perf.now }
+{
+    let place = state.place(conn, channel);
+    match perf {
+        Perf::Begin(begin) => begin_reply(place, state.free_channel(conn), channel, begin),
+        Perf::Attach(attach) => attach_reply(state, conn, place, attach),
+        Perf::Flow(flow) => flow_reply(state, conn, place, flow),
+        Perf::Transfer(transfer) => transfer_reply(state, conn, place, transfer),
+        Perf::Disposition(disposition) => disposition_reply(place, disposition),
+        Perf::Detach(detach) => detach_reply(state, conn, place, detach),
+        Perf::End(_) => end_reply(place),
+        Perf::Close(_) => close_reply(),
+        _ => early_frame_reply(),
+    }
+}
+
+/// A performative other than open, on this channel.
+fn turn_by(state: &State, conn: u64, phase: Conn, channel: u16, perf: &Perf) -> Answer
+    ensures { (t : List Entry) (e : E) (ends : List ℕ) → TablesAt state.now t e ends
+        → result ≡ turn_by (finds t conn) channel perf.now (after_frame channel phase) }
+{
+    match phase.take_frame(channel) {
+        Ok(()) => in_turn(state, conn, channel, perf),
+        Err(ConnFault::ChannelTooHigh) => channel_reply(),
+        Err(_) => early_frame_reply(),
+    }
+}
+
+/// A performative in a frame that is no SASL frame.
+fn perf_reply(state: &State, conn: u64, phase: Conn, channel: u16, perf: &Perf) -> Answer
+    ensures { (t : List Entry) (e : E) (ends : List ℕ) → TablesAt state.now t e ends → result ≡ perf_reply phase (finds t conn) channel perf.now }
+{
+    match perf {
+        Perf::Open(open) => open_reply(phase, open),
+        _ => turn_by(state, conn, phase, channel, perf),
+    }
+}
+
+/// What the router answers to an item on a live connection in this phase.
+pub fn item_reply(state: &State, conn: u64, phase: Conn, item: &Item) -> Answer
+    ensures { (t : List Entry) (e : E) (ends : List ℕ) → TablesAt state.now t e ends → result ≡ item_reply phase (finds t conn) item.now }
+{
+    match item {
+        Item::Header { .. } => header_reply(phase),
+        Item::Frame {
+            sasl,
+            channel,
+            perf,
+            ..
+        } => {
+            if *sasl {
+                early_frame_reply()
+            } else {
+                perf_reply(state, conn, phase, *channel, perf)
+            }
+        }
+        Item::Beat { channel } => beat_reply(*channel),
+        Item::Bad(fault) => bad_frame_reply(*fault),
+    }
+}

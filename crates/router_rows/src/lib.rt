@@ -1,0 +1,13 @@
+//! The rows of the reply table: what the router answers to an item, by what the item finds.
+#![tactic(auto)]
+
+mod answer;
+mod deciding;
+mod link_rows;
+mod multicast;
+mod rows;
+
+pub use answer::Answer;
+pub use deciding::item_reply;
+pub use link_rows::LINK_TEXT;
+pub use rows::CONTAINER_ID;

@@ -1,0 +1,51 @@
+//! Whether a link is of an address whose messages go to every consumer.
+ghost use Rattle.std.specs.Prelude.{◌≡◌, ℕ, List};
+ghost use Rattle.router_trace.specs.Trace.{Entry};
+ghost use Rattle.router_trace.specs.declared.event.Event.{Event as E};
+ghost use Rattle.router_state.specs.Tables.{TablesAt};
+ghost use Rattle.router_rows.specs.LinkRows.{is_multicast_at, is_multicast_source, is_multicast_target, is_multicast_link};
+ghost use Rattle.router_rows.specs.Finding.{multicast_of};
+
+use amqp_perf::{Address, Attach, Role, SourceTerminus, TargetTerminus};
+use router_state::State;
+
+/// Whether an address is a multicast one.
+fn is_multicast_at(state: &State, address: &Option<Address>) -> bool
+    ensures { (t : List Entry) (e : E) (ends : List ℕ) → TablesAt state.now t e ends → result ≡ is_multicast_at (multicast_of t) address.now }
+{
+    match address {
+        Some(Address::Text(text)) => state.is_multicast(text.as_str()),
+        _ => false,
+    }
+}
+
+/// Whether a source's address is a multicast one.
+fn is_multicast_source(state: &State, source: &Option<SourceTerminus>) -> bool
+    ensures { (t : List Entry) (e : E) (ends : List ℕ) → TablesAt state.now t e ends → result ≡ is_multicast_source (multicast_of t) source.now }
+{
+    match source {
+        Some(SourceTerminus::Source(source)) => is_multicast_at(state, &source.address),
+        _ => false,
+    }
+}
+
+/// Whether a target's address is a multicast one.
+fn is_multicast_target(state: &State, target: &Option<TargetTerminus>) -> bool
+    ensures { (t : List Entry) (e : E) (ends : List ℕ) → TablesAt state.now t e ends → result ≡ is_multicast_target (multicast_of t) target.now }
+{
+    match target {
+        Some(TargetTerminus::Target(target)) => is_multicast_at(state, &target.address),
+        _ => false,
+    }
+}
+
+/// Whether the address at the router's side of a link is a multicast one.
+pub fn is_multicast_link(state: &State, attach: &Attach) -> bool
+    ensures { (t : List Entry) (e : E) (ends : List ℕ) → TablesAt state.now t e ends
+        → result ≡ is_multicast_link (multicast_of t) attach.now.role attach.now }
+{
+    match attach.role {
+        Role::Sender => is_multicast_target(state, &attach.target),
+        Role::Receiver => is_multicast_source(state, &attach.source),
+    }
+}

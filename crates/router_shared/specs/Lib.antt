@@ -1,0 +1,5 @@
+pub mod Adding
+pub mod History
+pub use Rattle.router_core.specs.Handling
+pub use Rattle.router_core.specs.Moves
+pub use Rattle.router_core.specs.Counting

@@ -1,0 +1,17 @@
+//! The router under one lock, with its history, the seats of the threads beside it, and what they count.
+#![tactic(auto)]
+
+mod bells;
+mod kind;
+mod ledgers;
+mod locked;
+mod router;
+mod seat;
+mod shared;
+mod tally;
+mod totals;
+
+pub use ledgers::{Blanks, Hall, Ledgers, SEATS, Six};
+pub use locked::{Closed, Log, NoLog, Receipt};
+pub use seat::Seat;
+pub use shared::Shared;

@@ -1,0 +1,181 @@
+//! What lies under the lock.
+ghost use Rattle.std.specs.Prelude.{◌≡◌, ◌≤◌, [], true, length, OnOk, OnErr, IfOk, IfSome};
+ghost use Rattle.router_core.specs.Handling.{Fits, counts_of};
+ghost use Rattle.router_core.specs.Counting.{uncounted, with_event, with_batch};
+ghost use Rattle.router_shared.specs.Adding.{sums};
+ghost use Rattle.router_shared.specs.History.{HasHistory};
+
+use crate::bells::{BELLS, Bells, bell_of};
+use crate::kind::Kind;
+use crate::ledgers::Ledgers;
+use crate::router::Router;
+use crate::seat::Seat;
+use crate::totals::Totals;
+use router_core::{Batch, ConnectionId, Core, CoreFault, Counts, Event};
+
+/// What a log keeps of the events and takes of a router.
+pub trait Log: Drop {}
+
+/// A log that keeps nothing.
+#[derive(Clone, Copy, Debug, Drop)]
+pub struct NoLog {}
+
+impl Log for NoLog {}
+
+/// A batch of the journal that was written for an event. There is none yet.
+#[derive(Debug, Drop)]
+pub struct Receipt {
+    batch: u64,
+}
+
+/// What is told at the end.
+#[derive(Drop)]
+pub struct Closed<L: Log> {
+    /// Whether every seat came back.
+    pub all: bool,
+    /// What the seats that came back counted, added up.
+    pub counts: Counts,
+    /// The number of the journal's last batch; 0 without a journal.
+    pub appended: u64,
+    /// What that number was at the beginning.
+    pub opened: u64,
+    /// The router.
+    pub core: Core,
+    /// The log.
+    pub log: L,
+}
+
+/// The router with its history, and the totals of what the seats counted, which are the router's own counts.
+#[derive(Drop)]
+pub struct Locked<L: Log, G: Ledgers> {
+    router: Router,
+    totals: Totals<G>,
+    log: L,
+    // the bells at which a writer may sleep
+    asleep: Bells,
+    ghost counted: { counts_of router.core ≡ totals },
+}
+
+impl<L: Log, G: Ledgers> Locked<L, G> {
+    /// A router to which nothing happened.
+    pub fn new(router: Router, totals: Totals<G>, log: L) -> Locked<L, G>
+        requires router { counts_of router.core ≡ uncounted }
+        requires totals { totals ≡ uncounted }
+    {
+        Locked {
+            router,
+            totals,
+            log,
+            asleep: Bells::none(),
+        }
+    }
+
+    /// A seat that counted nothing; none where no part of a ledger is left.
+    pub fn seat(&mut self) -> Option<Seat<G>>
+        ensures { IfSome result (λ seat. seat ≡ uncounted) }
+    {
+        self.totals.seat()
+    }
+
+    /// One event.
+    pub fn handle(&mut self, seat: &mut Seat<G>, event: Event) -> Result<Option<Receipt>, CoreFault>
+        ensures counted { OnOk result (seat.new ≡ with_event event seat.old) }
+        ensures uncounted { OnErr result (seat.new ≡ seat.old) }
+    {
+        let kind = Kind::of(&event);
+        self.router.handle(event)?;
+        self.totals.add(seat, kind, self.router.counts());
+        Ok(None)
+    }
+
+    /// One take.
+    pub fn take(&mut self, seat: &mut Seat<G>, conn: ConnectionId) -> Result<Batch, CoreFault>
+        ensures whose { IfOk result (λ b. b.conn ≡ conn) }
+        ensures most { IfOk result (λ b. length b.items.items ≤ 64) }
+        ensures counted { OnOk result (seat.new ≡ with_batch seat.old) }
+        ensures uncounted { OnErr result (seat.new ≡ seat.old) }
+    {
+        let batch = self.router.take(conn)?;
+        self.totals.add_batch(seat, self.router.counts());
+        Ok(batch)
+    }
+
+    /// Whether a connection is up and the router didn't end it.
+    pub fn is_live(&self, conn: ConnectionId) -> bool {
+        self.router.is_live(conn)
+    }
+
+    /// Whether the router failed.
+    pub fn is_failed(&self) -> bool {
+        self.router.is_failed()
+    }
+
+    /// Whether a writer has to wait; it is noted that it sleeps.
+    pub fn sleeps(&mut self, conn: ConnectionId) -> bool {
+        let waits = !self.router.is_ready(conn);
+        if waits {
+            self.asleep.add(bell_of(conn));
+        }
+        waits
+    }
+
+    /// The bells of the writers that sleep and needn't: where something can be taken, of a connection that is lost, and all of
+    /// them where the router failed.
+    pub fn wake(&mut self, lost: Option<ConnectionId>) -> Bells {
+        let mut woken = Bells::none();
+        if self.asleep.is_empty() {
+            return woken;
+        }
+        if self.router.is_failed() {
+            return self.wake_all();
+        }
+        if let Some(conn) = lost {
+            self.asleep.give(&mut woken, bell_of(conn));
+        }
+        let mut next = self.router.ready();
+        for _turn in 0..BELLS {
+            match next {
+                None => return woken,
+                Some(conn) => {
+                    self.asleep.give(&mut woken, bell_of(conn));
+                    next = self.router.ready_behind(conn);
+                }
+            }
+        }
+        self.wake_all()
+    }
+
+    /// All bells at which a writer may sleep.
+    fn wake_all(&mut self) -> Bells {
+        self.asleep = Bells::none();
+        Bells::all()
+    }
+
+    /// Puts the seats' counts beside the router's.
+    pub fn close(self, seats: Vec<Seat<G>>, receipts: Vec<Receipt>) -> Closed<L>
+        requires cut { (G.Ups.seats ≡ G.Ups.parts) × (G.Items.seats ≡ G.Items.parts) × (G.Downs.seats ≡ G.Downs.parts) × (G.Ticks.seats ≡ G.Ticks.parts) × (G.Starts.seats ≡ G.Starts.parts) × (G.Batches.seats ≡ G.Batches.parts) }
+        ensures counts { result.counts ≡ sums seats.items }
+        ensures all { result.all ≡ true → counts_of result.core ≡ result.counts }
+        ensures history { ∥ HasHistory result.core ∥₁ }
+    {
+        drop(receipts);
+        let Locked {
+            router,
+            totals,
+            log,
+            asleep: _,
+        } = self;
+        let mut gathering = totals.gather();
+        for seat in seats {
+            gathering.take_back(seat);
+        }
+        Closed {
+            all: gathering.is_whole(),
+            counts: gathering.counts(),
+            appended: 0,
+            opened: 0,
+            core: router.into_core(),
+            log,
+        }
+    }
+}

@@ -1,0 +1,93 @@
+//! The router with its history: what lies under the lock.
+ghost use Rattle.std.specs.Prelude.{◌≡◌, ◌≤◌, length, OnOk, OnErr, IfOk};
+ghost use Rattle.router_core.specs.Handling.{counts_of, is_failed};
+ghost use Rattle.router_core.specs.Counting.{uncounted, with_event, with_batch};
+ghost use Rattle.router_shared.specs.History.{IsOpened, HasHistory};
+
+use router_core::{Batch, ConnectionId, Core, CoreFault, Counts, Event};
+
+/// So many items are taken at a time.
+pub const MOST: usize = 64;
+
+/// A router whose tables are those of one order of events and takes, of which its counts have each once; behind a fault of
+/// memory nothing is known of it, and it does nothing.
+#[derive(Drop)]
+pub struct Router {
+    core: Core,
+    ghost history: { ∥ HasHistory core ∥₁ },
+}
+
+impl Router {
+    /// A router to which nothing happened.
+    pub fn new(core: Core) -> Router
+        requires opened { IsOpened core }
+        requires counts { counts_of core ≡ uncounted }
+        ensures { result.core ≡ core }
+    {
+        Router { core }
+    }
+
+    /// Handles an event.
+    pub fn handle(&mut self, event: Event) -> Result<(), CoreFault>
+        ensures counted { OnOk result (counts_of self.new.core ≡ with_event event (counts_of self.old.core)) }
+        ensures uncounted { OnErr result (counts_of self.new.core ≡ counts_of self.old.core) }
+    {
+        match self.core.handle(event) {
+            Ok(_) => Ok(()),
+            Err(fault) => Err(fault),
+        }
+    }
+
+    /// Takes up to 64 items of a connection.
+    pub fn take(&mut self, conn: ConnectionId) -> Result<Batch, CoreFault>
+        ensures whose { IfOk result (λ b. b.conn ≡ conn) }
+        ensures most { IfOk result (λ b. length b.items.items ≤ 64) }
+        ensures counted { OnOk result (counts_of self.new.core ≡ with_batch (counts_of self.old.core)) }
+        ensures uncounted { OnErr result (counts_of self.new.core ≡ counts_of self.old.core) }
+    {
+        self.core.take(conn, MOST)
+    }
+
+    /// Whether `take` would answer with items, the end or a fault: something can be taken, nothing is known of the connection, or
+    /// the router failed.
+    pub fn is_ready(&self, conn: ConnectionId) -> bool {
+        self.core.is_failed() || self.core.is_ready(conn) || !self.core.knows(conn)
+    }
+
+    /// The lowest connection of which something can be taken.
+    pub fn ready(&self) -> Option<ConnectionId> {
+        self.core.ready()
+    }
+
+    /// The lowest such connection above another.
+    pub fn ready_behind(&self, conn: ConnectionId) -> Option<ConnectionId> {
+        self.core.ready_behind(conn)
+    }
+
+    /// Whether a connection is up and the router didn't end it.
+    pub fn is_live(&self, conn: ConnectionId) -> bool {
+        self.core.is_live(conn)
+    }
+
+    /// Whether it failed.
+    pub fn is_failed(&self) -> bool
+        ensures { result ≡ is_failed self.now.core }
+    {
+        self.core.is_failed()
+    }
+
+    /// What it counted.
+    pub fn counts(&self) -> Counts
+        ensures { result ≡ counts_of self.now.core }
+    {
+        self.core.counts()
+    }
+
+    /// The router without its history.
+    pub fn into_core(self) -> Core
+        ensures same { result ≡ self.core }
+        ensures history { ∥ HasHistory result ∥₁ }
+    {
+        self.core
+    }
+}

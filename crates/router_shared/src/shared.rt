@@ -1,0 +1,155 @@
+//! The lock, and the bells beside it.
+ghost use Rattle.std.specs.Prelude.{◌≡◌, ◌<◌, ◌≤◌, true, length, vec_len, OnOk, OnErr, IfOk, IfSome};
+ghost use Rattle.router_core.specs.Handling.{counts_of};
+ghost use Rattle.router_core.specs.Counting.{uncounted, with_event, with_batch};
+ghost use Rattle.router_shared.specs.Adding.{sums};
+ghost use Rattle.router_shared.specs.History.{IsOpened, HasHistory};
+
+use crate::bells::{BELLS, Bells, bell_of};
+use crate::ledgers::{Blanks, Ledgers};
+use crate::locked::{Closed, Locked, Log, Receipt};
+use crate::router::Router;
+use crate::seat::Seat;
+use crate::totals::Totals;
+use router_core::{Batch, ConnectionId, Core, CoreFault, Event};
+use std::alloc::{AllocError, Global};
+use std::sync::{Condvar, Mutex, Wait};
+
+/// The router under one lock, for threads that each have a seat. Whenever the lock is got, what lies under it is a router that
+/// failed, or one whose tables are those of one order of events and takes in which each submit and each batch of a seat stands
+/// once. A writer that waits sleeps at the bell of its connection.
+#[derive(Drop)]
+pub struct Shared<L: Log, G: Ledgers> {
+    state: Mutex<Locked<L, G>>,
+    bells: Vec<Condvar>,
+    ghost all_bells: { vec_len bells ≡ 256 },
+}
+
+impl<L: Log, G: Ledgers> Shared<L, G> {
+    /// Puts a router to which nothing happened under a lock, with a log, and the blanks of ledgers of so many parts, each of which
+    /// is a seat's. Fails where there is no memory for the bells.
+    pub fn new(
+        alloc: Global,
+        core: Core,
+        log: L,
+        blanks: Blanks,
+        seats: u64,
+    ) -> Result<Shared<L, G>, AllocError>
+        requires opened { IsOpened core }
+        requires counts { counts_of core ≡ uncounted }
+        requires ups { (blanks.ups.name ≡ G.Ups.name) × (blanks.ups.parts ≡ G.Ups.parts) × (seats ≡ G.Ups.seats) × (G.Ups.seats ≡ G.Ups.parts) }
+        requires items { (blanks.items.name ≡ G.Items.name) × (blanks.items.parts ≡ G.Items.parts) × (seats ≡ G.Items.seats) × (G.Items.seats ≡ G.Items.parts) }
+        requires downs { (blanks.downs.name ≡ G.Downs.name) × (blanks.downs.parts ≡ G.Downs.parts) × (seats ≡ G.Downs.seats) × (G.Downs.seats ≡ G.Downs.parts) }
+        requires ticks { (blanks.ticks.name ≡ G.Ticks.name) × (blanks.ticks.parts ≡ G.Ticks.parts) × (seats ≡ G.Ticks.seats) × (G.Ticks.seats ≡ G.Ticks.parts) }
+        requires starts { (blanks.starts.name ≡ G.Starts.name) × (blanks.starts.parts ≡ G.Starts.parts) × (seats ≡ G.Starts.seats) × (G.Starts.seats ≡ G.Starts.parts) }
+        requires batches { (blanks.batches.name ≡ G.Batches.name) × (blanks.batches.parts ≡ G.Batches.parts) × (seats ≡ G.Batches.seats) × (G.Batches.seats ≡ G.Batches.parts) }
+    {
+        let bells = bells(alloc)?;
+        let locked = Locked::new(Router::new(core), Totals::new(blanks, seats), log);
+        Ok(Shared {
+            state: Mutex::new(locked),
+            bells,
+        })
+    }
+
+    /// A seat that counted nothing; none where no part of a ledger is left.
+    pub fn seat<R: Wait>(&self, rt: &R) -> Option<Seat<G>>
+        ensures { IfSome result (λ seat. seat ≡ uncounted) }
+    {
+        self.state.lock(rt).seat()
+    }
+
+    /// Hands the router one event, and wakes the writers that then have something to take. The seat counts it exactly where it
+    /// is answered Ok. There are no receipts yet.
+    pub fn submit<R: Wait>(
+        &self,
+        rt: &R,
+        seat: &mut Seat<G>,
+        event: Event,
+    ) -> Result<Option<Receipt>, CoreFault>
+        ensures counted { OnOk result (seat.new ≡ with_event event seat.old) }
+        ensures uncounted { OnErr result (seat.new ≡ seat.old) }
+    {
+        let lost = lost_by(&event);
+        let mut locked = self.state.lock(rt);
+        let done = locked.handle(seat, event);
+        let woken = locked.wake(lost);
+        drop(locked);
+        self.ring(woken);
+        done
+    }
+
+    /// Waits until something can be taken of a connection, and takes up to 64 items of it. The seat counts it exactly where a
+    /// batch is given.
+    ///
+    /// # Errors
+    ///
+    /// `NoConnection` where nothing is known of the connection, `Failed` or `Memory` where the router fails.
+    pub fn wait_batch<R: Wait>(
+        &self,
+        rt: &R,
+        seat: &mut Seat<G>,
+        conn: ConnectionId,
+    ) -> Result<Batch, CoreFault>
+        ensures whose { IfOk result (λ b. b.conn ≡ conn) }
+        ensures most { IfOk result (λ b. length b.items.items ≤ 64) }
+        ensures counted { OnOk result (seat.new ≡ with_batch seat.old) }
+        ensures uncounted { OnErr result (seat.new ≡ seat.old) }
+    {
+        let bell = &self.bells[bell_of(conn)];
+        let mut locked = bell.wait_while(rt, self.state.lock(rt), |locked| locked.sleeps(conn));
+        locked.take(seat, conn)
+    }
+
+    /// Whether a connection is up and the router didn't end it.
+    pub fn is_live<R: Wait>(&self, rt: &R, conn: ConnectionId) -> bool {
+        self.state.lock(rt).is_live(conn)
+    }
+
+    /// Whether the router failed.
+    pub fn is_failed<R: Wait>(&self, rt: &R) -> bool {
+        self.state.lock(rt).is_failed()
+    }
+
+    /// Puts the counts of the seats that come back beside the router's: where all came back, they add up to these, number by number.
+    pub fn close(self, seats: Vec<Seat<G>>, receipts: Vec<Receipt>) -> Closed<L>
+        requires cut { (G.Ups.seats ≡ G.Ups.parts) × (G.Items.seats ≡ G.Items.parts) × (G.Downs.seats ≡ G.Downs.parts) × (G.Ticks.seats ≡ G.Ticks.parts) × (G.Starts.seats ≡ G.Starts.parts) × (G.Batches.seats ≡ G.Batches.parts) }
+        ensures counts { result.counts ≡ sums seats.items }
+        ensures all { result.all ≡ true → counts_of result.core ≡ result.counts }
+        ensures history { ∥ HasHistory result.core ∥₁ }
+    {
+        let Shared { state, bells: _ } = self;
+        state.into_inner().close(seats, receipts)
+    }
+
+    /// Rings these bells.
+    fn ring(&self, woken: Bells) {
+        if woken.is_empty() {
+            return;
+        }
+        for place in 0..BELLS {
+            if woken.has(place) {
+                self.bells[place].notify_all();
+            }
+        }
+    }
+}
+
+/// A bell for each place.
+fn bells(alloc: Global) -> Result<Vec<Condvar>, AllocError>
+    ensures { IfOk result (λ bells. vec_len bells ≡ 256) }
+{
+    let mut bells = Vec::with_capacity(alloc, BELLS)?;
+    for _place in 0..BELLS {
+        bells.push(Condvar::new())?;
+    }
+    Ok(bells)
+}
+
+/// The connection that an event says is lost.
+fn lost_by(event: &Event) -> Option<ConnectionId> {
+    match event {
+        Event::Down(conn) => Some(*conn),
+        _ => None,
+    }
+}
