@@ -115,22 +115,46 @@ class Rows:
     """Tells a row each, and how many passed."""
 
     def __init__(self):
-        self.passed = self.failed = 0
+        self.passed = self.failed = self.known = 0
 
-    def row(self, name, body):
+    def row(self, name, body, known=None):
+        """A row: its name, and what its body says. `known` is a class of faults and why the row is known to fail with one: that is told as
+        such, and not counted as failed."""
         started = time.monotonic()
+        word = "FAILED"
         try:
             said = body()
-            good = said is None or said is True or isinstance(said, str)
+            if said is None or said is True or isinstance(said, str):
+                word = "ok"
         except Exception as fault:  # a row that breaks fails, and the others go on
-            said, good = f"{type(fault).__name__}: {fault}", False
-        self.passed += good
-        self.failed += not good
+            said = f"{type(fault).__name__}: {fault}"
+            if known and isinstance(fault, known[0]):
+                word, said = "known", f"{fault}; known to fail: {known[1]}"
+        self.passed += word == "ok"
+        self.failed += word == "FAILED"
+        self.known += word == "known"
         more = f": {said}" if isinstance(said, str) else ""
-        print(f"{'ok' if good else 'FAILED'} {name}{more} ({time.monotonic() - started:.1f} s)", flush=True)
+        if known and word == "ok":
+            more += f"; it was known to fail: {known[1]}"
+        print(f"{word} {name}{more} ({time.monotonic() - started:.1f} s)", flush=True)
+
+    def rows_of(self, whose, words):
+        """The rows that another program tells in the same words; its status is 0, or 1 where one failed."""
+        told = subprocess.Popen(words, stdout=subprocess.PIPE, text=True)
+        last = ""
+        for line in told.stdout:
+            last = line.strip()
+            word, _, name = last.partition(" ")
+            if word in ("ok", "FAILED"):
+                print(f"{word} {whose}: {name}", flush=True)
+                self.passed += word == "ok"
+                self.failed += word == "FAILED"
+        if told.wait() not in (0, 1) or not last.endswith(" failed"):
+            print(f"FAILED {whose}: it ended with status {told.returncode} behind {last!r}", flush=True)
+            self.failed += 1
 
     def end(self):
-        print(f"{self.passed} ok, {self.failed} failed")
+        print(f"{self.passed} ok, {self.failed} failed" + (f", {self.known} known to fail" if self.known else ""))
         return 0 if self.failed == 0 else 1
 
 
