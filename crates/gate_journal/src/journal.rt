@@ -180,6 +180,13 @@ impl<D: Disk> Journal<D> {
         i128::from(JOURNAL_LIMIT) - (used + i128::from(self.figures.reserve))
     }
 
+    /// The number of the last batch; 0 where there is none.
+    pub fn batch(&self) -> u64
+        ensures { result ≡ batch_count self.now }
+    {
+        self.figures.count
+    }
+
     /// How many batches the file has that no longer stand in it: none in this format.
     pub fn base(&self) -> u64
         ensures { result ≡ 0 }
