@@ -1,4 +1,4 @@
--- How much of a rest a frame has room for.
+-- How much of a rest fits into a frame.
 use Rattle.std.proofs.Common.{◌≡◌, ◌≤◌, ◌↔◌, ◌∙◌, true≢false, ℕ, zero, suc, Bool, true, false, List, length, take, Option, Some, None, refl, sym, ap, subst, arith}
 use Rattle.std.proofs.lemmas.Grind.{common_steps}
 use Rattle.std.specs.Prelude.{min, nat_le, if◌then◌else◌}
@@ -35,7 +35,7 @@ alike a b k r false false is so h = refl
 alike a b k r true false is so h = let le : k ≤ r = h.0 (grind (arith, is)) in absurd (grind (arith, so, le))
 alike a b k r false true is so h = let le : a ≤ b = h.1 (grind (arith, so)) in absurd (grind (arith, is, le))
 
--- what the room of a transfer tells
+-- what the room of a transfer states
 abbrev IsRoom : Transfer → ℕ → Option ℕ → Type 0
 IsRoom x most room = (channel : ℕ) (payload : List ℕ) → (length (item_spelling (transfer_frame channel x payload)) ≤ most) ↔ FitsInto room (length payload)
 

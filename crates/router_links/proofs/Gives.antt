@@ -1,4 +1,4 @@
--- What a transfer gives on a link of a table is what it gives on the view's.
+-- What a transfer makes of its delivery is the same on a link of a table and on the view's.
 use Rattle.std.proofs.Common.{◌≡◌, ◌∙◌, ℕ, false, refl, ap, List, Option, Some, None}
 use Rattle.std.specs.Prelude.{option_map}
 use Rattle.amqp_perf.specs.declared.perf.Flow.{Flow}
