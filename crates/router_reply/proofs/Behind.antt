@@ -18,7 +18,7 @@ use Rattle.router_rows.specs.Finding.{finds}
 use Rattle.router_reply.specs.Replies.{item_row, item_bound, item_put, links_put, put_for_transfer, put_for_disposition, bound_for, part_put, part_bound, settled_put, disposition_in, attach_put, given_behind, behind_answer}
 use Rattle.router_reply.proofs.Puts.{goes_both}
 
--- an answer accepts no transfer, or answers no disposition
+-- an answer takes no transfer, or answers no disposition
 abbrev pub NotTaken : Answer → Type 0
 NotTaken a = (own handle : ℕ) → a ≡ Taken own handle → ⊥
 
@@ -81,7 +81,7 @@ other_is id t after c p i a taken settled =
     ∙ goes_both (each_to c (said id p a)) (links_put t (puts c (said id p a) after) c i a) after
     ∙ ap (λ (ps : List Put). goes ps (puts c (said id p a) after)) (attach_by t (puts c (said id p a) after) c i a taken settled)
 
--- an accepted transfer and an answered disposition put nothing for an attach
+-- a transfer that is taken and an answered disposition put nothing for an attach
 pub taken_left : (u : List Entry) (c : ℕ) (i : Item) (own handle : ℕ) → attach_put u c i (Taken own handle) ≡ []
 taken_left u c (item.Frame sasl channel (perf.Attach x) payload) own handle = refl
 taken_left u c (item.Frame sasl channel _ payload) own handle = refl

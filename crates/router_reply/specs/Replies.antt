@@ -132,7 +132,7 @@ whole_put after c own handle d l =
     if d.resume then ignored_put after c own handle (claimed_id after c own handle d.id)
     else unbound_put own (claimed_id after c own handle d.id) (consumer_of after l)
 
--- what is put for an accepted transfer: for a whole delivery, one that is too large, or nothing yet
+-- what is put for a transfer that is taken: for a whole delivery, one that is too large, or nothing yet
 abbrev pub part_put : Trace → ℕ → ℕ → ℕ → Option Part → List Item
 part_put after c own handle (Some (part.Whole d payload)) = whole_put after c own handle d (link after c own handle)
 part_put after c own handle (Some part.TooLarge) = detach_item own handle true (Some MessageSizeExceeded) ∷ []
@@ -187,7 +187,7 @@ links_put t after c _ answer = []
 abbrev pub item_put : List ℕ → Trace → Trace → ℕ → Conn → Item → Answer → List Put
 item_put id t after c p i answer = each_to c (said id p answer) ++ links_put t (puts c (said id p answer) after) c i answer
 
--- the trace after an accepted transfer is handled, bound and answered; and all that an answer to an item does
+-- the trace after a transfer that is taken is handled, bound and answered; and all that an answer to an item does
 abbrev pub given_behind : Trace → ℕ → ℕ → ℕ → Option Part → Trace
 given_behind after c own handle part = puts c (part_put after c own handle part) (with_bound (part_bound after c own handle part) after)
 

@@ -40,7 +40,7 @@ fn hear_item(
     Ok(part)
 }
 
-/// A transfer that is accepted: a whole delivery is passed on.
+/// A transfer that is taken: a whole delivery is passed on.
 fn on_taken(
     state: &mut State,
     id: &RouterId,
@@ -189,7 +189,7 @@ fn hear_tick(state: &mut State, id: &RouterId, ends: &[u64], moment: u64) -> Res
     Ok(())
 }
 
-/// The tick reply: heartbeats for live connections of whose peers' idle-time-out half has passed.
+/// The tick reply: a heartbeat for each live connection, once half of its peer's idle-time-out has passed.
 fn on_tick(state: &mut State, id: &RouterId, ends: &[u64], moment: u64) -> Result<(), AllocError>
     ensures { OnOk result ((t : List Entry) → TablesAt state.old t (event.Tick moment) ends.now → TablesFit state.new (replied id.now t (step_of (event.Tick moment)))) }
 {

@@ -1,4 +1,4 @@
-//! Transfers that are accepted, and dispositions whose deliveries are answered.
+//! Transfers that are taken, and dispositions whose deliveries are answered.
 ghost use Rattle.std.specs.Prelude.{◌∷◌, [], List, ℕ, OnOk, Some, None, true, map, option_map, ◌≡◌};
 ghost use Rattle.amqp_perf.specs.declared.perf.Role.TheVariants.{Sender};
 ghost use Rattle.router_trace.specs.Trace.{Entry, puts};
@@ -178,7 +178,7 @@ fn pass_whole(
     Ok(())
 }
 
-/// Handles what an accepted transfer makes of its delivery: a whole delivery is bound to a consumer of its address, or released, or ignored;
+/// Handles what a transfer that is taken makes of its delivery: a whole delivery is bound to a consumer of its address, or released, or ignored;
 /// one that is too large detaches its link (AMQP 1.0 part 2, sections 2.6.12, 2.7.3 and 2.7.5).
 pub fn take_part(
     state: &mut State,

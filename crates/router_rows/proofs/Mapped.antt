@@ -1,4 +1,4 @@
--- A transfer is accepted on the session that its channel stands for.
+-- A transfer is taken on the session that its channel stands for.
 use Rattle.std.proofs.Common.{◌≡◌, refl, ℕ, Bool, true, false, List, ◌∷◌}
 use Rattle.std.specs.Prelude.{nat_lt, nat_eq, length, ◌&&◌, Option, Some, None, Result, Ok, Err, option_map}
 use Rattle.std.proofs.lemmas.Bool.{eq-eqb}
@@ -37,7 +37,7 @@ use Rattle.router_rows.specs.LinkRows.{is_multicast_link, refusal, attach_or, at
 use Rattle.router_rows.specs.LinkRows.{flow_on as link_flow_on}
 use Rattle.router_rows.specs.Finding.{finds}
 
--- if a transfer is accepted, this stands for its session
+-- if a transfer is taken, this stands for its session
 abbrev pub IsHere : (ℕ → Bool) → Answer → Type 0
 IsHere here (Taken own handle) = here own ≡ true
 IsHere here _ = Unit {0}

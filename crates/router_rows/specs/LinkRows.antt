@@ -143,7 +143,7 @@ link_flow_reply own h (on handle l) f = flow_on own (TheirFlow (flow_state f) âˆ
 
 -- A transfer: on a handle that stands for nothing, beyond the session's window, or on a link on which the router is the sender, it ends the
 -- session. A frame that starts a delivery without id or tag, or beyond the credit, detaches the link; with the id of a delivery that isn't
--- settled yet it ends the session. A later frame with another id or tag detaches the link too. Any other is accepted with its payload.
+-- settled yet it ends the session. A later frame with another id or tag detaches the link too. Any other is taken with its payload.
 abbrev pub is_anonymous : ATransfer â†’ Bool
 is_anonymous x = if is_none x.delivery_id then true else is_none x.delivery_tag
 

@@ -70,7 +70,7 @@ pub enum Answer {
         /// The link state that it carries.
         at: LinkState,
     },
-    /// A transfer is accepted, with its payload.
+    /// A transfer is taken, with its payload.
     Taken {
         /// The router's channel of the session.
         own: u16,

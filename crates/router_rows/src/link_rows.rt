@@ -272,7 +272,7 @@ pub fn link_flow_reply(own: u16, window: Window, at: LinkAt, flow: &Flow) -> Ans
 /// session's window with `amqp:session:window-violation`, on a link on which the router is the sender with `amqp:not-allowed`. One that starts
 /// a delivery without id or tag detaches the link with `amqp:not-allowed`, one beyond the credit with `amqp:link:transfer-limit-exceeded`;
 /// with the id of a delivery that isn't settled yet it ends the session with `amqp:not-allowed`. A later one with another id or tag than
-/// the first detaches the link with `amqp:not-allowed`. Any other is accepted (AMQP 1.0 part 2, sections 2.5.6, 2.6.7, 2.6.12 and 2.7.5).
+/// the first detaches the link with `amqp:not-allowed`. Any other is taken (AMQP 1.0 part 2, sections 2.5.6, 2.6.7, 2.6.12 and 2.7.5).
 pub fn session_transfer_reply(
     own: u16,
     window: Window,

@@ -4,10 +4,10 @@ ghost use Rattle.std.specs.Prelude.{ℕ};
 use std::marker::{Brand, PhantomData};
 use std::sync::ledger::{Blank, Ledger};
 
-/// So many seats can be given out.
+/// The number of seats that can be given out.
 pub const SEATS: u64 = 1 << 62;
 
-/// A ledger and into how many parts it is cut, which fields beside its tokens can name.
+/// A ledger, and the number of parts it is cut into, which fields beside its tokens can name.
 pub trait Hall: Ledger {
     ghost seats: { ℕ };
 }
@@ -16,11 +16,11 @@ impl Hall for Brand {
     ghost seats = { 0 };
 }
 
-/// A ledger for each number that a router counts.
+/// One ledger for each number that a router counts.
 pub trait Ledgers {
     /// Of connections that came up.
     type Ups: Hall;
-    /// Of items that came.
+    /// Of items received.
     type Items: Hall;
     /// Of connections that were lost.
     type Downs: Hall;
@@ -56,7 +56,7 @@ impl<U: Hall, I: Hall, D: Hall, T: Hall, S: Hall, B: Hall> Ledgers for Six<U, I,
 pub struct Blanks {
     /// Of connections that came up.
     pub ups: Blank,
-    /// Of items that came.
+    /// Of items received.
     pub items: Blank,
     /// Of connections that were lost.
     pub downs: Blank,
