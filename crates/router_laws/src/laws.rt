@@ -5,9 +5,9 @@ ghost use Rattle.router_laws.specs.Decided.{OutcomesAreGiven, OutcomesAreOfConsu
 ghost use Rattle.router_laws.specs.Told.{ToldAtMostOnce, ToldAnew};
 ghost use Rattle.router_laws.specs.Laws.{InTraces, InRuns, AllCarry, AllJoin, AllBindOnce, AllCame, AllTell};
 
-/// In every trace of the router a message is bound when it is complete, right after the last frame of its delivery was received. What is
-/// bound is what its frames carried, and it is bound once; so each delivery is of such a message (AMQP 1.0 part 2, sections 2.6.14 and
-/// 2.7.5). Lists of events have such traces.
+/// In every trace of the router a message is bound when it is complete: the last frame of its delivery has just been received. What is bound
+/// is what its frames carried, and it is bound once; so each delivery is of such a message (AMQP 1.0 part 2, sections 2.6.14 and 2.7.5).
+/// Lists of events have such traces.
 pub fn messages_are_bound_once()
     ensures traces { InTraces AllBindOnce }
     ensures runs { InRuns AllBindOnce }
