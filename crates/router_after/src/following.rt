@@ -13,7 +13,7 @@ use std::alloc::AllocError;
 ///
 /// # Errors
 ///
-/// `AllocError` where memory was refused; the tables' contents are unspecified then.
+/// `AllocError` if memory was refused; the tables' contents are unspecified then.
 pub fn after(state: &mut State) -> Result<(), AllocError>
     ensures { OnOk result ((t : List Entry) → TablesFit state.old t → TablesFit state.new (followed t)) }
 {

@@ -26,7 +26,7 @@ pub filter_none : (p : ℕ → Bool) → ((k : ℕ) → p k ≡ false) → (xs :
 filter_none p none [] = refl
 filter_none p none (x ∷ xs) = rw (none x) (filter_none p none xs)
 
--- two filters that agree at what the list has
+-- two filters that agree on the list's elements
 pub filter_agree_in : (p q : ℕ → Bool) (xs : List ℕ) → ((k : ℕ) → has k xs ≡ true → p k ≡ q k) → filter p xs ≡ filter q xs
 filter_agree_in p q [] same = refl
 filter_agree_in p q (x ∷ xs) same =

@@ -21,7 +21,7 @@ use Rattle.router_trace.specs.Trace.{Entry, Did, Out, Took, Bound, Configured, d
 use Rattle.router_trace.specs.Connection.{Connection, conn, behind, behind_perf, with_item, fresh, took, ended, is_live, is_full, is_due, has, due, unless_due, found, live_of, at_event}
 use Rattle.router_conns.proofs.Lists.{by_test, filter_both, filter_none, filter_agree_in, from_push, has_push, has_pushed, has_filter}
 
--- no connection is due where no outbox is full
+-- no connection is due if no outbox is full
 pub due_none : (e : Event) (c : ℕ) (v : Option Connection) → is_full v ≡ false → is_due e c v ≡ false
 due_none (event.Up d p) c v h = h
 due_none (event.Item d i) c v h = h
@@ -37,7 +37,7 @@ due_lives e c v = by_test (is_live v) (λ l. rw l refl) (λ l. rw l (due_none e 
     full_lives None l = refl
     full_lives (Some v) l = by_test v.phase.closed (λ e. rw e refl) (λ e. absurd (true≢false (rw e at l)))
 
--- what is over isn't live, and nothing else changes
+-- a connection that is over isn't live, and nothing else changes
 pub over_lives : (b : Bool) (v : Option Connection) → is_live (if b then option_map ended v else v) ≡ (is_live v && not b)
 over_lives true None = refl
 over_lives true (Some v) = sym (and_false (is_live (Some v)))
@@ -57,7 +57,7 @@ full_found true None h = refl
 full_found true (Some v) h = refl
 full_found false v h = h refl
 
--- a full connection is due, where the event isn't a loss
+-- a full connection is due, if the event isn't a loss
 pub due_full : (e : Event) (c : ℕ) (v : Option Connection) → not (is_loss e) ≡ true → is_full v ≡ true → is_due e c v ≡ true
 due_full (event.Up d p) c v l h = h
 due_full (event.Item d i) c v l h = h

@@ -31,7 +31,7 @@ pub struct Connections {
 }
 
 impl Connections {
-    /// No connections.
+    /// An empty table.
     pub fn new(alloc: Global) -> Connections
         ensures { (g : Routing) → ConnectionsFit result (configured g) }
     {

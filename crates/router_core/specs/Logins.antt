@@ -21,7 +21,7 @@ abbrev pub user_past : Door → List Item → Option (List ℕ)
 user_past d [] = None
 user_past d (i ∷ is) = user_by (door d i) (user_past (door_behind d i) is)
 
--- it begins with the AMQP header where no peer has to log in, and is `anonymous`
+-- it begins with the AMQP header at a listener that needs no login, and is `anonymous`
 pub record ComesPlain (listener : Listener) (items : List Item) (user : List ℕ) : Type 0 where
   pub rest : List Item
   pub came : items ≡ header_item ∷ rest
@@ -37,7 +37,7 @@ pub record LoggedIn (server : Logins) (items : List Item) (user : List ℕ) : Ty
   pub came : items ≡ sasl_header ∷ item.Frame true channel (perf.SaslInit init) payload ∷ header_item ∷ rest
   pub proved : LogsIn server init user
 
--- who may pass at a listener
+-- the users that may pass at a listener
 abbrev pub MayPass : Settings → Listener → List Item → List ℕ → Type 0
 MayPass config listener items user = ComesPlain listener items user ⊎ LoggedIn (logins_of config listener) items user
 

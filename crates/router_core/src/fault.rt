@@ -16,7 +16,7 @@ pub enum CoreFault {
     /// An earlier call failed with a fault of the disk or of memory.
     #[error("the router failed before")]
     Failed,
-    /// There is no such connection, or its number doesn't rise.
+    /// The connection doesn't exist, or the number of a new one doesn't rise.
     #[error("no such connection")]
     NoConnection,
 }

@@ -30,7 +30,7 @@ abbrev pub heard_change : ℕ → Option ℕ → Item → Option Change
 heard_change c own (item.Frame sasl channel body payload) = if sasl then None else heard_in_change c own body
 heard_change c own _ = None
 
--- a delivery has an id of a range, and this id names it
+-- a delivery has an id in a range, and this id names it
 abbrev pub is_named_in : ℕ → ℕ → (ℕ → Option ℕ) → ℕ → Option Delivery → Bool
 is_named_in first last names n None = false
 is_named_in first last names n (Some d) = is_in d.id first last && is_named d.id names n

@@ -85,7 +85,7 @@ abbrev pub is_gone_there : Gone → Option Spot → Bool
 is_gone_there g None = false
 is_gone_there g (Some p) = is_gone_at g p
 
--- a place is that of an id of this range, on a session
+-- a place is that of an id in this range, on a session
 abbrev pub is_id_at : ℕ → ℕ → ℕ → ℕ → Spot → Bool
 is_id_at c o first last p = ((p.conn == c) && (p.own == o)) && in_range first last p.at
 

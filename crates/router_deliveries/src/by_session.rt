@@ -112,7 +112,7 @@ impl<V: Drop> BySession<V> {
     }
 }
 
-/// Gives an id of a session this value.
+/// Gives an id of a session this value, instead of any that it had.
 fn insert_in<V: Drop>(
     alloc: Global,
     sessions: &mut BTreeMap<u16, DeliveryIds<V>>,
@@ -134,7 +134,7 @@ fn insert_in<V: Drop>(
     }
 }
 
-/// Gives an id this value.
+/// Gives an id this value, instead of any that it had.
 fn put<V: Drop>(ids: &mut DeliveryIds<V>, id: u32, value: V) -> Result<(), AllocError>
     ensures { OnOk result ((q : ℕ) → get nat_cmp ids.new.deliveries q ≡ (if id == q then Some value else get nat_cmp ids.old.deliveries q)) }
 {

@@ -218,7 +218,7 @@ impl Claims {
         Ok(())
     }
 
-    /// The router detaches a link: the claims on it end.
+    /// The router detaches a link: the claims on it are removed.
     fn detach(&mut self, conn: u64, own: u16, link: u32) -> Result<(), AllocError>
         ensures claims { OnOk result (AreSmall (at_id self.old.ids) → (c o q : ℕ) → at_id self.new.ids c o q ≡ let_go_at (conn == c) (own == o) true (Some link) (at_id self.old.ids c o q)) }
         ensures small { OnOk result (AreSmall (at_id self.old.ids) → AreSmall (at_id self.new.ids)) }
@@ -299,7 +299,7 @@ impl Claims {
         }
     }
 
-    /// The claims on a session end.
+    /// Removes the claims on a session.
     fn end(&mut self, conn: u64, own: u16)
         ensures claims { (c o q : ℕ) → at_id self.new.ids c o q ≡ (if conn == c then (if own == o then None else at_id self.old.ids c o q) else at_id self.old.ids c o q) }
         ensures marked { AreMarked self.old → AreMarked self.new }
@@ -308,7 +308,7 @@ impl Claims {
         self.ignored.end(conn, own);
     }
 
-    /// The claims on a connection end.
+    /// Removes the claims on a connection.
     fn forget(&mut self, conn: u64)
         ensures claims { (c o q : ℕ) → at_id self.new.ids c o q ≡ (if conn == c then None else at_id self.old.ids c o q) }
         ensures marked { AreMarked self.old → AreMarked self.new }

@@ -174,7 +174,7 @@ impl Names {
         Ok(())
     }
 
-    /// The router's transfer, which may begin a delivery under an id.
+    /// The router's transfer, which may begin a delivery with an id.
     fn begin(
         &mut self,
         conn: u64,

@@ -59,7 +59,7 @@ otherwise : {A : Type 0} (test : Bool) (whole part : A) → test ≡ false → p
 otherwise true whole part is = absurd (true≢false is)
 otherwise false whole part is = refl
 
--- where the rest doesn't fit, the frame has the part of it that does
+-- if the rest doesn't fit, the frame has the part of it that does
 pub frame_of_part : (largest own : ℕ) (x : Transfer) (rest part : List ℕ) (whole : Bool) → whole ≡ fits largest (transfer_frame own x rest) → whole ≡ false
     → part ≡ take (filled largest own x rest) rest → transfer_frame own (with_more x) part ≡ next_frame largest own x rest
 frame_of_part largest own x rest part whole is no_room e =

@@ -92,7 +92,7 @@ longer_than len largest h = grind (arith, h)
 no_longer : (len largest : ℕ) → len ≤ largest → nat_le len largest ≡ true
 no_longer len largest h = grind (arith, h)
 
--- A transfer of at most this many bytes beside its payload: where more is to come, no other byte stays free.
+-- A transfer of at most this many bytes beside its payload: if more is to come, no other byte stays free.
 pub frame_carries : (largest own beside : ℕ) (x : Transfer) (rest : List ℕ) → x.more ≡ false
     → ((payload : List ℕ) → length (item_spelling (transfer_frame own (with_more x) payload)) ≤ beside + length payload)
     → beside ≤ largest → has_more (next_frame largest own x rest) ≡ true → largest ≤ beside + length (payload_in (next_frame largest own x rest))

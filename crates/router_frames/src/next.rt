@@ -14,7 +14,7 @@ use std::alloc::{AllocError, Global};
 ///
 /// # Errors
 ///
-/// `AllocError` where memory was refused.
+/// `AllocError` if memory was refused.
 pub fn delivery_frame(
     alloc: Global,
     largest: u32,
@@ -35,7 +35,7 @@ pub fn delivery_frame(
 ///
 /// # Errors
 ///
-/// `AllocError` where memory was refused.
+/// `AllocError` if memory was refused.
 pub fn next_frame(
     alloc: Global,
     largest: u32,

@@ -23,7 +23,7 @@ const INTERNAL_ERROR: &str = "amqp:internal-error";
 ///
 /// # Errors
 ///
-/// `AllocError` where memory was refused; an outcome that holds no memory takes none.
+/// `AllocError` if memory was refused; an outcome that holds no memory takes none.
 pub fn outcome_item(
     alloc: Global,
     own: u16,
@@ -55,7 +55,7 @@ pub fn outcome_item(
 ///
 /// # Errors
 ///
-/// `AllocError` where memory was refused; an outcome that holds no memory takes none.
+/// `AllocError` if memory was refused; an outcome that holds no memory takes none.
 pub fn kept_outcome(alloc: Global, state: &DeliveryState) -> Result<DeliveryState, AllocError>
     ensures kept { IfOk result (λ kept. kept ≡ kept_outcome state.now) }
     ensures plain { is_plain state.now ≡ true → IsOk result }

@@ -9,7 +9,7 @@ use std::alloc::AllocError;
 ///
 /// # Errors
 ///
-/// `AllocError` where memory was refused; a state that holds no memory takes none.
+/// `AllocError` if memory was refused; a state that holds no memory takes none.
 pub fn copy_state(state: &DeliveryState) -> Result<DeliveryState, AllocError>
     ensures copied { IfOk result (λ copied. copied ≡ state.now) }
     ensures plain { is_plain state.now ≡ true → IsOk result }

@@ -88,7 +88,7 @@ all_none None (Some e) none follows = absurd cc
 all_none (Some d) None none follows = tt
 all_none (Some d) (Some e) none follows = follows_none d e none follows
 
--- once
+-- at most once
 
 pub record IsSpent (u : List Entry) (n : ℕ) : Type 0 where
   pub once : tellings u n ≡ 1

@@ -59,7 +59,7 @@ old_number (Took d n ∷ t) m a e = old_number t m a e
 old_number (Bound b ∷ t) m a e = old_number t m a e
 old_number (Configured g ∷ t) m a e = old_number t m a e
 
--- an item that takes no link leaves the newest
+-- an item that takes no link doesn't change the newest
 newest_in_same : (body : Perf) (own c n : ℕ) (passes : Attach → Bool) (v : Option Attachment) → is_taken_in body ≡ false → newest_in body own c n passes v ≡ v
 newest_in_same (perf.Attach x) own c n passes v e = rw e refl
 newest_in_same _ own c n passes v e = refl

@@ -1,4 +1,4 @@
--- The links that owe a drain, gathered.
+-- Gathering the links that owe a drain.
 use Rattle.std.proofs.Common.{◌≡◌, ◌∙◌, ℕ, Bool, true, false, refl, sym, ap, subst, arith, List, [], ◌∷◌, ◌++◌, append_assoc, append-nil, Option, Some, None}
 use Rattle.std.specs.Prelude.{◌&&◌, ◌||◌, ◌==◌, if◌then◌else◌, is_some, option_map}
 use Rattle.std.specs.List.{list_any, flat_map}

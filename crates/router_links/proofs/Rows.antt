@@ -152,7 +152,7 @@ uncounted there n m e = rw e refl
 pub same_key_of : (k l : LinkKey) → Some k ≡ Some l → k ≡ l
 same_key_of k l e = cc
 
--- handles that are named alike
+-- handles with equal names
 pub named_same : (body : Perf) (known handles : ℕ → Option PeerHandle) → ((p : ℕ) → known p ≡ handles p) → (h : ℕ) → names_in body known h ≡ names_in body handles h
 named_same (perf.Flow f) known handles same h = by_handle f.handle
   where

@@ -1,4 +1,4 @@
--- What wasn't touched hasn't changed.
+-- A link that wasn't touched hasn't changed.
 use Rattle.std.proofs.Common.{◌≡◌, ◌∙◌, ℕ, Bool, true, false, refl, sym, ap, List, [], ◌∷◌, Option, Some, None}
 use Rattle.std.specs.Prelude.{◌||◌, ◌==◌, if◌then◌else◌, option_map, Result, Ok, Err, OnOk}
 use Rattle.std.specs.List.{list_any}

@@ -1,4 +1,4 @@
--- The links of a table, and what the list of a view's events comes to.
+-- The links of a table, and the state that a view's history gives them.
 use Rattle.std.specs.Prelude.{ℕ, Bool, false, not, ◌&&◌, nat_le, if◌then◌else◌, List, Option, Some, None, unwrap_or}
 use Rattle.amqp_perf.specs.declared.perf.Attach.{Attach}
 use Rattle.amqp_perf.specs.declared.perf.Flow.{Flow}

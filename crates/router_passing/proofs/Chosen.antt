@@ -102,7 +102,7 @@ chosen_last t address id v c is a =
 pub none_last : (t : Trace) (address : List ℕ) (a : List ℕ) → last_behind t None a ≡ chosen_at address None (last_chosen t) a
 none_last t address a = by_test (bytes_eq address a) (λ e. ap (λ b. if b then last_chosen t a else last_chosen t a) (sym e)) (λ e. ap (λ b. if b then last_chosen t a else last_chosen t a) (sym e))
 
--- the choice as the table of pools gives it
+-- the choice as the table of pools makes it
 pub chooses_none : (t : Trace) (address : List ℕ) → None ≡ choice (pool_of t address) → None ≡ option_and_then (numbered t) (choice_of t address)
 unfolding choice_of
 chooses_none t address e = ap (option_and_then (numbered t)) e

@@ -178,7 +178,7 @@ pub record Through (said : List Item) (t : List Entry) (c : ℕ) (D P : List Ite
   pub begins : (m : List Item) → Begins (ins t c) (P m)
   pub whole : is_live (conn t c) ≡ true → (m : List Item) → P m ≡ ins t c ++ m
 
--- at the door: the router knows nothing of it
+-- at the door: the connection is unknown to the router
 pub record AtDoor (said : List Item) (t : List Entry) (c : ℕ) (D P : List Item → List Item) (start : DoorState) : Type 0 where
   pub speaks : (m : List Item) → D m ≡ said ++ door_says start m
   pub lets : (m : List Item) → P m ≡ passed start m

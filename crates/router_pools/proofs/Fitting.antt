@@ -60,7 +60,7 @@ module _ (apart : ℕ → Bool) (table share : List ℕ → Distribution) (pools
         (λ e. subst (λ b. P a (if b then change (pools a) else pools a)) (sym e) (one a e))
         (λ e. subst (λ b. P a (if b then change (pools a) else pools a)) (sym e) (other a e)))
 
-    -- an address that is elsewhere has its pool
+    -- another address keeps its pool
     elsewhere : (a : List ℕ) → bytes_eq q a ≡ false → pools' a ≡ pools a
     elsewhere a e = changes a ∙ ap (λ b. if b then change (pools a) else pools a) e
 

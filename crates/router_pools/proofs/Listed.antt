@@ -76,7 +76,7 @@ module _ {X : Type 0} where
       elsewhere : (q == suc n) ≡ false → or_else (cond (nat_lt 0 q && nat_le q n) (f q) None) (cond (q == suc n) (f (suc n)) None) ≡ cond (nat_lt 0 q && nat_le q (suc n)) (f q) None
       elsewhere e = ap (λ b. or_else (cond (nat_lt 0 q && nat_le q n) (f q) None) (cond b (f (suc n)) None)) e ∙ or_none (cond (nat_lt 0 q && nat_le q n) (f q) None) ∙ ap (λ b. cond (nat_lt 0 q && b) (f q) None) (alike e)
 
-  -- what is found is what each number has
+  -- the list gives what each number has
   pub listed_at : (f : ℕ → Option X) (n : ℕ) → f 0 ≡ None → ((m : ℕ) → n < m → f m ≡ None) → (q : ℕ) → link_at (listed f n) q ≡ f q
   listed_at f n first most q = listed_in f n q ∙ by_zero q
     where

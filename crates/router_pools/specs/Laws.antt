@@ -7,7 +7,7 @@ use Rattle.router_pools.specs.Fits.{is_touched, NoneTouched, pool_at, PoolsFit}
 use Rattle.router_pools.specs.Sharing.{AreNumbered, Figure, sharing}
 use Rattle.router_pools.specs.declared.pools.Pools.{Pools}
 
--- pools that fit say nothing of what touched links have
+-- pools that agree with the links don't depend on what touched links have
 abbrev pub TouchedSayNothing : Type 0
 TouchedSayNothing = (pools : Pools) (share : List ℕ → Distribution) (known other : ℕ → Option Figure) (last : List ℕ → ℕ) → PoolsFit pools share known last → ((n : ℕ) → is_touched pools n ≡ false → other n ≡ known n) → PoolsFit pools share other last
 

@@ -42,7 +42,7 @@ sharing distribution known count last address = record {
   last = last;
 }
 
--- no link but those from 1 to n has anything
+-- only numbers from 1 to n have anything
 pub record AreNumbered (known : ℕ → Option Figure) (n : ℕ) : Type 0 where
   pub first : known 0 ≡ None
   pub most : (m : ℕ) → n < m → known m ≡ None

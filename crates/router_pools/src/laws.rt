@@ -1,7 +1,7 @@
 //! Laws of the pools of all addresses. Nothing runs here: each function is a theorem on the definitions that the contracts cite.
 ghost use Rattle.router_pools.specs.Laws.{PoolsAnswerAsSharing, PoolsAreSharing, TouchedSayNothing};
 
-/// Pools that fit say nothing of what touched links have.
+/// Pools that agree with the links don't depend on what touched links have.
 pub fn touched_say_nothing()
     ensures { TouchedSayNothing }
 {}

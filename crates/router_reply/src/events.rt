@@ -213,7 +213,7 @@ fn on_start(state: &mut State, id: &RouterId, ends: &[u64]) -> Result<(), AllocE
 ///
 /// # Errors
 ///
-/// `AllocError` where memory was refused; the tables' contents are unspecified then.
+/// `AllocError` if memory was refused; the tables' contents are unspecified then.
 pub fn reply(state: &mut State, id: &RouterId, ends: &[u64], event: Event) -> Result<(), AllocError>
     ensures { OnOk result ((t : List Entry) → TablesAt state.old t event ends.now → refuses t event ≡ false → TablesFit state.new (replied id.now t (step_of event))) }
 {

@@ -86,7 +86,7 @@ worked : {A : Type 0} (a : A) (b : Bool) → (b ≡ true → Ok a ≡ Err Failed
 worked a true is = absurd (let bad = is refl in cc)
 worked a false is = refl
 
--- an event is handled, or refused, or memory is
+-- an event is handled, or refused, or memory is refused
 pub handled : (old new : Core) (e : Event) (r : Result Done CoreFault) → HasHistory old
     → OnOk r ((t : List Entry) → Fits old t → (u : List Entry) × Replies (id_of old) t (step_of e) u × Fits new u)
     → OnOk r ((t : List Entry) → Fits old t → refuses t e ≡ false)

@@ -20,7 +20,7 @@ unfoldable pub count_below : ℕ → (ℕ → Bool) → ℕ
 count_below zero passes = 0
 count_below (suc n) passes = count_below n passes + (if passes n then 1 else 0)
 
--- the greatest number up to this one that passes; 0 where none does
+-- the greatest number up to this one that passes; 0 if none does
 unfoldable pub most_of : ℕ → (ℕ → Bool) → ℕ
 most_of zero passes = 0
 most_of (suc n) passes = if passes (suc n) then suc n else most_of n passes

@@ -23,7 +23,7 @@ pub record Put : Type 0 where
 pub data Entry : Type 0 where
   -- an event was handled
   Did : (step : Step) → Entry
-  -- an item was put in the outbox of a connection
+  -- an item was put into the outbox of a connection
   Out : (conn : ℕ) (item : Item) → Entry
   -- `count` items left the outbox of a connection
   Took : (conn : ℕ) (count : ℕ) → Entry

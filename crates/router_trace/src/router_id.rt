@@ -75,7 +75,7 @@ pub fn flow_item(own: u16, told: FlowState) -> Item
     )
 }
 
-/// A frame on a channel.
+/// A frame with a performative, on a channel.
 pub(crate) fn frame_on(channel: u16, perf: Perf) -> Item
     ensures { result ≡ frame_on channel perf }
 {
@@ -87,7 +87,7 @@ pub(crate) fn frame_on(channel: u16, perf: Perf) -> Item
     }
 }
 
-/// A frame on channel 0.
+/// A frame with a performative, on channel 0.
 fn frame_of(perf: Perf) -> Item
     ensures { result ≡ frame_of perf }
 {
