@@ -41,7 +41,7 @@ fn first_at(state: &State, place: Attachment) -> Result<Option<u64>, AllocError>
     Ok(first_waiting(state, place)?)
 }
 
-/// The delivery that goes on on a link.
+/// The delivery that is in progress on a link.
 fn begun_at(state: &State, place: Attachment) -> Option<u64>
     ensures { (t : List Entry) → TablesFit state.now t → IsFirst (λ n. goes_on_from t place n (delivery t n)) result }
 {

@@ -2,7 +2,7 @@
 //! laws.
 ghost use Rattle.router_core.specs.Laws.{TracesKeepOrder, RunsKeepOrder, TracesKeepWindows, RunsKeepWindows, TracesStartWithinCredit, RunsStartWithinCredit, TakesMakeNoDifference, AnsweredAlone};
 
-/// In every trace of the router each connection is sent at most one header, one open and one close, a close never
+/// In every trace of the router at most one header, one open and one close are written on each connection, a close never
 /// without an open before it, and nothing after the close. Heartbeats and frames of sessions come between open and close;
 /// on each channel begin and end take turns, and the other frames of a session come between them. If the first item
 /// received is a header, the router's header is written first; if nothing is received, nothing is written (AMQP 1.0 part 2,

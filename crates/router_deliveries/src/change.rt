@@ -39,7 +39,8 @@ pub enum Gone {
 pub enum Change {
     /// Links end.
     Ends(Gone),
-    /// Deliveries whose producer needs no outcome any more: on this session, with producer's ids in this range (AMQP 1.0 part 2, section 2.7.6).
+    /// Deliveries whose producer needs no outcome any more: on this session, with ids from the producer in this range (AMQP 1.0 part 2, section
+    /// 2.7.6).
     Untold {
         /// The connection.
         conn: u64,
@@ -50,7 +51,7 @@ pub enum Change {
         /// The last one.
         last: u32,
     },
-    /// Deliveries that a consumer decides: on this session, with router's ids in this range (AMQP 1.0 part 2, section 2.7.6).
+    /// Deliveries that a consumer decides: on this session, with ids from the router in this range (AMQP 1.0 part 2, section 2.7.6).
     Decided {
         /// The connection.
         conn: u64,

@@ -17,7 +17,7 @@ use std::marker::Model;
 pub struct Delivery {
     /// The consumer's link.
     pub link: Attachment,
-    /// The producer's delivery, to which the outcome is reported; none if no report is due any more.
+    /// The producer's delivery, to which the outcome is reported; none if the producer needs no outcome any more.
     pub origin: Option<Origin>,
     /// Whether its producer had settled it before it was bound.
     pub presettled: bool,

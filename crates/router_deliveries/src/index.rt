@@ -30,9 +30,9 @@ pub(crate) struct Keys {
     pub(crate) to_tell: bool,
     /// The place of its consumer's link, if the end of that link would change it.
     pub(crate) on: Option<Spot>,
-    /// The place of its producer's link, if its outcome must be reported there.
+    /// The place of its producer's link, if the producer still needs its outcome.
     pub(crate) from: Option<Spot>,
-    /// The place of the id that its producer gave it, if its outcome must be reported there.
+    /// The place of the id that its producer gave it, if the producer still needs its outcome.
     pub(crate) by_id: Option<Spot>,
 }
 

@@ -27,7 +27,7 @@ pub fn copy_state(state: &DeliveryState) -> Result<DeliveryState, AllocError>
     })
 }
 
-/// A copy of a rejection's error.
+/// A copy of the fields of a rejected outcome.
 fn copy_rejected(rejected: &Rejected) -> Result<Rejected, AllocError>
     ensures { IfOk result (λ copied. copied ≡ rejected.now) }
 {
@@ -50,7 +50,7 @@ fn copy_fault(fault: &Fault) -> Result<Fault, AllocError>
     })
 }
 
-/// A copy of what changes for a delivery's next attempt.
+/// A copy of the fields of a modified outcome.
 fn copy_modified(modified: &Modified) -> Result<Modified, AllocError>
     ensures { IfOk result (λ copied. copied ≡ modified.now) }
 {

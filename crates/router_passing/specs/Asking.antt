@@ -35,7 +35,7 @@ abbrev pub drained_state : ℕ → Option Link → Option LinkState
 drained_state h None = None
 drained_state h (Some l) = drained_by h l.happened
 
--- one of the deliveries with these numbers goes on on a session
+-- one of the deliveries with these numbers is in progress on a session
 abbrev pub some_go_on : Trace → ℕ → ℕ → List ℕ → Bool
 some_go_on t c o [] = false
 some_go_on t c o (n ∷ ns) = is_going_on t c o n (delivery t n) || some_go_on t c o ns

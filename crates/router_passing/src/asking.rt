@@ -12,7 +12,7 @@ use router_links::Link;
 use router_trace::{Attachment, LinkState};
 
 impl Passing {
-    /// Whether an attachment's link can start a waiting delivery: it is attached, no delivery goes on there, and the peer granted credit.
+    /// Whether an attachment's link can start a waiting delivery: it is attached, no delivery is in progress there, and the peer granted credit.
     pub fn takes_more(&self, at: Attachment) -> bool
         ensures { (t : List Entry) → PassingFit self.now t → result ≡ takes_more (link_of t at) at.number }
     {
@@ -22,7 +22,7 @@ impl Passing {
         }
     }
 
-    /// Whether a delivery goes on on an attachment's link.
+    /// Whether a delivery is in progress on an attachment's link.
     pub fn goes_on(&self, at: Attachment) -> bool
         ensures { (t : List Entry) → PassingFit self.now t → result ≡ goes_on (link_of t at) at.number }
     {
@@ -61,7 +61,7 @@ fn link_takes_more(link: &Link, number: u64) -> bool
     link.number == number && !link.going_on && link.credit() > 0
 }
 
-/// Whether the link has this number and a delivery goes on on it.
+/// Whether the link has this number and a delivery is in progress on it.
 fn link_goes_on(link: &Link, number: u64) -> bool
     ensures { (l : View) → link.now ≡ link_of_view l → result ≡ goes_on (Some l) number }
 {

@@ -1,4 +1,4 @@
-//! Sessions on which a delivery goes on.
+//! Sessions on which a delivery is in progress.
 ghost use Rattle.std.specs.Prelude.{◌≡◌, List, Some, IfOk};
 ghost use Rattle.router_trace.specs.Trace.{Entry};
 ghost use Rattle.router_trace.specs.Deliveries.{delivery, is_number, stands_on};
@@ -14,7 +14,7 @@ use router_trace::Attachment;
 use std::alloc::AllocError;
 
 impl Passing {
-    /// Whether a delivery goes on on a session: it has begun, and more frames of it remain to be sent.
+    /// Whether a delivery is in progress on a session: it has begun, and more frames of it remain to be sent.
     pub fn is_busy(&self, conn: u64, own: u16) -> Result<bool, AllocError>
         ensures { IfOk result (λ busy. (t : List Entry) → PassingFit self.now t → busy ≡ is_busy t conn own) }
     {
@@ -22,7 +22,7 @@ impl Passing {
         Ok(self.some_go_on(conn, own, numbers.as_slice()))
     }
 
-    /// Whether one of the deliveries with these numbers goes on on a session.
+    /// Whether one of the deliveries with these numbers is in progress on a session.
     fn some_go_on(&self, conn: u64, own: u16, numbers: &[u64]) -> bool
         ensures { (t : List Entry) → PassingFit self.now t → result ≡ some_go_on t conn own numbers.now }
     {
@@ -34,7 +34,7 @@ impl Passing {
         false
     }
 
-    /// Whether the delivery with this number goes on on a session.
+    /// Whether the delivery with this number is in progress on a session.
     fn is_going_on(&self, conn: u64, own: u16, number: u64) -> bool
         ensures { (t : List Entry) → PassingFit self.now t → result ≡ is_going_on t conn own number (delivery t number) }
     {

@@ -109,7 +109,7 @@ fn append(lines: &mut Vec<Line>, told: Vec<Line>) -> Result<(), AllocError>
     Ok(())
 }
 
-/// The line of the book at the end.
+/// Appends the line of the book, at the end.
 fn say_book(lines: &mut Vec<Line>) -> Result<(), AllocError>
     ensures { OnOk result (lines.new.items ≡ lines.old.items ++ book ∷ []) }
 {

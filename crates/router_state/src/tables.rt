@@ -168,7 +168,7 @@ impl State {
         self.peers.largest_frame(conn)
     }
 
-    /// The heartbeats that are due at a moment, by number of the connections that are live as an event finds them.
+    /// The heartbeats that are due at a moment on the connections that are live as an event finds them, by connection number.
     pub fn beats(&self, now: u64) -> Result<Vec<Outgoing>, AllocError>
         ensures { IfOk result (λ due. (t : List Entry) (e : E) (ends : List ℕ) → TablesAt self.now t e ends → puts_of due.items ≡ beats t e now) }
     {
@@ -484,7 +484,7 @@ impl State {
         self.passing.deliveries().next_id(conn, own)
     }
 
-    /// Whether an attachment's link has credit left and no delivery that goes on.
+    /// Whether an attachment's link has credit left and no delivery in progress.
     pub fn takes_more(&self, at: Attachment) -> bool
         ensures { (t : List Entry) → TablesFit self.now t → result ≡ takes_more (link_of t at) at.number }
     {
@@ -600,7 +600,7 @@ fn key_in(peers: &Peers, conn: u64, perf: &Perf) -> Result<Option<LinkKey>, Allo
     }
 }
 
-/// The heartbeats that are due at a moment on these connections, by number.
+/// The heartbeats that are due at a moment on these connections, by connection number.
 fn beats_over(
     alloc: Global,
     clocks: &Clocks,

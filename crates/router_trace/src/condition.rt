@@ -19,7 +19,7 @@ pub enum Condition {
     UnattachedHandle,
     /// An attach names a handle on which a link is already attached.
     HandleInUse,
-    /// A transfer came that the session's incoming window doesn't allow.
+    /// A transfer was received that the session's incoming window doesn't allow.
     WindowViolation,
     /// The node doesn't exist.
     NotFound,

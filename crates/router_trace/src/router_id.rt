@@ -46,7 +46,7 @@ pub fn header_item() -> Item
     }
 }
 
-/// A heartbeat: an empty frame (AMQP 1.0 part 2, section 2.4.5).
+/// A heartbeat (AMQP 1.0 part 2, section 2.4.5).
 pub fn beat_item() -> Item
     ensures { result ≡ beat_item }
 {
