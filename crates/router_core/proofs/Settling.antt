@@ -18,7 +18,7 @@ due_flows : (c o : ℕ) (v : Option Session) → AllFlows (flow_due c o v)
 due_flows c o None = tt
 due_flows c o (Some h) = by_test (is_narrow h) (λ e. rw e ((o, h, refl), tt)) (λ e. rw e tt)
 
--- such a flow leaves no window narrow that wasn't, and not the one of its own channel
+-- such a flow makes no window narrow, and the window of its own channel isn't narrow after it
 
 abbrev Wide : ℕ → ℕ → Option Session → Type 0
 Wide c o v = flow_due c o v ≡ []

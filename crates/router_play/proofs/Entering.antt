@@ -170,7 +170,7 @@ enter_all_quiet d [] s c apart = quiet_refl s c
 enter_all_quiet d (i ∷ is) s c apart =
     quiet_trans s (enter d i s) (enter_all d (i ∷ is) s) c (enter_by_quiet d i s c apart (s.sockets d.0)) (enter_all_quiet d is (enter d i s) c apart)
 
--- The state of a connection. D is what the door says and P what it lets pass, as the items continue.
+-- The state of a connection. D is what the door answers and P what it lets pass, as the items continue.
 
 -- past the door: the router received the first of the items that passed, and all of them while the connection is live
 pub record Through (said : List Item) (t : List Entry) (c : ℕ) (D P : List Item → List Item) : Type 0 where
