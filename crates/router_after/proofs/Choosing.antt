@@ -1,4 +1,4 @@
--- The one that goes first, from that of each link.
+-- The number that goes first of all, from the first of each link.
 use Rattle.std.proofs.Common.{◌≡◌, ◌∙◌, ◌≤◌, ◌<◌, ℕ, zero, suc, Bool, true, false, refl, sym, ap, subst, arith, Option, Some, None}
 use Rattle.std.specs.Prelude.{◌&&◌, ◌==◌, nat_lt, if◌then◌else◌, option_map}
 use Rattle.std.proofs.lemmas.Bool.{and_from, eqb-true}
@@ -11,7 +11,7 @@ use Rattle.router_after.specs.declared.candidate.Candidate.{Candidate}
 use Rattle.router_after.specs.Soonest.{is_sooner, beats, sooner, Stands, IsSoonest, IsSoonestOn, IsSoonestUpTo}
 use Rattle.router_after.proofs.Orders.{is_soonest, is_sooner_too, not_before, behind_lower}
 
--- what goes before the sooner of two goes before both
+-- a number that goes before the sooner of two goes before both
 beats_both : (n : ℕ) (a : Attachment) (b c : Option Candidate) → beats n a (sooner b c) ≡ true → (beats n a b ≡ true) × (beats n a c ≡ true)
 beats_both n a None c e = (refl, e)
 beats_both n a (Some b) None e = (e, refl)
@@ -65,7 +65,7 @@ no_more place passes last best pass none up = record {
     by_test true wrong = wrong refl
     by_test false wrong = refl
 
--- That is the first among all below a bound that no place is beyond.
+-- That is the first of all below a bound on every place.
 abbrev pub placed : Candidate → Placed
 placed c = record { number = c.number; place = c.place }
 
@@ -74,7 +74,7 @@ unfolding first_placed
 nothing_below zero place none = refl
 nothing_below (suc b) place none = ap (λ v. or_better v b (place b)) (nothing_below b place none) ∙ ap (or_better None b) (none b)
 
--- what is found has a place, below the bound
+-- the number found has a place, below the bound
 pub record IsPlaced (bound : ℕ) (place : ℕ → Option Attachment) (p : Placed) : Type 0 where
   pub below : p.number < bound
   pub stands : place p.number ≡ Some p.place

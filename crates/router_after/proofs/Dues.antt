@@ -1,4 +1,4 @@
--- What is due first, from what was found.
+-- What is due first, by what was found.
 use Rattle.std.proofs.Common.{◌≡◌, ◌∙◌, ◌+◌, ℕ, true, false, refl, sym, ap, List, [], Option, Some, None}
 use Rattle.std.specs.Prelude.{if◌then◌else◌, is_none, is_some, option_map}
 use Rattle.amqp_perf.specs.declared.perf.Transfer.{Transfer}

@@ -1,4 +1,4 @@
--- Which deliveries can go from a link.
+-- The deliveries of a link that can be sent.
 use Rattle.std.proofs.Common.{◌≡◌, ◌∙◌, ◌<◌, ◌+◌, ℕ, Bool, true, false, refl, sym, ap, subst, arith, Option, Some, None}
 use Rattle.std.specs.Prelude.{not, ◌&&◌, ◌||◌, ◌==◌, if◌then◌else◌, is_none, is_some}
 use Rattle.std.proofs.lemmas.Bool.{and_parts, and_from, eqb-true}
@@ -18,7 +18,7 @@ use Rattle.router_after.specs.Starting.{is_same, goes_on_from, waits_at, starts_
 use Rattle.router_after.proofs.Numbered.{number_is, place_is, stands_there}
 use Rattle.router_after.proofs.Orders.{not_sooner_here}
 
--- attachments that agree in each part are one
+-- attachments with equal parts are equal
 one : (a b : Attachment) → a.number ≡ b.number → a.conn.0 ≡ b.conn.0 → a.channel ≡ b.channel → a.handle ≡ b.handle → a ≡ b
 one a b n c o h =
     ap (λ (k : ℕ). record { number = k; conn = a.conn; channel = a.channel; handle = a.handle }) n
@@ -41,7 +41,7 @@ is_itself a =
     and_from (a.number == a.number) _ (nat_same a.number)
     (and_from (a.conn.0 == a.conn.0) _ (nat_same a.conn.0) (and_from (a.channel == a.channel) (a.handle == a.handle) (nat_same a.channel) (nat_same a.handle)))
 
--- the link of a number stands at its place
+-- the link with a number is at its place
 there_is : (t : Trace) (a : Attachment) → is_there (numbered t a.number) a ≡ true → numbered t a.number ≡ Some a
 there_is t a e = by_place (numbered t a.number) refl e
   where
@@ -57,7 +57,7 @@ is_there_at t a is =
     ap (λ v. is_there v a) is
     ∙ and_from (a.conn.0 == a.conn.0) _ (nat_same a.conn.0) (and_from (a.channel == a.channel) (a.handle == a.handle) (nat_same a.channel) (nat_same a.handle))
 
--- what goes on or starts on a link has it attached, and is unsent
+-- a delivery that goes on or starts on a link has it attached, and is unsent
 going_has : (v : Option Link) (number : ℕ) (sent : Option ℕ) (n : ℕ) → goes_on_at v number sent n ≡ true → has_number number v ≡ true
 going_has None number sent n e = e
 going_has (Some l) number sent n e = (and_parts (l.number == number) _ e).0
@@ -66,7 +66,7 @@ taking_has : (v : Option Link) (number : ℕ) → takes_more v number ≡ true �
 taking_has None number e = e
 taking_has (Some l) number e = (and_parts (l.number == number) _ e).0
 
--- a link on which one goes on takes no other
+-- a link on which a delivery goes on starts no other
 pub goes_or_takes : (v : Option Link) (number : ℕ) → goes_on v number ≡ true → takes_more v number ≡ true → true ≡ false
 goes_or_takes None number e f = absurd cc
 goes_or_takes (Some l) number e f =
@@ -99,7 +99,7 @@ or_second : (a b : Bool) → b ≡ true → (a || b) ≡ true
 or_second true b e = refl
 or_second false b e = e
 
--- A delivery that can go, from its link.
+-- A delivery that can be sent, on its link.
 pub record IsReady (t : Trace) (n : ℕ) (a : Attachment) : Type 0 where
   pub place : place_of t a.number ≡ Some a
   pub wide : is_wide (session t a.conn.0 a.channel) ≡ true
@@ -158,7 +158,7 @@ has_it t n a e = some_delivery t (is_unsent_on a.number) refl n (ready t n a e).
 pub below : (t : Trace) (n : ℕ) (a : Attachment) → places t n ≡ Some a → n < bindings t + 1
 below t n a e = stands_below t (is_unsent_on a.number) refl n (ready t n a e).unsent
 
--- and what goes from a link that is attached and whose window is open can go
+-- and a delivery that goes on or can start can be sent, if its link is attached and the window open
 pub can_go_there : (t : Trace) (n : ℕ) (a : Attachment) → place_of t a.number ≡ Some a → is_wide (session t a.conn.0 a.channel) ≡ true
     → goes_from t a n (delivery t n) ≡ true → places t n ≡ Some a
 can_go_there t n a place wide goes = by_delivery (delivery t n) goes
@@ -190,7 +190,7 @@ can_go_there t n a place wide goes = by_delivery (delivery t n) goes
         (subst (λ (b : Attachment). is_wide (session t b.conn.0 b.channel) ≡ true) (sym is) wide)
         (subst (λ (b : Attachment). goes_from t b n (Some d) ≡ true) (sym is) e))
 
--- The first that goes from a link is the one of it that goes first of all.
+-- The first delivery sent on a link is the one that goes first of all on it.
 pub none_there : (t : Trace) (link : ℕ) → ((n : ℕ) (a : Attachment) → places t n ≡ Some a → a.number ≡ link → true ≡ false) → IsSoonestOn (places t) link None
 none_there t link none = record { stands = tt; first = none }
 
@@ -202,7 +202,7 @@ unplaced t link gone n a e is =
 pub nowhere : (t : Trace) (link : ℕ) → place_of t link ≡ None → IsSoonestOn (places t) link None
 nowhere t link gone = none_there t link (unplaced t link gone)
 
--- all of a link have its place
+-- all deliveries of a link have its place
 placed_so : (t : Trace) (link : ℕ) (p : Attachment) → place_of t link ≡ Some p → (n : ℕ) (a : Attachment) → places t n ≡ Some a → a.number ≡ link → p ≡ a
 placed_so t link p place n a e is = inside p a (sym place ∙ ap (place_of t) (sym is) ∙ (ready t n a e).place)
   where
@@ -231,7 +231,7 @@ somebody t link p k place wide first = record {
       (not_sooner_here n k p (first.1 n (subst (λ (b : Attachment). goes_from t b n (delivery t n) ≡ true) (sym same) (ready t n a e).goes)));
 }
 
--- where none has begun, the first that waits goes, if one can start
+-- if none has begun, the first waiting one is sent, if one can start
 and_true : (b : Bool) → (b && true) ≡ b
 and_true true = refl
 and_true false = refl

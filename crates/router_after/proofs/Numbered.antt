@@ -1,4 +1,4 @@
--- Where attachments stand: the one of a number has it.
+-- The places of attachments: the attachment with a number has that number.
 use Rattle.std.proofs.Common.{◌≡◌, ◌∙◌, ◌+◌, ◌<◌, ℕ, Bool, true, false, refl, sym, ap, [], ◌∷◌, Option, Some, None, arith}
 use Rattle.std.specs.Prelude.{◌&&◌, ◌==◌, if◌then◌else◌, is_some}
 use Rattle.std.proofs.lemmas.Bool.{eqb-true, and_parts}
@@ -47,7 +47,7 @@ is_low t m a e =
     let le = old_number t m a e in
     omega (arith, is, le)
 
--- who is attached was numbered so
+-- an attached link was numbered so
 pub place_is : (t : Trace) (m : ℕ) (a : Attachment) → place_of t m ≡ Some a → (numbered t m ≡ Some a) × (a.number ≡ m) × (is_attached t a ≡ true)
 place_is t m a e = by_number (numbered t m) refl e
   where

@@ -1,4 +1,4 @@
--- What follows of places: which goes first is an order.
+-- The order of places: "goes first" is an order.
 use Rattle.std.proofs.Common.{◌≡◌, ◌≤◌, ◌<◌, ◌∙◌, ℕ, Bool, true, false, refl, sym, arith}
 use Rattle.std.specs.Prelude.{not, ◌&&◌, ◌||◌, ◌==◌, nat_lt}
 use Rattle.std.proofs.lemmas.Bool.Decides.{nat_tests}
@@ -36,7 +36,7 @@ not_sooner_here n m a le = by_cases (is_sooner n a (record { number = m; place =
     by_cases true l = let k : n < m = l refl in absurd (omega (arith, k, le))
     by_cases false l = refl
 
--- in the words of a definition that compares places alone
+-- in terms of a definition that compares places alone
 pub not_before : (n : ℕ) (a : Attachment) (c : Candidate) → is_sooner n a c ≡ false → is_before a c.place ≡ false
 not_before n a c e = by_parts (is_before a c.place) _ e
   where

@@ -12,7 +12,7 @@ use Rattle.router_after.specs.Draining.{drains_at}
 use Rattle.router_after.proofs.Numbered.{number_is, is_low, place_is, stands_there}
 use Rattle.router_after.proofs.Orders.{not_sooner_here}
 
--- the link of a number whose drain is due stands there
+-- the link with a number whose drain is due is there
 pub there : (t : Trace) (n : ℕ) (a : Attachment) → drains_at t n ≡ Some a → (numbered t n ≡ Some a) × (is_drained t n a ≡ true)
 there t n a e = by_number (numbered t n) refl e
   where

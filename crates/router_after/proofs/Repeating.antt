@@ -1,4 +1,4 @@
--- What goes on as long as something is due: one turn behind the other, and none once nothing is due.
+-- Repetition as long as something is due: one turn after another, and none once nothing is due.
 use Rattle.std.proofs.Common.{◌≡◌, ◌∙◌, ◌≤◌, ◌+◌, ◌^◌, ℕ, zero, suc, refl, sym, ap, subst, arith, List, []}
 use Rattle.router_trace.specs.Trace.{Trace, Put, goes}
 use Rattle.router_trace.specs.Following.{repeated, turns, as_long_as_due}
@@ -22,13 +22,13 @@ enough next (suc k) (suc n) t le none = enough next k n (goes (next t) t) (omega
 behind : (k : ℕ) → suc k ≡ k + 1
 behind k = omega arith
 
--- one turn behind so many
+-- one turn after the others
 pub goes_on : (Fits : Trace → Type 0) (next : Trace → List Put) (k : ℕ) (t : Trace)
     → Fits (goes (next (repeated next k t)) (repeated next k t)) → Fits (repeated next (k + 1) t)
 goes_on Fits next k t fits =
     subst (λ (n : ℕ). Fits (repeated next n t)) (behind k) (subst Fits (sym (one_more next k t)) fits)
 
--- nothing is due behind so many
+-- nothing is due after these turns
 pub stops : (Fits : Trace → Type 0) (next : Trace → List Put) (k : ℕ) (t : Trace) → k ≤ 18446744073709551615 → next (repeated next k t) ≡ []
     → Fits (goes (next (repeated next k t)) (repeated next k t)) → Fits (as_long_as_due next t)
 unfolding turns

@@ -1,4 +1,4 @@
--- Numbers that are looked at in order, by a test that lets more pass, until one passes.
+-- Numbers that are visited in order, by a wider test, until one passes the test.
 use Rattle.std.proofs.Common.{◌≡◌, ◌∙◌, ◌≤◌, ℕ, Bool, true, false, refl, sym, ap, arith, Option, Some, None}
 use Rattle.std.specs.Prelude.{◌&&◌, ◌==◌, nat_lt}
 use Rattle.std.proofs.lemmas.Bool.{and_from, eqb-true}
@@ -20,7 +20,7 @@ Wider wide passes = (m : ℕ) → passes m ≡ true → wide m ≡ true
 pub none_yet : (passes : ℕ → Bool) → NoneUpTo passes None
 none_yet passes = λ m e. refl
 
--- the next one that may pass does
+-- the next number that may pass does
 pub found : (wide passes : ℕ → Bool) (last : Option ℕ) (n : ℕ) → Wider wide passes → NoneUpTo passes last
     → IsFirst (λ m. is_above last m && wide m) (Some n) → passes n ≡ true → IsFirst passes (Some n)
 found wide passes last n wider none x e = (e, λ m p. x.1 m (and_from (is_above last m) (wide m) (none m p) (wider m p)))
@@ -41,7 +41,7 @@ onward wide passes last n wider none x e = λ m p.
         absurd cc
     by_test m false f p le = less n m le f
 
--- there is none any more
+-- there is no further number
 pub ended : (wide passes : ℕ → Bool) (last : Option ℕ) → Wider wide passes → NoneUpTo passes last
     → IsFirst (λ m. is_above last m && wide m) None → IsFirst passes None
 ended wide passes last wider none x = λ m. not_true (passes m) (λ p.

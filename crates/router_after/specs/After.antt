@@ -1,5 +1,5 @@
--- What follows an event's rows: producers are told outcomes, deliveries are sent, drains are told, credit is granted, and at last windows are told
--- anew.
+-- What follows an event's rows: outcomes are sent to producers, deliveries to consumers, drains are answered, credit is granted, and at last narrow
+-- windows are restored.
 use Rattle.std.specs.Prelude.{List, [], ◌∷◌, Option, Some, None}
 use Rattle.router_trace.specs.declared.outgoing.Outgoing.{Outgoing}
 use Rattle.router_trace.specs.Trace.{Trace, Put, goes, put_of}
@@ -27,14 +27,14 @@ widened t = goes (windows t) t
 abbrev pub followed : Trace → Trace
 followed t = widened (granted (drained (sent (told t))))
 
--- what is due first in each of the four that go on as long as something is
+-- what is due first in each of the four phases that repeat as long as something is due
 abbrev pub due_in : Phase → Trace → List Put
 due_in Outcomes = tells
 due_in Deliveries = sends_due
 due_in Drains = drains_due
 due_in Grants = grants_due
 
--- the item that is due, if one is
+-- the item that is due, if there is one
 abbrev pub puts_in : Option Outgoing → List Put
 puts_in None = []
 puts_in (Some x) = put_of x ∷ []

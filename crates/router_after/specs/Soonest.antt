@@ -1,4 +1,4 @@
--- Of several numbers that have places, which goes first: by connection, by the router's channel, and there by number.
+-- Of several numbers with places, the one that goes first: by connection, by the router's channel, then by number.
 use Rattle.std.specs.Prelude.{◌≡◌, ℕ, Bool, true, false, not, ◌&&◌, ◌||◌, nat_lt, if◌then◌else◌, Option, Some, None}
 use Rattle.router_trace.specs.declared.handle.Attachment.{Attachment}
 use Rattle.router_trace.specs.Numbers.{is_before}
@@ -8,7 +8,7 @@ use Rattle.router_after.specs.declared.candidate.Candidate.{Candidate}
 abbrev pub is_sooner : ℕ → Attachment → Candidate → Bool
 is_sooner n a c = is_before a c.place || (not (is_before c.place a) && nat_lt n c.number)
 
--- a number at a place goes before the one that was found, if one was
+-- a number at a place goes before the best found so far, if there is one
 abbrev pub beats : ℕ → Attachment → Option Candidate → Bool
 beats n a None = true
 beats n a (Some c) = is_sooner n a c
@@ -21,22 +21,22 @@ abbrev pub sooner : Option Candidate → Option Candidate → Option Candidate
 sooner None c = c
 sooner (Some b) c = unless_sooner b c
 
--- one that was found has its place
+-- the best found so far has its place
 abbrev pub Stands : (ℕ → Option Attachment) → Option Candidate → Type 0
 Stands place None = Unit {0}
 Stands place (Some c) = place c.number ≡ Some c.place
 
--- none that has a place goes before the one that was found
+-- no number with a place goes before the best found so far
 pub record IsSoonest (place : ℕ → Option Attachment) (best : Option Candidate) : Type 0 where
   pub stands : Stands place best
   pub first : (n : ℕ) (a : Attachment) → place n ≡ Some a → beats n a best ≡ false
 
--- the same of those on one link
+-- the same for the numbers on one link
 pub record IsSoonestOn (place : ℕ → Option Attachment) (link : ℕ) (best : Option Candidate) : Type 0 where
   pub stands : Stands place best
   pub first : (n : ℕ) (a : Attachment) → place n ≡ Some a → a.number ≡ link → beats n a best ≡ false
 
--- the same of those on the links up to one
+-- the same for the numbers on the links up to one
 pub record IsSoonestUpTo (place : ℕ → Option Attachment) (last : Option ℕ) (best : Option Candidate) : Type 0 where
   pub stands : Stands place best
   pub first : (n : ℕ) (a : Attachment) → place n ≡ Some a → beats n a best ≡ true → is_above last a.number ≡ true

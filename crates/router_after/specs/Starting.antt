@@ -8,7 +8,7 @@ use Rattle.router_trace.specs.Following.{link_of, is_going, takes_more, is_busy,
 abbrev pub is_same : Attachment → Attachment → Bool
 is_same a b = (a.number == b.number) && ((a.conn.0 == b.conn.0) && ((a.channel == b.channel) && (a.handle == b.handle)))
 
--- it has begun on this link, and goes on
+-- it has begun on this link and goes on
 abbrev pub goes_on_from : Trace → Attachment → ℕ → Option Delivery → Bool
 goes_on_from t a n None = false
 goes_on_from t a n (Some d) = is_same d.link a && is_going t n d
@@ -18,14 +18,14 @@ abbrev pub waits_at : Attachment → Option Delivery → Bool
 waits_at a None = false
 waits_at a (Some d) = is_same d.link a && (is_none d.id && d.going_on)
 
--- one can start on this link, if it waits there
+-- a waiting delivery can start on this link
 abbrev pub starts_from : Trace → Attachment → Bool
 starts_from t a = takes_more (link_of t a) a.number && (not (is_busy t a.conn.0 a.channel) && not (is_used t (named t a.conn.0 a.channel (next_id t a.conn.0 a.channel))))
 
--- it goes on or can start on this link, if its session's window is open
+-- it goes on or can start on this link, and its session's window is open
 abbrev pub goes_from : Trace → Attachment → ℕ → Option Delivery → Bool
 goes_from t a n v = goes_on_from t a n v || (waits_at a v && starts_from t a)
 
--- where each delivery goes that can
+-- the place of each delivery that can be sent
 abbrev pub places : Trace → ℕ → Option Attachment
 places t n = place_to_go t n (delivery t n)

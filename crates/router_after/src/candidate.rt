@@ -1,4 +1,4 @@
-//! What may go next, and where it stands.
+//! Deliveries and links that may go next, with their places.
 ghost use Rattle.std.specs.Prelude.{◌≡◌};
 ghost use Rattle.router_trace.specs.Numbers.{is_before};
 ghost use Rattle.router_after.specs.Soonest.{is_sooner, sooner};
@@ -10,11 +10,11 @@ use router_trace::Attachment;
 pub(crate) struct Candidate {
     /// Its number.
     pub(crate) number: u64,
-    /// Where it stands.
+    /// Its place.
     pub(crate) place: Attachment,
 }
 
-/// The one of two that goes first.
+/// Of two candidates the one that goes first.
 pub(crate) fn sooner(best: Option<Candidate>, other: Option<Candidate>) -> Option<Candidate>
     ensures { result ≡ sooner best other }
 {
@@ -43,7 +43,7 @@ impl Candidate {
     }
 }
 
-/// Whether a place stands before another, by connection and by the router's channel.
+/// Whether a place is before another, by connection and by the router's channel.
 fn is_before(place: Attachment, other: Attachment) -> bool
     ensures { result ≡ is_before place other }
 {

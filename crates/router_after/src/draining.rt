@@ -1,4 +1,4 @@
-//! Drains are told.
+//! Answers to drains.
 ghost use Rattle.std.specs.Prelude.{◌≡◌, true, List, Some, IfOk};
 ghost use Rattle.amqp_session.specs.Session.{Session};
 ghost use Rattle.router_trace.specs.Frames.{told_of};
@@ -17,8 +17,8 @@ use router_state::State;
 use router_trace::{Attachment, Outgoing, link_flow_item};
 use std::alloc::AllocError;
 
-/// The flow that is due first of those that tell a drain, by connection, by the router's channel and by attach: on a link whose peer asks
-/// for one, once every delivery bound to it has gone (AMQP 1.0 part 2, section 2.6.7).
+/// The flow that is due first of those that answer a drain, by connection, by the router's channel and by attach: on a link whose peer asks
+/// for one, once every delivery bound to it was sent (AMQP 1.0 part 2, section 2.6.7).
 pub(crate) fn drain_due(state: &State) -> Result<Option<Outgoing>, AllocError>
     ensures { IfOk result (λ due. (t : List Entry) → TablesFit state.now t → puts_in due ≡ drains_due t) }
 {
@@ -28,7 +28,7 @@ pub(crate) fn drain_due(state: &State) -> Result<Option<Outgoing>, AllocError>
     }
 }
 
-/// The link whose drain is told next.
+/// The link whose drain is answered next.
 fn soonest(state: &State) -> Result<Option<Candidate>, AllocError>
     ensures { IfOk result (λ best. (t : List Entry) → TablesFit state.now t → IsSoonest (drains_at t) best) }
 {
@@ -44,7 +44,7 @@ fn soonest(state: &State) -> Result<Option<Candidate>, AllocError>
     Err(AllocError)
 }
 
-/// Where a link stands that owes a drain, once every delivery bound to it has gone.
+/// The place of a link that owes a drain, once every delivery bound to it was sent.
 fn drained_at(state: &State, link: u64) -> Option<Candidate>
     ensures { (t : List Entry) → TablesFit state.now t → owes_drain t link ≡ true → IsSoonestOn (drains_at t) link result }
 {
@@ -60,7 +60,7 @@ fn drained_at(state: &State, link: u64) -> Option<Candidate>
     }
 }
 
-/// The flow that tells the drain of an attachment's link.
+/// The flow that answers the drain of an attachment's link.
 fn drain_on(state: &State, place: Attachment) -> Option<Outgoing>
     ensures { (t : List Entry) → TablesFit state.now t → puts_in result ≡ drain_on place (session t place.conn.0 place.channel) (link_of t place) }
 {
@@ -70,7 +70,7 @@ fn drain_on(state: &State, place: Attachment) -> Option<Outgoing>
     }
 }
 
-/// The flow that tells the drain of an attachment's link, with what a flow tells of its session.
+/// The flow that answers the drain of an attachment's link, with its session's state.
 fn flow_at(state: &State, place: Attachment, told: FlowState) -> Option<Outgoing>
     ensures { (t : List Entry) → TablesFit state.now t → (s : Session) → told ≡ told_of s → puts_in result ≡ drain_on place (Some s) (link_of t place) }
 {

@@ -1,4 +1,4 @@
-//! What follows an event's rows, one after the other.
+//! What follows an event's rows, in order.
 ghost use Rattle.std.specs.Prelude.{List, OnOk};
 ghost use Rattle.router_trace.specs.Trace.{Entry};
 ghost use Rattle.router_state.specs.Tables.{TablesFit};
@@ -8,12 +8,12 @@ use crate::phase::Phase;
 use router_state::State;
 use std::alloc::AllocError;
 
-/// Puts what follows an event's rows, in this order: producers are told the outcomes of their deliveries, deliveries go to their consumers,
-/// drains are told, credit is granted, and windows are told anew (AMQP 1.0 part 2, sections 2.5.6, 2.6.7, 2.6.12 and 2.7.6).
+/// Puts what follows an event's rows, in this order: outcomes are sent to producers, deliveries to consumers, drains are
+/// answered, credit is granted, and narrow windows are restored (AMQP 1.0 part 2, sections 2.5.6, 2.6.7, 2.6.12 and 2.7.6).
 ///
 /// # Errors
 ///
-/// `AllocError` where memory was refused; nothing can be said of the tables then.
+/// `AllocError` if memory was refused; the tables' contents are unspecified then.
 pub fn after(state: &mut State) -> Result<(), AllocError>
     ensures { OnOk result ((t : List Entry) → TablesFit state.old t → TablesFit state.new (followed t)) }
 {
@@ -24,7 +24,7 @@ pub fn after(state: &mut State) -> Result<(), AllocError>
     widen(state)
 }
 
-/// Tells drains, and forgets which links owed one.
+/// Answers drains, and unmarks the links that owe none any more.
 fn drain(state: &mut State) -> Result<(), AllocError>
     ensures { OnOk result ((t : List Entry) → TablesFit state.old t → TablesFit state.new (drained t)) }
 {
@@ -33,7 +33,7 @@ fn drain(state: &mut State) -> Result<(), AllocError>
     Ok(())
 }
 
-/// Tells windows anew: a flow for each session half of whose window is used up, by connection and by the router's channel (AMQP 1.0
+/// Restores narrow windows: a flow for each session half of whose window is used up, by connection and by the router's channel (AMQP 1.0
 /// part 2, section 2.5.6).
 fn widen(state: &mut State) -> Result<(), AllocError>
     ensures { OnOk result ((t : List Entry) → TablesFit state.old t → TablesFit state.new (widened t)) }

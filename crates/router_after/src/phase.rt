@@ -1,4 +1,4 @@
-//! What goes on as long as something is due.
+//! The phases that repeat as long as something is due.
 ghost use Rattle.std.specs.Prelude.{◌≡◌, false, List, [], OnOk, IfOk};
 ghost use Rattle.router_trace.specs.Trace.{Entry, goes, puts_of};
 ghost use Rattle.router_trace.specs.Following.{as_long_as_due};
@@ -13,21 +13,21 @@ use router_state::State;
 use router_trace::Outgoing;
 use std::alloc::AllocError;
 
-/// What goes on as long as something is due.
+/// A phase that repeats as long as something is due.
 #[derive(Clone, Copy, Debug, PartialEq, Eq)]
 pub(crate) enum Phase {
-    /// Producers are told the outcomes of their deliveries.
+    /// Outcomes are sent to producers.
     Outcomes,
-    /// Deliveries go to their consumers.
+    /// Deliveries are sent to consumers.
     Deliveries,
-    /// Drains are told.
+    /// Drains are answered.
     Drains,
     /// Credit is granted.
     Grants,
 }
 
 impl Phase {
-    /// Puts what is due, the first of it first, until nothing is due any more.
+    /// Puts what is due, in order, until nothing is due.
     pub(crate) fn finish(self, state: &mut State) -> Result<(), AllocError>
         ensures { OnOk result ((t : List Entry) → TablesFit state.old t → TablesFit state.new (as_long_as_due (due_in self) t)) }
     {
@@ -39,7 +39,7 @@ impl Phase {
         Err(AllocError)
     }
 
-    /// Puts what is due first; whether something was.
+    /// Puts what is due first; returns whether there was anything.
     fn turn(self, state: &mut State) -> Result<bool, AllocError>
         ensures put { OnOk result ((t : List Entry) → TablesFit state.old t → TablesFit state.new (goes (due_in self t) t)) }
         ensures over { IfOk result (λ due. due ≡ false → (t : List Entry) → TablesFit state.old t → due_in self t ≡ []) }
@@ -62,7 +62,7 @@ impl Phase {
     }
 }
 
-/// Puts an item, if there is one; whether there was.
+/// Puts an item, if there is one; returns whether there was one.
 fn put(state: &mut State, due: Option<Outgoing>) -> Result<bool, AllocError>
     ensures put { OnOk result ((t : List Entry) → TablesFit state.old t → TablesFit state.new (goes (puts_in due) t)) }
     ensures over { IfOk result (λ put. put ≡ false → puts_in due ≡ []) }
@@ -76,7 +76,7 @@ fn put(state: &mut State, due: Option<Outgoing>) -> Result<bool, AllocError>
     }
 }
 
-/// Puts the flows that grant credit; whether there were any.
+/// Puts the flows that grant credit; returns whether there were any.
 fn grant(state: &mut State) -> Result<bool, AllocError>
     ensures put { OnOk result ((t : List Entry) → TablesFit state.old t → TablesFit state.new (goes (grants_due t) t)) }
     ensures over { IfOk result (λ due. due ≡ false → (t : List Entry) → TablesFit state.old t → grants_due t ≡ []) }

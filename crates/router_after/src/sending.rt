@@ -1,4 +1,4 @@
-//! Deliveries go to their consumers.
+//! Deliveries to consumers.
 ghost use Rattle.std.specs.Prelude.{◌≡◌, List, IfOk};
 ghost use Rattle.router_trace.specs.Trace.{Entry};
 ghost use Rattle.router_trace.specs.Deliveries.{delivery};
@@ -20,7 +20,7 @@ use std::alloc::AllocError;
 /// The longest frame that the router writes, in bytes.
 const MAX_FRAME: u32 = 16_384;
 
-/// The transfer that is due first, by connection, by the router's channel, and there in order of binding (AMQP 1.0 part 2, sections
+/// The transfer that is due first, by connection, by the router's channel, then in order of binding (AMQP 1.0 part 2, sections
 /// 2.5.6, 2.6.7 and 2.6.12).
 pub(crate) fn frame_due(state: &State) -> Result<Option<Outgoing>, AllocError>
     ensures { IfOk result (λ due. (t : List Entry) → TablesFit state.now t → puts_in due ≡ sends_due t) }
@@ -31,7 +31,7 @@ pub(crate) fn frame_due(state: &State) -> Result<Option<Outgoing>, AllocError>
     }
 }
 
-/// The delivery that goes next.
+/// The delivery that is sent next.
 fn soonest(state: &State) -> Result<Option<Candidate>, AllocError>
     ensures { IfOk result (λ best. (t : List Entry) → TablesFit state.now t → IsSoonest (places t) best) }
 {
@@ -71,7 +71,7 @@ fn frame_of(state: &State, number: u64) -> Result<Option<Outgoing>, AllocError>
     }))
 }
 
-/// The next transfer of a delivery, without what it carries.
+/// The next transfer of a delivery, without its payload.
 fn transfer_of(state: &State, number: u64, delivery: &Delivery) -> Transfer
     ensures { (t : List Entry) → TablesFit state.now t → result ≡ transfer_of t number delivery.now }
 {

@@ -1,4 +1,4 @@
-//! Producers are told the outcomes of their deliveries.
+//! Outcomes to producers.
 ghost use Rattle.std.specs.Prelude.{◌≡◌, List, IfOk};
 ghost use Rattle.router_trace.specs.Trace.{Entry};
 ghost use Rattle.router_trace.specs.Deliveries.{delivery};
@@ -13,7 +13,7 @@ use router_state::State;
 use router_trace::Outgoing;
 use std::alloc::AllocError;
 
-/// The disposition that is due first: it tells the producer of a decided delivery its outcome (AMQP 1.0 part 2, section 2.7.6).
+/// The disposition that is due first: it reports the outcome of a decided delivery to its producer (AMQP 1.0 part 2, section 2.7.6).
 pub(crate) fn outcome_due(state: &State) -> Result<Option<Outgoing>, AllocError>
     ensures { IfOk result (λ due. (t : List Entry) → TablesFit state.now t → puts_in due ≡ tells t) }
 {
@@ -23,7 +23,7 @@ pub(crate) fn outcome_due(state: &State) -> Result<Option<Outgoing>, AllocError>
     }
 }
 
-/// The number of the first delivery that is decided and whose producer's link is attached and isn't told.
+/// The number of the first delivery that is decided and whose outcome is not yet reported to its producer, while that link is attached.
 fn first_to_tell(state: &State) -> Result<Option<u64>, AllocError>
     ensures { IfOk result (λ first. (t : List Entry) → TablesFit state.now t → IsFirst (λ n. is_to_be_told t (delivery t n)) first) }
 {
@@ -40,7 +40,7 @@ fn first_to_tell(state: &State) -> Result<Option<u64>, AllocError>
     Err(AllocError)
 }
 
-/// Whether a delivery is decided and its producer's link is attached and isn't told.
+/// Whether a delivery is decided and its outcome not yet reported to its producer, whose link is attached.
 fn is_to_be_told(state: &State, number: u64) -> bool
     ensures { (t : List Entry) → TablesFit state.now t → result ≡ is_to_be_told t (delivery t number) }
 {
@@ -56,7 +56,7 @@ fn is_to_be_told(state: &State, number: u64) -> bool
     }
 }
 
-/// What tells a delivery's outcome to its producer.
+/// The disposition that reports a delivery's outcome to its producer.
 fn outcome_of(state: &State, number: u64) -> Result<Option<Outgoing>, AllocError>
     ensures { IfOk result (λ due. (t : List Entry) → TablesFit state.now t → puts_in due ≡ tell (delivery t number)) }
 {

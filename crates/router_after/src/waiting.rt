@@ -1,4 +1,4 @@
-//! Which delivery of a link goes next.
+//! The delivery of a link that is sent next.
 ghost use Rattle.std.specs.Prelude.{◌≡◌, List, IfOk};
 ghost use Rattle.router_trace.specs.Trace.{Entry};
 ghost use Rattle.router_trace.specs.Deliveries.{delivery};
@@ -12,7 +12,7 @@ use router_state::State;
 use router_trace::Attachment;
 use std::alloc::AllocError;
 
-/// The first delivery of a link that can go. Where nothing on it can, this is found by a look or two at the link.
+/// The first delivery of a link that can be sent. If none can, this takes only a look or two at the link.
 pub(crate) fn first_on(state: &State, link: u64) -> Result<Option<Candidate>, AllocError>
     ensures { IfOk result (λ found. (t : List Entry) → TablesFit state.now t → IsSoonestOn (places t) link found) }
 {
@@ -28,7 +28,7 @@ pub(crate) fn first_on(state: &State, link: u64) -> Result<Option<Candidate>, Al
     }
 }
 
-/// The first delivery that can go on a link whose session's window is open.
+/// The first delivery that can be sent on a link whose session's window is open.
 fn first_at(state: &State, place: Attachment) -> Result<Option<u64>, AllocError>
     ensures { IfOk result (λ first. (t : List Entry) → TablesFit state.now t → IsFirst (λ n. goes_from t place n (delivery t n)) first) }
 {
@@ -41,7 +41,7 @@ fn first_at(state: &State, place: Attachment) -> Result<Option<u64>, AllocError>
     Ok(first_waiting(state, place)?)
 }
 
-/// The delivery that has begun on a link and goes on.
+/// The delivery that is in progress on a link.
 fn begun_at(state: &State, place: Attachment) -> Option<u64>
     ensures { (t : List Entry) → TablesFit state.now t → IsFirst (λ n. goes_on_from t place n (delivery t n)) result }
 {
@@ -57,7 +57,7 @@ fn begun_at(state: &State, place: Attachment) -> Option<u64>
     }
 }
 
-/// Whether a delivery that waits on a link can start.
+/// Whether a waiting delivery can start on a link.
 fn can_start(state: &State, place: Attachment) -> Result<bool, AllocError>
     ensures { IfOk result (λ can. (t : List Entry) → TablesFit state.now t → can ≡ starts_from t place) }
 {
@@ -71,7 +71,7 @@ fn can_start(state: &State, place: Attachment) -> Result<bool, AllocError>
     Ok(!state.is_used(place.conn.0, place.channel, id))
 }
 
-/// The first delivery that waits on a link.
+/// The first waiting delivery of a link.
 fn first_waiting(state: &State, place: Attachment) -> Result<Option<u64>, AllocError>
     ensures { IfOk result (λ first. (t : List Entry) → TablesFit state.now t → IsFirst (λ n. waits_at place (delivery t n)) first) }
 {

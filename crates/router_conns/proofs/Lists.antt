@@ -11,7 +11,7 @@ pub by_test : {P : Type 0} (b : Bool) → ((b ≡ true) → P) → ((b ≡ false
 by_test true f g = f refl
 by_test false f g = g refl
 
--- a filter behind a filter is the filter by both
+-- a filter after a filter is the filter by both
 pub filter_both : (p q r : ℕ → Bool) → ((k : ℕ) → r k ≡ (p k && q k)) → (xs : List ℕ) → filter r xs ≡ filter q (filter p xs)
 filter_both p q r each [] = refl
 filter_both p q r each (x ∷ xs) =
@@ -26,7 +26,7 @@ pub filter_none : (p : ℕ → Bool) → ((k : ℕ) → p k ≡ false) → (xs :
 filter_none p none [] = refl
 filter_none p none (x ∷ xs) = rw (none x) (filter_none p none xs)
 
--- two filters that agree at what the list has
+-- two filters that agree on the list's elements
 pub filter_agree_in : (p q : ℕ → Bool) (xs : List ℕ) → ((k : ℕ) → has k xs ≡ true → p k ≡ q k) → filter p xs ≡ filter q xs
 filter_agree_in p q [] same = refl
 filter_agree_in p q (x ∷ xs) same =
@@ -38,7 +38,7 @@ filter_agree_in p q (x ∷ xs) same =
     either_true true b h = refl
     either_true false b h = h
 
--- what a list with one number more at its end has
+-- what a list has with one more number at its end
 pub has_push : (k c : ℕ) (xs : List ℕ) → has k xs ≡ true → has k (xs ++ c ∷ []) ≡ true
 has_push k c xs h = rw (list_any-append (λ y. nat_eq y k) xs (c ∷ []), h) refl
 
@@ -58,7 +58,7 @@ from_push k c xs old new h =
     or_last false true e h = refl
     or_last false false e h = h
 
--- what passes a filter that a number passes
+-- what is in a filtered list, for a number that passes the filter
 pub has_filter : (p : ℕ → Bool) (k : ℕ) (xs : List ℕ) → p k ≡ true → has k xs ≡ true → has k (filter p xs) ≡ true
 has_filter p k xs passes h =
     any-filter_same (λ y. nat_eq y k) p true (λ y e. ap p (eqb-true y k e) ∙ passes) xs ∙ h

@@ -1,4 +1,4 @@
--- What an event finds, and what the table makes of it.
+-- What an event finds, and how it changes the table.
 use Rattle.std.proofs.Common.{◌≡◌, ◌∙◌, sym, ap, refl, subst, ℕ, Bool, true, false, true≢false, not, ◌&&◌, List, [], ◌∷◌, ◌++◌, length, ◌<◌, ◌≤◌, append-nil, arith}
 use Rattle.std.specs.Ordering.{nat_cmp}
 use Rattle.std.specs.BTreeMap.{get}
@@ -21,7 +21,7 @@ use Rattle.router_trace.specs.Trace.{Entry, Did, Out, Took, Bound, Configured, d
 use Rattle.router_trace.specs.Connection.{Connection, conn, behind, behind_perf, with_item, fresh, took, ended, is_live, is_full, is_due, has, due, unless_due, found, live_of, at_event}
 use Rattle.router_conns.proofs.Lists.{by_test, filter_both, filter_none, filter_agree_in, from_push, has_push, has_pushed, has_filter}
 
--- nobody is due where no outbox is full
+-- no connection is due if no outbox is full
 pub due_none : (e : Event) (c : ℕ) (v : Option Connection) → is_full v ≡ false → is_due e c v ≡ false
 due_none (event.Up d p) c v h = h
 due_none (event.Item d i) c v h = h
@@ -37,7 +37,7 @@ due_lives e c v = by_test (is_live v) (λ l. rw l refl) (λ l. rw l (due_none e 
     full_lives None l = refl
     full_lives (Some v) l = by_test v.phase.closed (λ e. rw e refl) (λ e. absurd (true≢false (rw e at l)))
 
--- what is over isn't live, and nothing else changes
+-- a connection that is over isn't live, and nothing else changes
 pub over_lives : (b : Bool) (v : Option Connection) → is_live (if b then option_map ended v else v) ≡ (is_live v && not b)
 over_lives true None = refl
 over_lives true (Some v) = sym (and_false (is_live (Some v)))
@@ -57,7 +57,7 @@ full_found true None h = refl
 full_found true (Some v) h = refl
 full_found false v h = h refl
 
--- a full connection is due, where the event isn't a loss
+-- a full connection is due, if the event isn't a loss
 pub due_full : (e : Event) (c : ℕ) (v : Option Connection) → not (is_loss e) ≡ true → is_full v ≡ true → is_due e c v ≡ true
 due_full (event.Up d p) c v l h = h
 due_full (event.Item d i) c v l h = h
@@ -77,7 +77,7 @@ some_if : {P : Type 0} (b : Bool) (x y : Option Connection) → (is_some x ≡ t
 some_if true x y f g h = f h
 some_if false x y f g h = g h
 
--- what an event leaves known came up
+-- a connection that is known after an event has come up
 known_at : (e : Event) (c n : ℕ) (v : Option Connection) (ks : List ℕ) → (is_some v ≡ true → has c ks ≡ true)
     → is_some (at_event e c n v) ≡ true → has c (with_up e ks) ≡ true
 known_at (event.Up d p) c n v ks was h =
@@ -88,7 +88,7 @@ known_at (event.Down d) c n v ks was h = some_if (d.0 == c) None v (λ x. absurd
 known_at (event.Tick ms) c n v ks was h = was h
 known_at event.Start c n v ks was h = was h
 
--- what is known came up
+-- a known connection has come up
 pub known : (t : List Entry) (c : ℕ) → is_some (conn t c) ≡ true → has c (ups t) ≡ true
 known [] c h = absurd cc
 known (Did s ∷ t) c h =
@@ -108,7 +108,7 @@ full_some (Some v) h = refl
 unless_none : (ends : List ℕ) (known : ℕ → Option Connection) (c : ℕ) → ends ≡ [] → unless_due ends known c ≡ known c
 unless_none ends known c e = ap (λ ks. unless_due ks known c) e
 
--- where no outbox is full, an event finds what the trace says
+-- if no outbox is full, an event finds what the trace says
 pub calm : (s : Connections) (t : List Entry) (e : Event) → ConnectionsFit s t → s.roomy ≡ true → (ConnectionsAt s t e) × (due t e ≡ [])
 calm s t e fit r =
     let none : due t e ≡ [] = filter_none (λ k. is_due e k (conn t k)) (λ k. due_none e k (conn t k) (fit.roomy r k)) (ups t)
@@ -124,7 +124,7 @@ calm s t e fit r =
       none,
     )
 
--- what a turn makes of the table
+-- how a turn changes the table
 pub record Turned (old new : Connections) (e : Event) (ends : List ℕ) : Type 0 where
   pub gathered : ends ≡ filter (λ k. is_due e k (get nat_cmp old.rows k)) old.live.items
   pub rows : (c : ℕ) → get nat_cmp new.rows c ≡ unless_due ends (get nat_cmp old.rows) c
@@ -160,7 +160,7 @@ turned_at old new t e ends fit turned =
           (λ f. f));
     }
 
--- what an Up makes of the table
+-- how an Up changes the table
 pub record CameUp (old new : Connections) (c : ℕ) : Type 0 where
   pub rows : (k : ℕ) → get nat_cmp new.rows k ≡ (if c == k then Some (fresh (length old.live.items)) else get nat_cmp old.rows k)
   pub live : new.live.items ≡ (if nat_lt (length old.live.items) 64 then old.live.items ++ c ∷ [] else old.live.items)
@@ -225,7 +225,7 @@ came_up old new t id peer up at rise =
     last_one : (c n : ℕ) (known : ℕ → Option Connection) → (if nat_lt n 64 then c ∷ [] else []) ≡ filter (λ k. is_live (if c == k then Some (fresh n) else known k)) (c ∷ [])
     last_one c n known = let here : (c == c) ≡ true = eq-eqb c c refl in rw (here, fresh_live n) (by_test (nat_lt n 64) (λ h. rw h refl) (λ h. rw h refl))
 
--- what a loss makes of the table
+-- how a loss changes the table
 pub record WentDown (old new : Connections) (c : ℕ) : Type 0 where
   pub rows : (k : ℕ) → get nat_cmp new.rows k ≡ (if c == k then None else get nat_cmp old.rows k)
   pub live : new.live.items ≡ filter (λ k. not (nat_eq c k)) old.live.items
@@ -259,7 +259,7 @@ went_down old new t id down at =
       roomy = λ r k. full_if (c == k) None (found t e k) refl (at.roomy (sym down.roomy ∙ r) k);
     }
 
--- what an item put makes of the table
+-- how a put item changes the table
 pub record Put (old new : Connections) (c : ℕ) (i : Item) (over full : Bool) : Type 0 where
   pub rows : (k : ℕ) → get nat_cmp new.rows k ≡ (if c == k then option_map (with_item i) (get nat_cmp old.rows k) else get nat_cmp old.rows k)
   pub live : new.live.items ≡ (if over then filter (λ k. not (nat_eq c k)) old.live.items else old.live.items)
@@ -282,7 +282,7 @@ live_open v h = by_test v.phase.closed (λ e. absurd (true≢false (sym (rw e at
 open_live : (v : Connection) → v.phase.closed ≡ false → is_live (Some v) ≡ true
 open_live v h = rw h refl
 
--- a connection that is live with an item more was live
+-- a connection that is live with one more item was live before
 put_lives : (i : Item) (v : Option Connection) → is_live (option_map (with_item i) v) ≡ true → is_live v ≡ true
 put_lives i None h = h
 put_lives i (Some v) h = open_live v (stays i v.phase (live_open (with_item i v) h))

@@ -1,4 +1,4 @@
--- When the table of connections is that which a trace gives.
+-- When the table of connections agrees with a trace.
 use Rattle.std.specs.Prelude.{◌≡◌, ◌<◌, ℕ, Bool, true, false, length, Option, Some, None}
 use Rattle.std.specs.Ordering.{nat_cmp}
 use Rattle.std.specs.BTreeMap.{get}
@@ -9,7 +9,7 @@ use Rattle.router_trace.specs.Trace.{Trace, ups, newest}
 use Rattle.router_trace.specs.Connection.{Connection, Batched, conn, found, live, live_of, is_full, has}
 use Rattle.router_trace.specs.Refusing.{reaches}
 
--- the table of connections is that of the trace
+-- the table of connections agrees with the trace
 pub record ConnectionsFit (s : Connections) (t : Trace) : Type 0 where
   pub rows : (c : ℕ) → get nat_cmp s.rows c ≡ conn t c
   pub live : s.live.items ≡ live t
@@ -17,7 +17,7 @@ pub record ConnectionsFit (s : Connections) (t : Trace) : Type 0 where
   pub rise : (c : ℕ) → has c (ups t) ≡ true → reaches c (newest t) ≡ true
   pub roomy : s.roomy ≡ true → (c : ℕ) → is_full (conn t c) ≡ false
 
--- the table of connections is what an event finds behind the trace
+-- the table of connections is what an event finds after the trace
 pub record ConnectionsAt (s : Connections) (t : Trace) (e : Event) : Type 0 where
   pub rows : (c : ℕ) → get nat_cmp s.rows c ≡ found t e c
   pub live : s.live.items ≡ live_of (ups t) (found t e)
@@ -25,7 +25,7 @@ pub record ConnectionsAt (s : Connections) (t : Trace) (e : Event) : Type 0 wher
   pub rise : (c : ℕ) → has c (ups t) ≡ true → reaches c (newest t) ≡ true
   pub roomy : s.roomy ≡ true → (c : ℕ) → is_full (found t e c) ≡ false
 
--- what is taken of the outbox of a connection, where something is known of it
+-- what is taken of the outbox of a connection, if the connection is known
 abbrev pub IsBatch : ℕ → Option Connection → Option Taken → Type 0
 IsBatch most None None = Unit {0}
 IsBatch most None (Some taken) = ⊥
@@ -37,7 +37,7 @@ abbrev pub count : Option Taken → ℕ
 count None = 0
 count (Some taken) = length taken.items.items
 
--- the lowest number that passes a test, or none does
+-- the lowest number that passes a test, if any does
 abbrev pub IsLeast : (ℕ → Bool) → Option ℕ → Type 0
 IsLeast test None = (c : ℕ) → test c ≡ false
 IsLeast test (Some first) = (test first ≡ true) × ((c : ℕ) → c < first → test c ≡ false)

@@ -1,4 +1,4 @@
--- When the table of peers is that which a trace gives.
+-- When the table of peers agrees with a trace.
 use Rattle.std.specs.Prelude.{◌≡◌, ℕ}
 use Rattle.std.specs.Ordering.{nat_cmp}
 use Rattle.std.specs.BTreeMap.{get}

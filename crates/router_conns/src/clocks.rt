@@ -1,4 +1,4 @@
-//! What peers' opens tell, and when items were put out last.
+//! What peers' opens say, and when items were last put out.
 ghost use Rattle.std.specs.Prelude.{◌≡◌, ◌==◌, ◌∷◌, List, ℕ, None, false, if◌then◌else◌, OnOk};
 ghost use Rattle.std.specs.Ordering.{nat_cmp};
 ghost use Rattle.std.specs.BTreeMap.{get};
@@ -18,8 +18,8 @@ use router_trace::{ConnectionId, Terms};
 use std::alloc::{AllocError, Global};
 use std::collections::BTreeMap;
 
-/// What the opens of the peers tell, and when an item was put out last for each; none of a connection that is closed or
-/// lost. Behind a refused growth nothing can be said of the table.
+/// For each peer what its open says and when an item was last put out; nothing for a connection that is closed or
+/// lost. If an operation fails to allocate, the table's contents are unspecified.
 #[derive(Debug, Drop)]
 pub struct Clocks {
     moment: u64,
@@ -28,7 +28,7 @@ pub struct Clocks {
 }
 
 impl Clocks {
-    /// Nothing is told or put out yet.
+    /// An empty table.
     pub fn new(alloc: Global) -> Clocks
         ensures { (g : Routing) → ClocksFit result (configured g) }
     {
@@ -39,7 +39,7 @@ impl Clocks {
         }
     }
 
-    /// The highest channel that a peer takes.
+    /// The highest channel that a peer accepts.
     pub fn channel_max(&self, conn: u64) -> u16
         ensures { (t : List Entry) → ClocksFit self.now t → result ≡ channel_max_of (terms t conn) }
     {
@@ -66,7 +66,7 @@ impl Clocks {
         heartbeat.tick(now)
     }
 
-    /// Time passes.
+    /// The clock moves to this moment.
     pub fn tick(&mut self, moment: u64)
         ensures { (t : List Entry) → ClocksFit self.old t → ClocksFit self.new (did (event.Tick moment) ∷ t) }
     {
@@ -80,7 +80,7 @@ impl Clocks {
         self.forget(conn.0);
     }
 
-    /// An item came on a connection.
+    /// An item was received on a connection.
     pub fn hear(&mut self, conn: ConnectionId, item: &Item) -> Result<(), AllocError>
         ensures { OnOk result ((t : List Entry) → ClocksFit self.old t → ClocksFit self.new (did (event.Item conn item.now) ∷ t)) }
     {
@@ -95,7 +95,7 @@ impl Clocks {
         Ok(())
     }
 
-    /// A performative came on a connection.
+    /// A performative was received on a connection.
     fn hear_perf(&mut self, conn: ConnectionId, perf: &Perf) -> Result<(), AllocError>
         ensures { OnOk result ((t : List Entry) (channel : ℕ) (payload : List ℕ) → ClocksFit self.old t
             → ClocksFit self.new (did (event.Item conn (item.Frame false channel perf.now payload)) ∷ t)) }
@@ -107,7 +107,7 @@ impl Clocks {
         Ok(())
     }
 
-    /// An open came on a connection: the first one counts.
+    /// An open was received on a connection: only the first one counts.
     fn hear_open(&mut self, conn: ConnectionId, open: &Open) -> Result<(), AllocError>
         ensures { OnOk result ((t : List Entry) (channel : ℕ) (payload : List ℕ) → ClocksFit self.old t
             → ClocksFit self.new (did (event.Item conn (item.Frame false channel (perf.Open «open».now) payload)) ∷ t)) }
@@ -121,7 +121,7 @@ impl Clocks {
         }
     }
 
-    /// An item is put in the outbox of a connection.
+    /// An item is put into the outbox of a connection.
     pub fn put(&mut self, conn: u64, item: &Item) -> Result<(), AllocError>
         ensures { OnOk result ((t : List Entry) → ClocksFit self.old t → ClocksFit self.new (Out conn item.now ∷ t)) }
     {
@@ -135,7 +135,7 @@ impl Clocks {
         }
     }
 
-    /// Nothing is known of a connection any more.
+    /// Removes all that is known of a connection.
     fn forget(&mut self, conn: u64)
         ensures moment { self.new.moment ≡ self.old.moment }
         ensures terms { (c : ℕ) → get nat_cmp self.new.terms c ≡ (if conn == c then None else get nat_cmp self.old.terms c) }

@@ -17,21 +17,21 @@ use router_trace::{ConnectionId, Event, Peer};
 use std::alloc::{AllocError, Global};
 use std::collections::BTreeMap;
 
-/// The table of connections: those that are live, and those that are over while items of theirs wait.
+/// The table of connections: those that are live, and those that are over and still have items waiting.
 #[derive(Debug, Drop)]
 pub struct Connections {
     alloc: Global,
     rows: BTreeMap<u64, Row>,
     // the live ones, by number
     live: Vec<u64>,
-    // the last that came up
+    // the last one that came up
     newest: Option<u64>,
-    // true only where no live one's outbox is full
+    // true only if no live connection's outbox is full
     roomy: bool,
 }
 
 impl Connections {
-    /// No connections.
+    /// An empty table.
     pub fn new(alloc: Global) -> Connections
         ensures { (g : Routing) → ConnectionsFit result (configured g) }
     {
@@ -87,7 +87,7 @@ impl Connections {
         }
     }
 
-    /// Whether something can be taken of a connection.
+    /// Whether a connection is ready: an item is waiting in its outbox, or it is over.
     pub fn is_ready(&self, conn: u64) -> bool
         ensures { result ≡ is_ready (get nat_cmp self.now.rows conn) }
     {
@@ -97,7 +97,7 @@ impl Connections {
         }
     }
 
-    /// Whether an event ends a connection for its full outbox.
+    /// Whether an event ends a connection because its outbox is full.
     fn is_due(&self, event: &Event, conn: u64) -> bool
         ensures { result ≡ is_due event.now conn (get nat_cmp self.now.rows conn) }
     {
@@ -107,7 +107,7 @@ impl Connections {
         }
     }
 
-    /// Whether a connection is live and its outbox full.
+    /// Whether a connection is live and its outbox is full.
     fn is_full(&self, conn: u64) -> bool
         ensures { result ≡ is_full (get nat_cmp self.now.rows conn) }
     {
@@ -117,7 +117,7 @@ impl Connections {
         }
     }
 
-    /// The live connections that an event ends for their full outboxes.
+    /// The live connections that an event ends because their outboxes are full.
     fn gather(&self, event: &Event) -> Result<Vec<u64>, AllocError>
         ensures { IfOk result (λ gathered. gathered.items ≡ filter (λ k. is_due event.now k (get nat_cmp self.now.rows k)) self.now.live.items) }
     {
@@ -158,8 +158,8 @@ impl Connections {
         leave_all(&mut self.live, ends);
     }
 
-    /// Ends the connections that an event ends for their full outboxes, and gives them by number. Their closes are the
-    /// caller's to put. Where memory is refused nothing can be said of the table.
+    /// Ends the connections that an event ends because their outboxes are full, and returns them by number. The caller has to put
+    /// out their closes. If memory is refused, the table's contents are unspecified.
     pub fn turn(&mut self, event: &Event) -> Result<Vec<u64>, AllocError>
         ensures at { OnOk result ((t : List Entry) → ConnectionsFit self.old t → ConnectionsAt self.new t event.now) }
         ensures due { IfOk result (λ ends. (t : List Entry) → ConnectionsFit self.old t → ends.items ≡ due t event.now) }
@@ -173,7 +173,7 @@ impl Connections {
         Ok(ends)
     }
 
-    /// A connection comes up. Where memory is refused nothing can be said of the table.
+    /// A connection comes up. If memory is refused, the table's contents are unspecified.
     pub fn up(&mut self, conn: ConnectionId, peer: &Peer) -> Result<(), AllocError>
         ensures { OnOk result ((t : List Entry) → ConnectionsAt self.old t (event.Up conn peer.now) → rises conn.0 (newest t) ≡ true → ConnectionsFit self.new (did (event.Up conn peer.now) ∷ t)) }
     {
@@ -208,8 +208,8 @@ impl Connections {
         }
     }
 
-    /// Takes up to `most` items out of an outbox; none where nothing is known of the connection. Where memory is refused
-    /// nothing can be said of the table.
+    /// Takes up to `most` items out of an outbox; none if the connection is unknown. If memory is refused, the table's contents
+    /// are unspecified.
     pub fn take(&mut self, conn: u64, most: usize) -> Result<Option<Taken>, AllocError>
         ensures batched { IfOk result (λ taken. (t : List Entry) → ConnectionsFit self.old t → IsBatch most (known t conn) taken) }
         ensures fits { IfOk result (λ taken. (t : List Entry) → ConnectionsFit self.old t → ConnectionsFit self.new (Took conn (count taken) ∷ t)) }
@@ -218,7 +218,7 @@ impl Connections {
         take_from(self.alloc, &mut self.rows, conn, most)
     }
 
-    /// Puts an item in an outbox. Where memory is refused nothing can be said of the table.
+    /// Puts an item into an outbox. If memory is refused, the table's contents are unspecified.
     pub fn put(&mut self, conn: u64, item: Item) -> Result<(), AllocError>
         ensures { OnOk result ((t : List Entry) → ConnectionsFit self.old t → ConnectionsFit self.new (Out conn item ∷ t)) }
     {
@@ -228,7 +228,7 @@ impl Connections {
     }
 }
 
-/// Takes items out of the outbox of a row, where there is one; the row goes with its last where it is over.
+/// Takes items out of a row's outbox, if the row exists; a row that is over is removed with its last item.
 fn take_from(
     alloc: Global,
     rows: &mut BTreeMap<u64, Row>,
@@ -249,16 +249,16 @@ fn take_from(
     Ok(Some(taken))
 }
 
-/// How a connection stands when an item was put in its outbox.
+/// The state of a connection after an item was put into its outbox.
 #[derive(Clone, Copy)]
 struct Fill {
     // it isn't live
     over: bool,
-    // it is, and its outbox is full
+    // it is live, and its outbox is full
     full: bool,
 }
 
-/// Puts an item in the outbox of a row, where there is one.
+/// Puts an item into a row's outbox, if the row exists.
 fn put_in(rows: &mut BTreeMap<u64, Row>, conn: u64, item: Item) -> Result<Fill, AllocError>
     ensures rows { OnOk result ((c : ℕ) → get nat_cmp rows.new c ≡ (if conn == c then option_map (with_item item) (get nat_cmp rows.old c) else get nat_cmp rows.old c)) }
     ensures over { IfOk result (λ fill. fill.over ≡ not (is_live (option_map (with_item item) (get nat_cmp rows.old conn)))) }
@@ -299,7 +299,7 @@ fn remove_row(rows: &mut BTreeMap<u64, Row>, conn: u64)
     let _ = rows.remove(&conn);
 }
 
-/// Puts a number at the end of a list, which takes 64.
+/// Appends a number to a list, which has room for 64.
 fn join(live: &mut Vec<u64>, conn: u64) -> Result<(), AllocError>
     ensures { OnOk result (live.new.items ≡ (if nat_lt (length live.old.items) 64 then live.old.items ++ conn ∷ [] else live.old.items)) }
 {
@@ -312,24 +312,24 @@ fn join(live: &mut Vec<u64>, conn: u64) -> Result<(), AllocError>
     }
 }
 
-/// Takes a number out of a list.
+/// Removes a number from a list.
 fn leave(live: &mut Vec<u64>, conn: u64)
     ensures { live.new.items ≡ filter (λ k. not (nat_eq conn k)) live.old.items }
 {
     live.retain(|live| conn != *live);
 }
 
-/// Takes these numbers out of a list.
+/// Removes these numbers from a list.
 fn leave_all(live: &mut Vec<u64>, ends: &[u64])
     ensures { live.new.items ≡ filter (λ k. not (has k ends.now)) live.old.items }
 {
     live.retain(|live| !ends.contains(live));
 }
 
-/// Lets go of an item.
+/// Drops an item.
 fn discard(_item: Item) {}
 
-/// Whether an event tells of a lost connection.
+/// Whether an event reports a lost connection.
 fn is_loss(event: &Event) -> bool
     ensures { result ≡ is_loss event.now }
 {

@@ -1,4 +1,4 @@
-//! The tables of connections: their phases and outboxes, those of which something can be taken, and their clocks.
+//! The tables of connections: their phases and outboxes, the connections that are ready, and their clocks.
 #![tactic(auto)]
 
 mod clocks;

@@ -1,4 +1,4 @@
-//! Who is at the other side of connections, and what their opens tell of links.
+//! The users of connections, and what their opens say of links.
 ghost use Rattle.std.specs.Prelude.{◌≡◌, ◌==◌, ◌∷◌, [], List, ℕ, Option, None, false, if◌then◌else◌, unwrap_or, OnOk, IfOk};
 ghost use Rattle.std.specs.Ordering.{nat_cmp};
 ghost use Rattle.std.specs.BTreeMap.{get};
@@ -21,11 +21,11 @@ use std::alloc::{AllocError, Global};
 use std::collections::BTreeMap;
 use std::marker::Model;
 
-/// What a peer's first open tells that a link needs (AMQP 1.0 part 2, section 2.7.1).
+/// What links need of a peer's first open (AMQP 1.0 part 2, section 2.7.1).
 #[derive(Debug, Drop)]
 pub struct Container {
     id: Text,
-    // the largest frame that the peer takes, in bytes
+    // the largest frame that the peer accepts, in bytes
     largest: u32,
 }
 
@@ -38,7 +38,7 @@ impl Model for Container {
 }
 
 impl Container {
-    /// What an open tells.
+    /// What an open says.
     fn of(open: &Open) -> Result<Container, AllocError>
         ensures { IfOk result (λ c. c ≡ container_of «open».now) }
     {
@@ -49,8 +49,8 @@ impl Container {
     }
 }
 
-/// The users of connections, and what their first opens tell; none of a connection that is closed or lost. Behind a refused
-/// growth nothing can be said of the table.
+/// The users of connections, and what their first opens say; nothing for a connection that is closed or lost. If an operation
+/// fails to allocate, the table's contents are unspecified.
 #[derive(Debug, Drop)]
 pub struct Peers {
     alloc: Global,
@@ -59,7 +59,7 @@ pub struct Peers {
 }
 
 impl Peers {
-    /// Nobody is there yet.
+    /// An empty table.
     pub fn new(alloc: Global) -> Peers
         ensures { (g : Routing) → PeersFit result (configured g) }
     {
@@ -70,7 +70,7 @@ impl Peers {
         }
     }
 
-    /// The largest frame that a peer takes, in bytes; 4,294,967,295 where it tells nothing.
+    /// The largest frame that a peer accepts, in bytes; 4,294,967,295 if it states none.
     pub fn largest_frame(&self, conn: u64) -> u32
         ensures { (t : List Entry) → PeersFit self.now t → result ≡ largest_frame t conn }
     {
@@ -80,7 +80,7 @@ impl Peers {
         }
     }
 
-    /// The key of the link that an attach of the router names on a connection. Fails where memory is refused.
+    /// The key of the link that the router's attach names on a connection. Fails if memory is refused.
     pub fn key_of(&self, conn: u64, attach: &Attach) -> Result<LinkKey, AllocError>
         ensures { IfOk result (λ key. (t : List Entry) → PeersFit self.now t → key ≡ key_of (user t conn) (container t conn) attach.now) }
     {
@@ -92,7 +92,7 @@ impl Peers {
         })
     }
 
-    /// The user of a connection; the empty text where nobody is there.
+    /// The user of a connection; the empty text if the connection is unknown.
     fn user(&self, conn: u64) -> Result<Text, AllocError>
         ensures { IfOk result (λ text. text ≡ unwrap_or (get nat_cmp self.now.users conn) []) }
     {
@@ -102,7 +102,7 @@ impl Peers {
         }
     }
 
-    /// The container of a connection's peer; the empty text where it told none.
+    /// The container-id of a connection's peer; the empty text if it gave none.
     fn container_id(&self, conn: u64) -> Result<Text, AllocError>
         ensures { IfOk result (λ text. text ≡ container_id (get nat_cmp self.now.containers conn)) }
     {
@@ -129,7 +129,7 @@ impl Peers {
         self.forget(conn.0);
     }
 
-    /// An item came on a connection.
+    /// An item was received on a connection.
     pub fn hear(&mut self, conn: ConnectionId, item: &Item) -> Result<(), AllocError>
         ensures { OnOk result ((t : List Entry) → PeersFit self.old t → PeersFit self.new (did (event.Item conn item.now) ∷ t)) }
     {
@@ -144,7 +144,7 @@ impl Peers {
         Ok(())
     }
 
-    /// A performative came on a connection.
+    /// A performative was received on a connection.
     fn hear_perf(&mut self, conn: ConnectionId, perf: &Perf) -> Result<(), AllocError>
         ensures { OnOk result ((t : List Entry) (channel : ℕ) (payload : List ℕ) → PeersFit self.old t
             → PeersFit self.new (did (event.Item conn (item.Frame false channel perf.now payload)) ∷ t)) }
@@ -156,7 +156,7 @@ impl Peers {
         Ok(())
     }
 
-    /// An open came on a connection: the first one counts.
+    /// An open was received on a connection: only the first one counts.
     fn hear_open(&mut self, conn: ConnectionId, open: &Open) -> Result<(), AllocError>
         ensures { OnOk result ((t : List Entry) (channel : ℕ) (payload : List ℕ) → PeersFit self.old t
             → PeersFit self.new (did (event.Item conn (item.Frame false channel (perf.Open «open».now) payload)) ∷ t)) }
@@ -170,7 +170,7 @@ impl Peers {
         }
     }
 
-    /// An item is put in the outbox of a connection: a close is the end of what is known.
+    /// An item is put into the outbox of a connection: a close removes all that is known of it.
     pub fn put(&mut self, conn: u64, item: &Item)
         ensures { (t : List Entry) → PeersFit self.old t → PeersFit self.new (Out conn item.now ∷ t) }
     {
@@ -179,7 +179,7 @@ impl Peers {
         }
     }
 
-    /// Nothing is known of a connection any more.
+    /// Removes all that is known of a connection.
     fn forget(&mut self, conn: u64)
         ensures users { (c : ℕ) → get nat_cmp self.new.users c ≡ (if conn == c then None else get nat_cmp self.old.users c) }
         ensures containers { (c : ℕ) → get nat_cmp self.new.containers c ≡ (if conn == c then None else get nat_cmp self.old.containers c) }
@@ -189,7 +189,7 @@ impl Peers {
     }
 }
 
-/// The way in which deliveries go on a link, at whose end the router does this.
+/// The direction of deliveries on a link whose router end has this role.
 fn way_of(role: Role) -> LinkRole
     ensures { result ≡ way_of role }
 {

@@ -1,4 +1,4 @@
-//! The connections of which something can be taken.
+//! The connections that are ready: an item is waiting in their outbox, or they are over.
 ghost use Rattle.std.specs.Prelude.{◌≡◌, ◌==◌, ◌&&◌, nat_lt, ℕ, Bool, false, true, OnOk, if◌then◌else◌};
 ghost use Rattle.std.specs.Ordering.{nat_cmp};
 ghost use Rattle.std.specs.BTreeSet.{contains};
@@ -8,14 +8,14 @@ use std::alloc::{AllocError, Global};
 use std::collections::BTreeSet;
 use std::ops::Bound;
 
-/// The numbers of the connections of which something can be taken.
+/// The numbers of the connections that are ready.
 #[derive(Debug, Drop)]
 pub struct Ready {
     set: BTreeSet<u64>,
 }
 
 impl Ready {
-    /// None.
+    /// An empty set.
     pub fn new(alloc: Global) -> Ready
         ensures { (c : ℕ) → contains nat_cmp result.set c ≡ false }
     {
@@ -24,7 +24,7 @@ impl Ready {
         }
     }
 
-    /// Notes whether something can be taken of a connection.
+    /// Notes whether a connection is ready.
     pub fn note(&mut self, conn: u64, ready: bool) -> Result<(), AllocError>
         ensures { OnOk result ((c : ℕ) → contains nat_cmp self.new.set c ≡ (if conn == c then ready else contains nat_cmp self.old.set c)) }
     {
@@ -38,14 +38,14 @@ impl Ready {
         Ok(())
     }
 
-    /// Whether something can be taken of a connection.
+    /// Whether a connection is ready.
     pub fn has(&self, conn: u64) -> bool
         ensures { result ≡ contains nat_cmp self.now.set conn }
     {
         self.set.contains(&conn)
     }
 
-    /// The lowest of them above a number.
+    /// The lowest ready connection above a number.
     pub fn behind(&self, conn: u64) -> Option<u64>
         ensures { IsLeast (λ c. nat_lt conn c && contains nat_cmp self.now.set c) result }
     {
@@ -56,7 +56,7 @@ impl Ready {
         }
     }
 
-    /// The lowest of them.
+    /// The lowest ready connection.
     pub fn first(&self) -> Option<u64>
         ensures { IsLeast (contains nat_cmp self.now.set) result }
     {

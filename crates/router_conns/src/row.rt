@@ -10,13 +10,13 @@ use std::alloc::{AllocError, Global};
 use std::collections::VecDeque;
 use std::marker::Model;
 
-/// So many live connections are served at once.
+/// The number of live connections that are served at once.
 pub const CONNECTIONS: usize = 64;
 
-/// An outbox with so many items is full.
+/// The number of items at which an outbox is full.
 pub const OUTBOX: usize = 4096;
 
-/// One connection: its phase, the items that wait in its outbox, and how many left it.
+/// One connection: its phase, the items waiting in its outbox, and how many have left it.
 #[derive(Debug, Drop)]
 pub struct Row {
     phase: Conn,
@@ -32,7 +32,7 @@ impl Model for Row {
     ghost view = { λ r. record { phase = r.phase; waiting = r.waiting.items; taken = r.taken } };
 }
 
-/// The phase behind a performative that the router wrote.
+/// The phase after a performative that the router wrote.
 fn behind_perf(perf: &Perf, phase: Conn) -> Conn
     ensures { result ≡ behind_perf perf.now phase }
 {
@@ -49,7 +49,7 @@ fn behind_perf(perf: &Perf, phase: Conn) -> Conn
     }
 }
 
-/// The phase behind an item that the router wrote.
+/// The phase after an item that the router wrote.
 fn behind(item: &Item, phase: Conn) -> Conn
     ensures { result ≡ behind item.now phase }
 {
@@ -64,7 +64,7 @@ fn behind(item: &Item, phase: Conn) -> Conn
 }
 
 impl Row {
-    /// A connection that comes up while so many others are live. Beyond 64 it is over at once.
+    /// A connection that comes up while `live` others are live. Beyond 64 it is over at once.
     pub fn new(alloc: Global, live: usize) -> Row
         ensures { result ≡ fresh live }
     {
@@ -97,7 +97,7 @@ impl Row {
         }
     }
 
-    /// Whether the connection is live and its outbox full.
+    /// Whether the connection is live and its outbox is full.
     pub fn is_full(&self) -> bool
         ensures { result ≡ is_full (Some self.now) }
     {
@@ -108,7 +108,7 @@ impl Row {
         }
     }
 
-    /// Whether something can be taken of it.
+    /// Whether it is ready: an item is waiting in its outbox, or it is over.
     pub fn is_ready(&self) -> bool
         ensures { result ≡ is_ready (Some self.now) }
     {
@@ -119,14 +119,14 @@ impl Row {
         }
     }
 
-    /// Ends the connection; what waits in its outbox stays.
+    /// Ends the connection; the items in its outbox stay.
     pub fn end(&mut self)
         ensures { self.new ≡ ended self.old }
     {
         self.phase.closed = true;
     }
 
-    /// Puts an item in the outbox. Where memory is refused nothing can be said of the row.
+    /// Puts an item into the outbox. If memory is refused, the row's contents are unspecified.
     pub fn put(&mut self, item: Item) -> Result<(), AllocError>
         ensures { OnOk result (self.new ≡ with_item item self.old) }
     {
@@ -143,8 +143,8 @@ impl Row {
         }
     }
 
-    /// Moves up to `most` items out of the outbox, the first of them first. Where memory is refused nothing can be said
-    /// of the row.
+    /// Moves up to `most` items out of the outbox, in order. If memory is refused, the row's contents are
+    /// unspecified.
     pub fn take(&mut self, alloc: Global, most: usize) -> Result<Taken, AllocError>
         ensures batched { IfOk result (λ taken. Batched self.old most taken.first taken.items.items taken.ended) }
         ensures rest { IfOk result (λ taken. took (length taken.items.items) self.old ≡ (if taken.ended then None else Some self.new)) }
@@ -165,7 +165,7 @@ impl Row {
         })
     }
 
-    /// Whether the connection is over and nothing waits in its outbox.
+    /// Whether the connection is over and its outbox is empty.
     fn is_gone(&self) -> bool
         ensures gone { result ≡ is_none (unless_gone self.now) }
         ensures rest { unless_gone self.now ≡ (if result then None else Some self.now) }
@@ -174,14 +174,14 @@ impl Row {
     }
 }
 
-/// Items that left an outbox.
+/// Items taken from an outbox.
 #[derive(Debug, Drop)]
 pub struct Taken {
-    /// The number of the first of them: so many left the outbox before.
+    /// The number of the first of them: how many items left the outbox before.
     pub first: u64,
     /// The items, in order.
     pub items: Vec<Item>,
-    /// Whether the connection is over and these were its last.
+    /// Whether the connection is over and these were its last items.
     pub ended: bool,
 }
 

@@ -1,4 +1,4 @@
--- Each connection is answered alone: what a trace has of it is what the events about it alone make.
+-- Each connection is answered alone: a trace's part that is about it is made by the events about it alone.
 use Rattle.std.proofs.Common.{◌≡◌, ◌∙◌, sym, ap, refl, subst, true≢false, ℕ, Bool, true, false, List, [], ◌∷◌}
 use Rattle.std.specs.Prelude.{is_some, if◌then◌else◌, Option, Some, None}
 use Rattle.std.specs.List.{list_any}
@@ -43,7 +43,7 @@ use Rattle.router_core.proofs.Mine.{apart, own_terms, own_written, own_session, 
 use Rattle.router_core.proofs.Only.{only, only_none, own_goes, each_all, lives_known, only_windows, only_beats, own_ends, eased_ends}
 use Rattle.router_core.proofs.Settling.{settled}
 
--- what is put out for a connection by its own part of a trace: an event's row, the flows that follow, and all of it
+-- what is put out for a connection, computed from its own part of a trace: an event's row, the flows that follow, and all of it
 abbrev own_answer : List ℕ → ℕ → List Entry → Event → List Put
 own_answer id c x (event.Item d i) = each_to c (said_to id (apart x c) (linkless x c) i)
 own_answer id c x (event.Tick ms) = if is_some (apart x c) then beat_if (needs_beat (terms x c) (written x c) ms) c else []
@@ -58,12 +58,12 @@ own_followed c x = goes (own_flows c x) x
 abbrev own_answered : List ℕ → ℕ → List Entry → Step → List Entry
 own_answered id c x s = own_followed c (goes (own_answer id c x s.event) (Did s ∷ x))
 
--- what events alone make
+-- the trace that events alone make
 abbrev own_all : List ℕ → ℕ → List Step → List Entry → List Entry
 own_all id c [] x = x
 own_all id c (s ∷ ss) x = own_all id c ss (own_answered id c x s)
 
--- behind the flows no more are due
+-- after the flows no more are due
 settled_followed : (c : ℕ) (y : List Entry) → own_flows c (own_followed c y) ≡ []
 settled_followed c y =
     by_test (is_some (apart y c))
@@ -129,13 +129,13 @@ not_due t e c roomy =
     (λ h. absurd (true≢false (sym (filter_has (λ k. is_due e k (conn t k)) c (ups t) h).0 ∙ due_none e c (conn t c) roomy)))
     (λ h. h)
 
--- an event with all that it has put
+-- an event with all that it put out
 record Stepped (id : List ℕ) (c : ℕ) (t : List Entry) (s : Step) : Type 0 where
   fine : Fine c (answered id t s)
   about : is_about c s.event ≡ true → own_part c (answered id t s) ≡ own_answered id c (own_part c t) s
   other : is_about c s.event ≡ false → own_part c (answered id t s) ≡ own_part c t
 
--- no link is attached on it behind an event's row
+-- no link is attached on it after an event's row
 row_unlinked : (id : List ℕ) (t u v : List Entry) (e : Event) (c : ℕ) → (is_about c e ≡ true → brings_attach e ≡ false) → Unlinked c u → Unlinked c v
     → Unlinked c (goes (own_row id t u e) v)
 row_unlinked id t u v e c bare unlinked before =
@@ -151,7 +151,7 @@ eased_bound : (c : ℕ) (b : Option Binding) (t : List Entry) → Eased c t → 
 eased_bound c None t eased = eased
 eased_bound c (Some b) t eased = eased
 
--- what follows an event's rows leaves a connection without links alone, before windows are told anew
+-- what follows an event's rows doesn't concern a connection without links, before narrow windows are restored
 record Aside (c : ℕ) (t u : List Entry) : Type 0 where
   part : own_part c u ≡ own_part c t
   spares : Spares t u c
@@ -175,7 +175,7 @@ aside_steps c t unlinked = record {
 passed_aside : (c : ℕ) (t : List Entry) → Unlinked c t → Aside c t (passed_on t)
 passed_aside c t unlinked = passed_keeps (Aside c t) (aside_steps c t unlinked) t (record { part = refl; spares = spares_self t c })
 
--- what is known of it behind an event's rows
+-- the state of the connection after an event's rows
 record Rowed (id : List ℕ) (c : ℕ) (t : List Entry) (s : Step) : Type 0 where
   ordered : Ordered (replied id t s)
   eased : Eased c (replied id t s)
@@ -251,7 +251,7 @@ fine_took c t x fine = record {
   settled = fine.settled;
 }
 
--- an event about a connection on which no attach comes brings none
+-- an event about a connection on which no attach is received brings none
 never_first : (c : ℕ) (s : Step) (ss : List Step) → NeverAttaches c (s ∷ ss) → is_about c s.event ≡ true → brings_attach s.event ≡ false
 never_first c s ss never own = (neither (brings_attach s.event) _ (rw own at never)).0
 

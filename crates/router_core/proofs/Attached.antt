@@ -1,4 +1,4 @@
--- The frames of an attach that is taken or refused have their turns, and those of deliveries and dispositions that come.
+-- The frames of an attach that is taken or refused may be written in their order, and so may those of incoming deliveries and dispositions.
 use Rattle.std.proofs.Common.{◌≡◌, ◌∙◌, sym, ap, refl, true≢false, ℕ, Bool, true, false, List, [], ◌∷◌}
 use Rattle.std.specs.Prelude.{Option, Some, None, if◌then◌else◌, nat_lt}
 use Rattle.amqp_perf.specs.declared.perf.Attach.{Attach as AnAttach}
@@ -71,7 +71,7 @@ refused_fit t largest c own handle e a ord begun = by (fits largest (attach_item
     by true = (record { known = known; turn = begun; quiet = tt }, all_fit t c known (detach_item own handle true (Some e)) begun tt)
     by false = all_fit t c known (detach_item own handle true (Some e)) begun tt
 
--- what a delivery that came whole brings, and dispositions that are answered
+-- what a whole delivery causes, and dispositions that are answered
 
 ignored_fit : (t : List Entry) (after : List Entry) (c own handle : ℕ) (q : Option ℕ) → has c (ups t) ≡ true → of_session (wrote t c) own ≡ true
     → AllFit t (each_to c (ignored_put after c own handle q))

@@ -1,4 +1,4 @@
--- Of items on their way, those that bring no attach: what rows say, heartbeats and flows. They begin no link.
+-- Outgoing items that contain no attach: those of rows, heartbeats and flows. They begin no link.
 use Rattle.std.proofs.Common.{◌≡◌, ◌∙◌, sym, ap, refl, true≢false, ℕ, zero, suc, Bool, true, false, List, [], ◌∷◌, ◌++◌, append-nil}
 use Rattle.std.specs.Prelude.{◌==◌, nat_lt, if◌then◌else◌, filter, Option, Some, None, is_some}
 use Rattle.amqp_perf.specs.declared.perf.Disposition.{Disposition as ADisposition}
@@ -48,7 +48,7 @@ less_both : (ps qs : List Put) → Attachless ps → Attachless qs → Attachles
 less_both [] qs first rest = rest
 less_both (p ∷ ps) qs first rest = (first.0, less_both ps qs first.1 rest)
 
--- what rows say, and closes
+-- the items of rows, and closes
 
 less_closing : (id : List ℕ) (c : ℕ) (p : Conn) (x : Condition) → Attachless (each_to c (closing id p x))
 less_closing id c p x = by_test p.opened (λ e. rw e (refl, tt)) (λ e. rw e (refl, (refl, tt)))
@@ -73,7 +73,7 @@ less_said id c p (LinkFlow own told at) = (refl, tt)
 less_said id c p (Taken own handle) = tt
 less_said id c p (Settle own) = tt
 
--- what a delivery that came whole brings, and dispositions that are answered
+-- what a whole delivery causes, and dispositions that are answered
 
 less_ignored : (after : List Entry) (c own handle : ℕ) (q : Option ℕ) → Attachless (each_to c (ignored_put after c own handle q))
 less_ignored after c own handle None = tt
@@ -102,7 +102,7 @@ less_settled c own None ids = tt
 less_settled c own (Some s) [] = tt
 less_settled c own (Some s) (id ∷ ids) = (refl, less_settled c own (Some s) ids)
 
--- what goes out on links that stand
+-- what is sent on attached links
 kind_less : (body : Perf) → goes_on_link body ≡ true → is_attach_in body ≡ false
 kind_less (perf.Flow f) kind = refl
 kind_less (perf.Transfer x) kind = refl
@@ -139,20 +139,20 @@ less_over t (c ∷ cs) = less_both (flows_below c (session t c) 15) (windows_ove
 pub less_windows : (t : List Entry) → Attachless (windows t)
 less_windows t = less_over t (live t)
 
--- an item that is no attach has no attach in its row
+-- an item that isn't an attach has no attach in its row
 
 abbrev pub said_to : List ℕ → Option Conn → Finds → Item → List Item
 said_to id None k i = []
 said_to id (Some p) k i = said id p (item_reply p k i)
 
--- no link stands on a connection, and no delivery has an id on it
+-- no link is attached on a connection, and no delivery has an id on it
 abbrev pub Unlinked : ℕ → List Entry → Type 0
 Unlinked c t = (o h : ℕ) → link t c o h ≡ None
 
 abbrev pub Unnamed : ℕ → List Entry → Type 0
 Unnamed c t = (o id : ℕ) → named t c o id ≡ None
 
--- then transfers and dispositions bring nothing
+-- then transfers and dispositions cause nothing
 
 no_part : (x : Transfer) (payload : List ℕ) (v : Option PeerHandle) (known : ℕ → Option Link) → ((h : ℕ) → known h ≡ None) → part_on x payload (link_place_by v known) ≡ None
 no_part x payload None known none = refl

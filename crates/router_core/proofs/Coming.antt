@@ -1,4 +1,4 @@
--- What came on a connection is what the events brought, whatever is put out.
+-- The items received on a connection depend on the events only, not on what is put out.
 use Rattle.std.proofs.Common.{◌≡◌, ◌∙◌, refl, ℕ, List, [], ◌∷◌}
 use Rattle.std.specs.Prelude.{Option, Some, None}
 use Rattle.router_trace.specs.declared.binding.Binding.{Binding}

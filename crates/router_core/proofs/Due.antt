@@ -1,5 +1,5 @@
--- The frames that go out behind an event's rows, before windows are told anew: flows, transfers and dispositions, each on the session of a link
--- that stands.
+-- The frames that are sent after an event's rows, before narrow windows are restored: flows, transfers and dispositions, each on the session of an
+-- attached link.
 use Rattle.std.proofs.Common.{◌≡◌, ◌∙◌, sym, ap, refl, subst, true≢false, ℕ, zero, suc, ◌+◌, Bool, true, false, not, ◌&&◌, ◌||◌, List, [], ◌∷◌}
 use Rattle.std.specs.Prelude.{◌==◌, Option, Some, None, is_some, is_none, option_map, if◌then◌else◌, take}
 use Rattle.amqp_perf.specs.declared.perf.Perf.{Perf}
@@ -32,7 +32,7 @@ pub both_true : (a b : Bool) → (a && b) ≡ true → (a ≡ true) × (b ≡ tr
 both_true true b h = (refl, h)
 both_true false b h = absurd cc
 
--- the lowest number that passes, and the first place: what holds of none and of each that passes
+-- a property of the lowest number that passes, and of the first place: it holds if it holds of none and of each that passes
 pub first_elim : (n : ℕ) (passes : ℕ → Bool) (Q : Option ℕ → Type 0) → Q None → ((k : ℕ) → passes k ≡ true → Q (Some k)) → Q (first_below n passes)
 unfolding first_below
 first_elim zero passes Q none some = none
@@ -109,7 +109,7 @@ on_behind (q ∷ qs) t u p on_link all = (
   on_behind qs t u p on_link all.1,
 )
 
--- producers told
+-- outcomes to producers
 
 told_origin : (t : List Entry) (origin : Option Origin) (decided : Option DeliveryState) → is_still_attached t origin ≡ true → AllOnLinks t (outcome_to origin decided)
 told_origin t None decided here = tt
@@ -136,7 +136,7 @@ tells_on t = first_elim (bindings t + 1) (λ n. is_to_be_told t (delivery t n)) 
 
 -- sends: the session's window is open, and a delivery that starts has credit
 
--- a delivery goes on there, or one starts for which there is credit
+-- a delivery goes on there, or one starts that has credit
 pub record Takes (v : Option Link) : Type 0 where
   pub taker : Link
   pub here : v ≡ Some taker
@@ -175,7 +175,7 @@ can_go_sent t n d h =
           (both_true (takes_more (link_of t d.link) d.link.number) _ (both_true (is_none d.id && d.going_on) _ starts).1).0);
     }
 
--- its frame is a transfer on its link
+-- its frame is a transfer on the delivery's link
 pub record IsTransferOn (own handle : ℕ) (i : Item) : Type 0 where
   pub transfer : Transfer
   pub payload : List ℕ
@@ -196,7 +196,7 @@ handle_is t n d = by (is_none d.id)
     by true = refl
     by false = refl
 
--- a transfer where the session's window is open and the link takes it
+-- a transfer, while the session's window is open and the link can take it
 pub record IsSent (t : List Entry) (p : Put) : Type 0 where
   pub own : ℕ
   pub handle : ℕ
@@ -250,7 +250,7 @@ sent_on t (p ∷ q ∷ qs) sent = absurd sent
 pub sends_on : (t : List Entry) → AllOnLinks t (sends_due t)
 sends_on t = sent_on t (sends_due t) (sends_sent t)
 
--- drains told
+-- answers to drains
 
 drained_on : (t : List Entry) (a : Attachment) (s : Option Session) (v : Option Link) → link_of t a ≡ v → AllOnLinks t (drain_on a s v)
 drained_on t a None v e = tt

@@ -1,4 +1,4 @@
--- Heartbeats and the flows of windows have their turns.
+-- Heartbeats and the flows of windows may be written in their order.
 use Rattle.std.proofs.Common.{◌≡◌, ◌∙◌, sym, ap, refl, subst, true≢false, ℕ, zero, suc, true, false, List, [], ◌∷◌, ◌++◌}
 use Rattle.std.specs.Prelude.{◌==◌, Option, Some, None, is_some, if◌then◌else◌}
 use Rattle.amqp_perf.specs.declared.perf.Perf.{Perf}
@@ -24,7 +24,7 @@ use Rattle.router_core.proofs.RowOrder.{written_of, perf_is_offered, IsOffered}
 use Rattle.router_core.proofs.Once.{filter_has, has_first, has_rest}
 use Rattle.router_core.proofs.Ordered.{Ordered, wrote, wrote_push, out_turns}
 
--- an item that leaves all that was written as it was: a flow, an attach, a transfer, a disposition, a detach or a heartbeat
+-- an item that changes nothing in what was written: a flow, an attach, a transfer, a disposition, a detach or a heartbeat
 abbrev pub perf_is_quiet : Perf → Type 0
 perf_is_quiet (perf.Flow f) = Unit {0}
 perf_is_quiet (perf.Attach a) = Unit {0}
@@ -65,7 +65,7 @@ quiet_offered (item.Frame sasl own body payload) asked q = quiet_perf_offered bo
 quiet_offered (item.Beat channel) asked q = tt
 quiet_offered _ asked q = absurd q
 
--- a quiet item in its turn
+-- a quiet item that may be written next
 pub record Fits (t : List Entry) (p : Put) : Type 0 where
   pub known : has p.conn (ups t) ≡ true
   pub turn : has_turn (wrote t p.conn) p.item ≡ true

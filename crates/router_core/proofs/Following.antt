@@ -1,4 +1,4 @@
--- What follows an event's rows goes out step by step: what each step keeps, all of it keeps, and of two traces that go in step all of it does.
+-- What follows an event's rows is sent step by step: what each step keeps, the whole keeps, and this also holds of two traces in step.
 use Rattle.std.proofs.Common.{ℕ, zero, suc, List}
 use Rattle.router_trace.specs.Trace.{Entry, Put, goes}
 use Rattle.router_trace.specs.Following.{repeated, turns, as_long_as_due, tells, sends_due, drains_due}
@@ -12,7 +12,7 @@ unfolding repeated
 repeated_keeps next P step zero t was = was
 repeated_keeps next P step (suc n) t was = repeated_keeps next P step n (goes (next t) t) (step t was)
 
--- of two traces in step
+-- for two traces in step
 repeated_alike : (first second : List Entry → List Put) (P : List Entry → List Entry → Type 0)
     → ((t u : List Entry) → P t u → P (goes (first t) t) (goes (second u) u)) → (n : ℕ) (t u : List Entry) → P t u → P (repeated first n t) (repeated second n u)
 unfolding repeated
@@ -27,14 +27,14 @@ pub due_alike : (first second : List Entry → List Put) (P : List Entry → Lis
     → ((t u : List Entry) → P t u → P (goes (first t) t) (goes (second u) u)) → (t u : List Entry) → P t u → P (as_long_as_due first t) (as_long_as_due second u)
 due_alike first second P step t u was = repeated_alike first second P step turns t u was
 
--- what each step that follows an event's rows keeps, before windows are told anew
+-- what each step after an event's rows keeps, before narrow windows are restored
 pub record Steps (P : List Entry → Type 0) : Type 0 where
   pub telling : (t : List Entry) → P t → P (goes (tells t) t)
   pub sending : (t : List Entry) → P t → P (goes (sends_due t) t)
   pub draining : (t : List Entry) → P t → P (goes (drains_due t) t)
   pub granting : (t : List Entry) → P t → P (goes (grants_due t) t)
 
--- all that goes out before windows are told anew
+-- all that is sent before narrow windows are restored
 abbrev pub passed_on : List Entry → List Entry
 passed_on t = granted (drained (sent (told t)))
 

@@ -1,4 +1,4 @@
--- What the laws rest on of the grants that are due: each is a flow of a link that stands.
+-- What the laws need of the grants that are due: each is a flow of an attached link.
 use Rattle.std.proofs.Common.{◌≡◌, refl, ℕ, ◌+◌, ◌==◌, Bool, true, false, List, [], ◌∷◌, ◌++◌}
 use Rattle.std.specs.Prelude.{Option, Some, None, is_some, if◌then◌else◌}
 use Rattle.amqp_session.specs.Session.{Session}
@@ -28,7 +28,7 @@ abbrev pub AllGrants : List Entry → List Put → Type 0
 AllGrants t [] = Unit {0}
 AllGrants t (p ∷ ps) = IsGrant t p × AllGrants t ps
 
--- grants of links that stand
+-- grants of attached links
 
 abbrev Stands : List Entry → Attachment → Type 0
 Stands t a = is_some (link_of t a) ≡ true
@@ -70,7 +70,7 @@ all_stand : (t : List Entry) → AllStand t (grants t)
 unfolding grants
 all_stand t = all_of_address t (lowest_below (attachments t + 1) (λ n. wants t (figure t n)))
 
--- the flows that tell them
+-- the flows that carry them
 
 flow_is_grant : (t : List Entry) (g : LinkGrant) (v : Option Session) (ps : List Put) → Stands t g.at → AllGrants t ps → AllGrants t (grant_flow g v ++ ps)
 flow_is_grant t g None ps stands rest = rest

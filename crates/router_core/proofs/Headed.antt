@@ -1,4 +1,4 @@
--- In every trace of the router a header that came first is answered by the header, first, and where nothing came nothing is put out.
+-- In every trace of the router a header received first is answered by the header, first; if nothing was received, nothing is put out.
 use Rattle.std.proofs.Common.{◌≡◌, ◌∙◌, sym, ap, refl, subst, true≢false, ℕ, zero, suc, Bool, true, false, not, List, [], ◌∷◌, ◌++◌, drop}
 use Rattle.std.specs.Prelude.{◌==◌, Option, Some, None, is_some, option_map, option_and_then, if◌then◌else◌, length}
 use Rattle.std.proofs.Math.Seq.{drop-nil}
@@ -54,7 +54,7 @@ use Rattle.router_core.proofs.Order.{push_some, heard_turns, no_session, took_in
 use Rattle.router_core.proofs.PassedOrder.{passed_steps}
 use Rattle.router_core.proofs.Replied.{replied_turns, answered_turns, answered_told}
 
--- where nothing was put out nothing waits, and the outbox isn't full
+-- if nothing was put out, nothing waits, and the outbox isn't full
 
 waits_at : (e : Event) (c n : ℕ) (v : Option Connection) → waiting_of v ≡ [] → waiting_of (at_event e c n v) ≡ []
 waits_at (event.Up d p) c n v h = by_test (d.0 == c) (λ e. rw e refl) (λ e. rw e h)
@@ -142,7 +142,7 @@ windows_without t k none (c ∷ cs) =
     (λ e o. no_session t c (subst (λ (n : ℕ). outs t n ≡ []) (sym (eqb-true c k e)) none) o) 15)
     (windows_without t k none cs)
 
--- where nothing came no terms are known
+-- if nothing was received, no terms are known
 came_none : (e : Event) (c : ℕ) (is : List Item) → with_came e c is ≡ [] → is ≡ []
 came_none (event.Item d i) c is h = by_test (d.0 == c) (λ e. absurd (push_some is i (rw e at h))) (λ e. rw e at h)
 came_none (event.Up d p) c is h = h
@@ -165,7 +165,7 @@ untold (Took d n ∷ t) c h = untold t c h
 untold (Bound b ∷ t) c h = untold t c h
 untold (Configured g ∷ t) c h = untold t c h
 
--- an item of another connection puts nothing where no link is attached
+-- an item of another connection puts nothing if no link is attached
 
 stolen_without : (t : List Entry) (k : ℕ) → Unlinked k t → (last x : Option Attachment) → if_attached t last ≡ x → Without k (stolen_by x)
 stolen_without t k none last None is = tt
@@ -193,7 +193,7 @@ item_without id t u d k i (Some p) none apart =
     (λ own s ids. each_without (settled_answers own s ids) d k apart)
     i (item_reply p (finds t d) i)
 
--- no link stands where nothing was put out
+-- no link is attached if nothing was put out
 unlinked : (t : List Entry) (k : ℕ) → Ordered t → outs t k ≡ [] → Unlinked k t
 unlinked t k ord none o h =
     none_if (link t k o h) (λ some. true≢false (sym (ord.linked k o h some) ∙ ap (λ js. of_session (written_all js unwritten) o) none))
@@ -207,7 +207,7 @@ own_without id t u (event.Down d) k ord none h = tt
 own_without id t u (event.Up d p) k ord none h = tt
 own_without id t u event.Start k ord none h = tt
 
--- what follows an event's rows goes out for connections with links alone
+-- what follows an event's rows is sent only on connections with links
 
 pub on_without : (t : List Entry) (k : ℕ) → Unlinked k t → (ps : List Put) → AllOnLinks t ps → Without k ps
 on_without t k none [] all = tt
@@ -220,7 +220,7 @@ on_without t k none (p ∷ ps) all = (
   on_without t k none ps all.1,
 )
 
--- where nothing was put out
+-- the state if nothing was put out
 record Mute (k : ℕ) (t : List Entry) : Type 0 where
   ordered : Ordered t
   none : outs t k ≡ []
@@ -236,7 +236,7 @@ mute_steps k = record {
   granting = λ t mute. record { ordered = passed_steps.granting t mute.ordered; none = mute_goes k (grants_due t) t (grants_on t) mute };
 }
 
--- a header that stands first stays first
+-- a header that comes first stays first
 
 first_push : (is js : List Item) → HeaderFirst is → HeaderFirst (is ++ js)
 first_push [] js h = absurd h
@@ -286,7 +286,7 @@ pub record Headed (t : List Entry) : Type 0 where
   pub header : (c : ℕ) → begins_with_header (ins t c) ≡ true → HeaderFirst (outs t c)
   pub silent : (c : ℕ) → ins t c ≡ [] → outs t c ≡ []
 
--- a live connection to which nothing was written stands in its first phase
+-- a live connection to which nothing was written is in its first phase
 live_is : (o : Option Connection) → not (is_live o) ≡ false → (v : Connection) × (o ≡ Some v) × (v.phase.closed ≡ false)
 live_is None h = absurd cc
 live_is (Some v) h = (v, refl, by_test v.phase.closed (λ e. absurd (true≢false (rw e at h))) (λ e. e))

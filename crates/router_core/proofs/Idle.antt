@@ -1,4 +1,4 @@
--- On a connection without links no delivery has an id, and none of its peer is unsettled.
+-- On a connection without links no delivery has an id, and its peer has no unsettled delivery.
 use Rattle.std.proofs.Common.{◌≡◌, ◌∙◌, ap, refl, ℕ, Bool, true, false, ◌&&◌, List, [], ◌∷◌}
 use Rattle.std.specs.Prelude.{◌==◌, Option, Some, None, if◌then◌else◌}
 use Rattle.amqp_perf.specs.declared.perf.Perf.{Perf}

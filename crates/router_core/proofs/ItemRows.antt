@@ -1,5 +1,5 @@
--- What an answer to an item puts: what it says, or the frames of an attach that is taken or refused, or what a delivery that came whole, and a
--- disposition, bring.
+-- What an answer to an item puts: its own items, or the frames of an attach that is taken or refused, or what a whole delivery or a
+-- disposition causes.
 use Rattle.std.proofs.Common.{sym, subst, ℕ, Bool, List, [], ◌++◌, append-nil}
 use Rattle.std.specs.Prelude.{Option}
 use Rattle.amqp_perf.specs.declared.perf.Attach.{Attach as AnAttach}

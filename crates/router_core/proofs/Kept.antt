@@ -1,4 +1,4 @@
--- In every trace of the router the session's window has room before each transfer: they are sent where a window is open, and nowhere else.
+-- In every trace of the router the session's window has room before each transfer: transfers are sent only while it is open.
 use Rattle.std.proofs.Common.{◌≡◌, sym, ap, refl, subst, ℕ, zero, suc, ◌+◌, ◌≤◌, Bool, true, false, not, List, [], ◌∷◌, ◌++◌, arith}
 use Rattle.std.specs.Prelude.{Option, Some, None, if◌then◌else◌, nat_eq, nat_lt}
 use Rattle.amqp_perf.specs.declared.perf.Attach.{Attach as AnAttach}
@@ -61,7 +61,7 @@ abbrev pub is_transfer : Item → Bool
 is_transfer (item.Frame sasl own body payload) = is_transfer_in body
 is_transfer _ = false
 
--- none of these items, and none of these on their way, is a transfer
+-- none of these items, and none of these outgoing items, is a transfer
 abbrev pub NoTransfer : List Item → Type 0
 NoTransfer [] = Unit {0}
 NoTransfer (i ∷ is) = (is_transfer i ≡ false) × NoTransfer is
@@ -78,7 +78,7 @@ pub none_to : (c : ℕ) (is : List Item) → NoTransfer is → NonePut (each_to 
 none_to c [] none = tt
 none_to c (i ∷ is) none = (none.0, none_to c is none.1)
 
--- what is no transfer asks nothing of a window
+-- an item that isn't a transfer needs no window
 
 quiet_perf : (body : Perf) (own : ℕ) (known : ℕ → Option Session) (sasl : Bool) (payload : List ℕ) → is_transfer_in body ≡ false → keeps_window (item.Frame sasl own body payload) known
 quiet_perf (perf.Transfer x) own known sasl payload h = absurd cc
@@ -138,7 +138,7 @@ none_refused largest own handle e a = by (fits largest (attach_item own (refusal
     by true = (refl, (refl, tt))
     by false = (refl, tt)
 
--- what a delivery that came whole brings, and dispositions that are answered
+-- what a whole delivery causes, and dispositions that are answered
 
 none_ignored : (after : List Entry) (c own handle : ℕ) (q : Option ℕ) → NoTransfer (ignored_put after c own handle q)
 none_ignored after c own handle None = tt
@@ -211,7 +211,7 @@ none_over t (c ∷ cs) = none_both (flows_below c (session t c) 15) (windows_ove
 pub none_window : (t : List Entry) → NonePut (windows t)
 none_window t = none_over t (live t)
 
--- a transfer is sent where the window is open
+-- a transfer is sent while the window is open
 
 window_open : (v : Option Session) → is_wide v ≡ true → has_room v
 window_open None wide = absurd cc
@@ -274,7 +274,7 @@ passed_kept = record {
   granting = λ t kept. goes_keeps (grants_due t) t (none_granted t) kept;
 }
 
--- an event with all that it has put
+-- an event with all that it put out
 
 ends_keep : (id : List ℕ) (cs : List ℕ) (t : List Entry) → WindowKept t → WindowKept (ends id cs t)
 ends_keep id [] t kept = kept

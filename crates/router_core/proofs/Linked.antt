@@ -1,4 +1,4 @@
--- What items and events make of links: only an attach of the router begins one, on a session, and only on a connection that it is put out for.
+-- How items and events change links: only an attach of the router begins one, on a session, and only on the connection on which it is put out.
 use Rattle.std.proofs.Common.{◌≡◌, sym, refl, subst, true≢false, ℕ, Bool, true, false, not, List}
 use Rattle.std.specs.Prelude.{◌==◌, Option, Some, None, is_some, option_map, if◌then◌else◌}
 use Rattle.std.proofs.lemmas.Bool.{eqb-true}
@@ -34,7 +34,7 @@ pub none_if : (v : Option Link) → (is_some v ≡ true → ⊥) → v ≡ None
 none_if None never = refl
 none_if (Some l) never = absurd (never refl)
 
--- a link that is there behind an item that is no attach was there before
+-- a link that exists after an item that isn't an attach existed before
 was_perf : (body : Perf) (own o h n : ℕ) (t : List Entry) (c : ℕ) (last : Option Asked) (v : Option Link)
     → is_attach_in body ≡ false → is_some (link_in body own o h n (key_at t c) last v) ≡ true → is_some v ≡ true
 was_perf (perf.Attach a) own o h n t c last v none some = absurd cc
@@ -50,7 +50,7 @@ pub link_was : (i : Item) (o h n : ℕ) (t : List Entry) (c : ℕ) (last : Optio
 link_was (item.Frame sasl own body payload) o h n t c last v none some = was_perf body own o h n t c last v none some
 link_was _ o h n t c last v none some = some
 
--- one that is there behind an event was there before
+-- a link that exists after an event existed before
 heard_was : (body : Perf) (payload : List ℕ) (h : ℕ) (known : ℕ → Option PeerHandle) (v : Option Link) → is_some (heard_link body payload h known v) ≡ true → is_some v ≡ true
 heard_was (perf.Flow f) payload h known v some = mapped_was _ _ v some
 heard_was (perf.Transfer x) payload h known v some = mapped_was _ _ v some
@@ -76,7 +76,7 @@ linked_before (event.Up d p) c o h channels handles v some = some
 linked_before (event.Tick ms) c o h channels handles v some = some
 linked_before event.Start c o h channels handles v some = some
 
--- a link stands on a session
+-- a link is on a session
 open_still : (q r : Bool) → (if q then r else false) ≡ true → (if q then true else false) ≡ true
 open_still true r h = refl
 open_still false r h = h
@@ -107,7 +107,7 @@ pub linked_more : (i : Item) (w : Written) (o h n : ℕ) (t : List Entry) (c : �
 linked_more (item.Frame sasl own body payload) w o h n t c last v turn was some = linked_perf body w own o h n t c last v turn was some
 linked_more _ w o h n t c last v turn was some = was some
 
--- the attachment that holds a key has its link
+-- the attachment with a key has its link
 pub numbered_some : (n : ℕ) (v : Option Link) → has_number n v ≡ true → is_some v ≡ true
 numbered_some n None h = h
 numbered_some n (Some l) h = refl

@@ -1,4 +1,4 @@
--- In every trace of the router links are attached on live connections alone.
+-- In every trace of the router links are attached only on live connections.
 use Rattle.std.proofs.Common.{◌≡◌, ◌∙◌, sym, ap, refl, subst, true≢false, ℕ, Bool, true, false, List, [], ◌∷◌}
 use Rattle.std.specs.Prelude.{◌==◌, nat_eq, Option, Some, None, is_some, option_map, option_and_then, if◌then◌else◌}
 use Rattle.std.proofs.lemmas.Bool.{eqb-true, eq-eqb}
@@ -78,7 +78,7 @@ out_lively t d i was new c o h =
     (subst (λ (k : ℕ). is_attach i ≡ true → is_live (conn t k) ≡ true) (eqb-true d c e) new) (was c o h)))
     (λ e. rw e (was c o h))
 
--- items on their way: an attach goes to a live connection
+-- outgoing items: an attach goes to a live connection
 abbrev Steady : List Put → List Entry → Type 0
 Steady [] t = Unit {0}
 Steady (p ∷ ps) t = (is_attach p.item ≡ true → is_live (conn t p.conn) ≡ true) × Steady ps (Out p.conn p.item ∷ t)
@@ -123,7 +123,7 @@ refused_steady v largest c own handle e a live = by (fits largest (attach_item o
     by true = (λ h. live, (λ h. absurd (true≢false (sym h)), tt))
     by false = (λ h. live, tt)
 
--- the ends for full outboxes take links away
+-- the closes because of full outboxes end links
 
 closed_unlinked : (id : List ℕ) (t : List Entry) (c : ℕ) (k : Option Connection) → is_some k ≡ true → Unlinked c (puts c (closing_of id k ResourceLimitExceeded) t)
 closed_unlinked id t c None some = absurd cc
@@ -151,7 +151,7 @@ ends_unlinked id (d ∷ ds) t c there known =
     (subst (λ (n : ℕ). Unlinked c (puts n (closing_of id (conn t n) ResourceLimitExceeded) t)) (sym (eqb-true d c e)) (closed_unlinked id t c (conn t c) known)))
     (λ e. ends_unlinked id ds (puts d items t) c (rw e at there) (ap (λ (k : Option Connection). is_some k) ((puts_spares items t d c e).conn) ∙ known))
 
--- the event itself, and the ends
+-- the event itself, and the closes
 
 did_lively : (t : List Entry) (e : Event) → Ordered t → Lively t → refuses t e ≡ false → (c : ℕ) → has c (due t e) ≡ false
     → (o h : ℕ) → is_some (link (did e ∷ t) c o h) ≡ true → is_live (conn (did e ∷ t) c) ≡ true
@@ -184,7 +184,7 @@ heard_lively id t e ord was taken c o h some =
     (λ q. let spare : Spares (did e ∷ t) (heard id t (step_of e)) c = heard_spares id t e c q
     in ap is_live spare.conn ∙ did_lively t e ord was taken c q o h (sym (ap (λ (v : Option Link). is_some v) (spare.link o h)) ∙ some))
 
--- an event with all that it has put
+-- an event with all that it put out
 
 bound_lively : (b : Option Binding) (t : List Entry) → Lively t → Lively (with_bound b t)
 bound_lively None t was = was

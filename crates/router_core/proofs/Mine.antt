@@ -1,4 +1,4 @@
--- What a trace has of one connection says the same of it as the whole trace does.
+-- The part of a trace that is about one connection agrees with the whole trace on it.
 use Rattle.std.proofs.Common.{◌≡◌, ◌∙◌, sym, ap, refl, true≢false, ℕ, true, false, List, [], ◌∷◌, ◌++◌}
 use Rattle.std.specs.Prelude.{◌==◌, nat_lt, Option, Some, None, is_some, if◌then◌else◌, option_and_then, length}
 use Rattle.std.specs.List.{find}
@@ -75,7 +75,7 @@ else_plain (event.Item d i) c n v h = refl
 else_plain (event.Tick ms) c n v h = refl
 else_plain event.Start c n v h = refl
 
--- the phase of a live connection that was taken in; other connections have no part in it
+-- the phase of a live connection that was admitted; other connections don't matter
 abbrev pub apart : List Entry → ℕ → Option Conn
 apart [] c = None
 apart (Did s ∷ t) c = plain_at s.event c 0 (apart t c)
@@ -181,7 +181,7 @@ own_apart (Took d n ∷ t) c = own_apart t c
 own_apart (Bound b ∷ t) c = own_apart t c
 own_apart (Configured g ∷ t) c = own_apart t c
 
--- its outbox was not full when an event came, and it was taken in
+-- its outbox was not full when an event came, and it was admitted
 abbrev pub Eased : ℕ → List Entry → Type 0
 Eased c [] = Unit {0}
 Eased c (Did s ∷ t) = ((has c (due t s.event) ≡ false) × (comes_up c s.event ≡ true → is_some (standing (conn (Did s ∷ t) c)) ≡ true)) × Eased c t
@@ -222,6 +222,6 @@ stood_apart (Took d n ∷ t) c eased = standing_took (d == c) n (conn t c) ∙ s
 stood_apart (Bound b ∷ t) c eased = stood_apart t c eased
 stood_apart (Configured g ∷ t) c eased = stood_apart t c eased
 
--- the phase of a live connection is told by its own part
+-- the phase of a live connection follows from its own part
 pub own_phase : (t : List Entry) (c : ℕ) → Eased c t → standing (conn t c) ≡ apart (own_part c t) c
 own_phase t c eased = stood_apart t c eased ∙ own_apart t c

@@ -1,4 +1,4 @@
--- What a trace has of one connection says the same of its handles as the whole trace does.
+-- The part of a trace that is about one connection agrees with the whole trace on its handles.
 use Rattle.std.proofs.Common.{◌≡◌, ◌∙◌, ap, refl, ℕ, Bool, false, List, [], ◌∷◌}
 use Rattle.std.specs.Prelude.{◌==◌, Option, None, is_some, if◌then◌else◌, unwrap_or}
 use Rattle.router_trace.specs.declared.channel.PeerChannel.{PeerChannel}
@@ -130,7 +130,7 @@ linkless t c = record {
   multicast = multicast_of t;
 }
 
--- no delivery of the peer is unsettled there
+-- the peer has no unsettled delivery there
 abbrev pub Unclaimed : ℕ → List Entry → Type 0
 Unclaimed c t = (o id : ℕ) → claims t c o id ≡ None
 

@@ -1,4 +1,4 @@
--- Runs go by moves: their traces are traces of the router.
+-- Runs consist of moves: their traces are traces of the router.
 use Rattle.std.proofs.Common.{◌≡◌, sym, refl, subst, ℕ, false, List, [], ◌∷◌, ◌++◌, ◌+◌, inl, inr}
 use Rattle.route_table.specs.Places.{Routing}
 use Rattle.router_trace.specs.Configuration.{configured}
@@ -10,13 +10,13 @@ use Rattle.router_core.specs.Replies.{answered}
 use Rattle.router_core.specs.Runs.{Taking, took_one, took_all, MayStep, Run}
 use Rattle.router_core.specs.Moves.{Move, handles, takes, Goes, IsTrace}
 
--- moves, and then more of them
+-- moves, then more of them
 pub goes_on : (id : List ℕ) (ms ns : List Move) (t u v : List Entry) → Goes id ms t u → Goes id ns u v → Goes id (ms ++ ns) t v
 goes_on id [] ns t u v first rest = subst (λ (w : List Entry). Goes id ns w v) first rest
 goes_on id (handles s ∷ ms) ns t u v first rest = (first.0, goes_on id ms ns (answered id t s) u v first.1 rest)
 goes_on id (takes x ∷ ms) ns t u v first rest = goes_on id ms ns (took_one x t) u v first rest
 
--- what a trace goes to by moves
+-- the traces that moves lead to
 abbrev pub Leads : List ℕ → List Entry → List Entry → Type 0
 Leads id t u = (moves : List Move) × Goes id moves t u
 

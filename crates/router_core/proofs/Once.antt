@@ -1,4 +1,4 @@
--- Numbers that rise, and lists with no number twice.
+-- Rising numbers, and lists in which no number occurs twice.
 use Rattle.std.proofs.Common.{◌≡◌, ◌∙◌, sym, refl, subst, true≢false, ℕ, Bool, true, false, not, ◌||◌, ◌<◌, ◌≤◌, List, [], ◌∷◌, ◌++◌, arith}
 use Rattle.std.specs.Prelude.{nat_eq, filter, Option, Some, None}
 use Rattle.std.proofs.lemmas.Bool.{eqb-true, eq-eqb, ltb-true, leb-true}
@@ -22,7 +22,7 @@ pub neither : (a b : Bool) → (a || b) ≡ false → (a ≡ false) × (b ≡ fa
 neither true b h = absurd cc
 neither false b h = (refl, h)
 
--- what passed a filter passes the test and was there
+-- what passes a filter passes the test and was in the list
 pub filter_has : (p : ℕ → Bool) (k : ℕ) (xs : List ℕ) → has k (filter p xs) ≡ true → (p k ≡ true) × (has k xs ≡ true)
 filter_has p k [] h = absurd cc
 filter_has p k (x ∷ xs) h =
@@ -34,7 +34,7 @@ filter_has p k (x ∷ xs) h =
     (λ f. let rest = filter_has p k xs (let g = rw f at h in rw e at g) in (rest.0, rw e rest.1))
     (λ f. let rest = filter_has p k xs (rw f at h) in (rest.0, rw e rest.1)))
 
--- lists with no number twice
+-- lists in which no number occurs twice
 abbrev pub NoTwice : List ℕ → Type 0
 NoTwice [] = Unit {0}
 NoTwice (x ∷ xs) = (has x xs ≡ false) × NoTwice xs
@@ -57,7 +57,7 @@ no_twice_push (x ∷ xs) c once absent =
     neither true b h = absurd cc
     neither false b h = (refl, h)
 
--- what a list has
+-- what is in a list
 pub has_first : (c : ℕ) (cs : List ℕ) → has c (c ∷ cs) ≡ true
 has_first c cs = rw (eq-eqb c c refl) refl
 

@@ -1,4 +1,4 @@
--- Of items on their way, those for one connection.
+-- Of outgoing items, those for one connection.
 use Rattle.std.proofs.Common.{◌≡◌, ◌∙◌, sym, ap, refl, subst, true≢false, ℕ, zero, suc, Bool, true, false, List, [], ◌∷◌, ◌++◌, append-nil}
 use Rattle.std.specs.Prelude.{◌==◌, nat_eq, Option, Some, None, if◌then◌else◌}
 use Rattle.std.proofs.lemmas.Bool.{eqb-true}
@@ -24,7 +24,7 @@ abbrev pub only : ℕ → List Put → List Put
 only c [] = []
 only c (p ∷ ps) = if p.conn == c then p ∷ only c ps else only c ps
 
--- none are for a connection that they leave alone
+-- there are none for a connection that they don't concern
 pub only_none : (c : ℕ) (ps : List Put) → Without c ps → only c ps ≡ []
 only_none c [] none = refl
 only_none c (p ∷ ps) none = rw none.0 (only_none c ps none.1)
@@ -84,7 +84,7 @@ below_none d c known e zero = refl
 below_none d c known e (suc n) =
     only_both c (flows_below d known n) (flow_due d n (known n)) ∙ (λ j. below_none d c known e n j ++ due_none d n c (known n) e j)
 
--- items for several connections, each of which is named once
+-- items for several connections, each of which occurs once
 abbrev over : (ℕ → List Put) → List ℕ → List Put
 over f [] = []
 over f (d ∷ ds) = f d ++ over f ds
@@ -134,7 +134,7 @@ only_beats t there now c once came =
     (no_twice_filter (λ k. is_live (there k)) (ups t) once)
     ∙ ap (λ (b : Bool). if b then beat_if (needs_beat (terms t c) (written t c) now) c else []) (has_live there (ups t) c came)
 
--- the ends of others
+-- the closes of others
 pub own_ends : (id : List ℕ) (cs : List ℕ) (t : List Entry) (c : ℕ) → has c cs ≡ false → own_part c (ends id cs t) ≡ own_part c t
 own_ends id [] t c absent = refl
 own_ends id (d ∷ ds) t c absent =

@@ -46,7 +46,7 @@ found_open true (Some u) v e live = absurd (true≢false (ap (λ (x : Option Con
     closed_of (Some x) = x.phase.closed
 found_open false o v e live = e
 
--- where nothing is put out no session stands
+-- if nothing is put out, no session exists
 pub push_some : (is : List Item) (i : Item) → is ++ i ∷ [] ≡ [] → ⊥
 push_some [] i h = absurd cc
 push_some (j ∷ js) i h = absurd cc
@@ -152,7 +152,7 @@ event_turns t e ord taken = record {
   once = once_at t e ord taken;
 }
 
--- those that the event ends stand behind it with their close unwritten
+-- connections that the event ends have their close unwritten after it
 full_is : (o : Option Connection) → is_full o ≡ true → (v : Connection) × (o ≡ Some v) × (v.phase.closed ≡ false)
 full_is None h = absurd cc
 full_is (Some v) h = (v, refl, by_test v.phase.closed (λ e. absurd (true≢false (sym (rw e at h)))) (λ e. e))

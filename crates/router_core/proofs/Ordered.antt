@@ -1,4 +1,4 @@
--- A trace in which each connection is written its items in their turns, and what is put in it.
+-- A trace in which each connection's items are written in a permitted order, and what is put into it.
 use Rattle.std.proofs.Common.{◌≡◌, ◌∙◌, sym, ap, refl, subst, true≢false, ℕ, Bool, true, false, List, [], ◌∷◌, ◌++◌}
 use Rattle.std.specs.Prelude.{◌==◌, nat_eq, Option, Some, None, is_some, option_map, if◌then◌else◌}
 use Rattle.std.proofs.lemmas.Bool.{eqb-true, eq-eqb}
@@ -33,7 +33,7 @@ use Rattle.router_core.proofs.RowOrder.{open_phase, written_of, closing_turns, c
 use Rattle.router_core.proofs.Linked.{linked_more}
 use Rattle.router_core.proofs.Once.{NoTwice, neither, has_first, has_rest}
 
--- what was written, and items behind it
+-- what was written, with more items after it
 abbrev pub written_all : List Item → Written → Written
 written_all [] w = w
 written_all (i ∷ is) w = written_all is (written_behind i w)
@@ -42,9 +42,9 @@ written_all (i ∷ is) w = written_all is (written_behind i w)
 abbrev pub wrote : List Entry → ℕ → Written
 wrote t c = written_all (outs t c) unwritten
 
--- The state of a trace: each connection is written its items in their turns. What was written on a live one is the phase that the
--- trace gives, with sessions on the channels on which the trace has them. A session is begun behind an open alone, and a link
--- stands on a session. Nothing was written on a connection that never came up, and the numbers of those that came up rise.
+-- The state of a trace: each connection's items are written in a permitted order. What was written on a live one agrees with the phase of the
+-- trace, with sessions on the channels on which the trace has them. A session begins only after an open, and a link
+-- is on a session. Nothing was written on a connection that never came up, and the numbers of those that came up rise.
 pub record Ordered (t : List Entry) : Type 0 where
   pub turns : (c : ℕ) → have_turns unwritten (outs t c) ≡ true
   pub phases : (c : ℕ) (v : Connection) → conn t c ≡ Some v → v.phase.closed ≡ false → (wrote t c).phase ≡ v.phase
@@ -94,7 +94,7 @@ begun_more : (i : Item) (p : Conn) (o : ℕ) (b : ℕ → Bool) (asked : Option 
 begun_more (item.Frame sasl own body payload) p o b asked v offer live h = begun_perf body p own o b asked v offer live h
 begun_more _ p o b asked v offer live h = h
 
--- sessions are begun on open connections alone
+-- sessions begin only on open connections
 open_first : (p : Conn) (r : Bool) → (if is_open p then r else false) ≡ true → p.opened ≡ true
 open_first p r h = by_test p.opened (λ e. e) (λ e. absurd (true≢false (sym (rw e at h))))
 
@@ -110,7 +110,7 @@ opened_more : (i : Item) (w : Written) (o : ℕ) → has_turn w i ≡ true → (
 opened_more (item.Frame sasl own body payload) w o turn was h = opened_perf body w own o turn was h
 opened_more _ w o turn was h = was h
 
--- an item in its turn
+-- an item that may be written next
 pub out_turns : (t : List Entry) (c : ℕ) (i : Item) → Ordered t → has_turn (wrote t c) i ≡ true → IsOffered i (offered t c) → has c (ups t) ≡ true → Ordered (Out c i ∷ t)
 out_turns t c i ord turn offer there = record {
   turns = λ k. by_test (c == k)
@@ -147,7 +147,7 @@ out_turns t c i ord turn offer there = record {
     turn_at : (k : ℕ) → (c == k) ≡ true → has_turn (wrote t k) i ≡ true
     turn_at k e = subst (λ (n : ℕ). has_turn (wrote t n) i ≡ true) (eqb-true c k e) turn
 
--- a binding says nothing of what is written
+-- a binding doesn't change what is written
 pub bound_turns : (b : Option Binding) (t : List Entry) → Ordered t → Ordered (with_bound b t)
 bound_turns None t ord = ord
 bound_turns (Some b) t ord = record {
@@ -175,7 +175,7 @@ turn_first : (b r : Bool) → (if b then r else false) ≡ true → (b ≡ true)
 turn_first true r h = (refl, h)
 turn_first false r h = absurd cc
 
--- items in their turns
+-- items that may be written in this order
 pub puts_turns : (is : List Item) (t : List Entry) (c : ℕ) → Ordered t → have_turns (wrote t c) is ≡ true → AreOffered is (offered t c) → has c (ups t) ≡ true → Ordered (puts c is t)
 puts_turns [] t c ord turns offers there = ord
 puts_turns (i ∷ is) t c ord turns offers there =
@@ -184,7 +184,7 @@ puts_turns (i ∷ is) t c ord turns offers there =
     (subst (λ (w : Written). have_turns w is ≡ true) (sym (ap (λ js. written_all js unwritten) (outs_same t c i) ∙ wrote_push (outs t c) unwritten i)) both.1)
     (subst (λ (asked : Option BeginState). AreOffered is asked) (sym (offered_same t c i)) offers.1) there
 
--- a connection that isn't touched
+-- a connection that doesn't change
 pub record Spares (t u : List Entry) (k : ℕ) : Type 0 where
   pub conn : conn u k ≡ conn t k
   pub outs : outs u k ≡ outs t k
@@ -284,7 +284,7 @@ ends_offered id (Some v) x asked = closing_offered id v.phase x asked
 pub some_is : (o : Option Connection) (v : Connection) → o ≡ Some v → is_some o ≡ true
 some_is o v e = ap (λ (x : Option Connection). is_some x) e
 
--- the ends for full outboxes
+-- the closes because of full outboxes
 pub ends_turns : (id : List ℕ) (cs : List ℕ) (t : List Entry) → Ordered t → NoTwice cs → ((c : ℕ) → has c cs ≡ true → Pending t c) → Ordered (ends id cs t)
 ends_turns id [] t ord once pending = ord
 ends_turns id (c ∷ cs) t ord once pending =

@@ -1,4 +1,4 @@
--- What follows an event's rows has its turns.
+-- What follows an event's rows may be written in its order.
 use Rattle.std.proofs.Common.{◌≡◌, sym, subst, true, ℕ, List, [], ◌∷◌}
 use Rattle.amqp_perf.specs.declared.perf.Perf.{Perf}
 use Rattle.amqp_perf.specs.declared.perf.Perf.TheVariants as perf

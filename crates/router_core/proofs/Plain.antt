@@ -1,4 +1,4 @@
--- The phase of a live connection told by a trace without its takes, where no outbox was full when an event came.
+-- The phase of a live connection from a trace without its takes, if no outbox was full when an event came.
 use Rattle.std.proofs.Common.{◌≡◌, ◌∙◌, sym, ap, refl, true≢false, ℕ, Bool, true, false, List, [], ◌∷◌, length, drop}
 use Rattle.std.specs.Prelude.{◌==◌, Option, Some, None, if◌then◌else◌, is_some, filter, option_map, option_and_then}
 use Rattle.amqp_frames.specs.declared.item.Item.{Item}
@@ -12,7 +12,7 @@ use Rattle.router_conns.proofs.Lists.{by_test, filter_none}
 use Rattle.router_conns.proofs.Turns.{due_none, stays}
 use Rattle.router_core.proofs.Untaken.{same_ups}
 
--- a phase that isn't over, and the phase behind an item
+-- a phase that isn't over, and the phase after an item
 abbrev pub stand : Conn → Option Conn
 stand p = if p.closed then None else Some p
 
@@ -23,7 +23,7 @@ stand_behind i p = stand (behind i p)
 abbrev pub standing_of : List ℕ → (ℕ → Option Conn) → List ℕ
 standing_of ks known = filter (λ k. is_some (known k)) ks
 
--- the phase of a live connection; takes and full outboxes have no part in it
+-- the phase of a live connection; takes and full outboxes don't matter
 abbrev pub plain_at : Event → ℕ → ℕ → Option Conn → Option Conn
 plain_at (event.Up d p) c live v = if d.0 == c then stand (fresh live).phase else v
 plain_at (event.Down d) c live v = if d.0 == c then None else v
@@ -53,7 +53,7 @@ pub calm_goes : (ps : List Put) (t : List Entry) → Calm t → Calm (goes ps t)
 calm_goes [] t calm = calm
 calm_goes (p ∷ ps) t calm = calm_goes ps (Out p.conn p.item ∷ t) calm
 
--- then an event ends nobody first
+-- then an event ends no connection first
 pub none_due : (t : List Entry) (e : Event) → ((c : ℕ) → is_full (conn t c) ≡ false) → due t e ≡ []
 none_due t e roomy = filter_none (λ k. is_due e k (conn t k)) (λ k. due_none e k (conn t k) (roomy k)) (ups t)
 
@@ -118,7 +118,7 @@ stood (Configured g ∷ t) calm c = stood t calm c
 pub same_live : (t : List Entry) → Calm t → live t ≡ plain_live (untaken t)
 same_live t calm = λ j. standing_of (same_ups t j) (λ k. stood t calm k j)
 
--- as an event finds them, too
+-- also as an event finds them
 pub stood_found : (t : List Entry) (e : Event) → Calm t → due t e ≡ [] → (c : ℕ) → standing (found t e c) ≡ plain (untaken t) c
 stood_found t e calm none c = ap (λ (ks : List ℕ). standing (unless_due ks (conn t) c)) none ∙ stood t calm c
 

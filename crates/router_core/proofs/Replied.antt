@@ -41,7 +41,7 @@ use Rattle.router_core.proofs.Attached.{taken_fit, refused_fit, part_fit, settle
 use Rattle.router_core.proofs.ItemRows.{item_cases}
 use Rattle.router_core.proofs.Order.{not_before, found_open, heard_turns}
 
--- a connection that an event finds live was live, and the event doesn't end it
+-- a connection that is live as an event finds it was live, and the event doesn't end it
 open_found : (b : Bool) (o : Option Connection) → is_live (if b then option_map ended o else o) ≡ true
     → (v : Connection) × (o ≡ Some v) × (v.phase.closed ≡ false) × (b ≡ false)
 open_found true None h = absurd cc
@@ -74,7 +74,7 @@ pub nothing_stands : (p : Option Conn) → is_some p ≡ false → p ≡ None
 nothing_stands None h = refl
 nothing_stands (Some p) h = absurd cc
 
--- what an event ends stays as the event finds it, for other connections
+-- the closes of connections that an event ends don't change other connections
 pub heard_spares : (id : List ℕ) (t : List Entry) (e : Event) (c : ℕ) → has c (due t e) ≡ false → Spares (did e ∷ t) (heard id t (step_of e)) c
 heard_spares id t e c spared = ends_spares id (due t e) (did e ∷ t) c spared
 
@@ -83,7 +83,7 @@ heard_spares id t e c spared = ends_spares id (due t e) (did e ∷ t) c spared
 begun_at : (p : Conn) (b : ℕ → Bool) (own : ℕ) → p.opened ≡ true → p.closed ≡ false → b own ≡ true → of_session (written_of p b) own ≡ true
 begun_at p b own opened live begun = rw (opened, live, begun) refl
 
--- a binding before them leaves items their turns
+-- a binding before items doesn't change whether they may be written
 fit_bound : (b : Option Binding) (t : List Entry) (ps : List Put) → AllFit t ps → AllFit (with_bound b t) ps
 fit_bound None t ps fits = fits
 fit_bound (Some b) t [] fits = tt
@@ -191,7 +191,7 @@ replied_turns id t event.Start ord told taken = heard_turns id t event.Start ord
 pub answered_turns : (id : List ℕ) (t : List Entry) (e : Event) → Ordered t → Told t → refuses t e ≡ false → Ordered (answered id t (step_of e))
 answered_turns id t e ord told taken = followed_turns (replied id t (step_of e)) (replied_turns id t e ord told taken)
 
--- an open is answered by an open or a close; nothing else tells terms
+-- an open is answered by an open or a close; nothing else sets the terms
 
 perf_opens : (body : Perf) (channel : ℕ) (v : Option Terms)
     → ((p : Conn) (k : Finds) → Opens (perf_reply p k channel body)) ⊎ (terms_in body v ≡ v)
@@ -216,7 +216,7 @@ event_told t (event.Item d i) ord told taken k same v is live some = told.told k
 event_told t (event.Tick ms) ord told taken k same v is live some = told.told k v (found_open (has k (due t (event.Tick ms))) (conn t k) v is live) live (same some)
 event_told t event.Start ord told taken k same v is live some = told.told k v (found_open (has k (due t event.Start)) (conn t k) v is live) live (same some)
 
--- behind an event's rows, but for the item's own connection
+-- after an event's rows, except for the item's own connection
 row_told : (id : List ℕ) (t : List Entry) (e : Event) (k : ℕ) → ToldAt (did e ∷ t) k → ToldAt (replied id t (step_of e)) k
 row_told id t e k was =
     let u : List Entry = heard id t (step_of e)

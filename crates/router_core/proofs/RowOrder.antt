@@ -53,7 +53,7 @@ phase_is p live = ap (λ (b : Bool). record_of p.header p.opened b) live
 abbrev pub written_of : Conn → (ℕ → Bool) → Written
 written_of p b = record { phase = p; begun = b }
 
--- the router's begin stands behind one of the peer
+-- the router's begin answers one of the peer
 abbrev pub perf_is_offered : Perf → Option BeginState → Type 0
 perf_is_offered (perf.Begin x) asked = is_some asked ≡ true
 perf_is_offered _ asked = Unit {0}
@@ -66,7 +66,7 @@ abbrev pub AreOffered : List Item → Option BeginState → Type 0
 AreOffered [] asked = Unit {0}
 AreOffered (i ∷ is) asked = IsOffered i asked × AreOffered is (unless_close i asked)
 
--- an answer fits what was written, and the peer's begin that came last
+-- an answer fits what was written, and the peer's last begin
 abbrev pub AnswerFits : Conn → (ℕ → Bool) → Option BeginState → Answer → Type 0
 AnswerFits p b asked Nothing = Unit {0}
 AnswerFits p b asked Header = p.header ≡ false
@@ -83,7 +83,7 @@ AnswerFits p b asked (LinkFlow own told at) = (p.opened ≡ true) × (b own ≡ 
 AnswerFits p b asked (Taken own handle) = (p.opened ≡ true) × (b own ≡ true)
 AnswerFits p b asked (Settle own) = (p.opened ≡ true) × (b own ≡ true)
 
--- the items of an answer that fits have their turns
+-- the items of an answer that fits may be written in their order
 pub closing_turns : (id : List ℕ) (h o : Bool) (b : ℕ → Bool) (x : Condition) → have_turns (written_of (open_phase h o) b) (closing id (open_phase h o) x) ≡ true
 closing_turns id h true b x = refl
 closing_turns id h false b x = refl
@@ -131,7 +131,7 @@ said_offered id p b asked (LinkFlow own told at) fits = (tt, tt)
 said_offered id p b asked (Taken own handle) fits = tt
 said_offered id p b asked (Settle own) fits = tt
 
--- what stands on a channel of the peer, and the free channel, fit what was written
+-- what is on a channel of the peer, and the free channel, fit what was written
 abbrev pub PlaceFits : Place → (ℕ → Bool) → Type 0
 PlaceFits (on own h) b = b own ≡ true
 PlaceFits _ b = Unit {0}
@@ -281,7 +281,7 @@ session_transfer_fits h b asked own s claimed at x begun =
     by detaching = tt
     by (on_link k l) = carried k l.happened
 
--- the same on what stands on the frame's channel
+-- the same by what is on the frame's channel
 attach_fits : (h : Bool) (b : ℕ → Bool) (asked : Option BeginState) (at : Place) (links : Links) (free : ℕ → Option ℕ) (multicast : List ℕ → Bool) (a : AnAttach) → PlaceFits at b
     → SessionFits h b asked (attach_reply at links free multicast a)
 attach_fits h b asked nowhere links free multicast a place = tt
@@ -313,7 +313,7 @@ flow_fits h b asked (on own s) links f place = by f.handle
     by None = wanted f.echo
     by (Some handle) = link_flow_fits h b asked own s (links own handle) f place
 
--- in its turn or not
+-- on an open connection or not
 turn_fits : (h o : Bool) (b : ℕ → Bool) (asked : Option BeginState) (k : Finds) (channel : ℕ) (body : Perf)
     → AnswerFits (open_phase h true) b asked (in_turn k channel body)
     → AnswerFits (open_phase h o) b asked (turn_by k channel body (after_frame channel (open_phase h o)))

@@ -25,7 +25,7 @@ turns_more : (xs : List Taking) (x : Taking) (t : List Entry) → InTurn xs t �
 turns_more [] x t turns next = (next, turns)
 turns_more (y ∷ ys) x t turns next = (turns.0, turns_more ys x (took_one y t) turns.1 next)
 
--- one take more
+-- one more take
 pub one_more : (core : Core) (place : ℕ) (t : List Entry) (before mid after : List Sent) (xs : List Taking) (x : Taking)
     → InTurn xs t → IsNext (took_all xs t) x
     → Fits core (took_one x (took_all xs t)) → mid ≡ before ++ sent place xs t
@@ -49,7 +49,7 @@ all_run id t es first (x ∷ rest) xs m is none run = absurd (suc_zero (length r
     suc_zero : (n : ℕ) → suc n ≡ 0 → ⊥
     suc_zero n h = omega arith
 
--- one event more
+-- one more event
 pub run_more : (id : List ℕ) (place at : ℕ) (t : List Entry) (first : List Event) (xs : List Sent) (m : List Entry) (e : Event) (ys : List Sent) (u : List Entry)
     → at ≡ place + length first → Run id place t first xs m → Steps id at m e ys u → Run id place t (first ++ e ∷ []) (xs ++ ys) u
 run_more id place at t [] xs m e ys u is run st = (
@@ -82,7 +82,7 @@ past_more id other handled t m u es first rest behind e xs ys zs same next taken
       (run_more id 0 handled t first xs m e ys u (count ∙ omega arith) run (subst (λ (i : List ℕ). Steps i handled m e ys u) same steps)),
 )
 
--- memory was refused for the items of a connection of which something can be taken
+-- memory was refused for the items of a ready connection
 pub still_waits : (old new : Core) (c : ℕ) → ((t : List Entry) → Fits old t → IsLeast (λ c. is_ready (known t c)) (Some c))
     → (new ≡ old) ⊎ (is_failed new ≡ true) → ((t : List Entry) → Fits new t → Waits t) ⊎ (is_failed new ≡ true)
 still_waits old new c least (inl same) = inl (λ t f. (c, (least t (subst (λ (x : Core). Fits x t) same f)).0))

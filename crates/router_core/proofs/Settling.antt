@@ -1,4 +1,4 @@
--- Behind the flows that tell windows anew no window is narrow, so that none is told again.
+-- After the flows that restore narrow windows no window is narrow, so none of these flows is due again.
 use Rattle.std.proofs.Common.{◌≡◌, sym, refl, subst, ℕ, zero, suc, true, ◌<◌, ◌≤◌, List, [], ◌∷◌, ◌++◌, arith}
 use Rattle.std.specs.Prelude.{◌==◌, nat_lt, Option, Some, None, option_map}
 use Rattle.std.proofs.lemmas.Bool.{eq-eqb, ltb-true, ltb-false}
@@ -9,7 +9,7 @@ use Rattle.router_trace.specs.Sessions.{session, flow_state}
 use Rattle.router_sessions.specs.Windows.{is_narrow, flow_due, flows_below}
 use Rattle.router_conns.proofs.Lists.{by_test}
 
--- these are flows that tell windows anew
+-- these are flows that restore windows
 abbrev AllFlows : List Put → Type 0
 AllFlows [] = Unit {0}
 AllFlows (p ∷ ps) = ((own : ℕ) × (h : Session) × (p.item ≡ flow_item own (told_of h))) × AllFlows ps
@@ -18,7 +18,7 @@ due_flows : (c o : ℕ) (v : Option Session) → AllFlows (flow_due c o v)
 due_flows c o None = tt
 due_flows c o (Some h) = by_test (is_narrow h) (λ e. rw e ((o, h, refl), tt)) (λ e. rw e tt)
 
--- such a flow leaves no narrow window where none was, nor on its own channel
+-- such a flow makes no window narrow, and the window of its own channel isn't narrow after it
 
 abbrev Wide : ℕ → ℕ → Option Session → Type 0
 Wide c o v = flow_due c o v ≡ []
@@ -91,6 +91,6 @@ quiet_below c known (suc n) wide = λ j. quiet_below c known n (λ o h. wide o (
     last : n < suc n
     last = omega arith
 
--- behind them none is due
+-- after them none is due
 pub settled : (t : List Entry) (c : ℕ) → flows_below c (session (goes (flows_below c (session t c) 15) t) c) 15 ≡ []
 settled t c = quiet_below c (session (goes (flows_below c (session t c) 15) t) c) 15 (below_wide t c 15)

@@ -1,4 +1,4 @@
--- In every trace of the router a delivery starts where its link has credit.
+-- In every trace of the router a delivery starts only if its link has credit.
 use Rattle.std.proofs.Common.{◌≡◌, sym, refl, subst, ℕ, zero, suc, ◌≤◌, Bool, true, false, List, [], ◌∷◌, arith}
 use Rattle.std.specs.Prelude.{Option, Some, None, nat_lt}
 use Rattle.amqp_perf.specs.declared.perf.Perf.{Perf}
@@ -25,7 +25,7 @@ use Rattle.router_core.proofs.Due.{Takes, AllSent, sends_sent}
 use Rattle.router_core.proofs.Following.{Steps, passed_on, passed_keeps}
 use Rattle.router_core.proofs.Kept.{is_transfer_in, is_transfer, NonePut, none_to, none_closing_of, none_row, none_tells, none_drains, none_granted, none_window}
 
--- what is no transfer starts nothing
+-- an item that isn't a transfer starts nothing
 
 bare_perf : (body : Perf) (own : ℕ) (known : ℕ → ℕ → Option Link) (sasl : Bool) (payload : List ℕ) → is_transfer_in body ≡ false
     → within_credit (item.Frame sasl own body payload) known
@@ -40,7 +40,7 @@ bare_goes : (ps : List Put) (t : List Entry) → NonePut ps → WithinCredit t �
 bare_goes [] t none within = within
 bare_goes (p ∷ ps) t none within = bare_goes ps (Out p.conn p.item ∷ t) none.1 (bare_item p.item (link t p.conn) none.0, within)
 
--- what is sent starts where there is credit
+-- a delivery that is sent starts only if there is credit
 
 left_is : (w : Happened) → has_credit w ≡ true → credit_left w
 left_is (sends list) h = by (credit list) h
@@ -82,7 +82,7 @@ passed_within = record {
   granting = λ t within. bare_goes (grants_due t) t (none_granted t) within;
 }
 
--- an event with all that it has put
+-- an event with all that it put out
 
 ends_within : (id : List ℕ) (cs : List ℕ) (t : List Entry) → WithinCredit t → WithinCredit (ends id cs t)
 ends_within id [] t within = within

@@ -48,7 +48,7 @@ plain_replied id x s = goes (plain_row id x (Did s ∷ x) s.event) (with_bound (
 abbrev pub plain_answered : List ℕ → List Entry → Step → List Entry
 plain_answered id x s = plain_followed (plain_replied id x s)
 
--- what events alone make of a trace
+-- the trace that events alone make
 abbrev plain_all : List ℕ → List Step → List Entry → List Entry
 plain_all id [] x = x
 plain_all id (s ∷ ss) x = plain_all id ss (plain_answered id x s)
@@ -85,7 +85,7 @@ calm_bound : (b : Option Binding) (t : List Entry) → Calm t → Calm (with_bou
 calm_bound None t calm = calm
 calm_bound (Some b) t calm = calm
 
--- an event with all that it has put
+-- an event with all that it put out
 pub same_answered : (id : List ℕ) (t : List Entry) (s : Step) → Calm t → ((c : ℕ) → is_full (conn t c) ≡ false)
     → Calm (answered id t s) × (untaken (answered id t s) ≡ plain_answered id (untaken t) s)
 same_answered id t s calm roomy =

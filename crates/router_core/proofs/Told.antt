@@ -1,4 +1,4 @@
--- In a trace of the router a live connection whose peer's open came has the router's open, once the event is answered.
+-- In a trace of the router a live connection whose peer's open was received has the router's open, once the event is answered.
 use Rattle.std.proofs.Common.{◌≡◌, ◌∙◌, sym, ap, refl, subst, true≢false, ℕ, Bool, true, false, List, [], ◌∷◌}
 use Rattle.std.specs.Prelude.{◌==◌, Option, Some, None, is_some, if◌then◌else◌}
 use Rattle.std.proofs.lemmas.Bool.{eq-eqb}
@@ -30,7 +30,7 @@ use Rattle.router_core.proofs.Ordered.{with_inv}
 abbrev pub ToldAt : List Entry → ℕ → Type 0
 ToldAt t c = (v : Connection) → conn t c ≡ Some v → v.phase.closed ≡ false → is_some (terms t c) ≡ true → v.phase.opened ≡ true
 
--- at all of them; of one that never came up nothing is known
+-- at all of them; nothing is known of one that never came up
 pub record Told (t : List Entry) : Type 0 where
   pub told : (c : ℕ) → ToldAt t c
   pub strange : (c : ℕ) → has c (ups t) ≡ false → terms t c ≡ None
@@ -81,7 +81,7 @@ pub bound_told_at : (b : Option Binding) (t : List Entry) (k : ℕ) → ToldAt t
 bound_told_at None t k was = was
 bound_told_at (Some b) t k was = was
 
--- of one that never came up nothing is known
+-- nothing is known of one that never came up
 out_strange : (t : List Entry) (c k : ℕ) (i : Item) → terms t k ≡ None → terms (Out c i ∷ t) k ≡ None
 out_strange t c k i was = by_test (c == k) (λ e. rw e (no_terms i (terms t k) was)) (λ e. rw e was)
 
@@ -99,7 +99,7 @@ pub bound_strange : (b : Option Binding) (t : List Entry) (k : ℕ) → terms t 
 bound_strange None t k was = was
 bound_strange (Some b) t k was = was
 
--- behind the router's open the connection is open, and behind a close it isn't live
+-- after the router's open the connection is open, and after a close it isn't live
 open_told : (id : List ℕ) (t : List Entry) (c : ℕ) → ToldAt (Out c (open_item id) ∷ t) c
 open_told id t c w is live some =
     let here : (c == c) ≡ true = eq-eqb c c refl

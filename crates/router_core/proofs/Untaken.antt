@@ -1,4 +1,4 @@
--- What takes leave as it is: a trace without its takes says the same of time, of sessions, and of what was put out.
+-- What takes don't change: a trace without its takes agrees on time, on sessions, and on what was put out.
 use Rattle.std.proofs.Common.{◌≡◌, ap, refl, ℕ, List, [], ◌∷◌, ◌++◌, ◌==◌}
 use Rattle.std.specs.Prelude.{Option, Some, if◌then◌else◌}
 use Rattle.std.specs.List.{find}
@@ -14,12 +14,12 @@ use Rattle.router_rows.specs.Finding.{free_for}
 use Rattle.router_core.specs.Moves.{outs}
 use Rattle.router_core.specs.Laws.{untaken}
 
--- items on their way out are no takes
+-- outgoing items are not takes
 pub untaken_goes : (ps : List Put) (t : List Entry) → untaken (goes ps t) ≡ goes ps (untaken t)
 untaken_goes [] t = refl
 untaken_goes (p ∷ ps) t = untaken_goes ps (Out p.conn p.item ∷ t)
 
--- the views of a trace that hear of no take
+-- the views of a trace that don't depend on takes
 
 pub same_ups : (t : List Entry) → ups t ≡ ups (untaken t)
 same_ups [] = refl
@@ -93,7 +93,7 @@ same_session (Took d n ∷ t) c o = same_session t c o
 same_session (Bound b ∷ t) c o = same_session t c o
 same_session (Configured g ∷ t) c o = same_session t c o
 
--- what rows ask of them
+-- what rows need of them
 
 pub same_place : (t : List Entry) (c p : ℕ) → place t c p ≡ place (untaken t) c p
 same_place t c p = λ j. place_by (same_theirs t c p j) (λ o. same_session t c o j)

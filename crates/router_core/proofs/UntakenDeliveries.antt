@@ -1,4 +1,4 @@
--- What takes leave as it is: a trace without its takes says the same of deliveries, and so do the sends and drains that are due.
+-- What takes don't change: a trace without its takes agrees on deliveries, and so on the sends and drains that are due.
 use Rattle.std.proofs.Common.{◌≡◌, ◌∙◌, ap, refl, ℕ, ◌+◌, not, ◌&&◌, ◌||◌, List, [], ◌∷◌, ◌==◌}
 use Rattle.std.specs.Prelude.{Bool, Option, Some, None, is_none, is_some, option_and_then, if◌then◌else◌}
 use Rattle.router_trace.specs.declared.binding.Origin.{Origin}
@@ -74,7 +74,7 @@ same_numbered (Took d k ∷ t) n = same_numbered t n
 same_numbered (Bound b ∷ t) n = same_numbered t n
 same_numbered (Configured g ∷ t) n = same_numbered t n
 
--- producers told
+-- outcomes to producers
 
 same_still : (t : List Entry) (origin : Option Origin) → is_still_attached t origin ≡ is_still_attached (untaken t) origin
 same_still t None = refl
@@ -157,7 +157,7 @@ same_sends t =
     places : (n : ℕ) → place_to_go t n (delivery t n) ≡ place_to_go (untaken t) n (delivery (untaken t) n)
     places n = ap (place_to_go t n) (same_delivery t n) ∙ same_place_to_go t n (delivery (untaken t) n)
 
--- drains told
+-- answers to drains
 
 same_place_drained : (t : List Entry) (n : ℕ) (a : Option Attachment) → place_drained t n a ≡ place_drained (untaken t) n a
 same_place_drained t n None = refl

@@ -1,4 +1,4 @@
--- What takes leave as it is: a trace without its takes grants the same, and chooses the same consumers.
+-- What takes don't change: a trace without its takes has the same grants, and chooses the same consumers.
 use Rattle.std.proofs.Common.{◌≡◌, ◌∙◌, refl, ℕ, ◌+◌, ◌==◌, List, [], ◌∷◌, ◌++◌}
 use Rattle.std.specs.Prelude.{Option, Some, None, if◌then◌else◌}
 use Rattle.amqp_link.specs.Credit as credit
@@ -61,7 +61,7 @@ same_routing (Configured g ∷ t) = refl
 pub same_distribution : (t : List Entry) (address : List ℕ) → distribution t address ≡ distribution (untaken t) address
 same_distribution t address = λ j. distribution_of (same_routing t j) address
 
--- pools, and who is chosen
+-- pools, and the consumers chosen
 
 same_last : (t : List Entry) (address : List ℕ) → last_chosen t address ≡ last_chosen (untaken t) address
 same_last [] address = refl
@@ -109,7 +109,7 @@ same_granted t =
     (λ j. grants_of_address t (lowest_below (same_attachments t j + 1) (λ n. same_wants t n j)))
     ∙ same_of_address t (lowest_below (attachments (untaken t) + 1) (λ n. wants (untaken t) (figure (untaken t) n)))
 
--- the flows that tell it
+-- the flows that carry the grants
 
 same_flows : (t : List Entry) (gs : List LinkGrant) → grant_flows t gs ≡ grant_flows (untaken t) gs
 same_flows t [] = refl

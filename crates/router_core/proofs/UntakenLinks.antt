@@ -1,4 +1,4 @@
--- What takes leave as it is: a trace without its takes says the same of links and of peers.
+-- What takes don't change: a trace without its takes agrees on links and on peers.
 use Rattle.std.proofs.Common.{◌≡◌, ◌∙◌, ap, refl, ℕ, ◌+◌, List, [], ◌∷◌, ◌==◌}
 use Rattle.std.specs.Prelude.{Option, Some, None, option_map, unwrap_or, if◌then◌else◌}
 use Rattle.amqp_perf.specs.declared.perf.Attach.{Attach as AnAttach}
@@ -104,7 +104,7 @@ same_link (Configured g ∷ t) c o h = same_link t c o h
 pub same_link_place : (t : List Entry) (c o p : ℕ) → link_place t c o p ≡ link_place (untaken t) c o p
 same_link_place t c o p = λ j. link_place_by (same_handle t c o p j) (λ h. same_link t c o h j)
 
--- the attachment of a key that came last, and the link that has the key
+-- the last attachment with a key, and the link that has the key
 
 same_last : (u : List Entry) (e : ℕ) (b : AnAttach) (t : List Entry) → last_of_key t (key_at u e b) ≡ last_of_key (untaken t) (key_at u e b)
 same_last u e b [] = refl

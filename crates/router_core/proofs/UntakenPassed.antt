@@ -1,4 +1,4 @@
--- What takes leave as it is: what follows an event's rows is the same of a trace without its takes.
+-- What takes don't change: what follows an event's rows is the same in a trace without its takes.
 use Rattle.std.proofs.Common.{◌≡◌, ◌∙◌, ap, refl, List}
 use Rattle.std.specs.Prelude.{Option, Some, None}
 use Rattle.router_trace.specs.declared.binding.Binding.{Binding}

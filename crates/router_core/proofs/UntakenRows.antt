@@ -1,4 +1,4 @@
--- What takes leave as it is: without a trace's takes an item's row puts the same, and the same message is bound.
+-- What takes don't change: in a trace without its takes an item's row puts the same, and the same message is bound.
 use Rattle.std.proofs.Common.{◌≡◌, ◌∙◌, ap, refl, ℕ, ◌^◌, true, List, [], ◌∷◌, ◌++◌}
 use Rattle.std.specs.Prelude.{Option, Some, None, is_some, nat_lt, filter, option_map, option_and_then, unwrap_or, if◌then◌else◌}
 use Rattle.amqp_perf.specs.declared.perf.Attach.{Attach as AnAttach}
@@ -56,7 +56,7 @@ same_taken t c own a =
     same_taken_behind t c own a (stolen_by (holder t (key_at t c (answer_to a 0))))
     ∙ ap (λ (x : Option Attachment). taken_behind (untaken t) c own a (stolen_by x)) (same_holder t c (answer_to a 0))
 
--- a delivery that came whole
+-- a whole delivery
 
 same_consumer : (t : List Entry) (l : Option Link) → consumer_of t l ≡ consumer_of (untaken t) l
 same_consumer t None = refl

@@ -65,7 +65,7 @@ is_sasl id major minor revision e =
     let tests = sasl_tests (major == 1 && minor == 0 && revision == 0) (id == 0) (id == 3) e
     in same_header id major minor revision 3 tests.1 tests.0
 
--- behind the outcome
+-- after the outcome
 
 abbrev at_header : Settings → Listener → List ℕ → Door
 at_header config listener name = record (door_of config listener) { stage = stage.LoggedIn name }
@@ -89,7 +89,7 @@ passes_last config listener (item.Frame type channel body payload ∷ is) name u
 passes_last config listener (item.Beat channel ∷ is) name user e = absurd cc
 passes_last config listener (item.Bad fault ∷ is) name user e = absurd cc
 
--- where the init is awaited
+-- while the init is awaited
 
 abbrev at_init : Settings → Listener → Door
 at_init config listener = record (door_of config listener) { stage = stage.Init }

@@ -34,14 +34,14 @@ use Rattle.router_core.specs.declared.door.Stage.{Stage}
 use Rattle.router_core.specs.declared.door.Stage.TheVariants as stage
 use Rattle.router_core.specs.declared.door.Answered.{Answered}
 
--- what the door makes of an item: these items go out and the next one is awaited; the connection is up, with this user,
--- and the item goes on to the router; or these items go out and the connection is over
+-- the door's answer to an item: these items are sent and the next one is awaited; the connection is up, with this user,
+-- and the item goes on to the router; or these items are sent and the connection is over
 pub data Verdict : Type 0 where
   says : List Item → Verdict
   passes : List ℕ → Verdict
   ends : List Item → Verdict
 
--- an item's verdict, and how far the connection is behind it
+-- an item's verdict, and the connection's stage after it
 pub record Turn : Type 0 where
   pub verdict : Verdict
   pub stage : Stage
@@ -67,7 +67,7 @@ sasl_frame body = item.Frame true 0 body []
 abbrev pub offer : List Mechanism → Item
 offer mechanisms = sasl_frame (perf.SaslMechanisms (record { mechanisms = map name_of mechanisms }))
 
--- how a login ended
+-- the outcome of a login
 abbrev pub outcome : SaslCode → Item
 outcome c = sasl_frame (perf.SaslOutcome (record { code = number_of c; additional_data = None }))
 
@@ -76,8 +76,8 @@ abbrev pub protocol_of : ℕ → ℕ → ℕ → ℕ → Protocol
 protocol_of id major minor revision =
     if major == 1 && minor == 0 && revision == 0 then (if id == 0 then Amqp else if id == 3 then Sasl else Other) else Other
 
--- the first header, where a peer has to pass SASL or not: that of SASL is answered by the same and the mechanisms; any other
--- ends the connection where it has to, and is answered by what is asked for; else that of AMQP passes
+-- the first header, whether a peer has to pass SASL or not: a SASL header is answered by the same and the mechanisms; any other
+-- ends the connection if the peer has to, and is answered by the header that is required; else the AMQP header passes
 abbrev pub refused_by : Bool → Item
 refused_by authenticate = if authenticate then sasl_header else header_item
 
@@ -86,18 +86,18 @@ first d Sasl = goes_on (sasl_header ∷ offer d.server.mechanisms ∷ []) stage.
 first d Amqp = if d.authenticate_peer then over (sasl_header ∷ []) else lets_in (codes "anonymous")
 first d Other = over (refused_by d.authenticate_peer ∷ [])
 
--- the answer to a SASL body: the outcome goes out, and only behind code 0 is there more to come
+-- the answer to a SASL body: the outcome is sent, and only after code 0 does the connection go on
 abbrev pub told : SaslAnswer → Turn
 told (sasl.Outcome code.Ok (Some user)) = goes_on (outcome code.Ok ∷ []) (stage.LoggedIn user)
 told (sasl.Outcome c _) = over (outcome c ∷ [])
 told sasl.Refuse = over []
 
--- the header behind an outcome of code 0
+-- the header after an outcome of code 0
 abbrev pub last : List ℕ → Protocol → Turn
 last user Amqp = lets_in user
 last user _ = over []
 
--- an item, by how far the connection is
+-- an item, by the connection's stage
 abbrev pub turn_at : Door → Stage → Item → Turn
 turn_at d stage.Header (item.Header id major minor revision) = first d (protocol_of id major minor revision)
 turn_at d stage.Init (item.Frame true channel body payload) = told (answer_to d.server body)
@@ -107,7 +107,7 @@ turn_at d _ _ = over []
 abbrev pub turn : Door → Item → Turn
 turn d i = turn_at d d.stage i
 
--- the verdict, and the door behind it
+-- the verdict, and the door after it
 abbrev pub door : Door → Item → Verdict
 door d i = (turn d i).verdict
 

@@ -7,23 +7,23 @@ use Rattle.router_trace.specs.Trace.{Trace}
 use Rattle.router_trace.specs.Connection.{Connection, Batched}
 use Rattle.router_state.specs.Tables.{TablesFit}
 
--- the router's tables are those of the trace
+-- the router's tables agree with the trace
 pub record Fits (core : Core) (t : Trace) : Type 0 where
   pub tables : TablesFit core.state t
 
--- it answered a fault of the disk or of memory, and answers nothing else
+-- it failed with a fault of the disk or of memory, and answers nothing else
 abbrev pub is_failed : Core → Bool
 is_failed core = core.failed
 
--- its id
+-- its container-id
 abbrev pub id_of : Core → List ℕ
 id_of core = core.id
 
--- how many events it handled, and how many batches it gave
+-- how many events it handled, and how many batches it returned
 abbrev pub counts_of : Core → Counts
 counts_of core = core.counts
 
--- a batch of a connection that is known: its outbox's first items, up to so many
+-- a batch of a known connection: at most this many first items of its outbox
 abbrev pub IsBatchOf : Option Connection → ℕ → Batch → Type 0
 IsBatchOf None most b = ⊥
 IsBatchOf (Some v) most b = Batched v most b.first b.items.items b.ended

@@ -1,4 +1,4 @@
--- What holds of every trace of the router.
+-- Laws of every trace of the router.
 use Rattle.std.specs.Prelude.{◌≡◌, ◌≤◌, ℕ, Bool, true, false, ◌==◌, if◌then◌else◌, List, [], ◌∷◌, filter, Option, Some, None}
 use Rattle.std.specs.List.{list_any}
 use Rattle.amqp_perf.specs.declared.perf.Perf.{Perf}
@@ -22,7 +22,7 @@ use Rattle.router_core.specs.Runs.{Run, took_one}
 use Rattle.router_core.specs.Moves.{Move, handles, takes, Goes, IsTrace, ins, outs}
 use Rattle.router_trace.specs.Frames.{header_item}
 
--- its first item is a header, of whatever version
+-- the first item is a header, of any version
 abbrev pub is_header : Item → Bool
 is_header (item.Header id major minor revision) = true
 is_header _ = false
@@ -31,31 +31,31 @@ abbrev pub begins_with_header : List Item → Bool
 begins_with_header [] = false
 begins_with_header (i ∷ is) = is_header i
 
--- the router's header stands first
+-- the router's header comes first
 abbrev pub HeaderFirst : List Item → Type 0
 HeaderFirst [] = ⊥
 HeaderFirst (i ∷ is) = i ≡ header_item
 
--- nothing stands before the router's header
+-- nothing comes before the router's header
 abbrev pub NothingBeforeHeader : List Item → Type 0
 NothingBeforeHeader [] = Unit {0}
 NothingBeforeHeader (i ∷ is) = i ≡ header_item
 
--- the order of what is written on each connection
+-- the order in which items are written on each connection
 pub record KeepsOrder (t : Trace) : Type 0 where
-  -- at most one header, one open and one close, a close never without an open before it, and nothing behind the close; heartbeats
+  -- at most one header, one open and one close, a close never without an open before it, and nothing after the close; heartbeats
   -- and frames of sessions between open and close; on each channel begin and end in turn, and frames only between them
   pub turns : (c : ℕ) → have_turns unwritten (outs t c) ≡ true
-  -- where a header comes first, the router's header is written, and first
+  -- if a header is received first, the router's header is written, and first
   pub header : (c : ℕ) → begins_with_header (ins t c) ≡ true → HeaderFirst (outs t c)
-  -- where nothing comes, nothing is written
+  -- if nothing is received, nothing is written
   pub silent : (c : ℕ) → ins t c ≡ [] → outs t c ≡ []
 
 -- every trace of the router keeps the order
 abbrev pub TracesKeepOrder : Type 0
 TracesKeepOrder = (id : List ℕ) (g : Routing) (u : Trace) → IsTrace id g u → KeepsOrder u
 
--- so does every list of events, the outboxes emptied behind each
+-- so does every list of events, the outboxes emptied after each
 abbrev pub RunsKeepOrder : Type 0
 RunsKeepOrder = (id : List ℕ) (g : Routing) (events : List Event) (xs : List Sent) (u : Trace) → Run id 0 (configured g) events xs u → KeepsOrder u
 
@@ -80,14 +80,14 @@ WindowKept (Took c n ∷ t) = WindowKept t
 WindowKept (Bound b ∷ t) = WindowKept t
 WindowKept (Configured g ∷ t) = WindowKept t
 
--- so it is in every trace of the router, and in every list of events
+-- this holds in every trace of the router, and for every list of events
 abbrev pub TracesKeepWindows : Type 0
 TracesKeepWindows = (id : List ℕ) (g : Routing) (u : Trace) → IsTrace id g u → WindowKept u
 
 abbrev pub RunsKeepWindows : Type 0
 RunsKeepWindows = (id : List ℕ) (g : Routing) (events : List Event) (xs : List Sent) (u : Trace) → Run id 0 (configured g) events xs u → WindowKept u
 
--- Before each transfer put out that starts a delivery the link's credit left is at least 1; each is put out on a link that stands (2.6.7).
+-- Before each transfer put out that starts a delivery the link's remaining credit is at least 1; each is put out on an attached link (2.6.7).
 abbrev pub credit_left : Happened → Type 0
 credit_left (sends list) = 1 ≤ credit list
 credit_left (receives list) = ⊥
@@ -116,7 +116,7 @@ WithinCredit (Took c n ∷ t) = WithinCredit t
 WithinCredit (Bound b ∷ t) = WithinCredit t
 WithinCredit (Configured g ∷ t) = WithinCredit t
 
--- so it is in every trace of the router, and in every list of events
+-- this holds in every trace of the router, and for every list of events
 abbrev pub TracesStartWithinCredit : Type 0
 TracesStartWithinCredit = (id : List ℕ) (g : Routing) (u : Trace) → IsTrace id g u → WithinCredit u
 
@@ -143,14 +143,14 @@ NeverFull id [] t = Unit {0}
 NeverFull id (handles s ∷ ms) t = ((c : ℕ) → is_full (conn t c) ≡ false) × NeverFull id ms (answered id t s)
 NeverFull id (takes x ∷ ms) t = NeverFull id ms (took_one x t)
 
--- Takes make no difference: where the same events are handled in the same order and no outbox is ever full, the same is put out,
+-- Takes make no difference: if the same events are handled in the same order and no outbox is ever full, the same is put out,
 -- whenever items are taken and however many
 abbrev pub TakesMakeNoDifference : Type 0
 TakesMakeNoDifference = (id : List ℕ) (g : Routing) (ms ns : List Move) (t u : Trace) → Goes id ms (configured g) t → Goes id ns (configured g) u
     → NeverFull id ms (configured g) → NeverFull id ns (configured g)
     → events_of ms ≡ events_of ns → (untaken t ≡ untaken u) × ((c : ℕ) → outs t c ≡ outs u c)
 
--- An event is about a connection: it comes up, it is lost, or an item of it comes. A tick is about all of them.
+-- An event is about a connection if it comes up, is lost, or an item of it is received. A tick is about all connections.
 abbrev pub is_about : ℕ → Event → Bool
 is_about c (event.Up d p) = d.0 == c
 is_about c (event.Item d i) = d.0 == c
@@ -161,7 +161,7 @@ is_about c event.Start = false
 abbrev pub own_events : ℕ → List Step → List Step
 own_events c ss = filter (λ s. is_about c s.event) ss
 
--- what a trace has of a connection: the configuration, the events that are about it and the items put out for it, in order
+-- the part of a trace that is about a connection: the configuration, the events about it and the items put out for it, in order
 abbrev pub own_part : ℕ → Trace → Trace
 own_part c [] = []
 own_part c (Did s ∷ t) = if is_about c s.event then Did s ∷ own_part c t else own_part c t
@@ -174,14 +174,14 @@ abbrev pub comes_up : ℕ → Event → Bool
 comes_up c (event.Up d p) = d.0 == c
 comes_up c _ = false
 
--- its own outbox is not full when an event comes, and it is live once it comes up: it isn't over at once for many others
+-- its own outbox is not full when an event comes, and it is live once it comes up: it isn't over at once because of the number of others
 abbrev pub Undisturbed : List ℕ → ℕ → List Move → Trace → Type 0
 Undisturbed id c [] t = Unit {0}
 Undisturbed id c (handles s ∷ ms) t =
     (is_full (conn t c) ≡ false) × (comes_up c s.event ≡ true → is_live (conn (Did s ∷ t) c) ≡ true) × Undisturbed id c ms (answered id t s)
 Undisturbed id c (takes x ∷ ms) t = Undisturbed id c ms (took_one x t)
 
--- no attach comes on the connection
+-- no attach is received on the connection
 abbrev pub is_attach_in : Perf → Bool
 is_attach_in (perf.Attach a) = true
 is_attach_in _ = false
@@ -197,8 +197,8 @@ brings_attach _ = false
 abbrev pub NeverAttaches : ℕ → List Step → Type 0
 NeverAttaches c ss = list_any (λ s. brings_attach s.event) (own_events c ss) ≡ false
 
--- Each connection is answered alone: where the same events are about it, in the same order, and no attach comes on it, the same is
--- put out for it, and behind the same of these events, whatever comes on other connections, and whatever becomes of them. (A link
+-- Each connection is answered alone: if the same events are about it, in the same order, and no attach is received on it, the same is
+-- put out for it, and after the same of these events, whatever is received on other connections, and whatever happens to them. (A link
 -- can be stolen by another connection.)
 abbrev pub AnsweredAlone : Type 0
 AnsweredAlone = (id : List ℕ) (g : Routing) (c : ℕ) (ms ns : List Move) (t u : Trace) → Goes id ms (configured g) t → Goes id ns (configured g) u

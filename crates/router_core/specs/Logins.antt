@@ -11,7 +11,7 @@ use Rattle.router_trace.specs.Frames.{header_item}
 use Rattle.router_core.specs.declared.door.Door.{Door}
 use Rattle.router_core.specs.Door.{Verdict, says, passes, ends, door, door_behind, door_of, logins_of, sasl_header}
 
--- the user as whom a connection passes with these items, if it does
+-- the user that a connection passes as with these items, if it passes
 abbrev pub user_by : Verdict → Option (List ℕ) → Option (List ℕ)
 user_by (says items) later = later
 user_by (passes user) later = Some user
@@ -21,14 +21,14 @@ abbrev pub user_past : Door → List Item → Option (List ℕ)
 user_past d [] = None
 user_past d (i ∷ is) = user_by (door d i) (user_past (door_behind d i) is)
 
--- it comes with the header of AMQP where nobody has to log in, and is `anonymous`
+-- it begins with the AMQP header at a listener that needs no login, and is `anonymous`
 pub record ComesPlain (listener : Listener) (items : List Item) (user : List ℕ) : Type 0 where
   pub rest : List Item
   pub came : items ≡ header_item ∷ rest
   pub free : listener.authenticate_peer ≡ false
   pub named : user ≡ codes "anonymous"
 
--- it comes with the header of SASL, an init that proves it to be this user, and the header of AMQP
+-- it begins with the SASL header, then an init that proves it to be this user, then the AMQP header
 pub record LoggedIn (server : Logins) (items : List Item) (user : List ℕ) : Type 0 where
   pub init : SaslInit
   pub channel : ℕ
@@ -37,11 +37,11 @@ pub record LoggedIn (server : Logins) (items : List Item) (user : List ℕ) : Ty
   pub came : items ≡ sasl_header ∷ item.Frame true channel (perf.SaslInit init) payload ∷ header_item ∷ rest
   pub proved : LogsIn server init user
 
--- who may pass at a listener
+-- the users that may pass at a listener
 abbrev pub MayPass : Settings → Listener → List Item → List ℕ → Type 0
 MayPass config listener items user = ComesPlain listener items user ⊎ LoggedIn (logins_of config listener) items user
 
--- they alone pass, and they all do
+-- only they pass, and they all do
 abbrev pub TheyAlonePass : Type 0
 TheyAlonePass = (config : Settings) (listener : Listener) (items : List Item) (user : List ℕ)
     → user_past (door_of config listener) items ≡ Some user → MayPass config listener items user

@@ -1,4 +1,4 @@
--- What a trace of the router is made of: events that were handled, with their replies, and takes; and what came and went
+-- The parts of a router's trace: events that were handled, with their replies, and takes; and what was received and sent
 -- on a connection.
 use Rattle.std.specs.Prelude.{◌≡◌, ◌==◌, ℕ, false, if◌then◌else◌, List, [], ◌∷◌, ◌++◌}
 use Rattle.amqp_frames.specs.declared.item.Item.{Item}
@@ -11,22 +11,22 @@ use Rattle.router_trace.specs.Refusing.{refuses}
 use Rattle.router_core.specs.Replies.{answered}
 use Rattle.router_core.specs.Runs.{Taking, took_one}
 
--- the router handles an event, or items are taken of an outbox
+-- the router handles an event, or items are taken from an outbox
 pub data Move : Type 0 where
   handles : Step → Move
   takes : Taking → Move
 
--- u is t with these moves, one after the other: no event is refused, and its replies stand behind it
+-- u is t after these moves, one after another: no event is refused, and its replies come after it
 abbrev pub Goes : List ℕ → List Move → Trace → Trace → Type 0
 Goes id [] t u = u ≡ t
 Goes id (handles s ∷ ms) t u = (refuses t s.event ≡ false) × Goes id ms (answered id t s) u
 Goes id (takes x ∷ ms) t u = Goes id ms (took_one x t) u
 
--- a trace of the router of this id, opened with this configuration
+-- a trace of the router with this id, opened with this configuration
 abbrev pub IsTrace : List ℕ → Routing → Trace → Type 0
 IsTrace id g u = (moves : List Move) × Goes id moves (configured g) u
 
--- the items of the events that came on a connection, the first of them first
+-- the items received on a connection, in order
 abbrev pub with_came : Event → ℕ → List Item → List Item
 with_came (event.Item d i) c is = if d.0 == c then is ++ i ∷ [] else is
 with_came _ c is = is
@@ -39,7 +39,7 @@ ins (Took d n ∷ t) c = ins t c
 ins (Bound b ∷ t) c = ins t c
 ins (Configured g ∷ t) c = ins t c
 
--- the items put out for a connection, the first of them first
+-- the items put out for a connection, in order
 abbrev pub outs : Trace → ℕ → List Item
 outs [] c = []
 outs (Did s ∷ t) c = outs t c

@@ -1,13 +1,13 @@
--- What stands behind an event in a trace.
+-- The trace after an event.
 use Rattle.std.specs.Prelude.{◌≡◌, ℕ, List}
 use Rattle.router_trace.specs.Trace.{Trace, Step}
 use Rattle.router_reply.specs.Replies.{replied}
 use Rattle.router_after.specs.After.{followed}
 
--- the event with all that it has put in outboxes: what its rows put, and what follows them
+-- the event with all items put into outboxes: those of its rows, and those that follow
 abbrev pub answered : List ℕ → Trace → Step → Trace
 answered id t s = followed (replied id t s)
 
--- the trace u is t with the event and the items that it has put in outboxes
+-- the trace u is t with the event and the items that it put into outboxes
 pub record Replies (id : List ℕ) (t : Trace) (s : Step) (u : Trace) : Type 0 where
   pub answers : u ≡ answered id t s

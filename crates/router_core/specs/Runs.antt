@@ -1,4 +1,4 @@
--- A list of events, one after the other, each outbox emptied behind each.
+-- A list of events, run one after another; after each, all outboxes are emptied.
 use Rattle.std.specs.Prelude.{◌≡◌, ◌⊎◌, ℕ, ◌+◌, true, false, List, [], ◌∷◌, ◌++◌, map, take, length, Option, Some, None}
 use Rattle.amqp_frames.specs.declared.item.Item.{Item}
 use Rattle.router_trace.specs.declared.event.Event.{Event}
@@ -10,12 +10,12 @@ use Rattle.router_trace.specs.Refusing.{refuses}
 use Rattle.router_conns.specs.Fits.{IsLeast}
 use Rattle.router_core.specs.Replies.{Replies}
 
--- the items that wait in an outbox
+-- the items waiting in an outbox
 abbrev pub waiting_of : Option Connection → List Item
 waiting_of None = []
 waiting_of (Some v) = v.waiting
 
--- up to so many items are taken of the outbox of a connection
+-- a take of at most `most` items from a connection's outbox
 pub record Taking : Type 0 where
   pub conn : ConnectionId
   pub most : ℕ
@@ -24,14 +24,14 @@ pub record Taking : Type 0 where
 abbrev pub taking : ConnectionId → Taking
 taking c = record { conn = c; most = 64 }
 
--- the items of a take, and the trace behind it
+-- the items of a take, and the trace after it
 abbrev pub items_of : Taking → Trace → List Item
 items_of x t = take x.most (waiting_of (conn t x.conn.0))
 
 abbrev pub took_one : Taking → Trace → Trace
 took_one x t = Took x.conn.0 (length (items_of x t)) ∷ t
 
--- takes one after the other: the trace behind them, and the items with their connection and the event that they follow
+-- takes, one after another: the trace after them, and the items with their connection and the event that they follow
 abbrev pub took_all : List Taking → Trace → Trace
 took_all [] t = t
 took_all (x ∷ xs) t = took_all xs (took_one x t)
@@ -43,17 +43,17 @@ abbrev pub sent : ℕ → List Taking → Trace → List Sent
 sent place [] t = []
 sent place (x ∷ xs) t = map (as_sent place x.conn) (items_of x t) ++ sent place xs (took_one x t)
 
--- the next take: 64 items of the lowest connection of which something can be taken
+-- the next take: 64 items of the lowest ready connection
 pub record IsNext (t : Trace) (x : Taking) : Type 0 where
   pub most : x.most ≡ 64
   pub lowest : IsLeast (λ c. is_ready (conn t c)) (Some x.conn.0)
 
--- takes that go so, one after the other
+-- takes, each of them the next in this sense
 abbrev pub InTurn : List Taking → Trace → Type 0
 InTurn [] t = Unit {0}
 InTurn (x ∷ xs) t = IsNext t x × InTurn xs (took_one x t)
 
--- u is t with takes of these items, in turn, behind which no outbox has anything left
+-- u is t after takes of these items, in turn, after which every outbox is empty
 pub record Emptied (place : ℕ) (t : Trace) (ys : List Sent) (u : Trace) : Type 0 where
   pub takes : List Taking
   pub turns : InTurn takes t
@@ -61,7 +61,7 @@ pub record Emptied (place : ℕ) (t : Trace) (ys : List Sent) (u : Trace) : Type
   pub items : ys ≡ sent place takes t
   pub empty : (c : ℕ) → is_ready (conn u c) ≡ false
 
--- an event is refused, and isn't in the trace, or its replies stand behind it
+-- an event is refused, and isn't in the trace, or its replies come after it
 abbrev pub MayStep : List ℕ → Trace → Event → Trace → Type 0
 MayStep id t e u = ((refuses t e ≡ true) × (u ≡ t)) ⊎ ((refuses t e ≡ false) × Replies id t (step_of e) u)
 
@@ -71,17 +71,17 @@ pub record Steps (id : List ℕ) (place : ℕ) (t : Trace) (e : Event) (ys : Lis
   pub event : MayStep id t e behind
   pub emptied : Emptied place behind ys u
 
--- u is t with these events, the first of which stands at this place, and xs are the items taken
+-- u is t after these events, of which the first has this index, and xs are the items taken
 abbrev pub Run : List ℕ → ℕ → Trace → List Event → List Sent → Trace → Type 0
 Run id place t [] xs u = (u ≡ t) × (xs ≡ [])
 Run id place t (e ∷ es) xs u = (mid : Trace) × (ys : List Sent) × (zs : List Sent)
     × Steps id place t e ys mid × Run id (place + 1) mid es zs u × (xs ≡ ys ++ zs)
 
--- what was taken behind an event that came to a fault: nothing where it wasn't handled, else what takes behind it gave, in turn
+-- the items taken after an event that met a fault: none if it wasn't handled, else those of the takes after it, in turn
 abbrev pub Broken : List ℕ → ℕ → Trace → Event → List Sent → Type 0
 Broken id place t e ys = (ys ≡ []) ⊎ ((behind : Trace) × (takes : List Taking) × MayStep id t e behind × InTurn takes behind × (ys ≡ sent place takes behind))
 
--- of these events so many were handled, the next one came to a fault, and xs are the items taken
+-- of these events this many were handled, the next one met a fault, and xs are the items taken
 pub record Stopped (id : List ℕ) (t : Trace) (es : List Event) (handled : ℕ) (xs : List Sent) : Type 0 where
   pub first : List Event
   pub event : Event
@@ -95,6 +95,6 @@ pub record Stopped (id : List ℕ) (t : Trace) (es : List Event) (handled : ℕ)
   pub broken : Broken id handled mid event last
   pub items : xs ≡ before ++ last
 
--- something can be taken of a connection
+-- a connection is ready
 abbrev pub Waits : Trace → Type 0
 Waits t = (c : ℕ) × (is_ready (conn t c) ≡ true)

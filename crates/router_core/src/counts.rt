@@ -1,16 +1,16 @@
-//! How much the router did.
+//! Counts of what the router did.
 ghost use Rattle.std.specs.Prelude.{◌≡◌, ◌+◌, IfOk};
 ghost use Rattle.router_core.specs.Counting.{uncounted, with_event, with_batch};
 
 use router_trace::Event;
 use std::alloc::AllocError;
 
-/// How many events the router handled, by their kind, and how many batches it gave; each number is below 2^64.
+/// How many events the router handled, by kind, and how many batches it returned; each number is below 2^64.
 #[derive(Clone, Copy, Debug, PartialEq, Eq)]
 pub struct Counts {
     /// Connections that came up.
     pub ups: u64,
-    /// Items that came.
+    /// Items that were received.
     pub items: u64,
     /// Connections that were lost.
     pub downs: u64,
@@ -23,7 +23,7 @@ pub struct Counts {
 }
 
 impl Counts {
-    /// Of a router to which nothing happened.
+    /// The counts of a new router.
     pub fn none() -> Counts
         ensures { result ≡ uncounted }
     {
@@ -37,7 +37,7 @@ impl Counts {
         }
     }
 
-    /// With one event more. Fails where its kind's number can't rise, which counts as memory refused.
+    /// The counts after one more event. Fails if the number of its kind can't rise; this counts as refused memory.
     pub fn with_event(self, event: &Event) -> Result<Counts, AllocError>
         ensures { IfOk result (λ counts. counts ≡ with_event event.now self) }
     {
@@ -52,7 +52,7 @@ impl Counts {
         Ok(counts)
     }
 
-    /// With one batch more. Fails where the number can't rise, which counts as memory refused.
+    /// The counts after one more batch. Fails if the number can't rise; this counts as refused memory.
     pub fn with_batch(self) -> Result<Counts, AllocError>
         ensures { IfOk result (λ counts. counts ≡ with_batch self) }
     {

@@ -1,4 +1,4 @@
-//! What stands before the router: headers and logins, before a connection is up.
+//! Connection negotiation: headers and logins, before a connection is up.
 ghost use Rattle.std.specs.Prelude.{◌≡◌, ◌∷◌, [], codes, map, OnOk, OnErr, IfOk};
 ghost use Rattle.amqp_sasl.specs.Names.{name_of};
 ghost use Rattle.router_trace.specs.Frames.{header_item};
@@ -13,27 +13,27 @@ use route_table::{Config, Listener, Role};
 use router_trace::{PeerRole, header_item};
 use std::alloc::{AllocError, Global};
 
-/// What the door makes of an item.
+/// The door's answer to an item.
 #[derive(Debug, Drop)]
 pub enum DoorAnswer {
-    /// These items go out; the next item is awaited.
+    /// These items are sent; the next item is awaited.
     Say(Vec<Item>),
-    /// The connection is up, with this user; the item goes on to the router behind the event that says so.
+    /// The connection is up, with this user; the item goes on to the router, after the event that says so.
     Pass(Text),
-    /// These items go out, and the connection is over.
+    /// These items are sent, and the connection is over.
     End(Vec<Item>),
 }
 
-/// How far a connection is that isn't up yet.
+/// The stage of a connection that isn't up yet.
 #[derive(Debug, Drop)]
 pub enum Stage {
-    /// Nothing came: a protocol header is awaited.
+    /// Nothing was received: a protocol header is awaited.
     Header,
-    /// The mechanisms went out: the peer's choice is awaited.
+    /// The mechanisms were sent: the peer's choice is awaited.
     Init,
-    /// The peer logged in as this user: the header of AMQP is awaited.
+    /// The peer logged in as this user: the AMQP header is awaited.
     LoggedIn(Text),
-    /// The connection passed, or is over.
+    /// The connection has passed, or is over.
     Done,
 }
 
@@ -48,7 +48,7 @@ enum Protocol {
     Other,
 }
 
-/// What the door makes of an item, and how far the connection is behind it.
+/// The door's answer to an item, and the connection's stage after it.
 #[derive(Drop)]
 struct Answered {
     answer: DoorAnswer,
@@ -65,7 +65,7 @@ pub struct Door {
 }
 
 impl Door {
-    /// The door of a new connection at a listener. Fails where there is no memory for what it knows of users and
+    /// The door of a new connection at a listener. Fails if there is no memory for the users and
     /// mechanisms.
     pub fn new(alloc: Global, config: &Config, listener: &Listener) -> Result<Door, AllocError>
         ensures { IfOk result (λ d. d ≡ door_of config.now listener.now) }
@@ -80,17 +80,17 @@ impl Door {
         })
     }
 
-    /// What the peer is to the router, as the listener says.
+    /// The peer's role, which the listener determines.
     pub fn role(&self) -> PeerRole
         ensures { result ≡ self.now.role }
     {
         self.role
     }
 
-    /// Takes an item (AMQP 1.0 part 2, section 2.2, and part 5, section 5.3). First a header comes: that of AMQP passes as
-    /// user `anonymous`, unless peers have to log in, and that of SASL is answered by the mechanisms; behind that comes
-    /// an init, which the outcome answers, and behind code 0 the header of AMQP, which passes as the user. Everything
-    /// else ends the connection, a first header with an answer. Where memory is refused nothing is changed.
+    /// Handles an item (AMQP 1.0 part 2, section 2.2, and part 5, section 5.3). The first must be a header: an AMQP header passes as
+    /// user `anonymous`, unless peers have to log in; a SASL header is answered by the mechanisms. After that comes
+    /// an init, which the outcome answers, and after code 0 the AMQP header, which passes as the user. Anything
+    /// else ends the connection; a first header gets an answer. If memory is refused, nothing is changed.
     pub fn step(&mut self, alloc: Global, item: &Item) -> Result<DoorAnswer, AllocError>
         ensures answer { IfOk result (λ a. verdict_of a ≡ door self.old item.now) }
         ensures stage { OnOk result (self.new ≡ door_behind self.old item.now) }
@@ -101,7 +101,7 @@ impl Door {
         Ok(answer)
     }
 
-    /// What comes of an item.
+    /// The answer to an item.
     fn turn(&self, alloc: Global, item: &Item) -> Result<Answered, AllocError>
         ensures { IfOk result (λ a. turn_of a ≡ turn self.now item.now) }
     {
@@ -136,7 +136,7 @@ impl Door {
         }
     }
 
-    /// What comes of the first header.
+    /// The answer to the first header.
     fn first(&self, alloc: Global, protocol: Protocol) -> Result<Answered, AllocError>
         ensures { IfOk result (λ a. turn_of a ≡ first self.now protocol) }
     {
@@ -152,7 +152,7 @@ impl Door {
         }
     }
 
-    /// The header of SASL and the mechanisms.
+    /// The SASL header and the mechanisms.
     fn offer(&self, alloc: Global) -> Result<Vec<Item>, AllocError>
         ensures { IfOk result (λ v. v.items ≡ sasl_header ∷ offer self.now.server.mechanisms ∷ []) }
     {
@@ -164,7 +164,7 @@ impl Door {
         )
     }
 
-    /// The header that answers one that doesn't pass.
+    /// The header that answers a header that doesn't pass.
     fn refusal(&self) -> Item
         ensures { result ≡ refused_by self.now.authenticate_peer }
     {
@@ -176,7 +176,7 @@ impl Door {
     }
 }
 
-/// What comes of a server's answer.
+/// The answer that forwards a SASL server's answer.
 fn told(alloc: Global, answer: SaslAnswer) -> Result<Answered, AllocError>
     ensures { IfOk result (λ a. turn_of a ≡ told answer) }
 {
@@ -190,7 +190,7 @@ fn told(alloc: Global, answer: SaslAnswer) -> Result<Answered, AllocError>
     }
 }
 
-/// What comes of a header of one who logged in.
+/// The answer to the header of a peer that has logged in.
 fn last(alloc: Global, user: &Text, protocol: Protocol) -> Result<Answered, AllocError>
     ensures { IfOk result (λ a. turn_of a ≡ last user.now protocol) }
 {
@@ -210,7 +210,7 @@ fn lets_in(user: Text) -> Answered
     }
 }
 
-/// These items go out, and the connection is over.
+/// These items are sent, and the connection is over.
 fn over(items: Vec<Item>) -> Answered
     ensures { turn_of result ≡ over items.items }
 {
@@ -295,7 +295,7 @@ fn sasl_frame(body: Perf) -> Item
     }
 }
 
-/// The frame that tells how a login ended (AMQP 1.0 part 5, section 5.3.3.6).
+/// The frame with the outcome of a login (AMQP 1.0 part 5, section 5.3.3.6).
 fn outcome(code: SaslCode) -> Item
     ensures { result ≡ outcome code }
 {
@@ -305,7 +305,7 @@ fn outcome(code: SaslCode) -> Item
     }))
 }
 
-/// What the peers of a listener are to the router.
+/// The role of a listener's peers.
 fn role_of(role: Role) -> PeerRole
     ensures { result ≡ role_of role }
 {
@@ -315,7 +315,7 @@ fn role_of(role: Role) -> PeerRole
     }
 }
 
-/// The users of a configuration, as SASL has them.
+/// The users of a configuration, as SASL takes them.
 fn users_of(alloc: Global, users: &[route_table::User]) -> Result<Vec<User>, AllocError>
     ensures { IfOk result (λ v. v.items ≡ map user_of users.now) }
 {
@@ -326,7 +326,7 @@ fn users_of(alloc: Global, users: &[route_table::User]) -> Result<Vec<User>, All
     Ok(found)
 }
 
-/// A user, as SASL has it.
+/// A user, as SASL takes it.
 fn user_of(alloc: Global, user: &route_table::User) -> Result<User, AllocError>
     ensures { IfOk result (λ u. u ≡ user_of user.now) }
 {
@@ -336,7 +336,7 @@ fn user_of(alloc: Global, user: &route_table::User) -> Result<User, AllocError>
     })
 }
 
-/// The mechanisms of a listener, as SASL has them.
+/// The mechanisms of a listener, as SASL takes them.
 fn mechanisms_of(
     alloc: Global,
     words: &[route_table::Mechanism],
@@ -350,7 +350,7 @@ fn mechanisms_of(
     Ok(found)
 }
 
-/// A mechanism, as SASL has it.
+/// A mechanism, as SASL takes it.
 fn mechanism_of(word: route_table::Mechanism) -> Mechanism
     ensures { result ≡ mechanism_of word }
 {

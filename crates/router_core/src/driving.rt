@@ -1,4 +1,4 @@
-//! A list of events, handled one after the other.
+//! Running a list of events.
 ghost use Rattle.std.specs.Prelude.{◌≡◌, ◌≢◌, ◌≤◌, ◌⊎◌, ◌+◌, ◌∷◌, ◌++◌, ℕ, List, map, length, true, false, None, vec_len, vec_capacity, OnOk, OnErr, IfErr, IfSome};
 ghost use Rattle.router_trace.specs.Trace.{Entry};
 ghost use Rattle.router_trace.specs.Connection.{conn as known, is_ready};
@@ -12,13 +12,13 @@ use amqp_frames::Item;
 use router_trace::{ConnectionId, Event};
 use std::alloc::Global;
 
-/// So many items are taken at a time.
+/// The number of items taken at a time.
 const MOST: usize = 64;
 
-/// An item that was taken of an outbox.
+/// An item that was taken from an outbox.
 #[derive(Debug, Drop)]
 pub struct Sent {
-    /// The place in the list of the event that it follows, counted from 0.
+    /// The index of the event that it follows, from 0.
     pub event: usize,
     /// The connection.
     pub conn: ConnectionId,
@@ -26,18 +26,18 @@ pub struct Sent {
     pub item: Item,
 }
 
-/// How a list of events was handled.
+/// The result of running a list of events.
 #[derive(Debug, Drop)]
 pub struct Driven {
-    /// The fault that ended it, where one did.
+    /// The fault that ended the run, if any.
     pub fault: Option<CoreFault>,
-    /// How many events were handled before that, those among them that were refused.
+    /// How many events were handled before it, including the refused ones.
     pub handled: usize,
     /// The items taken, in order.
     pub taken: Vec<Sent>,
 }
 
-/// Puts items behind those that were taken before, for which there is room.
+/// Appends items to those taken before; there is room for them.
 fn append(taken: &mut Vec<Sent>, event: usize, conn: ConnectionId, items: Vec<Item>)
     requires { vec_len taken.old + length items.items ≤ vec_capacity taken.old }
     ensures { taken.new.items ≡ taken.old.items ++ map (as_sent event conn) items.items }
@@ -47,7 +47,7 @@ fn append(taken: &mut Vec<Sent>, event: usize, conn: ConnectionId, items: Vec<It
     }
 }
 
-/// Takes items of one outbox. Room for them is made before they are taken.
+/// Takes items from one outbox. Room for them is made before they are taken.
 fn take_one(
     core: &mut Core,
     event: usize,
@@ -59,7 +59,7 @@ fn take_one(
     ensures works { OnOk result (is_failed core.new ≡ false) }
     ensures named { id_of core.new ≡ id_of core.old }
 
-    // What a fault leaves, and why it comes.
+    // What a fault leaves, and when it occurs.
     ensures kept { OnErr result (taken.new.items ≡ taken.old.items) }
     ensures known { IfErr result (λ f. f ≡ CoreFault.NoConnection → (t : List Entry) → Fits core.old t → known t conn.0 ≡ None) }
     ensures failed { IfErr result (λ f. f ≡ CoreFault.Failed → is_failed core.old ≡ true) }
@@ -80,7 +80,7 @@ fn empty(core: &mut Core, event: usize, taken: &mut Vec<Sent>) -> Result<(), Cor
     ensures works { OnOk result (is_failed core.new ≡ true → is_failed core.old ≡ true) }
     ensures named { id_of core.new ≡ id_of core.old }
 
-    // What a fault leaves, and why it comes.
+    // What a fault leaves, and when it occurs.
     ensures broken { OnErr result ((t : List Entry) → Fits core.old t → (takes : List Taking) × InTurn takes t × (taken.new.items ≡ taken.old.items ++ sent event takes t)) }
     ensures known { IfErr result (λ f. (t : List Entry) → Fits core.old t → f ≢ CoreFault.NoConnection) }
     ensures failed { IfErr result (λ f. f ≡ CoreFault.Failed → is_failed core.old ≡ true) }
@@ -105,7 +105,7 @@ fn step(core: &mut Core, place: usize, event: Event, taken: &mut Vec<Sent>) -> R
     ensures works { OnOk result (is_failed core.new ≡ true → is_failed core.old ≡ true) }
     ensures named { id_of core.new ≡ id_of core.old }
 
-    // What a fault leaves, and why it comes.
+    // What a fault leaves, and when it occurs.
     ensures broken { OnErr result ((t : List Entry) → Fits core.old t → (ys : List ASent) × Broken (id_of core.old) place t event ys × (taken.new.items ≡ taken.old.items ++ ys)) }
     ensures known { IfErr result (λ f. (t : List Entry) → Fits core.old t → f ≢ CoreFault.NoConnection) }
     ensures failed { IfErr result (λ f. f ≡ CoreFault.Failed → is_failed core.old ≡ true) }
@@ -122,7 +122,7 @@ fn hear(core: &mut Core, event: Event) -> Result<(), CoreFault>
     ensures works { OnOk result (is_failed core.new ≡ true → is_failed core.old ≡ true) }
     ensures named { id_of core.new ≡ id_of core.old }
 
-    // Why a fault comes.
+    // When a fault occurs.
     ensures known { IfErr result (λ f. f ≢ CoreFault.NoConnection) }
     ensures failed { IfErr result (λ f. f ≡ CoreFault.Failed → is_failed core.old ≡ true) }
     ensures memory { IfErr result (λ f. f ≡ CoreFault.Memory → is_failed core.new ≡ true) }
@@ -136,15 +136,15 @@ fn hear(core: &mut Core, event: Event) -> Result<(), CoreFault>
     }
 }
 
-/// Handles events one after the other, and takes all that is put out behind each. It ends at the first answer `Disk`,
-/// `Memory` or `Failed`, and with `Memory` where the list of items can't grow, before they are taken: the core is then as
+/// Handles events one after another, and takes all items that are put out after each. It ends at the first answer `Disk`,
+/// `Memory` or `Failed`, and with `Memory` if the list of items can't grow, before they are taken: the core is then as
 /// its last call left it. A refused event (`NoConnection`) never ends it.
 pub fn drive(alloc: Global, core: &mut Core, events: Vec<Event>) -> Driven
     // Without a fault all events were handled.
     ensures ran { result.fault ≡ None → (t : List Entry) → Fits core.old t → (u : List Entry) × Run (id_of core.old) 0 t events.items result.taken.items u × Fits core.new u }
     ensures all { result.fault ≡ None → result.handled ≡ length events.items }
 
-    // With one, those before it were, and what was taken stands behind them and behind the event that came to it.
+    // With a fault, those before it were, and the items taken are those after them and after the event that met the fault.
     ensures stopped { IfSome result.fault (λ f. (t : List Entry) → Fits core.old t → Stopped (id_of core.old) t events.items result.handled result.taken.items) }
     ensures known { IfSome result.fault (λ f. (t : List Entry) → Fits core.old t → f ≢ CoreFault.NoConnection) }
     ensures failed { IfSome result.fault (λ f. f ≡ CoreFault.Failed → is_failed core.old ≡ true) }

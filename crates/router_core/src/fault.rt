@@ -1,10 +1,10 @@
-//! Why the router doesn't do what it is told.
+//! Errors of the router.
 ghost use Rattle.std.specs.Prelude.{◌≡◌};
 ghost use Rattle.router_core.specs.Faults.{number_of};
 
 use thiserror::Error;
 
-/// Why the router doesn't do what it is told; `number` has the fault's number.
+/// An error of the router; `number` returns the fault's number.
 #[derive(Clone, Copy, Debug, PartialEq, Eq, Error)]
 pub enum CoreFault {
     /// The disk failed.
@@ -13,10 +13,10 @@ pub enum CoreFault {
     /// Memory was refused.
     #[error("out of memory")]
     Memory,
-    /// An earlier call answered a fault of the disk or of memory.
+    /// An earlier call failed with a fault of the disk or of memory.
     #[error("the router failed before")]
     Failed,
-    /// There is no such connection, or its number doesn't rise.
+    /// The connection doesn't exist, or the number of a new one doesn't rise.
     #[error("no such connection")]
     NoConnection,
 }

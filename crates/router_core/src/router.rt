@@ -26,7 +26,7 @@ use std::alloc::{AllocError, Global};
 #[derive(Clone, Copy, Debug, PartialEq, Eq)]
 pub struct Done {}
 
-/// Items that were taken of an outbox. `Core::take` alone makes one.
+/// Items that were taken from an outbox. Only `Core::take` makes one.
 #[derive(Debug, Drop)]
 pub struct Batch {
     conn: ConnectionId,
@@ -43,7 +43,7 @@ impl Batch {
         self.conn
     }
 
-    /// The number of the first item, counted from 0: so many left the outbox before.
+    /// The number of the first item, from 0: how many items left the outbox before.
     pub fn first(&self) -> u64
         ensures { result ≡ self.now.first }
     {
@@ -72,7 +72,7 @@ impl Batch {
     }
 }
 
-/// The router. It handles one event at a time, and gives the items that it puts out where they are asked for.
+/// The router. It handles one event at a time; the items that it puts out are fetched with `take`.
 #[derive(Drop)]
 pub struct Core {
     id: RouterId,
@@ -82,7 +82,7 @@ pub struct Core {
 }
 
 impl Core {
-    /// A router to which nothing happened, but that it was opened with a configuration.
+    /// A new router, opened with a configuration.
     pub fn open(alloc: Global, config: &Config) -> Result<Core, AllocError>
         ensures fits { IfOk result (λ core. Fits core (configured (routing_of config.now))) }
         ensures works { IfOk result (λ core. is_failed core ≡ false) }
@@ -98,35 +98,35 @@ impl Core {
         })
     }
 
-    /// Whether the router answered a fault of the disk or of memory; it answers `Failed` from then on.
+    /// Whether the router failed with a fault of the disk or of memory; it answers `Failed` from then on.
     pub fn is_failed(&self) -> bool
         ensures { result ≡ is_failed self.now }
     {
         self.failed
     }
 
-    /// How many events it handled with `Ok`, by their kind, and how many batches `take` gave.
+    /// How many events it handled with `Ok`, by kind, and how many batches `take` returned.
     pub fn counts(&self) -> Counts
         ensures { result ≡ counts_of self.now }
     {
         self.counts
     }
 
-    /// Handles an event. It answers `NoConnection` exactly where the event tells of a connection that isn't live, or of
-    /// one that comes up with a number that doesn't rise, and `Failed` exactly where an earlier call answered `Memory`;
-    /// both change nothing. Behind `Memory` the router is failed.
+    /// Handles an event. It answers `NoConnection` exactly if the event is about a connection that isn't live, or about
+    /// a new one whose number doesn't rise, and `Failed` exactly if an earlier call answered `Memory`;
+    /// both change nothing. After `Memory` the router is failed.
     pub fn handle(&mut self, event: Event) -> Result<Done, CoreFault>
-        // The trace goes on with the event and its replies.
+        // The trace continues with the event and its replies.
         ensures fits { OnOk result ((t : List Entry) → Fits self.old t → (u : List Entry) × Replies (id_of self.old) t (step_of event) u × Fits self.new u) }
         ensures taken { OnOk result ((t : List Entry) → Fits self.old t → refuses t event ≡ false) }
         ensures works { OnOk result (is_failed self.new ≡ false) }
         ensures named { id_of self.new ≡ id_of self.old }
 
-        // One event more is counted exactly where it answers Ok.
+        // One more event is counted exactly if the call answers Ok.
         ensures counted { OnOk result (counts_of self.new ≡ with_event event (counts_of self.old)) }
         ensures uncounted { OnErr result (counts_of self.new ≡ counts_of self.old) }
 
-        // Which fault comes, and what it leaves.
+        // Which fault occurs, and what it leaves.
         ensures refused { IfErr result (λ f. f ≡ NoConnection → (self.new ≡ self.old) × ((t : List Entry) → Fits self.old t → refuses t event ≡ true)) }
         ensures refuses { (t : List Entry) → Fits self.old t → is_failed self.old ≡ false → refuses t event ≡ true → result ≡ Err NoConnection }
         ensures failed { is_failed self.old ≡ true → result ≡ Err Failed }
@@ -168,11 +168,11 @@ impl Core {
         Ok(())
     }
 
-    /// Takes up to `most` items out of the outbox of a connection, the first of them first. It answers `NoConnection`
-    /// exactly where nothing is known of the connection, and `Failed` exactly where an earlier call answered `Memory`;
-    /// both change nothing. Behind `Memory` the router is failed.
+    /// Takes up to `most` items from the outbox of a connection, in order. It answers `NoConnection`
+    /// exactly if the connection is unknown, and `Failed` exactly if an earlier call answered `Memory`;
+    /// both change nothing. After `Memory` the router is failed.
     pub fn take(&mut self, conn: ConnectionId, most: usize) -> Result<Batch, CoreFault>
-        // The trace goes on with the items taken.
+        // The trace continues with the items taken.
         ensures fits { IfOk result (λ b. (t : List Entry) → Fits self.old t → Fits self.new (Took conn.0 (length b.items.items) ∷ t)) }
         ensures batch { IfOk result (λ b. (t : List Entry) → Fits self.old t → IsBatchOf (known t conn.0) most b) }
         ensures whose { IfOk result (λ b. b.conn ≡ conn) }
@@ -180,11 +180,11 @@ impl Core {
         ensures works { OnOk result (is_failed self.new ≡ false) }
         ensures named { id_of self.new ≡ id_of self.old }
 
-        // One batch more is counted exactly where it answers Ok.
+        // One more batch is counted exactly if the call answers Ok.
         ensures counted { OnOk result (counts_of self.new ≡ with_batch (counts_of self.old)) }
         ensures uncounted { OnErr result (counts_of self.new ≡ counts_of self.old) }
 
-        // Which fault comes, and what it leaves.
+        // Which fault occurs, and what it leaves.
         ensures refused { IfErr result (λ f. f ≡ NoConnection → (self.new ≡ self.old) × ((t : List Entry) → Fits self.old t → known t conn.0 ≡ None)) }
         ensures refuses { (t : List Entry) → Fits self.old t → is_failed self.old ≡ false → known t conn.0 ≡ None → result ≡ Err NoConnection }
         ensures failed { is_failed self.old ≡ true → result ≡ Err Failed }
@@ -219,7 +219,7 @@ impl Core {
         }
     }
 
-    /// The lowest connection of which something can be taken: an item waits, or the router ended it.
+    /// The lowest ready connection: an item is waiting in its outbox, or the router ended it.
     pub fn ready(&self) -> Option<ConnectionId>
         ensures { (t : List Entry) → Fits self.now t → IsLeast (λ c. is_ready (known t c)) (option_map (λ c. c.0) result) }
     {
@@ -229,7 +229,7 @@ impl Core {
         }
     }
 
-    /// The lowest connection above another of which something can be taken.
+    /// The lowest ready connection above another.
     pub fn ready_behind(&self, conn: ConnectionId) -> Option<ConnectionId>
         ensures { (t : List Entry) → Fits self.now t → IsLeast (λ c. nat_lt conn.0 c && is_ready (known t c)) (option_map (λ c. c.0) result) }
     {
@@ -239,7 +239,7 @@ impl Core {
         }
     }
 
-    /// Whether anything is known of a connection: it is live, or it is over and its outbox isn't empty.
+    /// Whether a connection is known: it is live, or it is over and its outbox isn't empty.
     pub fn knows(&self, conn: ConnectionId) -> bool
         ensures { (t : List Entry) → Fits self.now t → result ≡ is_some (known t conn.0) }
     {
@@ -253,7 +253,7 @@ impl Core {
         self.state.standing(conn.0).is_some()
     }
 
-    /// Whether something can be taken of a connection.
+    /// Whether a connection is ready: an item is waiting in its outbox, or the router ended it.
     pub fn is_ready(&self, conn: ConnectionId) -> bool
         ensures { (t : List Entry) → Fits self.now t → result ≡ is_ready (known t conn.0) }
     {
@@ -261,7 +261,7 @@ impl Core {
     }
 }
 
-/// What an event that is not refused does: it ends connections for their full outboxes, its rows answer it, and what
+/// What an event that is not refused does: it ends connections because their outboxes are full, its rows answer it, and what
 /// follows them is put.
 fn answer(state: &mut State, id: &RouterId, event: Event) -> Result<(), AllocError>
     ensures { OnOk result ((t : List Entry) → TablesFit state.old t → refuses t event ≡ false → TablesFit state.new (answered id.now t (step_of event))) }

@@ -11,7 +11,7 @@ use Rattle.router_deliveries.specs.Finding.{IsFirst, IsFirstLink, is_above}
 use Rattle.router_deliveries.specs.Indexing.{in_set, in_group}
 use Rattle.router_deliveries.proofs.Numbers.{not_true}
 
--- so many numbers are above
+-- how many numbers are above
 abbrev pub room : Option ℕ → ℕ
 room None = 2 ^ 64 + 1
 room (Some m) = 2 ^ 64 - m

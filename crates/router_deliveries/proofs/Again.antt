@@ -1,4 +1,4 @@
--- What is done to a delivery twice is done once.
+-- A change applied to a delivery twice has the effect of once.
 use Rattle.std.proofs.Common.{◌≡◌, ℕ, Bool, true, false, refl, ap, arith, List, ◌∷◌, Option, Some, None}
 use Rattle.std.specs.Prelude.{◌||◌, ◌==◌, if◌then◌else◌}
 use Rattle.std.proofs.lemmas.Bool.Decides.{nat_tests}
@@ -10,7 +10,7 @@ use Rattle.router_deliveries.specs.declared.change.Change.{Change}
 use Rattle.router_deliveries.specs.declared.change.Change.TheVariants as change
 use Rattle.router_deliveries.specs.Stepping.{is_gone, comes_with_id, is_decided_by, changed, behind}
 
--- a change that a delivery went through changes it no more
+-- a change that a delivery went through changes it no further
 settled_origin : (gone : Attachment → Bool) (d : Delivery) → behind_origin gone (behind_origin gone d) ≡ behind_origin gone d
 settled_origin gone d = by_test (is_gone_with gone d.origin) refl
   where
@@ -67,7 +67,7 @@ pub twice : (x : Change) (v : Option Delivery) → behind x (behind x v) ≡ beh
 twice x None = refl
 twice x (Some d) = kept_again x (changed x d) (changed_twice x d)
 
--- one number more
+-- one more number
 abbrev pub finish : Change → Bool → Option Delivery → Option Delivery
 finish x b v = if b then behind x v else v
 

@@ -1,4 +1,4 @@
--- What a table's indexes have is what the trace says.
+-- A table's indexes agree with the trace.
 use Rattle.std.proofs.Common.{◌≡◌, ◌∙◌, ℕ, Bool, sym, ap, Option, Some, None}
 use Rattle.std.specs.Ordering.{nat_cmp}
 use Rattle.std.specs.BTreeMap.{get}
@@ -27,7 +27,7 @@ held_in s t fit k n = fit.indexed.held k n ∙ held_is k (get nat_cmp s.deliveri
 pub to_tell_in : (s : Store) (t : Trace) → StoreFit s t → (n : ℕ) → contains nat_cmp s.index.to_tell n ≡ is_to_tell (delivery t n)
 to_tell_in s t fit n = fit.indexed.to_tell n ∙ to_tell_is (get nat_cmp s.deliveries n) ∙ ap is_to_tell (fit.deliveries n)
 
--- the lowest link, by a test that says the same
+-- the lowest link, by an equal test
 pub link_same : (p q : ℕ → ℕ → Bool) → ((k n : ℕ) → p k n ≡ q k n) → (above r : Option ℕ) → IsFirstLink p above r → IsFirstLink q above r
 link_same p q same above None x = λ k n a. sym (same k n) ∙ x k n a
 link_same p q same above (Some k) x = (x.0, (x.1.0, sym (same k x.1.0) ∙ x.1.1), λ j n a e. x.2 j n a (same j n ∙ e))

@@ -1,4 +1,4 @@
--- A table's claims stay those of the trace.
+-- A table's claims keep agreeing with the trace.
 use Rattle.std.proofs.Common.{◌≡◌, ◌∙◌, ◌<◌, ◌^◌, ◌||◌, ◌&&◌, ℕ, Bool, true, false, refl, sym, ap, subst, List, [], ◌∷◌, Option, Some, None}
 use Rattle.std.specs.Prelude.{◌==◌, if◌then◌else◌}
 use Rattle.std.specs.Option.{is_some}
@@ -8,7 +8,7 @@ use Rattle.router_trace.specs.Claims.{Claim}
 use Rattle.router_deliveries.specs.Claiming.{IsSmall, is_on, unless_on, let_go_at}
 use Rattle.router_deliveries.proofs.Again.{equal_back}
 
--- what is let go stays away
+-- a freed claim stays free
 unless_twice : (link : Option ℕ) (v : Option Claim) → unless_on link (unless_on link v) ≡ unless_on link v
 unless_twice link None = refl
 unless_twice link (Some v) = by_test (is_on (Some v) link) refl
@@ -17,7 +17,7 @@ unless_twice link (Some v) = by_test (is_on (Some v) link) refl
     by_test true e = rw e refl
     by_test false e = rw (e, e) refl
 
--- one id more
+-- one more id
 pub one_more : (here own : Bool) (q id : ℕ) (more : List ℕ) (link : Option ℕ) (before after : Option Claim) → after ≡ let_go_at here own (id == q) link before
     → let_go_at here own (has q more) link after ≡ let_go_at here own (has q (id ∷ more)) link before
 one_more here own q id more link before after is = rw (is, equal_back q id) (by_tests here own (q == id) (has q more))
@@ -57,7 +57,7 @@ all_gone conn own c o q first last ids link known small exact = by_places (conn 
     by_places true false e f = refl
     by_places false w e f = refl
 
--- what is small stays small
+-- a small id stays small
 pub small_gone : (here own among : Bool) (link : Option ℕ) (q : ℕ) (old new : Option Claim) → new ≡ let_go_at here own among link old → IsSmall q old → IsSmall q new
 small_gone here own among link q old new is x = rw is (by_tests here own among)
   where
@@ -75,7 +75,7 @@ small_gone here own among link q old new is x = rw is (by_tests here own among)
     by_tests true false a = x
     by_tests false o a = x
 
--- where no id is left
+-- when no id is left
 pub nothing_left : (here own : Bool) (q : ℕ) (more : List ℕ) (link : Option ℕ) (v : Option Claim) → more ≡ [] → v ≡ let_go_at here own (has q more) link v
 nothing_left here own q more link v none = rw none (by_tests here own)
   where

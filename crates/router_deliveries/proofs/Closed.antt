@@ -1,4 +1,4 @@
--- A delivery that isn't undecided never is again.
+-- A delivery that isn't undecided never becomes undecided again.
 use Rattle.std.proofs.Common.{◌≡◌, ◌≤◌, ◌+◌, ℕ, Bool, true, false, refl, arith, ◌∷◌, length, Option, Some, None}
 use Rattle.std.specs.Prelude.{◌&&◌, ◌==◌, not, if◌then◌else◌, is_none}
 use Rattle.std.specs.Option.{option_and_then}

@@ -1,4 +1,4 @@
--- The ids of deliveries, by their numbers.
+-- The ids of deliveries, by delivery number.
 use Rattle.std.proofs.Common.{◌≡◌, ◌∙◌, ℕ, Bool, true, false, refl, sym, ap, List, [], ◌∷◌}
 use Rattle.std.specs.Prelude.{◌==◌, ◌||◌}
 use Rattle.std.specs.List.{list_any}
@@ -10,7 +10,7 @@ use Rattle.router_trace.specs.Deliveries.{is_id}
 use Rattle.router_deliveries.specs.declared.store.Store.{Store}
 use Rattle.router_deliveries.specs.Hearing.{id_of}
 
--- an id is that of one of these deliveries
+-- an id belongs to one of these deliveries
 abbrev pub any_id : Store → ℕ → List ℕ → Bool
 any_id s id numbers = list_any (λ n. is_id (id_of (get nat_cmp s.deliveries n)) id) numbers
 

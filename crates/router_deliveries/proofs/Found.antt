@@ -1,4 +1,4 @@
--- What is found in the indexes is found in the deliveries.
+-- What the indexes find agrees with the deliveries.
 use Rattle.std.proofs.Common.{◌≡◌, ◌∙◌, ℕ, Bool, true, false, refl, sym, ap, [], Option, Some, None}
 use Rattle.std.specs.Prelude.{◌&&◌, ◌==◌, not, is_none, is_some}
 use Rattle.std.specs.List.Sorted.{IsStrictlySortedBy}

@@ -1,4 +1,4 @@
--- What a peer's item does to a delivery, by what a table does to it.
+-- How a peer's item changes a delivery, by how a table changes it.
 use Rattle.std.proofs.Common.{◌≡◌, ◌∙◌, ℕ, Bool, true, false, refl, sym, ap, ◌∷◌, Option, Some, None}
 use Rattle.std.specs.Prelude.{◌&&◌, ◌==◌, if◌then◌else◌, is_none, not}
 use Rattle.std.specs.Option.{option_and_then}
@@ -27,7 +27,7 @@ use Rattle.router_deliveries.specs.Stepping.{changed, behind, behind_any, comes_
 use Rattle.router_deliveries.proofs.Again.{equal_back}
 use Rattle.router_deliveries.proofs.Puts.{kept}
 
--- a change of a delivery that there may be
+-- a change of a delivery that may exist
 abbrev by : (Delivery → Delivery) → Option Delivery → Option Delivery
 by f v = option_and_then (λ d. unless_over (f d)) v
 
@@ -67,7 +67,7 @@ sent_by_producer x c own n names v same old keeps = by_settled x.settled refl
     by_settled false e = quiet (λ d. disposed Sender x c v (names d.link.channel) n d) old keeps
         (λ d is. step d ∙ ap (λ b. if b && comes_with_id d.origin c own x.first (last_of x) then untold d else d) e)
 
--- a disposition of a consumer that tells no outcome, ...
+-- a disposition of a consumer without an outcome, ...
 none_meant : (x : Disposition) (o : Option ℕ) → is_meant x o ≡ is_in o x.first (last_of x)
 none_meant x None = refl
 none_meant x (Some id) = refl
@@ -88,7 +88,7 @@ untouched x names n d none = by_tests (is_undecided d) (is_meant x d.id) (is_nam
     by_tests true false k e = refl
     by_tests false m k e = refl
 
--- ... and one that does: what a table has of names says the same of a delivery that is undecided
+-- ... and one with an outcome: the table's names and the trace agree on an undecided delivery
 same_name : (t : Trace) (n id : ℕ) (stored view : ℕ → Option ℕ) → Remembers t (stored id) (view id) → is_open (delivery t n) ≡ true → is_number (view id) n ≡ is_number (stored id) n
 same_name t n id stored view x undecided = by_entries (stored id) (view id) x
   where

@@ -27,7 +27,7 @@ pub either_of : {P : Type 0} (a b : Bool) → (a ≡ true → P) → (b ≡ true
 either_of true b f g e = f e
 either_of false b f g e = g e
 
--- links that go are found by their places
+-- links that end are found by their places
 by_place : (g : Gone) (a : Attachment) → is_gone g a ≡ is_gone_at g (spot_of a)
 by_place (gone.Link c o h) a = refl
 by_place (gone.Session c o) a = refl
@@ -94,7 +94,7 @@ changes_nothing (change.Ends g) d e =
 changes_nothing (change.Untold c o first last) d e = ap (λ b. if b then untold d else d) (untells_nothing d.origin c o first last e)
 changes_nothing (change.Decided c o first last made) d e = ap (λ b. if b then record d { outcome = Some made } else d) (decides_nothing d c o first last e)
 
--- what is done to those that a change concerns is done to all
+-- a change applied to the deliveries that it concerns has been applied to all
 pub where_stands : (x : Change) (b : Bool) (old new : Option Delivery) → new ≡ (if b then behind x old else old)
     → (concerns x (standing old) ≡ true → b ≡ true) → IsKept old → new ≡ behind x old
 where_stands x true old new is there keeps = is

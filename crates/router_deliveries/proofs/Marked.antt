@@ -1,4 +1,4 @@
--- The claims that were ignored stay marked at their links.
+-- The ignored claims stay marked at their links.
 use Rattle.std.proofs.Common.{◌≡◌, ◌∙◌, ◌<◌, ◌^◌, ℕ, Bool, true, false, refl, sym, ap, Option, Some, None}
 use Rattle.std.specs.Prelude.{◌==◌, if◌then◌else◌}
 use Rattle.std.proofs.lemmas.Bool.{eqb-true}
@@ -21,14 +21,14 @@ ignored_is h (Some v) = by_test v.ignored
     by_test true = refl
     by_test false = refl
 
--- a mark behind a change at one place
+-- a mark after a change at one place
 abbrev set_mark : Bool → Bool → Bool → Bool → Bool → Bool → Bool
 set_mark here own on_link same holds old = if here then (if own then (if on_link then (if same then holds else old) else old) else old) else old
 
 abbrev set_claim : Bool → Bool → Bool → Option Claim → Option Claim → Option Claim
 set_claim here own same claim old = if here then (if own then (if same then claim else old) else old) else old
 
--- the claim of an id is another one
+-- the claim of an id changes
 row : (here own same : Bool) (h : ℕ) (stood claim old : Option Claim) (first mid last : Bool) → (here ≡ true → own ≡ true → same ≡ true → stood ≡ old)
     → first ≡ is_ignored_on h old
     → mid ≡ set_mark here own (is_number (ignored_handle stood) h) same false first
@@ -58,7 +58,7 @@ here_same : (known : ℕ → ℕ → ℕ → Option Claim) (conn own id c o q : 
 here_same known conn own id c o q stood is e f g =
     is ∙ ap (λ k. known k own id) (eqb-true conn c e) ∙ ap (λ k. known c k id) (eqb-true own o f) ∙ ap (λ k. known c o k) (eqb-true id q g)
 
--- an id has this claim, or none
+-- an id gets this claim, or none
 pub marked_put : (conn own id : ℕ) (claim stood : Option Claim) (handle after : Option ℕ) (known next : ℕ → ℕ → ℕ → Option Claim) (first mid last : ℕ → ℕ → ℕ → ℕ → Bool)
     → stood ≡ known conn own id → handle ≡ ignored_handle stood → after ≡ ignored_handle claim
     → ((c o h q : ℕ) → first c o h q ≡ is_ignored_on h (known c o q))

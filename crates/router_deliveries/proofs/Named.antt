@@ -1,4 +1,4 @@
--- A table's names stay those of the trace.
+-- A table's names keep agreeing with the trace.
 use Rattle.std.proofs.Common.{◌≡◌, ◌∙◌, ◌≤◌, ℕ, Bool, true, false, refl, sym, ap, subst, arith, List, ◌∷◌, Option, Some, None}
 use Rattle.std.specs.Prelude.{◌&&◌, not, if◌then◌else◌, nat_le}
 use Rattle.std.proofs.lemmas.Bool.{leb-true}
@@ -32,7 +32,7 @@ set_row t true true false new name old next view e x y = rw e y
 set_row t true false named new name old next view e x y = rw e y
 set_row t false own named new name old next view e x y = rw e y
 
--- the name that is kept of a transfer's delivery
+-- the name that is kept for a transfer's delivery
 pub remembers_kept : (t : Trace) (name : Option ℕ) (known : ℕ → Option Delivery) (b : ℕ) → b ≡ bindings t → ((n : ℕ) → known n ≡ delivery t n) → Remembers t (kept_name name b known) name
 remembers_kept t None known b e same = tt
 remembers_kept t (Some n) known b e same = by_tests (nat_le n b) (is_open (known n)) refl refl

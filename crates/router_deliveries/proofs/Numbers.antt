@@ -1,4 +1,4 @@
--- The first of the deliveries that pass a test, and how many they are, among all that were bound.
+-- The first of the deliveries that pass a test, and how many there are, among all that were bound.
 use Rattle.std.proofs.Common.{◌≡◌, ◌∙◌, ◌<◌, ◌≤◌, ◌+◌, ◌||◌, ℕ, zero, suc, Bool, true, false, refl, sym, ap, arith, List, [], ◌∷◌, length, Option, Some, None}
 use Rattle.std.specs.Prelude.{◌==◌, nat_lt, if◌then◌else◌}
 use Rattle.std.specs.List.{AllByRecursion}
@@ -42,7 +42,7 @@ one_below (suc b) n passes l p none = by_test (n == b) refl (λ k. one_below b n
         less : (n b : ℕ) → n < suc b → (n == b) ≡ false → n < b
         less n b l e = grind (arith, nat_tests)
 
--- What is the first of all numbers is the first below a bound that all have which pass.
+-- The first of all numbers that pass is the first below any bound on them.
 pub first_is : (bound : ℕ) (passes : ℕ → Bool) → ((n : ℕ) → passes n ≡ true → n < bound) → (r : Option ℕ) → IsFirst passes r → r ≡ first_below bound passes
 first_is bound passes low None x = sym (none_below bound passes (λ n l. x n))
 first_is bound passes low (Some n) x =
@@ -60,7 +60,7 @@ unfolding count_below
 count_none zero = refl
 count_none (suc b) = ap (λ k. k + 0) (count_none b)
 
--- one number more
+-- one more number
 count_more : (b x : ℕ) (p q : ℕ → Bool) → x < b → p x ≡ true → q x ≡ false → ((n : ℕ) → (n == x) ≡ false → p n ≡ q n) → count_below b p ≡ count_below b q + 1
 unfolding count_below
 count_more zero x p q l yes_x no_x same = absurd (omega (arith, l))
@@ -123,12 +123,12 @@ count_list most (x ∷ xs) sorted low =
     ∙ ap (λ k. k + 1) (count_list most xs sorted.1 (λ n e. low n (either_true (n == x) (has n xs) e)))
     ∙ length_more x xs
 
--- So many numbers that pass are so many below a bound that all have which pass.
+-- The count of all numbers that pass is the count below any bound on them.
 pub count_is : (bound : ℕ) (passes : ℕ → Bool) → ((n : ℕ) → passes n ≡ true → n < bound) → (k : ℕ) → IsCount passes k → k ≡ count_below bound passes
 count_is bound passes low k x =
     sym x.are ∙ sym (count_list bound x.numbers x.rise (λ n e. low n (sym (x.pass n) ∙ e))) ∙ count_same bound (λ n. has n x.numbers) passes (λ n l. x.pass n)
 
--- Deliveries stand at the numbers of bindings alone: from 1 to as many as there were.
+-- Only binding numbers have deliveries: from 1 to the number of bindings.
 abbrev none_is : (f : Delivery → Option Delivery) (v : Option Delivery) → v ≡ None → option_and_then f v ≡ None
 none_is f v e = ap (option_and_then f) e
 
@@ -158,7 +158,7 @@ none_before (Bound b ∷ t) = fresh (bindings t + 1 == 0) (Some (fresh_delivery 
     apart : (k : ℕ) → (k + 1 == 0) ≡ false
     apart k = grind (arith, nat_tests)
 
--- so what passes stands there
+-- so a number that passes is among them
 pub stands_below : (t : Trace) (passes : Option Delivery → Bool) → passes None ≡ false → (n : ℕ) → passes (delivery t n) ≡ true → n < bindings t + 1
 stands_below t passes none n e = by_test (nat_lt (bindings t) n) refl
   where

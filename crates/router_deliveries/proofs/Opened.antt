@@ -26,7 +26,7 @@ opens_is t c o id (Some n) view known same x = ap (is_open_as c o id) (same n) �
 opens_is t c o id None None known same x = refl
 opens_is t c o id None (Some n) known same x = sym (closed_as c o id (delivery t n) x.1)
 
--- what passes is there, and has 32 bits
+-- what passes exists, and has 32 bits
 pub is_there : (known : ℕ → Option Delivery) (c o id : ℕ) (stored : Option ℕ) → opens known c o id stored ≡ true → is_some stored ≡ true
 is_there known c o id None e = e
 is_there known c o id (Some n) e = refl

@@ -14,7 +14,7 @@ or_of : (a p r : Bool) → ((a || p) || r) ≡ (a || (p || r))
 or_of true p r = refl
 or_of false p r = refl
 
--- one id more
+-- one more id
 pub one_more : (pick : ℕ → Bool) (x : ℕ) (more : List ℕ) (before after one : Bool) → after ≡ (before || one) → one ≡ pick x
     → (after || list_any pick more) ≡ (before || list_any pick (x ∷ more))
 one_more pick x more before after one is picked = rw (is, picked) (or_of before (pick x) (list_any pick more))
@@ -71,6 +71,6 @@ or_false : (a : Bool) → (a || false) ≡ a
 or_false true = refl
 or_false false = refl
 
--- where no id is left
+-- when no id is left
 pub at_end : (pick : ℕ → Bool) (more : List ℕ) (picked all : Bool) → more ≡ [] → (picked || list_any pick more) ≡ all → picked ≡ all
 at_end pick more picked all none is = sym (ap (λ l. picked || list_any pick l) none ∙ or_false picked) ∙ is

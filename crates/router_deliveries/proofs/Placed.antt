@@ -1,4 +1,4 @@
--- Numbers by places.
+-- Numbers by place.
 use Rattle.std.proofs.Common.{◌≡◌, ◌∙◌, ◌<◌, ◌≤◌, ◌^◌, ◌++◌, ℕ, Bool, true, false, refl, sym, ap, arith, cond, List, [], ◌∷◌, Option, Some, None}
 use Rattle.std.specs.Prelude.{◌&&◌, ◌||◌, ◌==◌, not, nat_lt, nat_le, if◌then◌else◌}
 use Rattle.std.specs.List.{filter, list_any}
@@ -42,7 +42,7 @@ eq_then Less q = refl
 eq_then Equal q = refl
 eq_then Greater q = refl
 
--- which key is found
+-- the test by which a key is found
 key_test : (k x : Key) → is_at (key_cmp k) x ≡ ((((k.0 == x.0) && (k.1 == x.1)) && (k.2 == x.2)) && (k.3 == x.3))
 key_test k x =
     eq_then (ordering_then (ordering_then (nat_cmp k.0 x.0) (nat_cmp k.1 x.1)) (nat_cmp k.2 x.2)) (nat_cmp k.3 x.3)
@@ -52,7 +52,7 @@ key_test k x =
     ∙ ap (λ b. ((k.0 == x.0) && (k.1 == x.1)) && b) (same_test k.2 x.2))
     ∙ ap (λ b. (((k.0 == x.0) && (k.1 == x.1)) && (k.2 == x.2)) && b) (same_test k.3 x.3)
 
--- what is known, said otherwise
+-- the same known places, by an equal function
 pub fits_same : (s : Spots) (f g : ℕ → Option Spot) → ((n : ℕ) → f n ≡ g n) → SpotsFit s f → SpotsFit s g
 fits_same s f g same x = record { stand = λ p n. x.stand p n ∙ ap (λ v. is_spot v p) (same n); small = x.small }
 

@@ -1,4 +1,4 @@
--- What an entry does to a delivery, by what a table does to it.
+-- How an entry changes a delivery, by how a table changes it.
 use Rattle.std.proofs.Common.{◌≡◌, ◌∙◌, ℕ, Bool, true, false, refl, sym, ap, List, [], ◌∷◌, length, ◌+◌, Option, Some, None, Result, Ok, Err}
 use Rattle.std.specs.Prelude.{◌&&◌, ◌==◌, if◌then◌else◌}
 use Rattle.std.specs.Option.{option_and_then}
@@ -23,7 +23,7 @@ use Rattle.router_deliveries.specs.declared.store.Store.{Store}
 use Rattle.router_deliveries.specs.Fits.{StoreFit}
 use Rattle.router_deliveries.specs.Stepping.{is_gone, comes_with_id, changed, behind, behind_any, put_change, put_by, IsKept}
 
--- what stands in a trace isn't over
+-- a delivery in a trace isn't over
 kept_once : (d : Delivery) → IsKept (unless_over d)
 kept_once d = by_test (is_over d) refl
   where
@@ -47,7 +47,7 @@ kept (Bound b ∷ t) n = fresh (bindings t + 1 == n) (kept t n)
     fresh true keeps = refl
     fresh false keeps = keeps
 
--- links that go, by a test that says the same
+-- links that end, by an equal test
 pub same_ends : (p q : Attachment → Bool) → ((a : Attachment) → p a ≡ q a) → (d : Delivery) → behind_ends p d ≡ behind_ends q d
 same_ends p q same d = ap (λ gone. behind_ends gone d) (λ i a. same a i)
 
@@ -70,7 +70,7 @@ and_true false = refl
 abbrev pub frame_of : ℕ → Bool → Perf → List ℕ → Item
 frame_of own sasl body payload = item.Frame sasl own body payload
 
--- what it does to a delivery, and what it does where there is one
+-- how it changes a delivery, and a delivery that may exist
 abbrev pub put_behind : ℕ → Item → ℕ → (ℕ → ℕ → Option ℕ) → Option Delivery → Option Delivery
 put_behind c i n known v = option_and_then (λ d. unless_over (behind_put i c n known d)) v
 
@@ -94,7 +94,7 @@ one_frame c own n sasl x payload known number is (Some d) keeps =
     by_test true = refl
     by_test false = still d keeps
 
--- and any other performative of the router
+-- any other performative of the router
 quiet : (c n : ℕ) (i : Item) (known : ℕ → ℕ → Option ℕ) → ((d : Delivery) → behind_put i c n known d ≡ d) → (v : Option Delivery) → IsKept v → v ≡ put_behind c i n known v
 quiet c n i known same None keeps = refl
 quiet c n i known same (Some d) keeps = still d keeps ∙ ap unless_over (sym (same d))

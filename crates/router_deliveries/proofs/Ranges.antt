@@ -1,4 +1,4 @@
--- The ids of a range that pass a test, found among those that a table has.
+-- The ids in a range that pass a test, found among those that a table has.
 use Rattle.std.proofs.Common.{◌≡◌, ◌∙◌, ◌<◌, ◌≤◌, ◌+◌, ◌%◌, ◌^◌, ◌||◌, ◌&&◌, ◌++◌, ℕ, zero, suc, Bool, true, false, refl, sym, ap, subst, cond, arith, List, [], ◌∷◌}
 use Rattle.std.specs.Prelude.{◌==◌, nat_lt, nat_le, if◌then◌else◌}
 use Rattle.std.specs.List.{filter, AllByRecursion}
@@ -25,7 +25,7 @@ or_true : (a b : Bool) → b ≡ true → (a || b) ≡ true
 or_true true b e = refl
 or_true false b e = e
 
--- one that stands in a list that rises stands further than the head, or is it
+-- an id in a rising list is further than the head, or is the head
 each_of : (P : ℕ → Type 0) (xs : List ℕ) (x : ℕ) → AllByRecursion P xs → has x xs ≡ true → P x
 each_of P [] x all e = absurd cc
 each_of P (y ∷ ys) x all e = by_test (x == y) refl e (each_of P ys x all.1)
@@ -41,7 +41,7 @@ lesser a b h = grind (arith, nat_tests, h)
 same_place : (first a b : ℕ) → first < 2 ^ 32 → a < 2 ^ 32 → b < 2 ^ 32 → distance first a ≡ distance first b → a ≡ b
 same_place first a b f x y e = grind arith
 
--- the head of one list is the head of the other
+-- the heads of both lists are equal
 heads : (first x y : ℕ) (xs ys : List ℕ) → first < 2 ^ 32 → x < 2 ^ 32 → y < 2 ^ 32
     → AllByRecursion (λ k. by_distance first x k ≡ Less) xs → AllByRecursion (λ k. by_distance first y k ≡ Less) ys
     → has x (y ∷ ys) ≡ true → has y (x ∷ xs) ≡ true → x ≡ y
@@ -97,7 +97,7 @@ same_list first f (x ∷ xs) (y ∷ ys) rx ry sx sy same = joined is (same_list 
     rest id small = tails id x xs ys (not_again first x xs rx.0) (ap (λ k. has k ys) is ∙ not_again first y ys ry.0)
         (same id small ∙ ap (λ k. has id (k ∷ ys)) (sym is))
 
--- What a range has.
+-- The ids that a range has.
 here : (first n id : ℕ) → first < 2 ^ 32 → n < 2 ^ 32 → id < 2 ^ 32 → (id == (first + n) % 2 ^ 32) ≡ (distance first id == n)
 here first n id f l s = by_tests (id == (first + n) % 2 ^ 32) (distance first id == n) refl refl
   where
@@ -139,7 +139,7 @@ small_from first (suc n) = snoc_all (λ id. id < 2 ^ 32) (ids_from first n) ((fi
     low : (k : ℕ) → k % 2 ^ 32 < 2 ^ 32
     low k = grind arith
 
--- the next one stands further than all before it
+-- the next id is further than all before it
 snoc_rises : (first y : ℕ) (xs : List ℕ) → IsRising first xs → AllByRecursion (λ x. by_distance first x y ≡ Less) xs → IsRising first (xs ++ y ∷ [])
 unfolding IsStrictlySortedBy
 snoc_rises first y [] rise below = (tt, tt)
@@ -194,7 +194,7 @@ between_rises first last f = by_test (nat_lt (distance first last) (2 ^ 31)) ref
         rises_from first (distance first last + 1) f (omega (arith, near))
     by_test false e = tt
 
--- what is left of a list
+-- the rest of a list
 has_filter : (p : ℕ → Bool) (id : ℕ) (xs : List ℕ) → has id (filter p xs) ≡ (has id xs && p id)
 has_filter p id [] = refl
 has_filter p id (x ∷ xs) = by_tests (p x) (id == x) refl refl (has_filter p id xs)
@@ -225,7 +225,7 @@ filter_small p (x ∷ xs) low = by_test (p x) refl (filter_small p xs low)
     by_test true e rest = (low x e, rest)
     by_test false e rest = rest
 
--- The ids of a range that pass are those that pass of a list which rises, and has exactly the ids of the range that a table has.
+-- The ids in a range that pass are those that pass in a rising list with exactly the ids of the range that a table has.
 pub passing : (first last : ℕ) (p there : ℕ → Bool) (ids : List ℕ) → first < 2 ^ 32 → ((id : ℕ) → p id ≡ true → id < 2 ^ 32) → ((id : ℕ) → p id ≡ true → there id ≡ true)
     → IsRising first ids → ((id : ℕ) → id < 2 ^ 32 → has id ids ≡ (in_range first last id && there id)) → filter p ids ≡ filter p (ids_between first last)
 passing first last p there ids f low is_there rise exact =

@@ -1,4 +1,4 @@
--- Indexes of what a table has, behind a change.
+-- A table's indexes after a change.
 use Rattle.std.proofs.Common.{◌≡◌, ◌∙◌, ℕ, Bool, true, false, refl, sym, ap, Option, None}
 use Rattle.std.specs.Prelude.{◌==◌, if◌then◌else◌}
 use Rattle.std.proofs.lemmas.Bool.{eqb-true}
@@ -30,7 +30,7 @@ put_back s m w old middle new out back x = indexes_same s (λ n. if m == n then 
     by_test true n mid e = refl
     by_test false n mid e = ap standing (sym e)
 
--- where there was none, nothing was taken out
+-- if there was none, nothing was taken out
 pub none_out : (s : Index) (m : ℕ) (old new : ℕ → Option Delivery) → None ≡ old m → ((n : ℕ) → new n ≡ (if m == n then None else old n))
     → Indexes s (λ n. standing (old n)) → Indexes s (λ n. standing (new n))
 none_out s m old new none out x = indexes_same s (λ n. standing (old n)) (λ n. standing (new n)) (λ n. by_test (m == n) n refl ∙ ap standing (sym (out n))) x

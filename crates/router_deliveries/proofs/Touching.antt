@@ -1,4 +1,4 @@
--- What is touched behind changes of a store.
+-- What is touched after changes of a store.
 use Rattle.std.proofs.Common.{◌≡◌, ◌∙◌, ℕ, Bool, true, false, refl, sym, ap, subst, Option, None}
 use Rattle.std.specs.Prelude.{◌==◌, if◌then◌else◌}
 use Rattle.std.specs.Ordering.{nat_cmp}
@@ -14,7 +14,7 @@ use Rattle.router_deliveries.proofs.Found.{waits_is, undecided_is, held_is}
 pub same_on : (k : ℕ) (v w : Option Delivery) → v ≡ w → IsSameOn k v w
 same_on k v w e = record { waits = ap (waits_on k) e; undecided = ap (undecided_on k) e; held = ap (held_from k) e }
 
--- the same by where it stands
+-- the same by its entries
 on_standing : (k : ℕ) (v w : Option Delivery) → StandsSame k (standing v) (standing w) → IsSameOn k v w
 on_standing k v w x = record {
   waits = sym (waits_is k v) ∙ x.waiting ∙ waits_is k w;
@@ -22,7 +22,7 @@ on_standing k v w x = record {
   held = sym (held_is k v) ∙ x.held ∙ held_is k w;
 }
 
--- nothing done, and one thing behind the other
+-- nothing done, and one change after the other
 pub touches_nothing : (old new : Store) → new.touched ≡ old.touched → ((n : ℕ) → get nat_cmp new.deliveries n ≡ get nat_cmp old.deliveries n) → StoreTouches old new
 touches_nothing old new e same = record {
   before = λ k f. ap (λ s. is_touched_in s k) (sym e) ∙ f;
@@ -59,7 +59,7 @@ touches_one old middle new m w stood is same out back noted = record {
     by_test k n false e mid x v y stands =
         same_on k (get nat_cmp old.deliveries n) v (sym (y ∙ ap (λ b. if b then w else mid) e ∙ x ∙ ap (λ b. if b then None else get nat_cmp old.deliveries n) e))
 
--- where there was none, nothing was taken out
+-- if there was none, nothing was taken out
 pub touches_none : (old new : Store) (m : ℕ) → None ≡ get nat_cmp old.deliveries m → new.touched ≡ old.touched
     → ((n : ℕ) → get nat_cmp new.deliveries n ≡ (if m == n then None else get nat_cmp old.deliveries n)) → StoreTouches old new
 touches_none old new m none same out = touches_nothing old new same (λ n. out n ∙ by_test n (m == n) refl)

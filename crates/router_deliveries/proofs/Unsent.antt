@@ -1,4 +1,4 @@
--- Whether a first delivery is there, and links on which frames of deliveries are still to go.
+-- Whether there is a first delivery, and links on which frames of deliveries remain to be sent.
 use Rattle.std.proofs.Common.{◌≡◌, ◌∙◌, ◌<◌, ◌+◌, ◌&&◌, ℕ, zero, suc, Bool, true, false, refl, sym, ap, arith, Option, Some, None}
 use Rattle.std.specs.Prelude.{◌==◌, nat_lt, is_some, unwrap_or}
 use Rattle.std.proofs.lemmas.Bool.{eqb-true}
@@ -10,7 +10,7 @@ use Rattle.router_trace.specs.Numbers.{first_below, or_other, if_passes}
 use Rattle.router_deliveries.specs.Finding.{IsFirst, IsFirstLink, is_above}
 use Rattle.router_deliveries.proofs.Numbers.{none_before, none_below, stands_below}
 
--- the first below a bound is there exactly where one passes
+-- there is a first number below a bound exactly if one passes
 or_some : (v w : Option ℕ) → is_some w ≡ true → is_some (or_other v w) ≡ true
 or_some None w e = e
 or_some (Some n) w e = refl
@@ -74,7 +74,7 @@ links_are t above (Some k) x = (
       in x.2 j one.0 (left (is_above above j) (is_some (first_delivery t (is_unsent_on j))) e) one.1,
 )
 
--- above no number are all: none has the number 0
+-- above no number means all: none has the number 0
 pub above_none : (t : Trace) (k : ℕ) (above : Option ℕ) (n : ℕ)
     → (nat_lt (unwrap_or above 0) n && is_unsent_on k (delivery t n)) ≡ (is_above above n && is_unsent_on k (delivery t n))
 above_none t k (Some m) n = refl

@@ -1,4 +1,4 @@
--- When the table of claims is that which a trace gives.
+-- When the table of claims agrees with a trace.
 use Rattle.std.specs.Prelude.{◌≡◌, ◌<◌, ◌^◌, ℕ, Bool, true, false, ◌==◌, ◌&&◌, if◌then◌else◌, List, [], ◌∷◌, Option, Some, None}
 use Rattle.amqp_perf.specs.declared.perf.Transfer.{Transfer}
 use Rattle.amqp_perf.specs.declared.perf.Disposition.{Disposition}
@@ -33,7 +33,7 @@ IsSmall id (Some c) = id < 2 ^ 32
 abbrev pub AreSmall : (ℕ → ℕ → ℕ → Option Claim) → Type 0
 AreSmall known = (c o id : ℕ) → IsSmall id (known c o id)
 
--- the ids of the claims that were ignored stand by their link
+-- the ids of ignored claims are kept by link
 abbrev pub ignored_handle : Option Claim → Option ℕ
 ignored_handle None = None
 ignored_handle (Some v) = if v.ignored then Some v.handle else None
@@ -49,7 +49,7 @@ pub record ClaimsFit (s : Claims) (t : Trace) : Type 0 where
   pub small : AreSmall (at_id s.ids)
   pub marked : AreMarked s
 
--- what a transfer does to the claim of an id, on the link that it finds
+-- what a transfer does to the claim of an id, on the link that it names
 abbrev pub claimed_by_middle : ℕ → Transfer → Bool → Option Middle → ℕ → Option Claim → Option Claim
 claimed_by_middle h x beyond None id v = claimed_first h x beyond id v
 claimed_by_middle h x beyond (Some m) id v = if is_named m.id id then claimed_later h (claim h m.resume x) v else v
@@ -71,7 +71,7 @@ unless_on link v = if is_on v link then None else v
 abbrev pub let_go_at : Bool → Bool → Bool → Option ℕ → Option Claim → Option Claim
 let_go_at here own among link v = if here then (if own then (if among then unless_on link v else v) else v) else v
 
--- what a disposition does that comes from an end of this role
+-- what a disposition does if it comes from an end with this role
 abbrev pub settled_by_role : Role → Role → Disposition → ℕ → Option Claim → Option Claim
 settled_by_role Sender Sender x id v = if x.settled && in_range x.first (last_of x) id then None else v
 settled_by_role Receiver Receiver x id v = if x.settled && in_range x.first (last_of x) id then None else v
@@ -80,13 +80,13 @@ settled_by_role _ _ x id v = v
 abbrev pub settled_at : Role → Disposition → ℕ → Option Claim → Option Claim
 settled_at r x id v = settled_by_role r x.role x id v
 
--- what a performative of the peer does, on the link that it finds
+-- what a performative of the peer does, on the link that it names
 abbrev pub heard_claim : Perf → Option Receiving → ℕ → Option Claim → Option Claim
 heard_claim (perf.Transfer x) found id v = claimed_at x found id v
 heard_claim (perf.Disposition x) found id v = settled_at Sender x id v
 heard_claim _ found id v = v
 
--- the link on which the peer sends that a transfer of it finds
+-- the link on which the peer is the sender and that its transfer names
 abbrev pub middle_of : List Frame → Option Middle
 middle_of [] = None
 middle_of (f ∷ fs) = Some (record { id = (delivery f fs).id; resume = (delivery f fs).resume })

@@ -1,4 +1,4 @@
--- What is found of the deliveries that pass a test: the first of them, and how many they are.
+-- What is found among the deliveries that pass a test: the first of them, and how many they are.
 use Rattle.std.specs.Prelude.{◌≡◌, ◌≤◌, ◌+◌, ℕ, Bool, true, false, nat_lt, List, length, Option, Some, None}
 use Rattle.std.specs.List.Sorted.{IsStrictlySortedBy}
 use Rattle.std.specs.Ordering.{nat_cmp}
@@ -9,12 +9,12 @@ use Rattle.router_trace.specs.Trace.{Trace}
 use Rattle.router_trace.specs.Deliveries.{Delivery, bindings, delivery}
 use Rattle.router_trace.specs.Numbers.{count_below}
 
--- the lowest number that passes, where one does
+-- the lowest number that passes, if any does
 abbrev pub IsFirst : (ℕ → Bool) → Option ℕ → Type 0
 IsFirst passes None = (n : ℕ) → passes n ≡ false
 IsFirst passes (Some n) = (passes n ≡ true) × ((m : ℕ) → passes m ≡ true → n ≤ m)
 
--- so many numbers pass: those of a list that rises
+-- how many numbers pass: those of a rising list
 pub record IsCount (passes : ℕ → Bool) (count : ℕ) : Type 0 where
   pub numbers : List ℕ
   pub rise : IsStrictlySortedBy nat_cmp numbers
@@ -25,18 +25,18 @@ pub record IsCount (passes : ℕ → Bool) (count : ℕ) : Type 0 where
 abbrev pub count_deliveries : Trace → (Option Delivery → Bool) → ℕ
 count_deliveries t passes = count_below (bindings t + 1) (λ n. passes (delivery t n))
 
--- a number is above this one, or any where there is none
+-- a number is above this one, or there is none
 abbrev pub is_above : Option ℕ → ℕ → Bool
 is_above None n = true
 is_above (Some m) n = nat_lt m n
 
--- the lowest link above this one, or of all, that has numbers which pass
+-- the lowest link, above this one or of all, that has numbers which pass
 abbrev pub IsFirstLink : (ℕ → ℕ → Bool) → Option ℕ → Option ℕ → Type 0
 IsFirstLink passes above None = (k n : ℕ) → is_above above k ≡ true → passes k n ≡ false
 IsFirstLink passes above (Some k) =
     (is_above above k ≡ true) × ((n : ℕ) × (passes k n ≡ true)) × ((j n : ℕ) → is_above above j ≡ true → passes j n ≡ true → k ≤ j)
 
--- Numbers in order of their handles: those of a list by which each handle has the number that is known.
+-- Numbers in order of their handles: those of a list that gives each handle its number.
 pub record IsListed (known : ℕ → Option ℕ) (numbers : List ℕ) : Type 0 where
   pub entries : List (ℕ × ℕ)
   pub rise : IsStrictlySortedBy nat_cmp (keys_of entries)

@@ -1,4 +1,4 @@
--- When the table of deliveries is that which a trace gives.
+-- When the table of deliveries agrees with a trace.
 use Rattle.std.specs.Prelude.{◌≡◌, ℕ, Option, None, unwrap_or}
 use Rattle.std.specs.Ordering.{nat_cmp}
 use Rattle.std.specs.BTreeMap.{get}
@@ -16,27 +16,27 @@ use Rattle.router_deliveries.specs.Indexing.{Indexes, standing}
 use Rattle.router_deliveries.specs.Naming.{NamesFit}
 use Rattle.router_deliveries.specs.Places.{at, in_map}
 
--- the deliveries stand in the indexes
+-- the deliveries are in the indexes
 abbrev pub Indexed : Store → Type 0
 Indexed s = Indexes s.index (λ n. standing (get nat_cmp s.deliveries n))
 
--- the deliveries are those of the trace
+-- the deliveries agree with the trace
 pub record StoreFit (s : Store) (t : Trace) : Type 0 where
   pub deliveries : (n : ℕ) → get nat_cmp s.deliveries n ≡ delivery t n
   pub indexed : Indexed s
 
--- so are those of which more frames are to go
+-- so do those of which more frames remain to be sent
 pub record SendingFit (s : Sending) (t : Trace) : Type 0 where
   pub numbers : (c o h : ℕ) → at s.numbers c o h ≡ sending t c o h
 
--- and the ids that are given next
+-- and the next ids
 abbrev pub next_in : NextIds → ℕ → ℕ → ℕ
 next_in s c o = unwrap_or (in_map (get nat_cmp s.rows c) o) 0
 
 pub record NextIdsFit (s : NextIds) (t : Trace) : Type 0 where
   pub ids : (c o : ℕ) → next_in s c o ≡ next_id t c o
 
--- the table is that of the trace
+-- the table agrees with the trace
 pub record DeliveriesFit (s : Deliveries) (t : Trace) : Type 0 where
   pub bindings : s.bindings ≡ bindings t
   pub store : StoreFit s.store t
@@ -53,7 +53,7 @@ abbrev pub carried_by : Item → (ℕ → ℕ → Option ℕ) → Option ℕ
 carried_by (item.Frame sasl own body payload) known = carried_in body (known own)
 carried_by _ known = None
 
--- the channel of an item; 0 where it has none
+-- the channel of an item; 0 if it has none
 abbrev pub channel_of : Item → ℕ
 channel_of (item.Frame sasl channel body payload) = channel
 channel_of _ = 0

@@ -1,4 +1,4 @@
--- What a peer's disposition does to deliveries, on a session of the router.
+-- How a peer's disposition changes deliveries, on a session of the router.
 use Rattle.std.specs.Prelude.{ℕ, Bool, false, ◌&&◌, if◌then◌else◌, Option, Some, None}
 use Rattle.amqp_perf.specs.declared.perf.Disposition.{Disposition}
 use Rattle.amqp_perf.specs.declared.perf.Perf.{Perf}
@@ -30,12 +30,12 @@ abbrev pub heard_change : ℕ → Option ℕ → Item → Option Change
 heard_change c own (item.Frame sasl channel body payload) = if sasl then None else heard_in_change c own body
 heard_change c own _ = None
 
--- a delivery has an id of a range, and this id names it
+-- a delivery has an id in a range, and this id names it
 abbrev pub is_named_in : ℕ → ℕ → (ℕ → Option ℕ) → ℕ → Option Delivery → Bool
 is_named_in first last names n None = false
 is_named_in first last names n (Some d) = is_in d.id first last && is_named d.id names n
 
--- what is done to a delivery: a decision only to one that an id names
+-- how a change changes a delivery: a decision applies only to one that an id names
 abbrev pub done_to : Change → (ℕ → ℕ → ℕ → Option ℕ) → ℕ → Option Delivery → Option Delivery
 done_to (change.Decided c own first last made) names n v =
     if is_named_in first last (names c own) n v then behind (change.Decided c own first last made) v else v

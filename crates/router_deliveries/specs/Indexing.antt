@@ -1,4 +1,4 @@
--- Deliveries found by what is asked of them: the indexes of a table.
+-- The indexes of a table of deliveries.
 use Rattle.std.specs.Prelude.{◌≡◌, ℕ, Bool, false, not, ◌&&◌, ◌||◌, if◌then◌else◌, is_none, is_some, Option, Some, None}
 use Rattle.std.specs.Ordering.{nat_cmp}
 use Rattle.std.specs.BTreeMap.{get}
@@ -17,11 +17,11 @@ abbrev pub in_set : Option (BTreeSet ℕ) → ℕ → Bool
 in_set None n = false
 in_set (Some s) n = contains nat_cmp s n
 
--- a number is one of a link's
+-- a number belongs to a link
 abbrev pub in_group : Groups → ℕ → ℕ → Bool
 in_group g k n = in_set (get nat_cmp g.sets k) n
 
--- where a delivery stands in the indexes
+-- the entries of a delivery in the indexes
 abbrev pub on_link : ℕ → Bool → Option ℕ
 on_link link holds = if holds then Some link else None
 
@@ -48,7 +48,7 @@ abbrev pub standing : Option Delivery → Keys
 standing None = nowhere
 standing (Some d) = keys d
 
--- each number stands where it should
+-- each number has the entries that it should have
 pub record Indexes (s : Index) (known : ℕ → Keys) : Type 0 where
   pub waiting : (k n : ℕ) → in_group s.waiting k n ≡ is_number (known n).waiting k
   pub unsent : (k n : ℕ) → in_group s.unsent k n ≡ is_number (known n).unsent k
@@ -59,7 +59,7 @@ pub record Indexes (s : Index) (known : ℕ → Keys) : Type 0 where
   pub from : SpotsFit s.from (λ n. (known n).from)
   pub by_id : SpotsFit s.by_id (λ n. (known n).by_id)
 
--- a change may change a delivery that stands there
+-- a change may change a delivery with these entries
 abbrev pub concerns : Change → Keys → Bool
 concerns (change.Ends g) k = is_gone_there g k.on || is_gone_there g k.from
 concerns (change.Untold c o first last) k = is_id_there c o first last k.by_id

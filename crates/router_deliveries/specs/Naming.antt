@@ -1,4 +1,4 @@
--- The deliveries that ids name, as a table has them: it may have forgotten the name of one that isn't undecided.
+-- The deliveries that ids name, as a table has them: the table may forget the name of one that isn't undecided.
 use Rattle.std.specs.Prelude.{◌≡◌, ◌<◌, ◌≤◌, ◌^◌, ℕ, Bool, false, not, ◌&&◌, nat_le, if◌then◌else◌, Option, Some, None}
 use Rattle.amqp_perf.specs.declared.perf.Perf.{Perf}
 use Rattle.amqp_perf.specs.declared.perf.Perf.TheVariants as perf
@@ -23,7 +23,7 @@ abbrev pub MayBeForgotten : Trace → Option ℕ → Type 0
 MayBeForgotten t None = Unit {0}
 MayBeForgotten t (Some n) = (n ≤ bindings t) × (is_open (delivery t n) ≡ false)
 
--- what a table has, and what an id names
+-- the table's entry, and the delivery that the id names
 abbrev pub Remembers : Trace → Option ℕ → Option ℕ → Type 0
 Remembers t (Some n) named = named ≡ Some n
 Remembers t None named = MayBeForgotten t named
@@ -40,12 +40,12 @@ pub record NamesFit (s : Names) (t : Trace) : Type 0 where
   pub names : (c o id : ℕ) → Remembers t (at_id s.ids c o id) (named t c o id)
   pub small : AreSmall (at_id s.ids)
 
--- a name that is kept: that of a delivery which is undecided, or wasn't bound yet
+-- a name that is kept: its delivery is undecided, or wasn't bound yet
 abbrev pub kept_name : Option ℕ → ℕ → (ℕ → Option Delivery) → Option ℕ
 kept_name None b known = None
 kept_name (Some n) b known = if nat_le n b && not (is_open (known n)) then None else Some n
 
--- the range of the ids that a disposition names, and the session on which the router detaches a link
+-- the range of ids in a disposition, and the session on which the router detaches a link
 abbrev pub decided_in_body : Perf → Option (ℕ × ℕ)
 decided_in_body (perf.Disposition x) = Some (x.first, last_of x)
 decided_in_body _ = None
@@ -62,7 +62,7 @@ abbrev pub detached_in : Item → Option ℕ
 detached_in (item.Frame sasl own body payload) = detached_in_body body own
 detached_in _ = None
 
--- a delivery that stands there is on a link that an item of the router detaches, or comes from there
+-- a delivery with these entries is on a link that an item of the router detaches, or comes from such a link
 abbrev pub is_detached_in : Perf → ℕ → ℕ → Keys → Bool
 is_detached_in (perf.Detach x) c own k = concerns (change.Ends (gone.Link c own x.handle)) k
 is_detached_in _ c own k = false

@@ -1,4 +1,4 @@
--- Deliveries by their places on sessions: by handle, or by delivery-id.
+-- Deliveries by place on a session: by handle, or by delivery-id.
 use Rattle.std.specs.Prelude.{◌≡◌, ◌<◌, ◌≤◌, ◌^◌, ℕ, Bool, true, false, ◌==◌, ◌&&◌, if◌then◌else◌, Option, Some, None, List, map}
 use Rattle.std.specs.Ordering.{nat_cmp, ordering_then}
 use Rattle.std.specs.declared.cmp.Ordering.{Ordering}
@@ -11,7 +11,7 @@ use Rattle.router_deliveries.specs.declared.change.Gone.TheVariants as gone
 use Rattle.router_deliveries.specs.declared.spots.Spot.{Spot}
 use Rattle.router_deliveries.specs.declared.spots.Spots.{Spots}
 
--- a place, and a number behind it; in order of the connections, sessions, handles or ids, and numbers
+-- a place, then a number; ordered by connection, session, handle or id, and number
 abbrev pub Key : Type 0
 Key = ℕ × ℕ × ℕ × ℕ
 
@@ -24,7 +24,7 @@ numbers_of ks = map (λ (k : Key). k.3) ks
 abbrev pub key : Spot → ℕ → Key
 key p n = (p.conn, p.own, p.at, n)
 
--- a number stands at a place
+-- a number is at a place
 abbrev pub stands : Spots → Spot → ℕ → Bool
 stands s p n = contains key_cmp s.keys (key p n)
 
@@ -46,12 +46,12 @@ pub record IsSmallKey (k : Key) : Type 0 where
   pub at : k.2 < 2 ^ 32
   pub number : k.3 < 2 ^ 64
 
--- each number stands at the place that is known, and nowhere else
+-- each number is at its known place, and nowhere else
 pub record SpotsFit (s : Spots) (known : ℕ → Option Spot) : Type 0 where
   pub stand : (p : Spot) (n : ℕ) → stands s p n ≡ is_spot (known n) p
   pub small : (p : Spot) (n : ℕ) → stands s p n ≡ true → IsSmall p n
 
--- a place lies between two others
+-- a place is between two others
 pub record IsWithin (low high p : Spot) : Type 0 where
   pub conn_from : low.conn ≤ p.conn
   pub conn_to : p.conn ≤ high.conn
@@ -75,7 +75,7 @@ abbrev pub id_spot : Option Origin → Option Spot
 id_spot None = None
 id_spot (Some p) = Some (record { conn = p.link.conn.0; own = p.link.channel; at = p.id })
 
--- a place is that of a link which ends
+-- a place is that of a link that ends
 abbrev pub is_gone_at : Gone → Spot → Bool
 is_gone_at (gone.Link c o h) p = (p.conn == c) && ((o == p.own) && (h == p.at))
 is_gone_at (gone.Session c o) p = (p.conn == c) && (o == p.own)
@@ -85,7 +85,7 @@ abbrev pub is_gone_there : Gone → Option Spot → Bool
 is_gone_there g None = false
 is_gone_there g (Some p) = is_gone_at g p
 
--- a place is that of an id of this range, on a session
+-- a place is that of an id in this range, on a session
 abbrev pub is_id_at : ℕ → ℕ → ℕ → ℕ → Spot → Bool
 is_id_at c o first last p = ((p.conn == c) && (p.own == o)) && in_range first last p.at
 

@@ -1,4 +1,4 @@
--- What ends and dispositions do to a delivery.
+-- How ending links and dispositions change a delivery.
 use Rattle.std.specs.Prelude.{◌≡◌, ℕ, Bool, false, ◌&&◌, ◌==◌, if◌then◌else◌, Option, Some, None, option_and_then}
 use Rattle.amqp_session.specs.Ranges.{in_range}
 use Rattle.amqp_perf.specs.declared.perf.Disposition.{Disposition}
@@ -23,12 +23,12 @@ is_gone (gone.Connection c) a = a.conn.0 == c
 abbrev pub is_gone_from : Gone → Option Origin → Bool
 is_gone_from g origin = is_gone_with (is_gone g) origin
 
--- a producer gave a delivery an id of this range, on a session
+-- a producer gave a delivery an id in this range, on a session
 abbrev pub comes_with_id : Option Origin → ℕ → ℕ → ℕ → ℕ → Bool
 comes_with_id None c o first last = false
 comes_with_id (Some p) c o first last = stands_on p.link c o && in_range first last p.id
 
--- a delivery is undecided, and the router gave it an id of this range, on a session
+-- a delivery is undecided, and the router gave it an id in this range, on a session
 abbrev pub is_in : Option ℕ → ℕ → ℕ → Bool
 is_in None first last = false
 is_in (Some id) first last = in_range first last id
@@ -41,7 +41,7 @@ changed (change.Ends g) d = behind_ends (is_gone g) d
 changed (change.Untold c o first last) d = if comes_with_id d.origin c o first last then untold d else d
 changed (change.Decided c o first last made) d = if is_decided_by d c o first last then record d { outcome = Some made } else d
 
--- what is done to deliveries at once by a disposition that settles, and by what the router puts out
+-- the immediate change to deliveries by a disposition that settles, and by what the router puts out
 abbrev pub untold_by : ℕ → ℕ → Disposition → Option Change
 untold_by c own x = if x.settled then Some (change.Untold c own x.first (last_of x)) else None
 
@@ -56,7 +56,7 @@ put_change c own (perf.End x) = Some (change.Ends (gone.Session c own))
 put_change c own (perf.Close x) = Some (change.Ends (gone.Connection c))
 put_change c own _ = None
 
--- the same of a delivery that there may be, and that is gone once it is over
+-- the same of a delivery that may exist, and that is removed once it is over
 abbrev pub step : Change → Delivery → Option Delivery
 step x d = unless_over (changed x d)
 

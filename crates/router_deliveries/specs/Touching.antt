@@ -16,19 +16,19 @@ is_touched_in s k = contains nat_cmp s.links k
 abbrev pub is_touched : Deliveries → ℕ → Bool
 is_touched s k = is_touched_in s.store.touched k
 
--- what is asked of a delivery on a link is the same
+-- the tests of a delivery on a link have the same results
 pub record IsSameOn (k : ℕ) (v w : Option Delivery) : Type 0 where
   pub waits : waits_on k v ≡ waits_on k w
   pub undecided : undecided_on k v ≡ undecided_on k w
   pub held : held_from k v ≡ held_from k w
 
--- it stands at the same places of the link
+-- it has the same entries on the link
 pub record StandsSame (k : ℕ) (a b : Keys) : Type 0 where
   pub waiting : is_number a.waiting k ≡ is_number b.waiting k
   pub undecided : is_number a.undecided k ≡ is_number b.undecided k
   pub held : is_number a.held k ≡ is_number b.held k
 
--- the links that are not touched have not changed, and were not touched before
+-- the links that are not touched have not changed and were not touched before
 pub record StoreTouches (old new : Store) : Type 0 where
   pub before : (k : ℕ) → is_touched_in new.touched k ≡ false → is_touched_in old.touched k ≡ false
   pub same : (k n : ℕ) → is_touched_in new.touched k ≡ false → IsSameOn k (get nat_cmp old.deliveries n) (get nat_cmp new.deliveries n)

@@ -22,7 +22,7 @@ pub(crate) struct ByHandle<V> {
 }
 
 impl<V: Drop> ByHandle<V> {
-    /// No values.
+    /// An empty table.
     pub(crate) fn new(alloc: Global) -> ByHandle<V>
         ensures { (c o h : ℕ) → at result c o h ≡ None }
     {
@@ -55,7 +55,7 @@ impl<V: Drop> ByHandle<V> {
         }
     }
 
-    /// Puts a value at a place, for the one that stood there.
+    /// Puts a value at a place and replaces the one there.
     pub(crate) fn insert(
         &mut self,
         conn: u64,
@@ -78,7 +78,7 @@ impl<V: Drop> ByHandle<V> {
         }
     }
 
-    /// Takes the value at a place away.
+    /// Removes the value at a place.
     pub(crate) fn remove(&mut self, conn: u64, own: u16, handle: u32) -> Option<V>
         ensures gives { result ≡ at self.old conn own handle }
         ensures gone { (c o h : ℕ) → at self.new c o h
@@ -90,7 +90,7 @@ impl<V: Drop> ByHandle<V> {
         }
     }
 
-    /// Takes all values of a session away.
+    /// Removes all values of a session.
     pub(crate) fn end(&mut self, conn: u64, own: u16) -> Option<InSession<V>>
         ensures { (c o h : ℕ) → at self.new c o h ≡ (if conn == c then (if own == o then None else at self.old c o h) else at self.old c o h) }
     {
@@ -100,7 +100,7 @@ impl<V: Drop> ByHandle<V> {
         }
     }
 
-    /// Takes all values of a connection away.
+    /// Removes all values of a connection.
     pub(crate) fn forget(&mut self, conn: u64) -> Option<InConnection<V>>
         ensures { (c o h : ℕ) → at self.new c o h ≡ (if conn == c then None else at self.old c o h) }
     {
@@ -140,7 +140,7 @@ fn put<V: Drop>(handles: &mut InSession<V>, handle: u32, value: V) -> Result<(),
     }
 }
 
-/// Takes the value at a handle of a session away.
+/// Removes the value at a handle of a session.
 fn remove_in<V: Drop>(sessions: &mut InConnection<V>, own: u16, handle: u32) -> Option<V>
     ensures gives { result ≡ in_map (get nat_cmp sessions.old own) handle }
     ensures gone { (o h : ℕ) → in_map (get nat_cmp sessions.new o) h

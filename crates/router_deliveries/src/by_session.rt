@@ -18,7 +18,7 @@ pub(crate) struct BySession<V> {
 }
 
 impl<V: Drop> BySession<V> {
-    /// No values.
+    /// An empty table.
     pub(crate) fn new(alloc: Global) -> BySession<V>
         ensures { (c o id : ℕ) → at_id result c o id ≡ None }
     {
@@ -45,7 +45,7 @@ impl<V: Drop> BySession<V> {
         }
     }
 
-    /// The ids of the values that a disposition's range has, in its order (AMQP 1.0 part 2, section 2.7.6).
+    /// The ids in a disposition's range that have a value, in the range's order (AMQP 1.0 part 2, section 2.7.6).
     pub(crate) fn in_range(
         &self,
         conn: u64,
@@ -62,7 +62,7 @@ impl<V: Drop> BySession<V> {
         }
     }
 
-    /// Gives an id this value, for the one that it had.
+    /// Gives an id this value and replaces the one that it had.
     pub(crate) fn insert(
         &mut self,
         conn: u64,
@@ -85,7 +85,7 @@ impl<V: Drop> BySession<V> {
         }
     }
 
-    /// Takes the value of an id away.
+    /// Removes the value of an id.
     pub(crate) fn remove(&mut self, conn: u64, own: u16, id: u32)
         ensures { (c o q : ℕ) → at_id self.new c o q
             ≡ (if conn == c then (if own == o then (if id == q then None else at_id self.old c o q) else at_id self.old c o q) else at_id self.old c o q) }
@@ -95,7 +95,7 @@ impl<V: Drop> BySession<V> {
         }
     }
 
-    /// Takes all values of a session away.
+    /// Removes all values of a session.
     pub(crate) fn end(&mut self, conn: u64, own: u16)
         ensures { (c o q : ℕ) → at_id self.new c o q ≡ (if conn == c then (if own == o then None else at_id self.old c o q) else at_id self.old c o q) }
     {
@@ -104,7 +104,7 @@ impl<V: Drop> BySession<V> {
         }
     }
 
-    /// Takes all values of a connection away.
+    /// Removes all values of a connection.
     pub(crate) fn forget(&mut self, conn: u64)
         ensures { (c o q : ℕ) → at_id self.new c o q ≡ (if conn == c then None else at_id self.old c o q) }
     {
@@ -112,7 +112,7 @@ impl<V: Drop> BySession<V> {
     }
 }
 
-/// Gives an id of a session this value.
+/// Gives an id of a session this value, instead of any that it had.
 fn insert_in<V: Drop>(
     alloc: Global,
     sessions: &mut BTreeMap<u16, DeliveryIds<V>>,
@@ -134,7 +134,7 @@ fn insert_in<V: Drop>(
     }
 }
 
-/// Gives an id this value.
+/// Gives an id this value, instead of any that it had.
 fn put<V: Drop>(ids: &mut DeliveryIds<V>, id: u32, value: V) -> Result<(), AllocError>
     ensures { OnOk result ((q : ℕ) → get nat_cmp ids.new.deliveries q ≡ (if id == q then Some value else get nat_cmp ids.old.deliveries q)) }
 {
@@ -144,7 +144,7 @@ fn put<V: Drop>(ids: &mut DeliveryIds<V>, id: u32, value: V) -> Result<(), Alloc
     }
 }
 
-/// Takes the value of an id of a session away.
+/// Removes the value of an id of a session.
 fn remove_in<V: Drop>(sessions: &mut BTreeMap<u16, DeliveryIds<V>>, own: u16, id: u32)
     ensures { (o q : ℕ) → in_ids (get nat_cmp sessions.new o) q
         ≡ (if own == o then (if id == q then None else in_ids (get nat_cmp sessions.old o) q) else in_ids (get nat_cmp sessions.old o) q) }

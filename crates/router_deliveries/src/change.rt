@@ -1,4 +1,4 @@
-//! What ends and dispositions do to deliveries.
+//! How ending links and dispositions change deliveries.
 ghost use Rattle.std.specs.Prelude.{◌≡◌, IfOk};
 ghost use Rattle.amqp_session.specs.Ranges.{in_range};
 ghost use Rattle.router_deliveries.specs.Hearing.{heard_change, heard_in_change, disposed_change, decided_by};
@@ -11,7 +11,7 @@ use amqp_session::Serial;
 use router_trace::{Attachment, Origin};
 use std::alloc::AllocError;
 
-/// Links that end, by their place.
+/// The links that end, by their place.
 #[derive(Clone, Copy, Debug, PartialEq, Eq)]
 pub enum Gone {
     /// The link on a handle of the router.
@@ -34,12 +34,13 @@ pub enum Gone {
     Connection(u64),
 }
 
-/// What is done to deliveries at once.
+/// A change to deliveries.
 #[derive(Debug, Drop)]
 pub enum Change {
     /// Links end.
     Ends(Gone),
-    /// Producers need no answer any more, those of a session that gave ids of this range (AMQP 1.0 part 2, section 2.7.6).
+    /// Deliveries whose producer needs no outcome any more: on this session, with ids from the producer in this range (AMQP 1.0 part 2, section
+    /// 2.7.6).
     Untold {
         /// The connection.
         conn: u64,
@@ -50,7 +51,7 @@ pub enum Change {
         /// The last one.
         last: u32,
     },
-    /// A consumer decides deliveries, those of a session to which the router gave ids of this range (AMQP 1.0 part 2, section 2.7.6).
+    /// Deliveries that a consumer decides: on this session, with ids from the router in this range (AMQP 1.0 part 2, section 2.7.6).
     Decided {
         /// The connection.
         conn: u64,
@@ -79,7 +80,7 @@ impl Gone {
         }
     }
 
-    /// Whether the link of a producer ends.
+    /// Whether the producer's link ends.
     pub(crate) fn has_origin(self, origin: Option<Origin>) -> bool
         ensures { result ≡ is_gone_from self origin }
     {
@@ -90,7 +91,7 @@ impl Gone {
     }
 }
 
-/// What the router's performative on a channel of its own does to deliveries at once.
+/// The immediate change to deliveries when the router sends a performative on its channel `own`.
 pub(crate) fn behind_put(conn: u64, own: u16, perf: &Perf) -> Option<Change>
     ensures { result ≡ put_change conn own perf.now }
 {
@@ -110,7 +111,7 @@ pub(crate) fn behind_put(conn: u64, own: u16, perf: &Perf) -> Option<Change>
     }
 }
 
-/// The producers that need no answer any more behind a disposition on a session, where it settles.
+/// The deliveries on a session whose producers need no outcome any more after a disposition, if it settles.
 pub(crate) fn untold_by(conn: u64, own: u16, disposition: &Disposition) -> Option<Change>
     ensures { result ≡ untold_by conn own disposition.now }
 {
@@ -125,7 +126,7 @@ pub(crate) fn untold_by(conn: u64, own: u16, disposition: &Disposition) -> Optio
     })
 }
 
-/// What the peer's item does to deliveries at once, on the session on this channel of the router, where there is one.
+/// The immediate change to deliveries by an item of the peer, on the session with the router's channel `own`, if there is one.
 pub(crate) fn behind_heard(
     conn: u64,
     own: Option<u16>,
@@ -144,7 +145,7 @@ pub(crate) fn behind_heard(
     }
 }
 
-/// What the peer's performative does to deliveries at once.
+/// The immediate change to deliveries by a performative of the peer.
 fn behind_perf(conn: u64, own: Option<u16>, perf: &Perf) -> Result<Option<Change>, AllocError>
     ensures { IfOk result (λ change. change ≡ heard_in_change conn own perf.now) }
 {
@@ -154,7 +155,7 @@ fn behind_perf(conn: u64, own: Option<u16>, perf: &Perf) -> Result<Option<Change
     }
 }
 
-/// What the peer's disposition does to deliveries.
+/// The change to deliveries by a disposition of the peer.
 fn disposed(
     conn: u64,
     own: Option<u16>,
@@ -171,7 +172,7 @@ fn disposed(
     }
 }
 
-/// The deliveries that a disposition decides, where it tells an outcome.
+/// The deliveries that a disposition decides, if it has an outcome.
 fn decided_by(
     conn: u64,
     own: u16,
@@ -192,7 +193,7 @@ fn decided_by(
     }
 }
 
-/// Whether a producer gave a delivery an id of this range, on a session.
+/// Whether a producer gave a delivery an id in this range, on a session.
 pub(crate) fn comes_with_id(
     origin: Option<Origin>,
     conn: u64,
@@ -212,7 +213,7 @@ pub(crate) fn comes_with_id(
     }
 }
 
-/// Whether an id is one of a disposition's range (AMQP 1.0 part 2, section 2.7.6).
+/// Whether an id is in a disposition's range (AMQP 1.0 part 2, section 2.7.6).
 pub(crate) fn in_range(first: u32, last: u32, id: u32) -> bool
     ensures { result ≡ in_range first last id }
 {
@@ -221,7 +222,7 @@ pub(crate) fn in_range(first: u32, last: u32, id: u32) -> bool
     reach < 0x8000_0000 && first.distance_to(Serial::new(id)) <= reach
 }
 
-/// Whether a delivery has an id of a disposition's range.
+/// Whether a delivery has an id in a disposition's range.
 pub(crate) fn is_in(id: Option<u32>, first: u32, last: u32) -> bool
     ensures { result ≡ is_in id first last }
 {

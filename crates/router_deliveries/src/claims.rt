@@ -1,4 +1,4 @@
-//! The deliveries that peers have not settled, by their delivery-ids.
+//! The deliveries that peers have not settled, by delivery-id.
 ghost use Rattle.std.specs.Prelude.{◌≡◌, ◌==◌, ◌∷◌, List, ℕ, Some, None, true, if◌then◌else◌, OnOk};
 ghost use Rattle.std.specs.Option.{option_map};
 ghost use Rattle.route_table.specs.Places.{Routing};
@@ -28,7 +28,7 @@ use std::marker::Model;
 pub struct Claim {
     /// The router's handle of its link.
     pub handle: u32,
-    /// Whether it was ignored: a resumed one that the router doesn't know.
+    /// Whether it was ignored: it is resumed, but the router doesn't know it.
     pub ignored: bool,
 }
 
@@ -40,27 +40,27 @@ impl Model for Claim {
     ghost view = { λ c. record { handle = c.handle; ignored = c.ignored } };
 }
 
-/// The delivery in the middle on a link, of which more frames are to come.
+/// The delivery in the middle on a link: more frames of it are to come.
 #[derive(Clone, Copy, Debug, PartialEq, Eq)]
 pub struct Middle {
     /// Its delivery-id.
     pub id: Option<u32>,
-    /// Whether it goes on where it was.
+    /// Whether it is a resumed one.
     pub resume: bool,
 }
 
-/// A link on which a peer sends, as a transfer of it finds it.
+/// A link on which a peer is the sender, as a transfer finds it.
 #[derive(Clone, Copy, Debug, PartialEq, Eq)]
 pub struct Receiving {
     /// The router's handle.
     pub handle: u32,
     /// The delivery in the middle.
     pub middle: Option<Middle>,
-    /// Whether a delivery that begins is beyond the credit.
+    /// Whether a delivery that begins now is beyond the credit.
     pub beyond: bool,
 }
 
-/// The deliveries that peers have not settled. Behind an error nothing can be said of the table.
+/// The deliveries that peers have not settled. After an error the table's contents are unspecified.
 #[derive(Debug, Drop)]
 pub struct Claims {
     ids: BySession<Claim>,
@@ -68,7 +68,7 @@ pub struct Claims {
 }
 
 impl Claims {
-    /// None.
+    /// An empty table.
     pub fn new(alloc: Global) -> Claims
         ensures { (g : Routing) → ClaimsFit result (configured g) }
     {
@@ -78,28 +78,28 @@ impl Claims {
         }
     }
 
-    /// The claim of a peer to a delivery-id.
+    /// A peer's claim to a delivery-id.
     pub fn get(&self, conn: u64, own: u16, id: u32) -> Option<&Claim>
         ensures { (t : List Entry) → ClaimsFit self.now t → option_map (λ c. c.now) result ≡ claims t conn own id }
     {
         self.ids.get(conn, own, id)
     }
 
-    /// Whether a peer has not settled the delivery of an id of its own.
+    /// Whether a peer has not settled the delivery with this id of its own.
     pub fn is_claimed(&self, conn: u64, own: u16, id: u32) -> bool
         ensures { (t : List Entry) → ClaimsFit self.now t → result ≡ is_claimed t conn own id }
     {
         self.ids.get(conn, own, id).is_some()
     }
 
-    /// Whether a peer has not settled the delivery of an id of its own, of the link on a handle of the router's.
+    /// Whether a peer has not settled the delivery with this id of its own, on the link at a handle of the router.
     pub fn is_claimed_on(&self, conn: u64, own: u16, handle: u32, id: u32) -> bool
         ensures { (t : List Entry) → ClaimsFit self.now t → result ≡ is_claimed_on t conn own handle id }
     {
         is_on(self.ids.get(conn, own, id), Some(handle))
     }
 
-    /// How many deliveries of the link on a handle of the router's a peer has not settled that the router ignored.
+    /// How many deliveries that the router ignored are unsettled by the peer, on the link at a handle of the router.
     pub fn ignored(&self, conn: u64, own: u16, handle: u32) -> usize
         ensures { (t : List Entry) → ClaimsFit self.now t → result ≡ ignored t conn own handle }
     {
@@ -113,8 +113,8 @@ impl Claims {
         self.forget(conn.0);
     }
 
-    /// An item came on a connection, on the session on this channel of the router, where its channel has one; a transfer finds this
-    /// link there, where its handle stands for one on which the peer sends.
+    /// An item was received on a connection; `own` is the router's channel of its session, if its channel has one, and `found` the link that a
+    /// transfer names, if its handle stands for one on which the peer is the sender.
     pub fn hear(
         &mut self,
         conn: ConnectionId,
@@ -137,7 +137,7 @@ impl Claims {
         Ok(())
     }
 
-    /// A performative came on a connection.
+    /// A performative was received on a connection.
     fn hear_perf(
         &mut self,
         conn: u64,
@@ -167,7 +167,7 @@ impl Claims {
         Ok(())
     }
 
-    /// An item is put in the outbox of a connection.
+    /// An item is put into the outbox of a connection.
     pub fn put(&mut self, conn: u64, item: &Item) -> Result<(), AllocError>
         ensures { OnOk result ((t : List Entry) → ClaimsFit self.old t → ClaimsFit self.new (Out conn item.now ∷ t)) }
     {
@@ -178,7 +178,7 @@ impl Claims {
         Ok(())
     }
 
-    /// A performative is put in the outbox of a connection, on a channel of the router.
+    /// A performative is put into the outbox of a connection, on a channel of the router.
     fn put_perf(&mut self, conn: u64, own: u16, perf: &Perf) -> Result<(), AllocError>
         ensures claims { OnOk result (AreSmall (at_id self.old.ids) → (c o q : ℕ) → at_id self.new.ids c o q
             ≡ (if conn == c then claim_behind_in perf.now own o q (at_id self.old.ids c o q) else at_id self.old.ids c o q)) }
@@ -197,7 +197,7 @@ impl Claims {
         Ok(())
     }
 
-    /// A disposition settles deliveries of a peer, where it comes from an end of this role.
+    /// A disposition settles deliveries of a peer, if it comes from an end with this role.
     fn settle(
         &mut self,
         role: Role,
@@ -218,7 +218,7 @@ impl Claims {
         Ok(())
     }
 
-    /// The router detaches a link: the claims on it end.
+    /// The router detaches a link: the claims on it are removed.
     fn detach(&mut self, conn: u64, own: u16, link: u32) -> Result<(), AllocError>
         ensures claims { OnOk result (AreSmall (at_id self.old.ids) → (c o q : ℕ) → at_id self.new.ids c o q ≡ let_go_at (conn == c) (own == o) true (Some link) (at_id self.old.ids c o q)) }
         ensures small { OnOk result (AreSmall (at_id self.old.ids) → AreSmall (at_id self.new.ids)) }
@@ -229,7 +229,7 @@ impl Claims {
         Ok(())
     }
 
-    /// The transfer of a peer on a link on which it sends.
+    /// A peer's transfer, on a link on which the peer is the sender.
     fn hear_transfer(
         &mut self,
         conn: u64,
@@ -268,7 +268,7 @@ impl Claims {
         Ok(())
     }
 
-    /// Lets go of the claims to the ids of a range on a session: of those on this link of the router, or of all.
+    /// Frees the ids of a range on a session: those claimed on this link of the router, or all.
     fn let_go(
         &mut self,
         conn: u64,
@@ -289,7 +289,7 @@ impl Claims {
         Ok(())
     }
 
-    /// Lets go of the claim to an id, where it is on this link of the router, or on any.
+    /// Frees an id if it is claimed on this link of the router, or on any.
     fn let_go_one(&mut self, conn: u64, own: u16, id: u32, link: Option<u32>)
         ensures claims { (c o q : ℕ) → at_id self.new.ids c o q ≡ let_go_at (conn == c) (own == o) (id == q) link (at_id self.old.ids c o q) }
         ensures marked { AreMarked self.old → AreMarked self.new }
@@ -299,7 +299,7 @@ impl Claims {
         }
     }
 
-    /// The claims on a session end.
+    /// Removes the claims on a session.
     fn end(&mut self, conn: u64, own: u16)
         ensures claims { (c o q : ℕ) → at_id self.new.ids c o q ≡ (if conn == c then (if own == o then None else at_id self.old.ids c o q) else at_id self.old.ids c o q) }
         ensures marked { AreMarked self.old → AreMarked self.new }
@@ -308,7 +308,7 @@ impl Claims {
         self.ignored.end(conn, own);
     }
 
-    /// The claims on a connection end.
+    /// Removes the claims on a connection.
     fn forget(&mut self, conn: u64)
         ensures claims { (c o q : ℕ) → at_id self.new.ids c o q ≡ (if conn == c then None else at_id self.old.ids c o q) }
         ensures marked { AreMarked self.old → AreMarked self.new }
@@ -317,7 +317,7 @@ impl Claims {
         self.ignored.forget(conn);
     }
 
-    /// Takes the claim to an id away.
+    /// Removes the claim to an id.
     fn clear(&mut self, conn: u64, own: u16, id: u32)
         ensures claims { (c o q : ℕ) → at_id self.new.ids c o q
             ≡ (if conn == c then (if own == o then (if id == q then None else at_id self.old.ids c o q) else at_id self.old.ids c o q) else at_id self.old.ids c o q) }
@@ -328,7 +328,7 @@ impl Claims {
         self.ids.remove(conn, own, id);
     }
 
-    /// Gives an id this claim, for the one that it had.
+    /// Gives an id this claim and replaces the one that it had.
     fn put_claim(&mut self, conn: u64, own: u16, id: u32, claim: Claim) -> Result<(), AllocError>
         ensures claims { OnOk result ((c o q : ℕ) → at_id self.new.ids c o q
             ≡ (if conn == c then (if own == o then (if id == q then Some claim else at_id self.old.ids c o q) else at_id self.old.ids c o q) else at_id self.old.ids c o q)) }
@@ -342,7 +342,7 @@ impl Claims {
         Ok(())
     }
 
-    /// Gives an id this claim, or none.
+    /// Gives an id this claim, or removes it.
     fn set(&mut self, conn: u64, own: u16, id: u32, claim: Option<Claim>) -> Result<(), AllocError>
         ensures claims { OnOk result ((c o q : ℕ) → at_id self.new.ids c o q
             ≡ (if conn == c then (if own == o then (if id == q then claim else at_id self.old.ids c o q) else at_id self.old.ids c o q) else at_id self.old.ids c o q)) }
@@ -357,7 +357,7 @@ impl Claims {
     }
 }
 
-/// What a transfer claims that begins a delivery or goes on with one.
+/// The claim by a transfer that begins or continues a delivery.
 fn claimed(handle: u32, resume: bool, transfer: &Transfer) -> Option<Claim>
     ensures { result ≡ claim handle resume transfer.now }
 {

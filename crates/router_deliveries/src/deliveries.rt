@@ -27,11 +27,11 @@ use amqp_frames::Item;
 use router_trace::{Binding, ConnectionId};
 use std::alloc::{AllocError, Global};
 
-/// The deliveries that the router passes on. Behind an error nothing can be said of the table.
+/// The deliveries that the router passes on. After an error the table's contents are unspecified.
 #[derive(Debug, Drop)]
 pub struct Deliveries {
     alloc: Global,
-    // so many messages were bound
+    // how many messages were bound
     bindings: u64,
     store: Store,
     sending: Sending,
@@ -40,7 +40,7 @@ pub struct Deliveries {
 }
 
 impl Deliveries {
-    /// No deliveries.
+    /// An empty table.
     pub fn new(alloc: Global) -> Deliveries
         ensures { (g : Routing) → DeliveriesFit result (configured g) }
     {
@@ -54,28 +54,28 @@ impl Deliveries {
         }
     }
 
-    /// The delivery of a number; none before it is bound, and once it is over.
+    /// The delivery with a number; none before it is bound, and once it is over.
     pub fn delivery(&self, number: u64) -> Option<&Delivery>
         ensures { (t : List Entry) → DeliveriesFit self.now t → option_map (λ d. d.now) result ≡ delivery t number }
     {
         self.store.get(number)
     }
 
-    /// The delivery-id that the router gives next on a session of its own: 0 behind its begin, one more behind each that it gave.
+    /// The next delivery-id that the router gives on a session: 0 after its begin, then one more than the last that it gave.
     pub fn next_id(&self, conn: u64, own: u16) -> u32
         ensures { (t : List Entry) → DeliveriesFit self.now t → result ≡ next_id t conn own }
     {
         self.next_ids.get(conn, own)
     }
 
-    /// The delivery of which more frames are to go on a handle of the router.
+    /// The delivery of which more frames remain to be sent on a handle of the router.
     pub fn sending(&self, conn: u64, own: u16, handle: u32) -> Option<u64>
         ensures { (t : List Entry) → DeliveriesFit self.now t → result ≡ sending t conn own handle }
     {
         self.sending.on(conn, own, handle)
     }
 
-    /// The first delivery, by number, that waits to start on the link of this number.
+    /// The first delivery, by number, that waits to start on the link with this number.
     pub fn next_waiting(&self, link: u64) -> Option<u64>
         ensures found { (t : List Entry) → DeliveriesFit self.now t → IsFirst (λ n. waits_on link (delivery t n)) result }
         ensures first { (t : List Entry) → DeliveriesFit self.now t → result ≡ first_delivery t (waits_on link) }
@@ -83,7 +83,7 @@ impl Deliveries {
         self.store.next_waiting(link)
     }
 
-    /// How many deliveries wait to start on the link of this number.
+    /// How many deliveries wait to start on the link with this number.
     pub fn waiting(&self, link: u64) -> usize
         ensures found { (t : List Entry) → DeliveriesFit self.now t → IsCount (λ n. waits_on link (delivery t n)) result }
         ensures count { (t : List Entry) → DeliveriesFit self.now t → result ≡ count_deliveries t (waits_on link) }
@@ -91,21 +91,21 @@ impl Deliveries {
         self.store.waiting(link)
     }
 
-    /// Whether frames of a delivery are still to go on the link of this number.
+    /// Whether frames of any delivery remain to be sent on the link with this number.
     pub fn has_unsent(&self, link: u64) -> bool
         ensures { (t : List Entry) → DeliveriesFit self.now t → result ≡ is_some (first_delivery t (is_unsent_on link)) }
     {
         self.store.first_unsent(link).is_some()
     }
 
-    /// The first delivery above a number, or of all, of which frames are still to go on the link of this number.
+    /// The first delivery, above a number or of all, of which frames remain to be sent on the link with this number.
     pub fn unsent_behind(&self, link: u64, number: Option<u64>) -> Option<u64>
         ensures { (t : List Entry) → DeliveriesFit self.now t → IsFirst (λ n. is_above number n && is_unsent_on link (delivery t n)) result }
     {
         self.store.unsent_behind(link, number.unwrap_or(0))
     }
 
-    /// The lowest number of a link above this one, or of all, on which frames of a delivery are still to go.
+    /// The lowest number of a link, above this one or of all, on which frames of a delivery remain to be sent.
     pub fn unsent_link_behind(&self, link: Option<u64>) -> Option<u64>
         ensures { (t : List Entry) → DeliveriesFit self.now t → IsFirst (λ k. is_above link k && is_some (first_delivery t (is_unsent_on k))) result }
     {
@@ -119,7 +119,7 @@ impl Deliveries {
         self.store.touched()
     }
 
-    /// Forgets that the deliveries of the link of this number may have changed.
+    /// Forgets that the deliveries of the link with this number may have changed.
     pub fn forget_touched(&mut self, link: u64)
         ensures fits { (t : List Entry) → DeliveriesFit self.old t → DeliveriesFit self.new t }
         ensures touched { (k : ℕ) → is_touched self.new k ≡ (if link == k then false else is_touched self.old k) }
@@ -128,7 +128,7 @@ impl Deliveries {
         self.store.forget_touched(link);
     }
 
-    /// How many deliveries are undecided on the consumer's link of this number.
+    /// How many deliveries are undecided on the consumer's link with this number.
     pub fn undecided(&self, link: u64) -> usize
         ensures found { (t : List Entry) → DeliveriesFit self.now t → IsCount (λ n. undecided_on link (delivery t n)) result }
         ensures count { (t : List Entry) → DeliveriesFit self.now t → result ≡ count_deliveries t (undecided_on link) }
@@ -136,7 +136,7 @@ impl Deliveries {
         self.store.undecided(link)
     }
 
-    /// How many deliveries are held, undecided, from the producer's link of this number.
+    /// How many deliveries are held, undecided, from the producer's link with this number.
     pub fn held(&self, link: u64) -> usize
         ensures found { (t : List Entry) → DeliveriesFit self.now t → IsCount (λ n. held_from link (delivery t n)) result }
         ensures count { (t : List Entry) → DeliveriesFit self.now t → result ≡ count_deliveries t (held_from link) }
@@ -144,7 +144,7 @@ impl Deliveries {
         self.store.held(link)
     }
 
-    /// The first delivery, by number, whose producer is to be told its outcome.
+    /// The first delivery, by number, whose outcome must be reported to its producer.
     pub fn first_to_tell(&self) -> Option<u64>
         ensures found { (t : List Entry) → DeliveriesFit self.now t → IsFirst (λ n. is_to_tell (delivery t n)) result }
         ensures first { (t : List Entry) → DeliveriesFit self.now t → result ≡ first_delivery t is_to_tell }
@@ -152,29 +152,29 @@ impl Deliveries {
         self.store.first_to_tell()
     }
 
-    /// The lowest number of a delivery above this one, or of all, whose producer is to be told its outcome.
+    /// The lowest number of a delivery, above this one or of all, whose outcome must be reported to its producer.
     pub fn to_tell_behind(&self, number: Option<u64>) -> Option<u64>
         ensures { (t : List Entry) → DeliveriesFit self.now t → IsFirst (λ n. is_above number n && is_to_tell (delivery t n)) result }
     {
         self.store.to_tell_behind(number)
     }
 
-    /// The number of the delivery that an id names on a session of the router's; none may be told where it isn't undecided.
+    /// The number of the delivery that an id of a router's session names; it may be missing if the delivery isn't undecided.
     pub fn named(&self, conn: u64, own: u16, id: u32) -> Option<u64>
         ensures { (t : List Entry) → DeliveriesFit self.now t → Remembers t result (named t conn own id) }
     {
         self.names.get(conn, own, id)
     }
 
-    /// Whether an id names an undecided delivery, on a session of the router's.
+    /// Whether an id of a router's session names an undecided delivery.
     pub fn is_used(&self, conn: u64, own: u16, id: u32) -> bool
         ensures { (t : List Entry) → DeliveriesFit self.now t → result ≡ is_used t (named t conn own id) }
     {
         self.names.is_used(&self.store, conn, own, id)
     }
 
-    /// The ids of a disposition's range that name undecided deliveries of a session of the router's, in its order. It looks at the
-    /// deliveries that are there alone, and never at the ids of the range.
+    /// The ids in a disposition's range that name undecided deliveries of a router's session, in the range's order. It looks only at
+    /// deliveries that exist, never at each id of the range.
     pub fn open_ids(
         &self,
         conn: u64,
@@ -187,14 +187,14 @@ impl Deliveries {
         Ok(self.names.open_ids(&self.store, conn, own, first, last)?)
     }
 
-    /// The numbers of the deliveries of which more frames are to go on the handles of a session of the router, in order of the handles.
+    /// The numbers of the deliveries of which more frames remain to be sent on a router's session, in order of the handles.
     pub fn sending_on(&self, conn: u64, own: u16) -> Result<Vec<u64>, AllocError>
         ensures { IfOk result (λ numbers. (t : List Entry) → DeliveriesFit self.now t → IsListed (sending t conn own) numbers.items) }
     {
         Ok(self.sending.all_on(self.alloc, conn, own)?)
     }
 
-    /// A message is bound to the link of a consumer. Fails where memory is refused, and where bindings can't be numbered any more.
+    /// Binds a message to a consumer's link. Fails if memory is refused, and if no binding number is left.
     pub fn bind(&mut self, binding: Binding) -> Result<(), AllocError>
         ensures fits { OnOk result ((t : List Entry) → DeliveriesFit self.old t → DeliveriesFit self.new (Bound binding ∷ t)) }
         ensures touches { OnOk result (Touches self.old self.new) }
@@ -219,7 +219,7 @@ impl Deliveries {
         Ok(())
     }
 
-    /// An item came on a connection, on the session on this channel of the router, where its channel has one.
+    /// An item was received on a connection; `own` is the router's channel of its session, if its channel has one.
     pub fn hear(
         &mut self,
         conn: ConnectionId,
@@ -237,8 +237,8 @@ impl Deliveries {
         Ok(())
     }
 
-    /// An item is put in the outbox of a connection. Fails where memory is refused, and where the bytes of a delivery can't be
-    /// counted any more.
+    /// An item is put into the outbox of a connection. Fails if memory is refused, and if the sent bytes of a delivery overflow their
+    /// counter.
     pub fn put(&mut self, conn: u64, item: &Item) -> Result<(), AllocError>
         ensures fits { OnOk result ((t : List Entry) → DeliveriesFit self.old t → DeliveriesFit self.new (Out conn item.now ∷ t)) }
         ensures touches { OnOk result (Touches self.old self.new) }

@@ -1,4 +1,4 @@
-//! Deliveries, as the table has them.
+//! Deliveries as the table keeps them.
 ghost use Rattle.std.specs.Prelude.{◌≡◌, OnOk, Some, if◌then◌else◌};
 ghost use Rattle.router_trace.specs.Settling.{is_open_as};
 ghost use Rattle.router_trace.specs.Deliveries.{bound, is_over, is_undecided, behind_frame, untold, ended, behind_ends};
@@ -12,26 +12,26 @@ use router_trace::{Attachment, Binding, Origin};
 use std::alloc::AllocError;
 use std::marker::Model;
 
-/// A message bound to one link of a consumer (AMQP 1.0 part 2, section 2.6.12).
+/// A message bound to one consumer link (AMQP 1.0 part 2, section 2.6.12).
 #[derive(Debug, Drop)]
 pub struct Delivery {
-    /// Where it goes.
+    /// The consumer's link.
     pub link: Attachment,
-    /// Whom its outcome is told to; none where nobody is to be told any more.
+    /// The producer's delivery, to which the outcome is reported; none if the producer needs no outcome any more.
     pub origin: Option<Origin>,
     /// Whether its producer had settled it before it was bound.
     pub presettled: bool,
-    /// The format of the message.
+    /// The message format.
     pub format: u32,
     /// The message.
     pub payload: Bytes,
     /// Its delivery-id on the consumer's session, once it has started.
     pub id: Option<u32>,
-    /// So many bytes of it have gone.
+    /// How many bytes of it were sent.
     pub sent: u64,
-    /// Whether frames of it are still to go.
+    /// Whether frames of it remain to be sent.
     pub going_on: bool,
-    /// What was decided of it.
+    /// Its outcome, once decided.
     pub outcome: Option<DeliveryState>,
 }
 
@@ -71,21 +71,21 @@ impl Delivery {
         }
     }
 
-    /// Whether it is decided, nobody is to be told, and no frame is to go.
+    /// Whether it is decided, no report of its outcome is due, and no frame remains to be sent.
     pub fn is_over(&self) -> bool
         ensures { result ≡ is_over self.now }
     {
         !self.going_on && (self.outcome.is_some() && self.origin.is_none())
     }
 
-    /// Whether its consumer is to decide it.
+    /// Whether its consumer has yet to decide it.
     pub fn is_undecided(&self) -> bool
         ensures { result ≡ is_undecided self.now }
     {
         self.outcome.is_none() && !self.presettled
     }
 
-    /// Whether it is undecided, and has this id on a session of the router's.
+    /// Whether it is undecided and has this id on a router's session.
     pub(crate) fn is_open_as(&self, conn: u64, own: u16, id: u32) -> bool
         ensures { result ≡ is_open_as conn own id (Some self.now) }
     {
@@ -93,7 +93,7 @@ impl Delivery {
             && ((self.link.conn.0 == conn && self.link.channel == own) && self.id == Some(id))
     }
 
-    /// Notes a transfer that carries so many bytes of it. Fails where its bytes can't be counted any more.
+    /// Notes a transfer that carries `count` bytes of it. Fails if its byte count overflows.
     pub(crate) fn note_frame(&mut self, transfer: &Transfer, count: u64) -> Result<(), AllocError>
         ensures { OnOk result (self.new ≡ behind_frame transfer.now count self.old) }
     {
@@ -111,7 +111,7 @@ impl Delivery {
         Ok(())
     }
 
-    /// Nobody is to be told of it any more.
+    /// Its outcome needs no report any more.
     pub(crate) fn untell(&mut self)
         ensures { self.new ≡ untold self.old }
     {
@@ -128,7 +128,7 @@ impl Delivery {
         }
     }
 
-    /// Links end, its own or its producer's.
+    /// Links end, which may be its own or its producer's.
     fn leave(&mut self, gone: Gone)
         ensures { self.new ≡ behind_ends (is_gone gone) self.old }
     {
@@ -140,7 +140,7 @@ impl Delivery {
         }
     }
 
-    /// What a change does to it.
+    /// Applies a change to it.
     pub(crate) fn change(&mut self, change: &Change) -> Result<(), AllocError>
         ensures { OnOk result (self.new ≡ changed change.now self.old) }
     {
@@ -167,7 +167,7 @@ impl Delivery {
         Ok(())
     }
 
-    /// Nobody is to be told of it any more, where its producer gave it an id of this range, on a session.
+    /// Its outcome needs no report any more, if its producer gave it an id in this range, on a session.
     fn untell_within(&mut self, conn: u64, own: u16, first: u32, last: u32)
         ensures { self.new ≡ (if comes_with_id self.old.origin conn own first last then untold self.old else self.old) }
     {
@@ -176,7 +176,7 @@ impl Delivery {
         }
     }
 
-    /// Whether it is undecided, and the router gave it an id of this range, on a session.
+    /// Whether it is undecided and the router gave it an id in this range, on a session.
     fn is_decided_by(&self, conn: u64, own: u16, first: u32, last: u32) -> bool
         ensures { result ≡ is_decided_by self.now conn own first last }
     {

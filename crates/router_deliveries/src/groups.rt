@@ -1,4 +1,4 @@
-//! Numbers of deliveries by the number of a link.
+//! Delivery numbers by link number.
 ghost use Rattle.std.specs.Prelude.{◌≡◌, ◌==◌, ℕ, Bool, true, false, if◌then◌else◌, OnOk, ◌&&◌, nat_lt};
 ghost use Rattle.std.specs.Option.{is_some};
 ghost use Rattle.std.specs.Ordering.{nat_cmp};
@@ -12,7 +12,7 @@ use std::alloc::{AllocError, Global};
 use std::collections::{BTreeMap, BTreeSet};
 use std::ops::Bound;
 
-/// Numbers of deliveries by the number of a link; a link without any takes no room.
+/// Delivery numbers by link number; a link without any takes no room.
 #[derive(Debug, Drop)]
 pub(crate) struct Groups {
     alloc: Global,
@@ -20,7 +20,7 @@ pub(crate) struct Groups {
 }
 
 impl Groups {
-    /// No numbers.
+    /// An empty table.
     pub(crate) fn new(alloc: Global) -> Groups
         ensures { (k n : ℕ) → in_group result k n ≡ false }
     {
@@ -40,7 +40,7 @@ impl Groups {
         }
     }
 
-    /// The lowest number of a link above this one.
+    /// The lowest number of a link above `number`.
     pub(crate) fn first_behind(&self, link: u64, number: u64) -> Option<u64>
         ensures { IsFirst (λ n. nat_lt number n && in_group self.now link n) result }
     {
@@ -50,7 +50,7 @@ impl Groups {
         }
     }
 
-    /// The lowest link above this one, or of all, that has numbers.
+    /// The lowest link, above `link` or of all, that has numbers.
     pub(crate) fn link_behind(&self, link: Option<u64>) -> Option<u64>
         ensures { IsFirstLink (in_group self.now) link result }
     {
@@ -64,7 +64,7 @@ impl Groups {
         None
     }
 
-    /// The lowest link above this one, or of all, that has a set.
+    /// The lowest link, above `link` or of all, that has a set.
     fn set_behind(&self, link: Option<u64>) -> Option<u64>
         ensures { IsFirst (λ k. is_above link k && is_some (get nat_cmp self.now.sets k)) result }
     {
@@ -84,7 +84,7 @@ impl Groups {
         }
     }
 
-    /// The lowest link above this one that has a set.
+    /// The lowest link above `link` that has a set.
     fn set_above(&self, link: u64) -> Option<u64>
         ensures { IsFirst (λ k. nat_lt link k && is_some (get nat_cmp self.now.sets k)) result }
     {
@@ -123,7 +123,7 @@ impl Groups {
         self.add_to(number, after)
     }
 
-    /// Takes a number from a link, where there is one.
+    /// Removes a number from a link, if there is one.
     fn drop_from(&mut self, number: u64, link: Option<u64>)
         ensures { (k n : ℕ) → in_group self.new k n ≡ (if is_number link k then (if number == n then false else in_group self.old k n) else in_group self.old k n) }
     {
@@ -139,7 +139,7 @@ impl Groups {
         }
     }
 
-    /// Gives a number to a link, where there is one.
+    /// Adds a number to a link, if there is one.
     fn add_to(&mut self, number: u64, link: Option<u64>) -> Result<(), AllocError>
         ensures { OnOk result ((k n : ℕ) → in_group self.new k n ≡ (if is_number link k then (if number == n then true else in_group self.old k n) else in_group self.old k n)) }
     {
@@ -158,7 +158,7 @@ impl Groups {
     }
 }
 
-/// Puts a number in a set.
+/// Puts a number into a set.
 pub(crate) fn add(numbers: &mut BTreeSet<u64>, number: u64) -> Result<(), AllocError>
     ensures { OnOk result ((n : ℕ) → contains nat_cmp numbers.new n ≡ (if number == n then true else contains nat_cmp numbers.old n)) }
 {
@@ -175,7 +175,7 @@ pub(crate) fn first(numbers: &BTreeSet<u64>) -> Option<u64>
     numbers.first().copied()
 }
 
-/// The lowest number of a set above this one.
+/// The lowest number of a set above `number`.
 pub(crate) fn behind(numbers: &BTreeSet<u64>, number: u64) -> Option<u64>
     ensures { IsFirst (λ n. nat_lt number n && contains nat_cmp numbers.now n) result }
 {

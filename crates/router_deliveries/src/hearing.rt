@@ -1,4 +1,4 @@
-//! What a peer's disposition does to the deliveries of a table.
+//! How a peer's disposition changes the deliveries of a table.
 ghost use Rattle.std.specs.Prelude.{◌≡◌, ℕ, OnOk};
 ghost use Rattle.std.specs.Ordering.{nat_cmp};
 ghost use Rattle.std.specs.BTreeMap.{get};
@@ -14,7 +14,7 @@ use crate::names::Names;
 use crate::store::Store;
 use std::alloc::AllocError;
 
-/// Does this to the deliveries, where anything is to be done.
+/// Applies a change to the deliveries, if there is one.
 #[tactic(auto, using(crate::proofs::Touching::touches_self))]
 pub(crate) fn hear(
     store: &mut Store,
@@ -32,7 +32,7 @@ pub(crate) fn hear(
     }
 }
 
-/// Does this to the deliveries.
+/// Applies a change to the deliveries.
 fn hear_one(store: &mut Store, names: &Names, change: &Change) -> Result<(), AllocError>
     ensures deliveries { OnOk result (((n : ℕ) → IsKept (get nat_cmp store.old.deliveries n)) → Indexed store.old → AreSmall (at_id names.now.ids)
         → (n : ℕ) → get nat_cmp store.new.deliveries n ≡ done_to change.now (at_id names.now.ids) n (get nat_cmp store.old.deliveries n)) }

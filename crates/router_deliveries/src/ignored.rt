@@ -1,4 +1,4 @@
-//! The delivery-ids of the claims that the router ignored, by link.
+//! The delivery-ids of ignored claims, by link.
 ghost use Rattle.std.specs.Prelude.{◌≡◌, ◌==◌, ℕ, Bool, true, false, if◌then◌else◌, OnOk};
 ghost use Rattle.std.specs.Ordering.{nat_cmp};
 ghost use Rattle.std.specs.BTreeMap.{get};
@@ -13,7 +13,7 @@ use crate::by_handle::{ByHandle, InConnection, InSession};
 use std::alloc::{AllocError, Global};
 use std::collections::BTreeSet;
 
-/// The delivery-ids of the claims that the router ignored, by its handles; a link without any takes no room.
+/// The delivery-ids of ignored claims, by the router's handles; a link without any takes no room.
 #[derive(Debug, Drop)]
 pub(crate) struct Ignored {
     alloc: Global,
@@ -21,7 +21,7 @@ pub(crate) struct Ignored {
 }
 
 impl Ignored {
-    /// None.
+    /// An empty table.
     pub(crate) fn new(alloc: Global) -> Ignored
         ensures { (c o h id : ℕ) → is_marked result c o h id ≡ false }
     {
@@ -42,7 +42,7 @@ impl Ignored {
         }
     }
 
-    /// Gives an id to a link, where there is one.
+    /// Adds an id to a link, if there is one.
     pub(crate) fn add(
         &mut self,
         conn: u64,
@@ -59,7 +59,7 @@ impl Ignored {
         }
     }
 
-    /// Gives an id to a link.
+    /// Adds an id to a link.
     fn add_to(&mut self, conn: u64, own: u16, handle: u32, id: u32) -> Result<(), AllocError>
         ensures { OnOk result ((c o h q : ℕ) → is_marked self.new c o h q
             ≡ (if conn == c then (if own == o then (if handle == h then (if id == q then true else is_marked self.old c o h q) else is_marked self.old c o h q) else is_marked self.old c o h q) else is_marked self.old c o h q)) }
@@ -72,7 +72,7 @@ impl Ignored {
         self.sets.insert(conn, own, handle, ids)
     }
 
-    /// Takes an id from a link, where there is one.
+    /// Removes an id from a link, if there is one.
     pub(crate) fn drop_from(&mut self, conn: u64, own: u16, handle: Option<u32>, id: u32)
         ensures { (c o h q : ℕ) → is_marked self.new c o h q
             ≡ (if conn == c then (if own == o then (if is_number handle h then (if id == q then false else is_marked self.old c o h q) else is_marked self.old c o h q) else is_marked self.old c o h q) else is_marked self.old c o h q) }
@@ -100,7 +100,7 @@ impl Ignored {
     }
 }
 
-/// Takes an id from a link of a connection.
+/// Removes an id from a link of a connection.
 fn drop_in_connection(sessions: &mut InConnection<BTreeSet<u32>>, own: u16, handle: u32, id: u32)
     ensures { (o h q : ℕ) → in_set (in_map (get nat_cmp sessions.new o) h) q
         ≡ (if own == o then (if handle == h then (if id == q then false else in_set (in_map (get nat_cmp sessions.old o) h) q) else in_set (in_map (get nat_cmp sessions.old o) h) q) else in_set (in_map (get nat_cmp sessions.old o) h) q) }
@@ -110,7 +110,7 @@ fn drop_in_connection(sessions: &mut InConnection<BTreeSet<u32>>, own: u16, hand
     }
 }
 
-/// Takes an id from a link of a session.
+/// Removes an id from a link of a session.
 fn drop_in_session(handles: &mut InSession<BTreeSet<u32>>, handle: u32, id: u32)
     ensures { (h q : ℕ) → in_set (get nat_cmp handles.new h) q
         ≡ (if handle == h then (if id == q then false else in_set (get nat_cmp handles.old h) q) else in_set (get nat_cmp handles.old h) q) }
@@ -124,7 +124,7 @@ fn drop_in_session(handles: &mut InSession<BTreeSet<u32>>, handle: u32, id: u32)
     }
 }
 
-/// Puts an id in a set.
+/// Puts an id into a set.
 fn add(ids: &mut BTreeSet<u32>, id: u32) -> Result<(), AllocError>
     ensures { OnOk result ((q : ℕ) → contains nat_cmp ids.new q ≡ (if id == q then true else contains nat_cmp ids.old q)) }
 {

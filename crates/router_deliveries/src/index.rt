@@ -1,4 +1,4 @@
-//! Deliveries found by what is asked of them.
+//! Indexes of deliveries.
 ghost use Rattle.std.specs.Prelude.{◌≡◌, ◌==◌, ℕ, Bool, None, true, false, if◌then◌else◌, OnOk, IfOk, ◌||◌};
 ghost use Rattle.std.specs.Ordering.{nat_cmp};
 ghost use Rattle.std.specs.BTreeSet.{contains};
@@ -15,48 +15,48 @@ use router_trace::{Attachment, Origin};
 use std::alloc::{AllocError, Global};
 use std::collections::BTreeSet;
 
-/// Where a delivery stands in the indexes.
+/// The entries of a delivery in the indexes.
 #[derive(Clone, Copy, Debug, PartialEq, Eq)]
 pub(crate) struct Keys {
     /// The link on which it waits to start.
     pub(crate) waiting: Option<u64>,
-    /// The link on which frames of it are still to go.
+    /// The link on which frames of it remain to be sent.
     pub(crate) unsent: Option<u64>,
     /// The link on which it is undecided.
     pub(crate) undecided: Option<u64>,
     /// The producer's link from which it is held.
     pub(crate) held: Option<u64>,
-    /// Whether its producer is to be told.
+    /// Whether its outcome must be reported to its producer.
     pub(crate) to_tell: bool,
-    /// The link whose end would change it, since it goes there.
+    /// The place of its consumer's link, if the end of that link would change it.
     pub(crate) on: Option<Spot>,
-    /// The link of its producer, where one is to be told.
+    /// The place of its producer's link, if the producer still needs its outcome.
     pub(crate) from: Option<Spot>,
-    /// The id that its producer gave it, where one is to be told.
+    /// The place of the id that its producer gave it, if the producer still needs its outcome.
     pub(crate) by_id: Option<Spot>,
 }
 
-/// Deliveries found by what is asked of them.
+/// Indexes of deliveries.
 #[derive(Debug, Drop)]
 pub(crate) struct Index {
     // those that wait to start on a link
     pub(crate) waiting: Groups,
-    // those of a link of which frames are still to go
+    // those of a link of which frames remain to be sent
     pub(crate) unsent: Groups,
     // the undecided ones of a link
     pub(crate) undecided: Groups,
     // those held from a producer's link
     pub(crate) held: Groups,
-    // those whose producer is to be told
+    // those whose outcome must be reported to their producer
     pub(crate) to_tell: BTreeSet<u64>,
-    // those that the end of a consumer's link changes, those of a producer's link, and those of an id that a producer gave
+    // those changed by the end of a consumer's link, those by the end of a producer's link, and those by a producer's delivery-id
     on: Spots,
     from: Spots,
     by_id: Spots,
 }
 
 impl Keys {
-    /// Nowhere.
+    /// No entries.
     pub(crate) fn nowhere() -> Keys
         ensures { result ≡ nowhere }
     {
@@ -72,7 +72,7 @@ impl Keys {
         }
     }
 
-    /// Where a delivery stands that there may be.
+    /// The entries of a delivery, if there is one.
     pub(crate) fn standing(delivery: &Option<Delivery>) -> Keys
         ensures { result ≡ standing delivery.now }
     {
@@ -82,7 +82,7 @@ impl Keys {
         }
     }
 
-    /// Where a delivery stands.
+    /// The entries of a delivery.
     pub(crate) fn of(delivery: &Delivery) -> Keys
         ensures { result ≡ keys delivery.now }
     {
@@ -106,7 +106,7 @@ impl Keys {
     }
 }
 
-/// A link, where something is so.
+/// The link, if `holds`.
 fn on_link(link: u64, holds: bool) -> Option<u64>
     ensures { result ≡ on_link link holds }
 {
@@ -124,14 +124,14 @@ fn spot_of(link: Attachment) -> Spot
     }
 }
 
-/// A place, where something is so.
+/// The place, if `holds`.
 fn on_spot(spot: Spot, holds: bool) -> Option<Spot>
     ensures { result ≡ on_spot spot holds }
 {
     if holds { Some(spot) } else { None }
 }
 
-/// The place of a producer's link, where there is one.
+/// The place of the producer's link, if there is one.
 fn from_spot(origin: Option<Origin>) -> Option<Spot>
     ensures { result ≡ from_spot origin }
 {
@@ -141,7 +141,7 @@ fn from_spot(origin: Option<Origin>) -> Option<Spot>
     }
 }
 
-/// The place of the id that a producer gave, where there is one.
+/// The place of the id that the producer gave, if there is one.
 fn id_spot(origin: Option<Origin>) -> Option<Spot>
     ensures { result ≡ id_spot origin }
 {
@@ -156,7 +156,7 @@ fn id_spot(origin: Option<Origin>) -> Option<Spot>
 }
 
 impl Index {
-    /// No deliveries.
+    /// Empty indexes.
     pub(crate) fn new(alloc: Global) -> Index
         ensures { Indexes result (λ n. nowhere) }
     {
@@ -172,7 +172,7 @@ impl Index {
         }
     }
 
-    /// Moves a delivery from where it stood.
+    /// Replaces the entries of a delivery.
     pub(crate) fn shift(&mut self, number: u64, before: Keys, after: Keys) -> Result<(), AllocError>
         ensures { OnOk result ((known : ℕ → TheKeys) → known number ≡ before → Indexes self.old known → Indexes self.new (λ n. if number == n then after else known n)) }
     {
@@ -188,7 +188,7 @@ impl Index {
         Ok(())
     }
 
-    /// The numbers of the deliveries that a change may change, and maybe some more than once.
+    /// The numbers of the deliveries that a change may change; some may occur more than once.
     pub(crate) fn concerned(&self, alloc: Global, change: &Change) -> Result<Vec<u64>, AllocError>
         ensures { IfOk result (λ numbers. (known : ℕ → TheKeys) → Indexes self.now known → (n : ℕ) → concerns change.now (known n) ≡ true → has n numbers.items ≡ true) }
     {
@@ -197,7 +197,7 @@ impl Index {
         Ok(numbers)
     }
 
-    /// Puts them behind others.
+    /// Appends these numbers.
     fn append_concerned(&self, change: &Change, numbers: &mut Vec<u64>) -> Result<(), AllocError>
         ensures { OnOk result ((known : ℕ → TheKeys) → Indexes self.now known → (n : ℕ) → concerns change.now (known n) ≡ true → has n numbers.new.items ≡ true) }
     {
@@ -217,7 +217,7 @@ impl Index {
         Ok(())
     }
 
-    /// Puts the numbers behind others of the deliveries whose link ends, or their producer's.
+    /// Appends the numbers of the deliveries whose link ends, or whose producer's link ends.
     fn append_ended(&self, gone: Gone, numbers: &mut Vec<u64>) -> Result<(), AllocError>
         ensures { OnOk result ((known : ℕ → TheKeys) → Indexes self.now known → (n : ℕ) → (is_gone_there gone (known n).on || is_gone_there gone (known n).from) ≡ true → has n numbers.new.items ≡ true) }
     {
@@ -227,7 +227,7 @@ impl Index {
     }
 }
 
-/// Puts a number in a set, or takes it out.
+/// Puts a number into a set, or removes it.
 fn mark(numbers: &mut BTreeSet<u64>, number: u64, holds: bool) -> Result<(), AllocError>
     ensures { OnOk result ((n : ℕ) → contains nat_cmp numbers.new n ≡ (if number == n then holds else contains nat_cmp numbers.old n)) }
 {

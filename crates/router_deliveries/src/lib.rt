@@ -1,11 +1,11 @@
 //! The table of deliveries that the router passes on (AMQP 1.0 part 2, sections 2.6.12 and 2.7.6).
 //!
-//! [`Deliveries`] is told what happens, one entry of the trace at a time: `bind` a message that was bound, `put` an item that the
-//! router put out, `hear` an item that came, with the router's channel of its session, and `down` a lost connection. It is asked
-//! by `delivery`, `next_waiting`, `undecided`, `held`, `first_to_tell`, `named`, `sending` and `next_id`.
+//! [`Deliveries`] follows the trace, one entry at a time: `bind` for a message that was bound, `put` for an item that the
+//! router put out, `hear` for an item received, with the router's channel of its session, and `down` for a lost connection. Its state
+//! is read by `delivery`, `next_waiting`, `undecided`, `held`, `first_to_tell`, `named`, `sending` and `next_id`.
 //!
-//! A delivery stands in it from its binding until it is over, and no longer. What ends goes through the deliveries that go there or
-//! come from there, and a disposition through those that its ids name. An id is forgotten once its delivery is decided.
+//! A delivery is in the table from its binding until it is over. The end of a link visits only the deliveries that go to it or
+//! come from it, and a disposition only those that its ids name. An id is forgotten once its delivery is decided.
 #![tactic(auto)]
 
 mod by_handle;

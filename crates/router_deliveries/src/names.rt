@@ -1,4 +1,4 @@
-//! The deliveries that delivery-ids of the router name.
+//! Deliveries by the delivery-ids that the router gave them.
 ghost use Rattle.std.specs.Prelude.{◌≡◌, ◌==◌, ◌∷◌, List, ℕ, Bool, None, if◌then◌else◌, OnOk, IfOk, ◌||◌};
 ghost use Rattle.std.specs.Option.{option_and_then};
 ghost use Rattle.std.specs.Ordering.{nat_cmp};
@@ -26,7 +26,7 @@ use amqp_perf::{Perf, Transfer};
 use router_trace::ConnectionId;
 use std::alloc::{AllocError, Global};
 
-/// The numbers of deliveries by the delivery-ids that the router gave them, by session; of those that aren't undecided some are
+/// The numbers of deliveries by the delivery-ids that the router gave them, by session; some of those that aren't undecided are
 /// forgotten.
 #[derive(Debug, Drop)]
 pub(crate) struct Names {
@@ -35,7 +35,7 @@ pub(crate) struct Names {
 }
 
 impl Names {
-    /// None.
+    /// An empty table.
     pub(crate) fn new(alloc: Global) -> Names
         ensures { (g : Routing) → NamesFit result (configured g) }
     {
@@ -52,7 +52,7 @@ impl Names {
         self.ids.get(conn, own, id).copied()
     }
 
-    /// The number of the delivery that an id names, where the delivery has this id.
+    /// The number of the delivery that an id names, if the delivery has this id.
     fn picked(&self, store: &Store, conn: u64, own: u16, id: u32) -> Option<u64>
         ensures { (n : ℕ) → is_number result n ≡ picks (at_id self.now.ids conn own) n (id_of (get nat_cmp store.now.deliveries n)) id }
     {
@@ -84,7 +84,7 @@ impl Names {
         }
     }
 
-    /// The ids of a disposition's range that name undecided deliveries of the session, in its order.
+    /// The ids in a disposition's range that name undecided deliveries of the session, in the range's order.
     pub(crate) fn open_ids(
         &self,
         store: &Store,
@@ -107,7 +107,7 @@ impl Names {
         Ok(found)
     }
 
-    /// The numbers of the deliveries that the ids of a disposition's range name, in its order.
+    /// The numbers of the deliveries that the ids in a disposition's range name, in the range's order.
     pub(crate) fn in_range(
         &self,
         store: &Store,
@@ -134,7 +134,7 @@ impl Names {
         self.ids.forget(conn.0);
     }
 
-    /// An item is put in the outbox of a connection, which these deliveries have seen already, of so many that were bound.
+    /// An item is put into the outbox of a connection; the store has already applied it, and `count` messages were bound.
     pub(crate) fn put(
         &mut self,
         conn: u64,
@@ -153,7 +153,7 @@ impl Names {
         Ok(())
     }
 
-    /// A performative is put in the outbox of a connection, on a channel of the router.
+    /// A performative is put into the outbox of a connection, on a channel of the router.
     fn put_perf(
         &mut self,
         conn: u64,
@@ -174,7 +174,7 @@ impl Names {
         Ok(())
     }
 
-    /// The router's transfer, which may begin a delivery under an id.
+    /// The router's transfer, which may begin a delivery with an id.
     fn begin(
         &mut self,
         conn: u64,
@@ -193,7 +193,7 @@ impl Names {
         Ok(())
     }
 
-    /// Gives an id this name, or none.
+    /// Gives an id this name, or removes its name.
     fn set(&mut self, conn: u64, own: u16, id: u32, name: Option<u64>) -> Result<(), AllocError>
         ensures named { OnOk result ((c o q : ℕ) → at_id self.new.ids c o q
             ≡ (if conn == c then (if own == o then (if id == q then name else at_id self.old.ids c o q) else at_id self.old.ids c o q) else at_id self.old.ids c o q)) }
@@ -206,7 +206,7 @@ impl Names {
         Ok(())
     }
 
-    /// Forgets, of the ids of a range on a session, those that name deliveries which are bound and not undecided.
+    /// Forgets those ids in a session's range that name deliveries which are bound and not undecided.
     pub(crate) fn settle(
         &mut self,
         store: &Store,
@@ -225,7 +225,7 @@ impl Names {
         Ok(())
     }
 
-    /// Forgets an id where it names a delivery which is bound and not undecided.
+    /// Forgets an id if it names a delivery which is bound and not undecided.
     fn settle_one(
         &mut self,
         store: &Store,
@@ -241,7 +241,7 @@ impl Names {
         Ok(())
     }
 
-    /// Behind an item of the peer, forgets the ids of the deliveries that it decided, on the session on this channel of the router.
+    /// After an item of the peer, forgets the ids of the deliveries that it decided, on the session with the router's channel `own`.
     pub(crate) fn settle_heard(
         &mut self,
         store: &Store,
@@ -261,7 +261,7 @@ impl Names {
         Ok(())
     }
 
-    /// Behind an item of the router, forgets those of these ids that name deliveries which are bound and not undecided, on its session.
+    /// After an item of the router, forgets those of these ids that name deliveries which are bound and not undecided, on its session.
     pub(crate) fn settle_put(
         &mut self,
         store: &Store,
@@ -296,10 +296,10 @@ impl Names {
     }
 }
 
-/// The ids of a disposition's range reach up to here from 0.
+/// Half of the delivery-ids. The last id of a disposition's range is less than this far from its first.
 pub(crate) const HALF: u32 = 0x8000_0000;
 
-/// The range of the ids that a consumer's disposition names.
+/// The range of ids in a consumer's disposition.
 fn decided_in(item: &Item) -> Option<(u32, u32)>
     ensures { result ≡ decided_in item.now }
 {
@@ -328,7 +328,7 @@ fn detached_in(item: &Item) -> Option<u16>
     }
 }
 
-/// The number of a delivery that is kept as a name: it is undecided, or wasn't bound yet.
+/// The number of a delivery whose name is kept: it is undecided, or wasn't bound yet.
 fn kept_name(number: Option<u64>, store: &Store, count: u64) -> Option<u64>
     ensures { result ≡ kept_name number count (get nat_cmp store.now.deliveries) }
 {
@@ -339,7 +339,7 @@ fn kept_name(number: Option<u64>, store: &Store, count: u64) -> Option<u64>
     Some(number)
 }
 
-/// Puts a number behind others, where there is one.
+/// Appends a number, if there is one.
 fn add(numbers: &mut Vec<u64>, number: Option<u64>) -> Result<(), AllocError>
     ensures { OnOk result ((n : ℕ) → has n numbers.new.items ≡ (has n numbers.old.items || is_number number n)) }
 {

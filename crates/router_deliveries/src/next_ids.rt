@@ -1,4 +1,4 @@
-//! The delivery-ids that the router gives next, by session.
+//! The next delivery-ids that the router gives, by session.
 ghost use Rattle.std.specs.Prelude.{◌≡◌, ◌==◌, ◌∷◌, List, ℕ, Bool, None, if◌then◌else◌, OnOk, unwrap_or};
 ghost use Rattle.std.specs.Ordering.{nat_cmp};
 ghost use Rattle.std.specs.BTreeMap.{get};
@@ -17,7 +17,7 @@ use router_trace::ConnectionId;
 use std::alloc::{AllocError, Global};
 use std::collections::BTreeMap;
 
-/// The delivery-id that the router gives next on a session; 0 where nothing is kept.
+/// The next delivery-id that the router gives on a session; 0 if no entry is kept.
 #[derive(Debug, Drop)]
 pub(crate) struct NextIds {
     alloc: Global,
@@ -25,7 +25,7 @@ pub(crate) struct NextIds {
 }
 
 impl NextIds {
-    /// None was given.
+    /// An empty table.
     pub(crate) fn new(alloc: Global) -> NextIds
         ensures { (g : Routing) → NextIdsFit result (configured g) }
     {
@@ -35,7 +35,7 @@ impl NextIds {
         }
     }
 
-    /// The id that is given next on a session.
+    /// The next id of a session.
     pub(crate) fn get(&self, conn: u64, own: u16) -> u32
         ensures { result ≡ next_in self.now conn own }
     {
@@ -52,7 +52,7 @@ impl NextIds {
         let _ = self.rows.remove(&conn.0);
     }
 
-    /// An item is put in the outbox of a connection.
+    /// An item is put into the outbox of a connection.
     pub(crate) fn put(&mut self, conn: u64, item: &Item) -> Result<(), AllocError>
         ensures { OnOk result ((t : List Entry) → NextIdsFit self.old t → NextIdsFit self.new (Out conn item.now ∷ t)) }
     {
@@ -63,7 +63,7 @@ impl NextIds {
         Ok(())
     }
 
-    /// A performative is put in the outbox of a connection, on a channel of the router.
+    /// A performative is put into the outbox of a connection, on a channel of the router.
     fn put_perf(&mut self, conn: u64, own: u16, perf: &Perf) -> Result<(), AllocError>
         ensures { OnOk result ((t : List Entry) (sasl : Bool) (payload : List ℕ) → NextIdsFit self.old t
             → NextIdsFit self.new (Out conn (item.Frame sasl own perf.now payload) ∷ t)) }
@@ -80,7 +80,7 @@ impl NextIds {
         Ok(())
     }
 
-    /// The ids of a session begin with 0 again.
+    /// The ids of a session start at 0 again.
     fn reset(&mut self, conn: u64, own: u16)
         ensures { (c o : ℕ) → next_in self.new c o ≡ (if conn == c then (if own == o then 0 else next_in self.old c o) else next_in self.old c o) }
     {
@@ -100,7 +100,7 @@ impl NextIds {
         Ok(())
     }
 
-    /// This is the next id of a session.
+    /// Sets the next id of a session.
     fn set(&mut self, conn: u64, own: u16, id: u32) -> Result<(), AllocError>
         ensures { OnOk result ((c o : ℕ) → next_in self.new c o ≡ (if conn == c then (if own == o then id else next_in self.old c o) else next_in self.old c o)) }
     {
@@ -116,7 +116,7 @@ impl NextIds {
     }
 }
 
-/// This is the next id of a session of a connection.
+/// Sets the next id of a session of a connection.
 fn set_in(sessions: &mut BTreeMap<u16, u32>, own: u16, id: u32) -> Result<(), AllocError>
     ensures { OnOk result ((o : ℕ) → unwrap_or (get nat_cmp sessions.new o) 0 ≡ (if own == o then id else unwrap_or (get nat_cmp sessions.old o) 0)) }
 {

@@ -1,4 +1,4 @@
-//! The deliveries of which more frames are to go, by the router's handles.
+//! The deliveries of which more frames remain to be sent, by the router's handles.
 ghost use Rattle.std.specs.Prelude.{◌≡◌, ◌∷◌, List, ℕ, Bool, None, if◌then◌else◌, OnOk, IfOk};
 ghost use Rattle.std.specs.Ordering.{nat_cmp};
 ghost use Rattle.std.specs.Map.{values_of};
@@ -21,14 +21,14 @@ use amqp_perf::{Perf, Transfer};
 use router_trace::ConnectionId;
 use std::alloc::{AllocError, Global};
 
-/// The number of the delivery of which more frames are to go, by the router's handle.
+/// The number of the delivery of which more frames remain to be sent, by the router's handle.
 #[derive(Debug, Drop)]
 pub(crate) struct Sending {
     numbers: ByHandle<u64>,
 }
 
 impl Sending {
-    /// None.
+    /// An empty table.
     pub(crate) fn new(alloc: Global) -> Sending
         ensures { (g : Routing) → SendingFit result (configured g) }
     {
@@ -37,14 +37,14 @@ impl Sending {
         }
     }
 
-    /// The number of the delivery of which more frames are to go on a handle of the router.
+    /// The number of the delivery of which more frames remain to be sent on a handle of the router.
     pub(crate) fn on(&self, conn: u64, own: u16, handle: u32) -> Option<u64>
         ensures { result ≡ at self.now.numbers conn own handle }
     {
         self.numbers.get(conn, own, handle).copied()
     }
 
-    /// The numbers of the deliveries of which more frames are to go on the handles of a session, in order of the handles.
+    /// The numbers of the deliveries of which more frames remain to be sent on a session, in order of the handles.
     pub(crate) fn all_on(&self, alloc: Global, conn: u64, own: u16) -> Result<Vec<u64>, AllocError>
         ensures { IfOk result (λ numbers. IsListed (at self.now.numbers conn own) numbers.items) }
     {
@@ -61,7 +61,7 @@ impl Sending {
         let _ = self.numbers.forget(conn.0);
     }
 
-    /// An item is put in the outbox of a connection.
+    /// An item is put into the outbox of a connection.
     pub(crate) fn put(&mut self, conn: u64, item: &Item) -> Result<(), AllocError>
         ensures { OnOk result ((t : List Entry) → SendingFit self.old t → SendingFit self.new (Out conn item.now ∷ t)) }
     {
@@ -72,7 +72,7 @@ impl Sending {
         Ok(())
     }
 
-    /// A performative is put in the outbox of a connection, on a channel of the router.
+    /// A performative is put into the outbox of a connection, on a channel of the router.
     fn put_perf(&mut self, conn: u64, own: u16, perf: &Perf) -> Result<(), AllocError>
         ensures { OnOk result ((t : List Entry) (sasl : Bool) (payload : List ℕ) → SendingFit self.old t
             → SendingFit self.new (Out conn (item.Frame sasl own perf.now payload) ∷ t)) }
@@ -128,7 +128,7 @@ impl Sending {
         }
     }
 
-    /// The delivery of which more frames are to go behind a transfer, on its handle.
+    /// The delivery of which more frames remain to be sent on a transfer's handle, after that transfer.
     fn number_behind(&self, conn: u64, own: u16, transfer: &Transfer) -> Option<u64>
         ensures { result ≡ (if transfer.now.more then carried (tag_in transfer.now) (at self.now.numbers conn own transfer.now.handle) else None) }
     {

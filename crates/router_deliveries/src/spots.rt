@@ -1,4 +1,4 @@
-//! Numbers of deliveries by places on sessions.
+//! Delivery numbers by place on a session.
 ghost use Rattle.std.specs.Prelude.{◌≡◌, ◌==◌, ◌≤◌, ◌++◌, ℕ, Option, None, Some, true, false, if◌then◌else◌, OnOk};
 ghost use Rattle.std.specs.BTreeMap.{is_at};
 ghost use Rattle.std.specs.BTreeSet.{contains};
@@ -23,18 +23,18 @@ pub(crate) struct Spot {
     pub(crate) at: u32,
 }
 
-/// A place, and the number of a delivery that stands there.
+/// A place, and the number of a delivery there.
 type Key = (u64, u16, u32, u64);
 
-/// Numbers of deliveries by places, each at one place at most. What stands on a connection, on a session, or at the handles or ids
-/// of a range, stands side by side, and is found without a look at anything else.
+/// Delivery numbers by place, each number at one place at most. The numbers of a connection, of a session, or of a range of handles
+/// or ids are adjacent, and are found without a look at anything else.
 #[derive(Debug, Drop)]
 pub(crate) struct Spots {
     keys: BTreeSet<Key>,
 }
 
 impl Spots {
-    /// No numbers.
+    /// An empty table.
     pub(crate) fn new(alloc: Global) -> Spots
         ensures { SpotsFit result (λ n. None) }
     {
@@ -61,7 +61,7 @@ impl Spots {
         Ok(())
     }
 
-    /// Takes a number from a place, where there is one.
+    /// Removes a number from a place, if there is one.
     fn drop_from(&mut self, number: u64, spot: Option<Spot>)
         ensures { (p : TheSpot) (n : ℕ) → stands self.new p n ≡ (if is_spot spot p then (if number == n then false else stands self.old p n) else stands self.old p n) }
     {
@@ -70,7 +70,7 @@ impl Spots {
         }
     }
 
-    /// Gives a number to a place, where there is one.
+    /// Adds a number to a place, if there is one.
     fn add_to(&mut self, number: u64, spot: Option<Spot>) -> Result<(), AllocError>
         ensures stands { OnOk result ((p : TheSpot) (n : ℕ) → stands self.new p n ≡ (if is_spot spot p then (if number == n then true else stands self.old p n) else stands self.old p n)) }
         ensures small { OnOk result ((p : TheSpot) (n : ℕ) → (stands self.old p n ≡ true → IsSmall p n) → stands self.new p n ≡ true → IsSmall p n) }
@@ -81,7 +81,7 @@ impl Spots {
         Ok(())
     }
 
-    /// Puts the numbers behind others that stand at the places of links which end.
+    /// Appends the numbers at the places of links that end.
     pub(crate) fn append_gone(&self, gone: Gone, numbers: &mut Vec<u64>) -> Result<(), AllocError>
         ensures more { OnOk result ((n : ℕ) → has n numbers.old.items ≡ true → has n numbers.new.items ≡ true) }
         ensures found { OnOk result ((known : ℕ → Option TheSpot) → SpotsFit self.now known → (n : ℕ) → is_gone_there gone (known n) ≡ true → has n numbers.new.items ≡ true) }
@@ -91,7 +91,7 @@ impl Spots {
         Ok(())
     }
 
-    /// Puts the numbers behind others that stand at the ids of a range, on a session (AMQP 1.0 part 2, section 2.7.6).
+    /// Appends the numbers at the ids of a range, on a session (AMQP 1.0 part 2, section 2.7.6).
     pub(crate) fn append_ids(
         &self,
         conn: u64,
@@ -115,7 +115,7 @@ impl Spots {
         Ok(())
     }
 
-    /// Puts the numbers behind others that stand at the handles or ids from one to another, on a session.
+    /// Appends the numbers at the handles or ids from one to another, on a session.
     fn append_between(
         &self,
         conn: u64,
@@ -143,7 +143,7 @@ impl Spots {
         Ok(())
     }
 
-    /// Puts the numbers behind others that stand at places from one to another.
+    /// Appends the numbers at the places from one to another.
     fn append(&self, low: Spot, high: Spot, numbers: &mut Vec<u64>) -> Result<(), AllocError>
         requires conn { low.conn ≤ high.conn }
         requires own { low.own ≤ high.own }
@@ -209,14 +209,14 @@ fn put_in(keys: &mut BTreeSet<Key>, key: Key) -> Result<(), AllocError>
     }
 }
 
-/// Takes a number from a place.
+/// Removes a number from a place.
 fn take_out(keys: &mut BTreeSet<Key>, key: Key)
     ensures { (q : TheKey) → contains key_cmp keys.new q ≡ (if is_at (key_cmp key) q then false else contains key_cmp keys.old q) }
 {
     let _ = keys.remove(&key);
 }
 
-/// Puts the numbers of these behind others.
+/// Appends the numbers of these keys.
 fn append(numbers: &mut Vec<u64>, keys: Range<'_, Key>) -> Result<(), AllocError>
     ensures { OnOk result (numbers.new.items ≡ numbers.old.items ++ numbers_of keys.entry) }
 {

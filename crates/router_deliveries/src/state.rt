@@ -16,7 +16,7 @@ pub(crate) fn failed() -> DeliveryState
     })
 }
 
-/// What a disposition decides of a delivery: its terminal state; without one that it failed, where the disposition settles it.
+/// What a disposition decides: its terminal state; without one, and if the disposition settles, that the delivery failed.
 pub(crate) fn decision(disposition: &Disposition) -> Result<Option<DeliveryState>, AllocError>
     ensures { IfOk result (λ made. made ≡ decision disposition.now.settled (terminal disposition.now.state)) }
 {
@@ -52,7 +52,7 @@ pub(crate) fn copy(state: &DeliveryState) -> Result<DeliveryState, AllocError>
     })
 }
 
-/// A copy of why a delivery is refused.
+/// A copy of the fields of a rejected outcome.
 fn copy_rejected(rejected: &Rejected) -> Result<Rejected, AllocError>
     ensures { IfOk result (λ copied. copied ≡ rejected.now) }
 {
@@ -75,7 +75,7 @@ fn copy_fault(fault: &Fault) -> Result<Fault, AllocError>
     })
 }
 
-/// A copy of what is to change at a delivery's next attempt.
+/// A copy of the fields of a modified outcome.
 fn copy_modified(modified: &Modified) -> Result<Modified, AllocError>
     ensures { IfOk result (λ copied. copied ≡ modified.now) }
 {

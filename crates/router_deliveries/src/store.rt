@@ -1,4 +1,4 @@
-//! Deliveries by their numbers.
+//! Deliveries by number.
 ghost use Rattle.std.specs.Prelude.{◌≡◌, ◌==◌, ℕ, Some, None, true, if◌then◌else◌, OnOk, IfOk, length, ◌||◌, ◌&&◌, nat_lt, ◌∷◌, List, Bool, false};
 ghost use Rattle.std.specs.Option.{option_map, option_and_then};
 ghost use Rattle.std.specs.Ordering.{nat_cmp};
@@ -32,7 +32,7 @@ use router_trace::{Binding, ConnectionId};
 use std::alloc::{AllocError, Global};
 use std::collections::BTreeMap;
 
-/// Deliveries by their numbers. One that is over is gone. Behind a refused growth nothing can be said of them.
+/// Deliveries by number; one that is over is removed. If an operation fails to allocate, the contents are unspecified.
 #[derive(Debug, Drop)]
 pub(crate) struct Store {
     alloc: Global,
@@ -42,7 +42,7 @@ pub(crate) struct Store {
 }
 
 impl Store {
-    /// No deliveries.
+    /// An empty store.
     pub(crate) fn new(alloc: Global) -> Store
         ensures deliveries { (n : ℕ) → get nat_cmp result.deliveries n ≡ None }
         ensures indexed { Indexed result }
@@ -55,7 +55,7 @@ impl Store {
         }
     }
 
-    /// The delivery of a number.
+    /// The delivery with a number.
     pub(crate) fn get(&self, number: u64) -> Option<&Delivery>
         ensures { option_map (λ d. d.now) result ≡ get nat_cmp self.now.deliveries number }
     {
@@ -90,7 +90,7 @@ impl Store {
         self.index.waiting.count(link)
     }
 
-    /// The first delivery of a link of which frames are still to go.
+    /// The first delivery of a link of which frames remain to be sent.
     pub(crate) fn first_unsent(&self, link: u64) -> Option<u64>
         ensures { IsFirst (in_group self.now.index.unsent link) result }
     {
@@ -104,7 +104,7 @@ impl Store {
         self.index.unsent.first_behind(link, number)
     }
 
-    /// The lowest link above this one, or of all, that has such deliveries.
+    /// The lowest link, above this one or of all, that has such deliveries.
     pub(crate) fn unsent_link_behind(&self, link: Option<u64>) -> Option<u64>
         ensures { IsFirstLink (in_group self.now.index.unsent) link result }
     {
@@ -127,14 +127,14 @@ impl Store {
         self.touched.forget(link);
     }
 
-    /// The first delivery whose producer is to be told.
+    /// The first delivery whose outcome must be reported to its producer.
     pub(crate) fn first_to_tell(&self) -> Option<u64>
         ensures { IsFirst (contains nat_cmp self.now.index.to_tell) result }
     {
         first(&self.index.to_tell)
     }
 
-    /// The lowest delivery above this one, or of all, whose producer is to be told.
+    /// The lowest delivery, above this one or of all, whose outcome must be reported to its producer.
     pub(crate) fn to_tell_behind(&self, number: Option<u64>) -> Option<u64>
         ensures { IsFirst (λ n. is_above number n && contains nat_cmp self.now.index.to_tell n) result }
     {
@@ -144,7 +144,7 @@ impl Store {
         }
     }
 
-    /// Whether the delivery of a number is undecided.
+    /// Whether the delivery with a number is undecided.
     pub(crate) fn is_open(&self, number: u64) -> bool
         ensures { result ≡ is_open (get nat_cmp self.now.deliveries number) }
     {
@@ -154,7 +154,7 @@ impl Store {
         }
     }
 
-    /// Whether the delivery of a number has this id.
+    /// Whether the delivery with a number has this id.
     pub(crate) fn has_id(&self, number: u64, id: u32) -> bool
         ensures { result ≡ is_id (id_of (get nat_cmp self.now.deliveries number)) id }
     {
@@ -164,7 +164,7 @@ impl Store {
         }
     }
 
-    /// Whether the delivery of a number is undecided, of a session, and has this id.
+    /// Whether the delivery with a number is undecided, belongs to a session, and has this id.
     pub(crate) fn is_open_as(&self, number: u64, conn: u64, own: u16, id: u32) -> bool
         ensures { result ≡ is_open_as conn own id (get nat_cmp self.now.deliveries number) }
     {
@@ -174,7 +174,7 @@ impl Store {
         }
     }
 
-    /// Takes the delivery of a number out.
+    /// Takes out the delivery with a number.
     fn take(&mut self, number: u64) -> Option<Delivery>
         ensures gives { result ≡ get nat_cmp self.old.deliveries number }
         ensures gone { (n : ℕ) → get nat_cmp self.new.deliveries n ≡ (if number == n then None else get nat_cmp self.old.deliveries n) }
@@ -184,7 +184,7 @@ impl Store {
         self.deliveries.remove(&number)
     }
 
-    /// Gives a number this delivery, unless it is over; what had the number stood here in the indexes.
+    /// Gives a number this delivery, unless it is over; `before` are the number's old index entries.
     fn keep(&mut self, number: u64, before: Keys, delivery: Delivery) -> Result<(), AllocError>
         ensures deliveries { OnOk result ((n : ℕ) → get nat_cmp self.new.deliveries n ≡ (if number == n then unless_over delivery else get nat_cmp self.old.deliveries n)) }
         ensures indexed { OnOk result ((known : ℕ → TheKeys) → known number ≡ before → Indexes self.old.index known
@@ -203,7 +203,7 @@ impl Store {
         }
     }
 
-    /// Moves a delivery from where it stood in the indexes.
+    /// Replaces a delivery's index entries.
     fn shift(&mut self, number: u64, before: Keys, after: Keys) -> Result<(), AllocError>
         ensures deliveries { self.new.deliveries ≡ self.old.deliveries }
         ensures indexed { OnOk result ((known : ℕ → TheKeys) → known number ≡ before → Indexes self.old.index known
@@ -215,7 +215,7 @@ impl Store {
         self.index.shift(number, before, after)
     }
 
-    /// Notes a message that was bound, under its number.
+    /// Adds a message that was bound, under its number.
     pub(crate) fn bind(&mut self, number: u64, binding: Binding) -> Result<(), AllocError>
         ensures deliveries { OnOk result ((n : ℕ) → get nat_cmp self.new.deliveries n ≡ (if number == n then Some (bound binding) else get nat_cmp self.old.deliveries n)) }
         ensures indexed { OnOk result (Indexed self.old → Indexed self.new) }
@@ -226,7 +226,7 @@ impl Store {
         self.keep(number, before, Delivery::bound(binding))
     }
 
-    /// Notes a transfer that carries so many bytes of the delivery of a number.
+    /// Notes a transfer that carries `count` bytes of the delivery with a number.
     pub(crate) fn note_frame(
         &mut self,
         number: u64,
@@ -246,7 +246,7 @@ impl Store {
         self.keep(number, before, delivery)
     }
 
-    /// Changes the delivery of a number.
+    /// Changes the delivery with a number.
     fn change(&mut self, number: u64, change: &Change) -> Result<(), AllocError>
         ensures deliveries { OnOk result ((n : ℕ) → get nat_cmp self.new.deliveries n
             ≡ (if number == n then behind change.now (get nat_cmp self.old.deliveries n) else get nat_cmp self.old.deliveries n)) }
@@ -261,7 +261,7 @@ impl Store {
         self.keep(number, before, delivery)
     }
 
-    /// Changes the deliveries of these numbers.
+    /// Changes the deliveries with these numbers.
     #[tactic(auto, using(crate::proofs::Touching::touches_self))]
     pub(crate) fn change_all(&mut self, numbers: &[u64], change: &Change) -> Result<(), AllocError>
         ensures deliveries { OnOk result ((n : ℕ) → get nat_cmp self.new.deliveries n
@@ -275,7 +275,7 @@ impl Store {
         Ok(())
     }
 
-    /// Does this to all deliveries. It looks at those alone that stand where the change is.
+    /// Applies a change to all deliveries. It looks only at those that the indexes give for the change.
     pub(crate) fn apply(&mut self, change: &Change) -> Result<(), AllocError>
         ensures deliveries { OnOk result (((n : ℕ) → IsKept (get nat_cmp self.old.deliveries n)) → Indexed self.old
             → (n : ℕ) → get nat_cmp self.new.deliveries n ≡ behind change.now (get nat_cmp self.old.deliveries n)) }
@@ -286,7 +286,7 @@ impl Store {
         self.change_all(numbers.as_slice(), change)
     }
 
-    /// Does this to all deliveries, where anything is to be done.
+    /// Applies a change to all deliveries, if there is one.
     #[tactic(auto, using(crate::proofs::Touching::touches_self))]
     pub(crate) fn apply_any(&mut self, change: Option<Change>) -> Result<(), AllocError>
         ensures deliveries { OnOk result (((n : ℕ) → IsKept (get nat_cmp self.old.deliveries n)) → Indexed self.old
@@ -300,7 +300,7 @@ impl Store {
         }
     }
 
-    /// Notes a transfer that carries this much of the delivery of a number, where there is one.
+    /// Notes a transfer with this payload of the delivery with a number, if there is one.
     #[tactic(auto, using(crate::proofs::Touching::touches_self))]
     pub(crate) fn note_carried(
         &mut self,
@@ -330,7 +330,7 @@ impl Store {
         self.apply(&Change::Ends(Gone::Connection(conn.0)))
     }
 
-    /// The ids of the deliveries whose link an item of the router detaches.
+    /// The ids of the deliveries on the link that an item of the router detaches.
     pub(crate) fn detached_ids(&self, conn: u64, item: &Item) -> Result<Vec<u32>, AllocError>
         ensures { IfOk result (λ ids. Indexed self.now → (n id : ℕ) → is_detached item.now conn (standing (get nat_cmp self.now.deliveries n)) ≡ true
             → is_id (id_of (get nat_cmp self.now.deliveries n)) id ≡ true → has id ids.items ≡ true) }
@@ -341,7 +341,7 @@ impl Store {
         }
     }
 
-    /// The ids of the deliveries whose link a performative of the router detaches.
+    /// The ids of the deliveries on the link that a performative of the router detaches.
     fn ids_detached_in(&self, conn: u64, own: u16, perf: &Perf) -> Result<Vec<u32>, AllocError>
         ensures { IfOk result (λ ids. Indexed self.now → (n id : ℕ) → is_detached_in perf.now conn own (standing (get nat_cmp self.now.deliveries n)) ≡ true
             → is_id (id_of (get nat_cmp self.now.deliveries n)) id ≡ true → has id ids.items ≡ true) }
@@ -368,7 +368,7 @@ impl Store {
         Ok(ids)
     }
 
-    /// An item is put in the outbox of a connection; a transfer carries the delivery of this number.
+    /// An item is put into the outbox of a connection; `number` is the delivery that its transfer carries.
     #[tactic(auto, using(crate::proofs::Touching::touches_self))]
     pub(crate) fn put(
         &mut self,
@@ -391,7 +391,7 @@ impl Store {
         Ok(())
     }
 
-    /// A performative is put in the outbox of a connection, on a channel of the router.
+    /// A performative is put into the outbox of a connection, on a channel of the router.
     fn put_perf(
         &mut self,
         conn: u64,
@@ -411,7 +411,7 @@ impl Store {
     }
 }
 
-/// Puts the id of a delivery behind others, where it has one.
+/// Appends the id of a delivery, if it has one.
 fn add_id(ids: &mut Vec<u32>, delivery: Option<&Delivery>) -> Result<(), AllocError>
     ensures { OnOk result ((id : ℕ) → has id ids.new.items ≡ (has id ids.old.items || is_id (id_of (option_map (λ d. d.now) delivery.entry)) id)) }
 {

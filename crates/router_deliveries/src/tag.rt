@@ -1,11 +1,11 @@
-//! The tags that the router gives deliveries: 118 and the delivery's number in 8 bytes.
+//! The delivery-tags that the router gives: the byte 118 and the delivery's number in 8 bytes.
 ghost use Rattle.std.specs.Prelude.{◌≡◌};
 ghost use Rattle.std.specs.Option.{option_and_then};
 ghost use Rattle.router_trace.specs.Deliveries.{tagged, tag_in, carried};
 
 use amqp_perf::Transfer;
 
-/// The number in a tag; none where the router gave no such tag.
+/// The number in a tag; none if the router gives no such tag.
 #[tactic(auto, using(crate::proofs::Tags::number_of_eight))]
 fn tagged(tag: &[u8]) -> Option<u64>
     ensures { result ≡ tagged tag.now }
@@ -18,7 +18,7 @@ fn tagged(tag: &[u8]) -> Option<u64>
     Some(u64::from_be_bytes(*number))
 }
 
-/// The number of the delivery that a transfer of the router carries, behind a frame of this delivery.
+/// The number of the delivery that a transfer of the router carries, after a frame of `before`.
 pub(crate) fn carried(transfer: &Transfer, before: Option<u64>) -> Option<u64>
     ensures { result ≡ carried (tag_in transfer.now) before }
 {

@@ -18,7 +18,7 @@ pub(crate) struct Touched {
 }
 
 impl Touched {
-    /// No links.
+    /// An empty set.
     pub(crate) fn new(alloc: Global) -> Touched
         ensures { (k : ℕ) → is_touched_in result k ≡ false }
     {
@@ -41,7 +41,7 @@ impl Touched {
         let _ = self.links.remove(&link);
     }
 
-    /// Notes the links on which a delivery stands otherwise than before.
+    /// Notes the links on which a delivery's entries have changed.
     pub(crate) fn note(&mut self, before: Keys, after: Keys) -> Result<(), AllocError>
         ensures { OnOk result ((k : ℕ) → is_touched_in self.new k ≡ false → (is_touched_in self.old k ≡ false) × StandsSame k before after) }
     {
@@ -51,7 +51,7 @@ impl Touched {
         Ok(())
     }
 
-    /// Notes both links, where they are not the same.
+    /// Notes both links, if they differ.
     fn note_moved(&mut self, before: Option<u64>, after: Option<u64>) -> Result<(), AllocError>
         ensures { OnOk result ((k : ℕ) → is_touched_in self.new k ≡ false → (is_touched_in self.old k ≡ false) × (is_number before k ≡ is_number after k)) }
     {
@@ -63,7 +63,7 @@ impl Touched {
         Ok(())
     }
 
-    /// Notes a link, where there is one.
+    /// Notes a link, if there is one.
     fn note_one(&mut self, link: Option<u64>) -> Result<(), AllocError>
         ensures { OnOk result ((k : ℕ) → is_touched_in self.new k ≡ (is_number link k || is_touched_in self.old k)) }
     {

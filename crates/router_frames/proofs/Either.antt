@@ -1,4 +1,4 @@
--- A choice between two that are the same.
+-- A choice between two equal values.
 use Rattle.std.proofs.Common.{◌≡◌, Bool, true, false, refl}
 use Rattle.std.specs.Prelude.{if◌then◌else◌}
 

@@ -1,4 +1,4 @@
--- How much of a rest a frame has room for.
+-- How much of a rest fits into a frame.
 use Rattle.std.proofs.Common.{◌≡◌, ◌≤◌, ◌↔◌, ◌∙◌, true≢false, ℕ, zero, suc, Bool, true, false, List, length, take, Option, Some, None, refl, sym, ap, subst, arith}
 use Rattle.std.proofs.lemmas.Grind.{common_steps}
 use Rattle.std.specs.Prelude.{min, nat_le, if◌then◌else◌}
@@ -35,7 +35,7 @@ alike a b k r false false is so h = refl
 alike a b k r true false is so h = let le : k ≤ r = h.0 (grind (arith, is)) in absurd (grind (arith, so, le))
 alike a b k r false true is so h = let le : a ≤ b = h.1 (grind (arith, so)) in absurd (grind (arith, is, le))
 
--- what the room of a transfer tells
+-- what the room of a transfer states
 abbrev IsRoom : Transfer → ℕ → Option ℕ → Type 0
 IsRoom x most room = (channel : ℕ) (payload : List ℕ) → (length (item_spelling (transfer_frame channel x payload)) ≤ most) ↔ FitsInto room (length payload)
 
@@ -59,7 +59,7 @@ otherwise : {A : Type 0} (test : Bool) (whole part : A) → test ≡ false → p
 otherwise true whole part is = absurd (true≢false is)
 otherwise false whole part is = refl
 
--- where the rest doesn't fit, the frame has the part of it that does
+-- if the rest doesn't fit, the frame has the part of it that does
 pub frame_of_part : (largest own : ℕ) (x : Transfer) (rest part : List ℕ) (whole : Bool) → whole ≡ fits largest (transfer_frame own x rest) → whole ≡ false
     → part ≡ take (filled largest own x rest) rest → transfer_frame own (with_more x) part ≡ next_frame largest own x rest
 frame_of_part largest own x rest part whole is no_room e =

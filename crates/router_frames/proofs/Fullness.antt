@@ -1,4 +1,4 @@
--- A frame of a delivery has as much as can go.
+-- A frame of a delivery carries as much as can be sent.
 use Rattle.std.proofs.Common.{◌≡◌, ◌≤◌, ◌<◌, ◌↔◌, ◌∙◌, ℕ, ◌+◌, ◌-◌, zero, suc, Bool, true, false, true≢false, List, [], length, take, drop, take-append-drop, refl, sym, ap, subst, arith}
 use Rattle.std.proofs.lemmas.List.{append-nil, length-take-le}
 use Rattle.std.specs.Prelude.{nat_le, if◌then◌else◌}
@@ -11,7 +11,7 @@ use Rattle.router_trace.specs.DeliveryFrames.{with_more, part_frame, filled, nex
 use Rattle.router_frames.specs.Filling.{payload_in, has_more, IsBeginning}
 use Rattle.router_frames.proofs.Longer.{more_is_no_shorter}
 
--- The greatest number that passes
+-- The greatest number that passes.
 within_step : (n most : ℕ) (test : Bool) → most ≤ n → (if test then suc n else most) ≤ suc n
 within_step n most true le = omega arith
 within_step n most false le = omega (arith, le)
@@ -92,7 +92,7 @@ longer_than len largest h = grind (arith, h)
 no_longer : (len largest : ℕ) → len ≤ largest → nat_le len largest ≡ true
 no_longer len largest h = grind (arith, h)
 
--- A transfer of so many bytes at most beside what it carries: where more is to come, nothing else stays free.
+-- A transfer of at most this many bytes beside its payload: if more is to come, no other byte stays free.
 pub frame_carries : (largest own beside : ℕ) (x : Transfer) (rest : List ℕ) → x.more ≡ false
     → ((payload : List ℕ) → length (item_spelling (transfer_frame own (with_more x) payload)) ≤ beside + length payload)
     → beside ≤ largest → has_more (next_frame largest own x rest) ≡ true → largest ≤ beside + length (payload_in (next_frame largest own x rest))

@@ -13,7 +13,7 @@ use Rattle.amqp_frames.specs.ItemSpelling.{item_spelling}
 use Rattle.amqp_frames.specs.Room.{transfer_frame}
 use Rattle.router_trace.specs.DeliveryFrames.{with_more}
 
--- fields that are no more, and take no more bytes
+-- fields that are not more, and take no more bytes
 record NoMore (fs gs : List FieldText) : Type 0 where
   fewer : length fs ≤ length gs
   shorter : length (joined fs) ≤ length (joined gs)
@@ -43,7 +43,7 @@ unfolding given
 one_null [] behind b = given_first b (given behind)
 one_null (f ∷ fs) behind b = given_behind f (given (fs ++ None ∷ behind)) (given (fs ++ Some (b ∷ []) ∷ behind)) (one_null fs behind b)
 
--- how long a list is, by how many fields it has and their bytes
+-- the length of a list, by the number of its fields and their bytes
 abbrev pub list_size : Bool → Bool → ℕ → ℕ
 list_size nothing small len = if nothing then 1 else (if small then 3 + len else 9 + len)
 
@@ -104,7 +104,7 @@ said_true = refl
 abbrev saying : Transfer → Bool → Transfer
 saying x more = record x { more = more }
 
--- the fields of a transfer that stand before `more`, and those behind it
+-- the fields of a transfer before `more`, and those after it
 abbrev fields_before : Transfer → List FieldText
 fields_before x = spelt (d.uint x.handle) ∷ mapped d.uint x.delivery_id ∷ mapped (λ t. d.binary t.items) x.delivery_tag ∷ mapped d.uint x.message_format ∷ flag_text x.settled ∷ []
 

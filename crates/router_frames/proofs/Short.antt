@@ -1,4 +1,4 @@
--- How long outcomes are as the router keeps them, and the frames that tell them.
+-- The lengths of outcomes as the router keeps them, and of the frames that report them.
 use Rattle.std.proofs.Common.{◌≡◌, ◌≤◌, ℕ, ◌+◌, Bool, true, false, true≢false, List, [], ◌∷◌, ◌++◌, length, length-append, Option, Some, None, refl, sym, arith}
 use Rattle.std.specs.Prelude.{◌==◌, nat_lt, is_some, option_map}
 use Rattle.std.specs.Int.{w32, to_be_bytes}
@@ -25,7 +25,7 @@ use Rattle.router_frames.proofs.Fullness.{pick}
 use Rattle.router_frames.proofs.Longer.{list_size, is_small, counted}
 use Rattle.router_frames.proofs.Small.{number_len, flag_len}
 
--- fields without the nulls at their end have no more bytes
+-- fields without their trailing nulls have no more bytes
 given_by_len : (f : FieldText) (fs gs : List FieldText) → length (joined fs) ≤ length (joined gs) → length (joined (given_by f fs)) ≤ length (joined (f ∷ gs))
 given_by_len None [] gs le = omega arith
 given_by_len None (f ∷ fs) gs le = omega (arith, le)

@@ -1,4 +1,4 @@
--- How long the frames of the router are without what they carry.
+-- The lengths of the router's frames without their payload.
 use Rattle.std.proofs.Common.{◌≡◌, ◌≤◌, ℕ, ◌+◌, Bool, true, false, true≢false, List, [], ◌∷◌, ◌++◌, length, length-append, Some, None, refl, sym, ap, arith}
 use Rattle.std.specs.Prelude.{◌==◌, nat_lt, if◌then◌else◌}
 use Rattle.std.specs.Int.{w32, to_be_bytes}
@@ -46,7 +46,7 @@ text_len fs gs most same few short small =
     let one = counted (length gs == 0) (length gs) (joined gs) in
     rw same (omega (arith, size, one, short))
 
--- what stands before the nulls
+-- the fields before the nulls
 first_given : (a b t c : List ℕ) (flag : FieldText) (m : List ℕ)
     → given (Some a ∷ Some b ∷ Some t ∷ Some c ∷ flag ∷ Some m ∷ None ∷ None ∷ None ∷ None ∷ None ∷ []) ≡ Some a ∷ Some b ∷ Some t ∷ Some c ∷ flag ∷ Some m ∷ []
 unfolding given

@@ -1,4 +1,4 @@
--- What the frames of a delivery are asked: what one carries, and whether it says that more is to come (AMQP 1.0 part 2, section 2.7.5).
+-- What a delivery's frame carries, and whether it says that more is to come (AMQP 1.0 part 2, section 2.7.5).
 use Rattle.std.specs.Prelude.{◌≡◌, ℕ, Bool, false, List, [], ◌++◌}
 use Rattle.amqp_perf.specs.declared.perf.Perf.{Perf}
 use Rattle.amqp_perf.specs.declared.perf.Perf.TheVariants as perf

@@ -3,7 +3,7 @@ use Rattle.std.specs.Prelude.{Bool, true, false}
 use Rattle.amqp_perf.specs.declared.state.DeliveryState.{DeliveryState}
 use Rattle.amqp_perf.specs.declared.state.DeliveryState.TheVariants as state
 
--- it holds nothing in memory of its own
+-- it holds no memory of its own
 abbrev pub is_plain : DeliveryState → Bool
 is_plain (state.Received r) = true
 is_plain state.Accepted = true

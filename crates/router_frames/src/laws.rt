@@ -1,4 +1,4 @@
-//! What holds of all frames of deliveries. The functions do nothing: their contracts are the laws.
+//! Laws of all delivery frames. The functions do nothing: their contracts are the laws.
 ghost use Rattle.std.specs.Prelude.{◌≡◌, ◌≤◌, ◌+◌, ◌↔◌, ℕ, List, [], length, true, false, is_some, Some};
 ghost use Rattle.amqp_perf.specs.Spelling.{state_spelling};
 ghost use Rattle.amqp_perf.specs.declared.perf.Role.{Role as ARole};
@@ -11,8 +11,8 @@ ghost use Rattle.router_trace.specs.LinkFrames.{fits};
 ghost use Rattle.router_trace.specs.DeliveryFrames.{kept_outcome, outcome_item, first_transfer, later_transfer, next_frame, part_frame, with_more};
 ghost use Rattle.router_frames.specs.Filling.{payload_in, has_more, IsBeginning};
 
-/// A frame of a delivery is no longer than the peer takes, where an empty one is not. It carries a beginning of what is still to go: as
-/// much as can go, and all of it exactly where it doesn't say that more is to come (AMQP 1.0 part 2, section 2.7.5).
+/// A frame of a delivery is no longer than the peer accepts, provided that an empty one isn't. It carries the first bytes that remain to be
+/// sent: as many as possible, and all of them exactly if it doesn't say that more is to come (AMQP 1.0 part 2, section 2.7.5).
 pub fn frames_are_filled()
     ensures within { (largest own : ℕ) (x : ATransfer) (rest : List ℕ)
         → fits largest (transfer_frame own (with_more x) []) ≡ true → fits largest (next_frame largest own x rest) ≡ true }
@@ -24,8 +24,8 @@ pub fn frames_are_filled()
         → (has_more (next_frame largest own x rest) ≡ false) ↔ (payload_in (next_frame largest own x rest) ≡ rest) }
 {}
 
-/// Beside what it carries a frame of a delivery has at most 42 bytes, and at most 24 where it isn't the first. So one that says that more is
-/// to come carries all but so many of the bytes that the peer takes, which are 512 or more (AMQP 1.0 part 2, section 2.7.1).
+/// Beside its payload a frame of a delivery has at most 42 bytes, and at most 24 if it isn't the first. So a frame that says that more is
+/// to come fills all but that many of the bytes that the peer accepts, which are 512 or more (AMQP 1.0 part 2, section 2.7.1).
 pub fn frames_have_room()
     ensures first { (largest own handle id n : ℕ) (d : Delivery) (rest : List ℕ)
         → 42 ≤ largest → has_more (next_frame largest own (first_transfer handle id n d) rest) ≡ true
@@ -39,7 +39,7 @@ pub fn frames_have_room()
         → length (item_spelling (transfer_frame own (with_more (later_transfer handle d)) payload)) ≤ 24 + length payload }
 {}
 
-/// An outcome as the router keeps it has at most 400 bytes, and the frame that tells it at most 429: no peer takes less than 512 (AMQP 1.0
+/// An outcome as the router keeps it has at most 400 bytes, and the frame that reports it at most 429: every peer accepts 512 (AMQP 1.0
 /// part 2, section 2.7.1).
 pub fn outcomes_are_short()
     ensures kept { (s : AState) → is_some (terminal (Some s)) ≡ true → length (state_spelling (kept_outcome s)) ≤ 400 }

@@ -1,4 +1,4 @@
-//! The frames of deliveries: outcomes as the router keeps and tells them, and transfers that fill the frames of a peer.
+//! The frames of deliveries: outcomes as the router keeps and reports them, and transfers that fill the frames of a peer.
 #![tactic(auto)]
 
 mod laws;

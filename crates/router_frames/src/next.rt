@@ -1,4 +1,4 @@
-//! The next frame of a delivery: all that is still to go, or as much as the peer takes.
+//! The next frame of a delivery: all that remains to be sent, or as much as the peer accepts.
 ghost use Rattle.std.specs.Prelude.{◌≡◌, ◌≤◌, ℕ, List, length, take, drop, IfOk};
 ghost use Rattle.amqp_frames.specs.Room.{transfer_frame};
 ghost use Rattle.router_trace.specs.LinkFrames.{fits};
@@ -10,11 +10,11 @@ use amqp_perf::{Perf, Transfer};
 use bytes::Bytes;
 use std::alloc::{AllocError, Global};
 
-/// The frame of a delivery's payload from a byte on: `next_frame` of what is still to go behind so many bytes that were sent.
+/// The next frame of a delivery, of which this many payload bytes were sent: `next_frame` with the bytes after them.
 ///
 /// # Errors
 ///
-/// `AllocError` where memory was refused.
+/// `AllocError` if memory was refused.
 pub fn delivery_frame(
     alloc: Global,
     largest: u32,
@@ -30,12 +30,12 @@ pub fn delivery_frame(
     next_frame(alloc, largest, own, transfer, &rest)
 }
 
-/// A frame with this transfer, on this channel of the router: it has all of the rest where the peer takes so long a frame, else as many
-/// bytes of it as fit, and says that more are to come (AMQP 1.0 part 2, section 2.7.5). The rest is shared, not copied.
+/// A frame with this transfer, on the router's channel `own`. It carries the whole rest if the peer accepts a frame that long; else as many
+/// bytes of it as fit, and says that more is to come (AMQP 1.0 part 2, section 2.7.5). The rest is shared, not copied.
 ///
 /// # Errors
 ///
-/// `AllocError` where memory was refused.
+/// `AllocError` if memory was refused.
 pub fn next_frame(
     alloc: Global,
     largest: u32,
@@ -53,7 +53,7 @@ pub fn next_frame(
     Ok(transfer_frame(own, transfer, part))
 }
 
-/// Whether a frame with this transfer and all of the rest is no longer than this.
+/// Whether a frame with this transfer and the whole rest has at most `largest` bytes.
 fn takes(alloc: Global, largest: u32, transfer: &Transfer, rest: &Bytes) -> Result<bool, AllocError>
     ensures { IfOk result (λ taken. (own : ℕ) → taken ≡ fits largest (transfer_frame own transfer.now rest.now)) }
 {
@@ -63,7 +63,7 @@ fn takes(alloc: Global, largest: u32, transfer: &Transfer, rest: &Bytes) -> Resu
     }
 }
 
-/// As much of the rest as a frame with this transfer, no longer than this, has room for.
+/// The first bytes of the rest, as many as a frame with this transfer of at most `largest` bytes has room for.
 fn filling(
     alloc: Global,
     largest: u32,
@@ -76,7 +76,7 @@ fn filling(
     Ok(rest.slice(..count)?)
 }
 
-/// How many bytes of the rest a frame with this transfer, no longer than this, has room for.
+/// How many bytes of the rest a frame with this transfer, of at most `largest` bytes, has room for.
 fn room_for(
     alloc: Global,
     largest: u32,
@@ -92,7 +92,7 @@ fn room_for(
     }
 }
 
-/// A transfer with what it carries, on a channel.
+/// A transfer with its payload, on a channel.
 fn transfer_frame(own: u16, transfer: Transfer, payload: Bytes) -> Item
     ensures { result ≡ transfer_frame own transfer payload }
 {

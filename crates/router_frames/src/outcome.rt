@@ -1,4 +1,4 @@
-//! Outcomes as the router keeps them, and the dispositions that tell them.
+//! Outcomes as the router keeps them, and the dispositions that report them.
 ghost use Rattle.std.specs.Prelude.{◌≡◌, length, option_map, true, if◌then◌else◌, IfOk, IsOk};
 ghost use Rattle.amqp_perf.specs.Spelling.{state_spelling};
 ghost use Rattle.router_trace.specs.DeliveryFrames.{kept_condition, kept_error, undescribed, without_info, bare, unless_long, kept_outcome, outcome_item};
@@ -10,20 +10,20 @@ use amqp_perf::{DeliveryState, Disposition, Fault, Perf, Rejected, Role, Symbol,
 use bytes::Bytes;
 use std::alloc::{AllocError, Global};
 
-/// The longest condition of an error that the router keeps, in bytes.
+/// The longest error condition that the router keeps, in bytes.
 const MAX_CONDITION: usize = 128;
 
 /// The longest outcome that the router keeps with its info or annotations, in bytes.
 const MAX_OUTCOME: usize = 400;
 
-/// The condition that stands for one that is too long (AMQP 1.0 part 2, section 2.8.15).
+/// The condition that replaces one that is too long (AMQP 1.0 part 2, section 2.8.15).
 const INTERNAL_ERROR: &str = "amqp:internal-error";
 
-/// A disposition of the router, of one delivery, which settles it with this outcome (AMQP 1.0 part 2, section 2.7.6).
+/// The router's disposition of one delivery, which settles it with this outcome (AMQP 1.0 part 2, section 2.7.6).
 ///
 /// # Errors
 ///
-/// `AllocError` where memory was refused; it takes none for an outcome that holds none.
+/// `AllocError` if memory was refused; an outcome that holds no memory takes none.
 pub fn outcome_item(
     alloc: Global,
     own: u16,
@@ -55,7 +55,7 @@ pub fn outcome_item(
 ///
 /// # Errors
 ///
-/// `AllocError` where memory was refused; it takes none for an outcome that holds none.
+/// `AllocError` if memory was refused; an outcome that holds no memory takes none.
 pub fn kept_outcome(alloc: Global, state: &DeliveryState) -> Result<DeliveryState, AllocError>
     ensures kept { IfOk result (λ kept. kept ≡ kept_outcome state.now) }
     ensures plain { is_plain state.now ≡ true → IsOk result }
@@ -80,7 +80,7 @@ fn is_long(alloc: Global, state: &DeliveryState) -> Result<bool, AllocError>
     }
 }
 
-/// How many bytes the spelling of a delivery state has.
+/// The length of a delivery state's encoding, in bytes.
 fn state_len(alloc: Global, state: &DeliveryState) -> Result<usize, AllocError>
     ensures { IfOk result (λ len. len ≡ length (state_spelling state.now)) }
 {
@@ -134,7 +134,7 @@ fn kept_condition(alloc: Global, condition: &Symbol) -> Result<Symbol, AllocErro
     }
 }
 
-/// Takes the info or the annotations away.
+/// Removes the info or the annotations.
 fn make_bare(state: &mut DeliveryState)
     ensures { state.new ≡ bare state.old }
 {

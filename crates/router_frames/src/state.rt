@@ -9,7 +9,7 @@ use std::alloc::AllocError;
 ///
 /// # Errors
 ///
-/// `AllocError` where memory was refused; it takes none for a state that holds none.
+/// `AllocError` if memory was refused; a state that holds no memory takes none.
 pub fn copy_state(state: &DeliveryState) -> Result<DeliveryState, AllocError>
     ensures copied { IfOk result (λ copied. copied ≡ state.now) }
     ensures plain { is_plain state.now ≡ true → IsOk result }
@@ -27,7 +27,7 @@ pub fn copy_state(state: &DeliveryState) -> Result<DeliveryState, AllocError>
     })
 }
 
-/// A copy of why a delivery is refused.
+/// A copy of the fields of a rejected outcome.
 fn copy_rejected(rejected: &Rejected) -> Result<Rejected, AllocError>
     ensures { IfOk result (λ copied. copied ≡ rejected.now) }
 {
@@ -50,7 +50,7 @@ fn copy_fault(fault: &Fault) -> Result<Fault, AllocError>
     })
 }
 
-/// A copy of what is to change at a delivery's next attempt.
+/// A copy of the fields of a modified outcome.
 fn copy_modified(modified: &Modified) -> Result<Modified, AllocError>
     ensures { IfOk result (λ copied. copied ≡ modified.now) }
 {

@@ -1,4 +1,4 @@
--- Every trace of the router is as the laws want it.
+-- Every trace of the router satisfies the laws.
 use Rattle.std.proofs.Common.{◌≡◌, sym, refl, subst, ℕ, Bool, true, false, List, [], ◌∷◌, ◌++◌}
 use Rattle.std.specs.Prelude.{Option, Some, None, if◌then◌else◌}
 use Rattle.amqp_perf.specs.declared.perf.Perf.{Perf}
@@ -57,7 +57,7 @@ passed_sound = record {
   granting = λ t sound. quiet_sound (grants_due t) t (grants_quiet t) sound;
 }
 
--- ends for full outboxes
+-- closes because of full outboxes
 
 ends_sound : (id : List ℕ) (cs : List ℕ) (t : List Entry) → Sound t → Sound (ends id cs t)
 ends_sound id [] t sound = sound
@@ -84,7 +84,7 @@ quiet_answer id t after c p i a sound none quiet =
 nothing_more : (id : List ℕ) (p : Conn) (c : ℕ) (a : Answer) → QuietPut (each_to c (said id p a) ++ [])
 nothing_more id p c a = quiet_both (each_to c (said id p a)) [] (quiet_to c (said id p a) (said_quiet id p a)) tt
 
--- what carries no transfer binds nothing
+-- an item without a transfer binds nothing
 binds_none : (t after : List Entry) (c : ℕ) (i : Item) → ((own : ℕ) → part_of i (link_place t c own) ≡ None) → (a : Answer) → bound_for t after c i a ≡ None
 binds_none t after c i none (Taken own handle) = rw (none own) refl
 binds_none t after c i none _ = refl
@@ -169,7 +169,7 @@ moves_sound id (takes x ∷ ms) t u sound went = moves_sound id ms (took_one x t
 pub trace_sound : (id : List ℕ) (g : Routing) (u : List Entry) → IsTrace id g u → Sound u
 trace_sound id g u trace = moves_sound id trace.0 (configured g) u (sound_start g) trace.1
 
--- each delivery is of a message that came
+-- each delivery is of a message that was received
 pub all_came : (u : List Entry) → EachBound BindsMessage u → (n : ℕ) (d : Delivery) → delivery u n ≡ Some d → CameAndWasBound u n d
 all_came u each n d there =
     let message = of_messages u n d there

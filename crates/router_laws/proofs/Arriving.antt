@@ -1,4 +1,4 @@
--- What a transfer that is taken brings: a message that came whole is bound, or released.
+-- What a transfer that is taken causes: a complete message is bound, or released.
 use Rattle.std.proofs.Common.{◌≡◌, sym, ap, refl, subst, inr, ℕ, Bool, true, false, List, [], ◌∷◌, ◌++◌, length}
 use Rattle.std.specs.Prelude.{Option, Some, None, option_map, if◌then◌else◌, nat_lt, unwrap_or}
 use Rattle.amqp_perf.specs.Spelling.{state_spelling}
@@ -29,7 +29,7 @@ use Rattle.router_laws.proofs.Sound.{Sound, AllLawful, goes_sound, bound_sound, 
 use Rattle.router_laws.proofs.Quiet.{ignored_quiet}
 use Rattle.router_laws.proofs.Transfers.{IsOn}
 
--- what came whole
+-- a complete message
 
 pub record IsWhole (f : Frame) (list : Received) (d : Told) (payload : List ℕ) : Type 0 where
   pub more : f.transfer.more ≡ false
@@ -86,7 +86,7 @@ came_whole t after s conn sasl channel x carried own handle d payload came just 
       payload_is = whole.joined;
     }
 
--- its id, where its producer hasn't settled it
+-- its id, if its producer hasn't settled it
 
 claimed_is : (after : List Entry) (c own handle : ℕ) (v : Option ℕ) (id : ℕ) → claimed_id after c own handle v ≡ Some id → (v ≡ Some id) × (is_claimed_on after c own handle id ≡ true)
 claimed_is after c own handle None id h = absurd cc
@@ -150,7 +150,7 @@ none_since (Took c k ∷ t) h just = absurd (none_not_some just)
 none_since (Bound b ∷ t) h just = absurd (none_not_some just)
 none_since (Configured g ∷ t) h just = absurd (none_not_some just)
 
--- a message that came whole, where its link stands or not
+-- a complete message, whether its link is attached or not
 
 whole_sound : (after : List Entry) (c own handle : ℕ) (d : Told) (payload : List ℕ) (v : Option Link) → Sound after → CameWhole after c own handle d payload → link after c own handle ≡ v
     → Sound (goes (each_to c (whole_put after c own handle d v)) (with_bound (whole_bound after c own handle d payload v) after))

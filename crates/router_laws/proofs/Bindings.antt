@@ -41,7 +41,7 @@ stays_with_consumer b t later =
 pub never_comes_back : (n : ℕ) (t later : List Entry) → n ≤ bindings t → delivery t n ≡ None → delivery (later ++ t) n ≡ None
 never_comes_back n t later given over = subst (λ (v : Option Delivery). AllFollow v (delivery (later ++ t) n)) over (later_follows later t n given)
 
--- of what it was made
+-- the delivery that it was before
 
 pub of_what : (f : Delivery → Delivery) (v : Option Delivery) (e : Delivery) → option_and_then (λ d. unless_over (f d)) v ≡ Some e
     → (d : Delivery) × (v ≡ Some d) × (e ≡ f d)
@@ -86,7 +86,7 @@ of_messages (Bound b ∷ t) n d h =
     })
     (λ e. later_message (Bound b) t n d d (of_messages t n d (rw e at h)) (same d))
 
--- only what was bound is there
+-- only bound deliveries exist
 pub there_bound : (u : List Entry) (n : ℕ) (d : Delivery) → delivery u n ≡ Some d → n ≤ bindings u
 there_bound u n d h =
     let is = of_messages u n d h
@@ -96,7 +96,7 @@ there_bound u n d h =
     least : (n : ℕ) → n ≤ n
     least n = omega arith
 
--- whoever is to be told hadn't settled it
+-- a delivery whose outcome must be reported was not presettled
 pub not_presettled : (u : List Entry) (n : ℕ) (d : Delivery) (p : Origin) → delivery u n ≡ Some d → d.origin ≡ Some p → d.presettled ≡ false
 not_presettled u n d p there origin =
     let message = of_messages u n d there

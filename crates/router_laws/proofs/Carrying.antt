@@ -1,4 +1,4 @@
--- What the frames of a delivery carry, in order, where each carries the next bytes of it: a beginning of the message, and in the end all of it.
+-- The payloads of a delivery's frames, in order, if each carries the next bytes: a beginning of the message, and in the end all of it.
 use Rattle.std.proofs.Common.{◌≡◌, ◌∙◌, sym, ap, refl, subst, ℕ, ◌+◌, ◌≤◌, ◌<◌, ◌^◌, Bool, true, false, List, [], ◌∷◌, ◌++◌, length, take, drop, arith}
 use Rattle.std.specs.Prelude.{◌==◌, Option, Some, None, is_none, is_some, option_and_then, if◌then◌else◌}
 use Rattle.std.proofs.lemmas.Bool.{eqb-true, eq-eqb}
@@ -23,7 +23,7 @@ use Rattle.router_laws.proofs.Tags.{tag_tells}
 use Rattle.router_laws.proofs.Outcomes.{number_is}
 use Rattle.router_laws.proofs.Bindings.{of_what, there_bound, stays_with_consumer}
 
--- the id, and how much has gone
+-- the id, and how many bytes were sent
 
 pub record Unmoved (d e : Delivery) : Type 0 where
   pub id : e.id ≡ d.id
@@ -42,7 +42,7 @@ unmoved_left = record {
   decided = λ d s. record { id = refl; sent = refl; payload = refl };
 }
 
--- a frame moves the delivery that it is of, and nothing else moves one
+-- a frame advances its own delivery, and nothing else advances one
 
 frame_moves : (c : ℕ) (sasl : Bool) (own : ℕ) (x : Transfer) (payload : List ℕ) (t : List Entry) (n : ℕ) (d : Delivery)
     → is_number (carried (tag_in x) (sending t c own x.handle)) n ≡ true
@@ -66,7 +66,7 @@ other_frame c sasl own x payload t n d e =
     here true e = absurd cc
     here false e = refl
 
--- an item is a transfer, or moves none and carries nothing
+-- an item is a transfer, or advances no delivery and carries nothing
 pub item_elim : (i : Item) (P : Item → Type 0)
     → ((sasl : Bool) (own : ℕ) (x : Transfer) (payload : List ℕ) → P (item.Frame sasl own (perf.Transfer x) payload))
     → (((c n : ℕ) (sent : ℕ → ℕ → Option ℕ) (d : Delivery) → Unmoved d (behind_put i c n sent d))
@@ -86,7 +86,7 @@ item_elim (item.Frame sasl own body payload) P transfer other = by body other
     by body other = other (λ c n sent d. ends_left Unmoved unmoved_left (ended_by (item.Frame sasl own body payload) c) d) (λ n sent bytes. refl)
 item_elim _ P transfer other = other (λ c n sent d. unmoved d) (λ n sent bytes. refl)
 
--- nothing of a delivery without id has gone
+-- nothing was sent of a delivery without an id
 
 abbrev pub Unstarted : List Entry → Type 0
 Unstarted t = (n : ℕ) (d : Delivery) → delivery t n ≡ Some d → d.id ≡ None → d.sent ≡ 0
@@ -117,7 +117,7 @@ carries_number t c own x payload is small = by is.of.id is.begins_or_goes_on
     by None first = ap (λ (v : Option (List ℕ)). carried v (sending t c own x.handle)) first.tag ∙ tag_tells is.number small
     by (Some id) later = ap (λ (v : Option (List ℕ)). carried v (sending t c own x.handle)) later.tag ∙ later.same_delivery
 
--- behind a frame of the router the delivery that it is of has an id
+-- after a frame of the router its delivery has an id
 has_id : (t : List Entry) (c own : ℕ) (x : Transfer) (payload : List ℕ) (n : ℕ) (d : Delivery) → CarriesMessage t c own x payload
     → carried (tag_in x) (sending t c own x.handle) ≡ Some n → delivery t n ≡ Some d → (if is_none d.id then x.delivery_id else d.id) ≡ None → ⊥
 has_id t c own x payload n d is number there none = by is.of.id refl is.begins_or_goes_on
@@ -157,12 +157,12 @@ out_unstarted t c i =
         (λ test. let same = other_frame c sasl own x payload t n d.0 test
         in ap (λ (f : Delivery). f.sent) d.2 ∙ same.sent ∙ was n d.0 d.1 (sym same.id ∙ sym (ap (λ (f : Delivery). f.id) d.2) ∙ none))
 
--- what has gone
+-- the bytes sent
 
 abbrev AllCarried : List Entry → Type 0
 AllCarried u = EachOut CarriesWhatWasBound u
 
--- a frame is of no other delivery than the one of its entry
+-- a frame belongs only to the delivery of its entry
 same_number : (t : List Entry) (c own : ℕ) (x : Transfer) (payload : List ℕ) (n : ℕ) (is : CarriesMessage t c own x payload) → bindings t < 2 ^ 64
     → carried (tag_in x) (sending t c own x.handle) ≡ Some n → is.number ≡ n
 same_number t c own x payload n is small number =
@@ -171,7 +171,7 @@ same_number t c own x payload n is small number =
     below : (n k : ℕ) → n ≤ k → k < 2 ^ 64 → n < 2 ^ 64
     below n k h small = omega (arith, h, small)
 
--- nothing goes before it is bound
+-- nothing is sent before it is bound
 none_early : (u : List Entry) (n : ℕ) → AllCarried u → bindings u < 2 ^ 64 → bindings u < n → bytes_out u n ≡ []
 none_early [] n all small early = refl
 none_early (Did s ∷ t) n all small early = none_early t n all small early
@@ -206,7 +206,7 @@ joined d before payload was next =
     ap (λ (bytes : List ℕ). bytes ++ payload) was ∙ ap (λ (bytes : List ℕ). take d.sent d.payload ++ bytes) next
     ∙ sym (take-add d.sent (length payload) d.payload)
 
--- a frame that is of a delivery is the one of its entry
+-- the frame of a delivery is the one of its entry
 of_entry : (t : List Entry) (c own : ℕ) (x : Transfer) (payload : List ℕ) (n : ℕ) (d : Delivery) (is : CarriesMessage t c own x payload) → bindings t < 2 ^ 64
     → carried (tag_in x) (sending t c own x.handle) ≡ Some n → delivery t n ≡ Some d → is.of ≡ d
 of_entry t c own x payload n d is small number there =
@@ -220,7 +220,7 @@ next_bytes t c own x payload n d is small number there =
 lower : (k : ℕ) → k + 1 < 2 ^ 64 → k < 2 ^ 64
 lower k h = omega (arith, h)
 
--- what has gone of a delivery that is there
+-- the bytes sent of an existing delivery
 
 abbrev Went : List Entry → ℕ → Delivery → Type 0
 Went u n d = bytes_out u n ≡ take d.sent d.payload
@@ -275,7 +275,7 @@ went (Bound b ∷ t) n all small d there =
     just_below : (k n : ℕ) → k + 1 ≡ n → k < n
     just_below k n h = omega (arith, h)
 
--- behind the last frame of a message, all of it has gone
+-- after the last frame of a message, all of it was sent
 completes : (t : List Entry) (c : ℕ) (i : Item) → AllCarried t → CarriesWhatWasBound t c i → CompletesMessage t c i
 completes t c (item.Frame sasl own body payload) all is = by body is
   where
@@ -298,7 +298,7 @@ all_complete (Took c k ∷ t) all = all_complete t all
 all_complete (Bound b ∷ t) all = all_complete t all
 all_complete (Configured g ∷ t) all = all_complete t all
 
--- what has gone is always a beginning
+-- the bytes sent are always a beginning
 
 begins : (bytes whole : List ℕ) (n : ℕ) → bytes ≡ take n whole → IsBeginning bytes whole
 begins bytes whole n is = record { rest = drop n whole; joined = ap (λ (xs : List ℕ). xs ++ drop n whole) is ∙ take-append-drop n whole }

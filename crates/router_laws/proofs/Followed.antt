@@ -1,4 +1,4 @@
--- What an entry leaves of a delivery, by what each change leaves of it; and its link, its payload, its format, and its origin or none.
+-- How an entry changes a delivery, from how each change does; its link, payload and format stay, and its origin stays or becomes none.
 use Rattle.std.proofs.Common.{◌≡◌, ◌∙◌, refl, inl, inr, ℕ, ◌+◌, ◌≤◌, Bool, true, false, ◌&&◌, List, [], ◌∷◌, ◌++◌, arith}
 use Rattle.std.specs.Prelude.{◌==◌, Option, Some, None, option_and_then, if◌then◌else◌, length}
 use Rattle.std.proofs.lemmas.Bool.{eqb-true}
@@ -22,7 +22,7 @@ use Rattle.router_trace.specs.Deliveries.{Delivery, bindings, delivery, sending,
 use Rattle.router_laws.specs.OneConsumer.{IsOrNone, WhileThere}
 use Rattle.router_conns.proofs.Lists.{by_test}
 
--- what each change leaves, but for frames
+-- the relation holds across each change, except frames
 pub record Left (R : Delivery → Delivery → Type 0) : Type 0 where
   pub same : (d : Delivery) → R d d
   pub next : (d e f : Delivery) → R d e → R e f → R d f
@@ -47,7 +47,7 @@ pub told_left : (R : Delivery → Delivery → Type 0) → Left R → (role : Ro
 told_left R left Receiver x c o d = choice R (x.settled && is_meant x (origin_id d.origin c o)) d (untold d) d (left.untold d) (left.same d)
 told_left R left Sender x c o d = left.same d
 
--- what frames leave too
+-- and across frames too
 abbrev pub Frames : (Delivery → Delivery → Type 0) → Type 0
 Frames R = (x : Transfer) (count : ℕ) (d : Delivery) → R d (behind_frame x count d)
 
@@ -65,7 +65,7 @@ item_left R left frames (item.Frame sasl own body payload) c n sent d =
     (ends_left R left (ended_by (item.Frame sasl own body payload) c) (put_in body c own n sent (length payload) d))
 item_left R left frames _ c n sent d = left.same d
 
--- what comes leaves
+-- it holds across what is received
 
 decided_left : (R : Delivery → Delivery → Type 0) → Left R → (x : Disposition) (names : ℕ → Option ℕ) (n : ℕ) (d : Delivery) → R d (decided x names n d)
 decided_left R left x names n d =
@@ -139,7 +139,7 @@ pub event_follows : (e : Event) (known : ℕ → ℕ → Option PeerChannel) (na
     → Follows d (behind_event e known names n d)
 event_follows e known names n d = event_left Follows follows_left e known names n d
 
--- of what there was
+-- the same for a delivery that may exist
 
 abbrev pub AllFollow : Option Delivery → Option Delivery → Type 0
 AllFollow None v = v ≡ None

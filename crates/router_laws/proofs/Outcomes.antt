@@ -63,7 +63,7 @@ ends_from D gone d gives s h =
     choice D (gone d.link) d (ended d) d (λ e. ended_from D d (gives e)) (λ e. was_there D d) s
     (sym (origin_outcome gone (if gone d.link then ended d else d)) ∙ h)
 
--- what is put
+-- items put out
 
 abbrev Now : Entry → List Entry → ℕ → Delivery → DeliveryState → Type 0
 Now x t n d s = Decides x t n d s
@@ -102,7 +102,7 @@ transfer_from c sasl own x payload t n d =
     (λ e. frame_from c sasl own x payload t n d (number_is (carried (tag_in x) (sending t c own x.handle)) n e))
     (λ e. was_there _ d)
 
--- what ends no link
+-- items that end no link
 quiet_from : (D : DeliveryState → Type 0) (c : ℕ) (d e : Delivery) → From D d e → From D d (behind_ends (λ a. (a.conn.0 == c) && false) e)
 quiet_from D c d e before s h = by (ends_from (λ s. ⊥) (λ a. (a.conn.0 == c) && false) e (λ gone. absurd (never_both (e.link.conn.0 == c) gone)) s h)
   where
@@ -110,7 +110,7 @@ quiet_from D c d e before s h = by (ends_from (λ s. ⊥) (λ a. (a.conn.0 == c)
     by (inl was) = before s was
     by (inr never) = absurd never
 
--- what may
+-- items that may end one
 ending_from : (c : ℕ) (i : Item) (t : List Entry) (n : ℕ) (d : Delivery) → From (Now (Out c i) t n d) d (behind_ends (ended_by i c) d)
 ending_from c i t n d =
     ends_from (Now (Out c i) t n d) (ended_by i c) d
@@ -131,7 +131,7 @@ put_from : (c : ℕ) (i : Item) (t : List Entry) (n : ℕ) (d : Delivery) → Fr
 put_from c (item.Frame sasl own body payload) t n d = frame_put_from body c sasl own payload t n d
 put_from c _ t n d = was_there _ d
 
--- what comes
+-- items received
 
 maps_is : (v : Option PeerChannel) (o : ℕ) → maps v o ≡ true → v ≡ Some (Mapped o)
 maps_is None o h = absurd cc
@@ -248,7 +248,7 @@ outcomes_given (Bound b ∷ t) n d s h e =
     (λ f. absurd (none_not_some (ap (λ (g : Delivery). g.outcome) (some_same (rw f at h)) ∙ e)))
     (λ f. later_decided (Bound b) t n s (outcomes_given t n d s (rw f at h) e))
 
--- where its producer hadn't settled it, by its consumer
+-- if its producer hadn't settled it, by its consumer
 
 same_presettled : (d : Delivery) (v : Option Delivery) (e : Delivery) → WhileThere (Follows d) v → v ≡ Some e → e.presettled ≡ d.presettled
 same_presettled d None e follows is = absurd (none_not_some is)

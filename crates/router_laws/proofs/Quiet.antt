@@ -1,4 +1,4 @@
--- The items that are neither transfers nor dispositions to producers: what closes, beats and windows put, and what follows an event's rows but for
+-- The items that are neither transfers nor dispositions to producers: closes, heartbeats, the flows of windows, and what follows an event's rows except
 -- outcomes and deliveries.
 use Rattle.std.proofs.Common.{ap, refl, ℕ, zero, suc, ◌+◌, Bool, true, false, List, [], ◌∷◌}
 use Rattle.std.specs.Prelude.{Option, Some, None, if◌then◌else◌, nat_lt}
@@ -91,7 +91,7 @@ settled_quiet own None ids = tt
 settled_quiet own (Some s) [] = tt
 settled_quiet own (Some s) (id ∷ ids) = (refl, settled_quiet own (Some s) ids)
 
--- heartbeats, and windows told anew
+-- heartbeats, and the flows that restore windows
 
 beat_quiet : (b : Bool) (c : ℕ) → QuietPut (beat_if b c)
 beat_quiet true c = (refl, tt)

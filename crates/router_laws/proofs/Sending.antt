@@ -55,7 +55,7 @@ can_go_due t n d h =
     in either_due t n d (is_going t n d) (can_start t d) (both_true (is_wide (session t d.link.conn.0 d.link.channel)) (is_going t n d || can_start t d) open_and.1).1
     (going_due t n d) (starting_due t n d)
 
--- what its frame says
+-- the content of its frame
 
 names_more : (id : Option ℕ) (t : List Entry) (c own n : ℕ) (d : Delivery) (x : Transfer) → BeginsOrGoesOn id t c own n d x → BeginsOrGoesOn id t c own n d (with_more x)
 names_more None t c own n d x is = record { id = is.id; tag = is.tag; format = is.format; starts = is.starts }
@@ -145,7 +145,7 @@ frame_lawful t n d largest x there due is = by (fits largest (transfer_frame d.l
       tt,
     )
 
--- all that is due at once: one frame, if one is
+-- all that is due at once: at most one frame
 
 passed_test : (b : Bool) (x a : Attachment) → (if b then Some x else None) ≡ Some a → b ≡ true
 passed_test true x a e = refl

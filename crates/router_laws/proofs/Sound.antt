@@ -1,4 +1,4 @@
--- What each entry has to be for the laws, and that they stay true behind one that is.
+-- What the laws require of each entry, and that they still hold after an entry that satisfies it.
 use Rattle.std.proofs.Common.{◌≡◌, ℕ, Bool, true, false, List, [], ◌∷◌, ◌++◌}
 use Rattle.std.specs.Prelude.{Option}
 use Rattle.amqp_perf.specs.declared.perf.Disposition.{Disposition}
@@ -42,7 +42,7 @@ took_sound c n t sound = record { carries = sound.carries; tells = sound.tells; 
 pub bound_sound : (b : Binding) (t : List Entry) → BindsMessage t b → Sound t → Sound (Bound b ∷ t)
 bound_sound b t is sound = record { carries = sound.carries; tells = sound.tells; binds = (is, sound.binds); unstarted = bound_unstarted t b sound.unstarted }
 
--- an item as the laws want it
+-- an item that satisfies the laws
 
 abbrev pub Lawful : List Entry → ℕ → Item → Type 0
 Lawful t c i = CarriesWhatWasBound t c i × TellsAsGiven t c i
@@ -55,7 +55,7 @@ out_sound c i t is sound = record {
   unstarted = out_unstarted t c i is.0 sound.unstarted;
 }
 
--- each over what stands before it
+-- each after the entries before it
 abbrev pub AllLawful : List Entry → List Put → Type 0
 AllLawful t [] = Unit {0}
 AllLawful t (p ∷ ps) = Lawful t p.conn p.item × AllLawful (Out p.conn p.item ∷ t) ps
@@ -64,7 +64,7 @@ pub goes_sound : (ps : List Put) (t : List Entry) → AllLawful t ps → Sound t
 goes_sound [] t all sound = sound
 goes_sound (p ∷ ps) t all sound = goes_sound ps (Out p.conn p.item ∷ t) all.1 (out_sound p.conn p.item t all.0 sound)
 
--- what is neither a transfer nor a disposition to a producer is lawful anywhere
+-- an item that is neither a transfer nor a disposition to a producer is always lawful
 
 abbrev pub is_receiver : Role → Bool
 is_receiver Receiver = true
@@ -115,7 +115,7 @@ quiet_lawful (p ∷ ps) t quiet = (quiet_item p.item t p.conn quiet.0, quiet_law
 pub quiet_sound : (ps : List Put) (t : List Entry) → QuietPut ps → Sound t → Sound (goes ps t)
 quiet_sound ps t quiet sound = goes_sound ps t (quiet_lawful ps t quiet) sound
 
--- items leave the event that was handled last
+-- items don't change the last event handled
 pub still_handled : (ps : List Put) (t : List Entry) (v : Option Handled) → just_handled t ≡ v → just_handled (goes ps t) ≡ v
 still_handled [] t v is = is
 still_handled (p ∷ ps) t v is = still_handled ps (Out p.conn p.item ∷ t) v is

@@ -1,4 +1,4 @@
--- Of each delivery an outcome is told once at most: behind it nobody is to be told.
+-- The outcome of each delivery is reported at most once: after that no report is due.
 use Rattle.std.proofs.Common.{◌≡◌, ◌∙◌, sym, ap, refl, subst, ◌⊎◌, inl, inr, ℕ, ◌+◌, ◌≤◌, Bool, true, false, ◌&&◌, List, [], ◌∷◌, ◌++◌, arith}
 use Rattle.std.specs.Prelude.{◌==◌, ◌^◌, nat_lt, nat_le, Option, Some, None, option_and_then, unwrap_or}
 use Rattle.std.proofs.lemmas.Bool.{eqb-true}
@@ -24,7 +24,7 @@ use Rattle.router_laws.proofs.Bindings.{there_bound}
 abbrev NoOrigin : Delivery → Type 0
 NoOrigin d = d.origin ≡ None
 
--- nobody to be told stays so
+-- a delivery without a report due stays so
 abbrev StaysNone : Delivery → Delivery → Type 0
 StaysNone d e = d.origin ≡ None → e.origin ≡ None
 
@@ -37,7 +37,7 @@ stays_left = record {
   decided = λ d s none. none;
 }
 
--- told
+-- reported
 
 told_none : (role : Role) (x : Disposition) (c own : ℕ) (d : Delivery) → tells_as role x c own d.origin ≡ true → (told role x c own d).origin ≡ None
 told_none Receiver x c own d h = rw h refl
@@ -56,7 +56,7 @@ told_behind (item.Frame sasl own body payload) c n sent (Some d) h =
     unless_left NoOrigin (behind_put (item.Frame sasl own body payload) c n sent d) (none_behind body sasl c own n payload sent d h)
 told_behind _ c n sent (Some d) h = absurd cc
 
--- not told again
+-- not reported again
 
 not_as : (role : Role) (x : Disposition) (c own : ℕ) → tells_as role x c own None ≡ false
 not_as Receiver x c own = by x.settled
@@ -88,7 +88,7 @@ all_none None (Some e) none follows = absurd cc
 all_none (Some d) None none follows = tt
 all_none (Some d) (Some e) none follows = follows_none d e none follows
 
--- once
+-- at most once
 
 pub record IsSpent (u : List Entry) (n : ℕ) : Type 0 where
   pub once : tellings u n ≡ 1
@@ -177,7 +177,7 @@ told_at_most_once u n = by (spent u n)
         at_most : (a : ℕ) → a ≡ 1 → a ≤ 1
         at_most a h = omega (arith, h)
 
--- as long as somebody is to be told, nothing was
+-- as long as a report is due, none was made
 pub none_before : (t : List Entry) (n : ℕ) (d : Delivery) (p : Origin) → delivery t n ≡ Some d → d.origin ≡ Some p → tellings t n ≡ 0
 none_before t n d p there origin = by (spent t n)
   where
@@ -188,12 +188,12 @@ none_before t n d p there origin = by (spent t n)
     by (inl none) = none
     by (inr was) = absurd (differ (sym origin ∙ subst (λ (v : Option Delivery). WhileThere NoOrigin v) there was.none))
 
--- under an id: nobody comes to be told under an id, and behind a disposition that settles the id nobody is
+-- with an id: no delivery gets a report due with an id, and after a disposition that settles the id none has one
 
 abbrev NotUnder : ℕ → ℕ → ℕ → Delivery → Type 0
 NotUnder c own id d = IsUnder c own id d → ⊥
 
--- what is under an id was
+-- a delivery with a report due with an id had it before
 abbrev WasUnder : ℕ → ℕ → ℕ → Delivery → Delivery → Type 0
 WasUnder c own id d e = IsUnder c own id e → IsUnder c own id d
 

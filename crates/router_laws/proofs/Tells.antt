@@ -1,4 +1,4 @@
--- The disposition that is due next tells an outcome that was given, for the first time.
+-- The disposition that is due next reports an outcome that was given, for the first time.
 use Rattle.std.proofs.Common.{◌≡◌, refl, inl, ℕ, ◌+◌, List}
 use Rattle.std.specs.Prelude.{Option, Some, None}
 use Rattle.amqp_perf.specs.declared.state.DeliveryState.{DeliveryState}

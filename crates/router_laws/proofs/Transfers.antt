@@ -1,4 +1,4 @@
--- Where a transfer is taken: on the session that its channel stands for, and on the link on which the peer sends and that its handle stands for.
+-- Where a transfer is taken: on the session that its channel stands for, and on the link that its handle stands for, with the peer as the sender.
 use Rattle.std.proofs.Common.{◌≡◌, refl, ℕ, Bool, true, false}
 use Rattle.std.specs.Prelude.{nat_eq, ◌&&◌, List, Option, Some, None, Result, Ok, Err, option_map}
 use Rattle.amqp_perf.specs.declared.perf.Perf.TheVariants as perf

@@ -1,4 +1,4 @@
--- Messages that came (AMQP 1.0 part 2, sections 2.6.14 and 2.7.5): a delivery of a producer has come whole with the frame that says that no more
+-- Messages received (AMQP 1.0 part 2, sections 2.6.14 and 2.7.5): a producer's delivery is complete with the frame that says that no more
 -- are to come.
 use Rattle.std.specs.Prelude.{◌≡◌, ℕ, ◌+◌, true, false, List, [], ◌∷◌, ◌++◌, Option, Some, None, unwrap_or}
 use Rattle.amqp_perf.specs.declared.perf.Perf.TheVariants as perf
@@ -24,7 +24,7 @@ pub record Handled : Type 0 where
   pub step : Step
   pub found : Trace
 
--- the event that was handled last, as long as items alone were put out behind it
+-- the last event handled, as long as only items were put out after it
 abbrev pub just_handled : Trace → Option Handled
 just_handled [] = None
 just_handled (Did s ∷ t) = Some (record { step = s; found = t })
@@ -33,7 +33,7 @@ just_handled (Took c n ∷ t) = None
 just_handled (Bound b ∷ t) = None
 just_handled (Configured g ∷ t) = None
 
--- how many messages were bound behind the event that was handled last
+-- how many messages were bound after the last event handled
 abbrev pub bound_since : Trace → ℕ
 bound_since [] = 0
 bound_since (Did s ∷ t) = 0
@@ -42,8 +42,8 @@ bound_since (Took c n ∷ t) = bound_since t
 bound_since (Bound b ∷ t) = bound_since t + 1
 bound_since (Configured g ∷ t) = bound_since t
 
--- A message came whole, on a link of a connection on which the peer sends, by the router's channel and handle: the frame that came just now, on the
--- session and the handle of the link, is the last of its delivery; the message is what its frames carry, in order.
+-- A message is complete, on a link of a connection on which the peer is the sender, by the router's channel and handle: the frame just received,
+-- on the session and the handle of the link, is the last of its delivery; the message is what its frames carry, in order.
 pub record CameWhole (t : Trace) (c own handle : ℕ) (message : Told) (payload : List ℕ) : Type 0 where
   pub handled : Handled
   pub conn : ConnectionId
@@ -63,14 +63,14 @@ pub record CameWhole (t : Trace) (c own handle : ℕ) (message : Told) (payload 
   pub message_is : message ≡ delivery (frame transfer carried) (middle happened)
   pub payload_is : payload ≡ bytes (middle happened) ++ carried
 
--- whom its outcome is to be told to: its producer, under its delivery-id, where that hasn't settled it
+-- where its outcome will be reported: to its producer, with the producer's delivery-id, unless the producer has settled it
 abbrev pub ComesFrom : Option Origin → Trace → ℕ → ℕ → ℕ → Link → Told → Type 0
 ComesFrom None t c own handle l message = claimed_id t c own handle message.id ≡ None
 ComesFrom (Some p) t c own handle l message =
     (p.link ≡ from_link c own handle l) × (message.id ≡ Some p.id) × (is_claimed_on t c own handle p.id ≡ true)
 
--- A message is bound where it came whole just now, and it is what came; to the consumer that is chosen for the address of its producer's link.
--- None was bound behind that event before, so none is bound twice.
+-- A message is bound when it is just complete, as it was received, to the consumer chosen for the address of its producer's link.
+-- No message was bound after that event before, so none is bound twice.
 pub record BindsMessage (t : Trace) (b : Binding) : Type 0 where
   pub conn : ℕ
   pub own : ℕ

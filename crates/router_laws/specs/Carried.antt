@@ -10,14 +10,14 @@ use Rattle.router_trace.specs.declared.binding.Binding.{Binding}
 use Rattle.router_trace.specs.Trace.{Trace, Did, Out, Took, Bound, Configured}
 use Rattle.router_trace.specs.Deliveries.{Delivery, bindings, delivery, sending, carried, tag_in, tag_of, is_number}
 
--- The first frame of a delivery: it has an id, the tag of the delivery and the format of the message, and nothing of it went before.
+-- The first frame of a delivery: it has an id, the delivery's tag and the message format, and nothing of the delivery was sent before.
 pub record IsFirst (n : ℕ) (d : Delivery) (x : Transfer) : Type 0 where
   pub id : is_some x.delivery_id ≡ true
   pub tag : tag_in x ≡ Some (tag_of n)
   pub format : x.message_format ≡ Some d.format
   pub starts : d.sent ≡ 0
 
--- A later frame has none of them: it goes on with the delivery that was begun on its handle and has more to come.
+-- A later frame has none of them: it continues the delivery that was begun on its handle and has more to come.
 pub record IsLater (t : Trace) (c own n : ℕ) (x : Transfer) : Type 0 where
   pub id : x.delivery_id ≡ None
   pub tag : tag_in x ≡ None
@@ -28,8 +28,8 @@ abbrev pub BeginsOrGoesOn : Option ℕ → Trace → ℕ → ℕ → ℕ → Del
 BeginsOrGoesOn None t c own n d x = IsFirst n d x
 BeginsOrGoesOn (Some id) t c own n d x = IsLater t c own n x
 
--- A transfer of the router carries the message of a delivery, on the link that it was bound to: the next bytes of it, and all that are left
--- where no more are to come. A delivery that has an id has begun.
+-- A transfer of the router carries the message of a delivery, on the link that it was bound to: the next bytes of it, and all remaining bytes
+-- if no more are to come. A delivery that has an id has begun.
 pub record CarriesMessage (t : Trace) (c own : ℕ) (x : Transfer) (payload : List ℕ) : Type 0 where
   pub number : ℕ
   pub of : Delivery
@@ -51,8 +51,8 @@ abbrev pub CarriesWhatWasBound : Trace → ℕ → Item → Type 0
 CarriesWhatWasBound t c (item.Frame sasl own body payload) = perf_carries body t c own payload
 CarriesWhatWasBound t c _ = Unit {0}
 
--- What a consumer gets of a delivery: what the frames carry that are of it, in the order in which they go. A frame with a tag is of the delivery
--- of that tag, another of the one that was begun on its handle.
+-- What a consumer gets of a delivery: the payloads of its frames, in the order in which they are sent. A frame with a tag belongs to the delivery
+-- with that tag, any other to the one that was begun on its handle.
 abbrev pub bytes_in : Perf → ℕ → ℕ → List ℕ → (ℕ → ℕ → Option ℕ) → List ℕ → List ℕ
 bytes_in (perf.Transfer x) own n payload sent before = if is_number (carried (tag_in x) (sent own x.handle)) n then before ++ payload else before
 bytes_in _ own n payload sent before = before
@@ -69,7 +69,7 @@ bytes_out (Took c k ∷ t) n = bytes_out t n
 bytes_out (Bound b ∷ t) n = bytes_out t n
 bytes_out (Configured g ∷ t) n = bytes_out t n
 
--- It is a beginning of the message that was bound, and behind a frame that says that no more are to come it is the message. (A tag has
+-- It is a beginning of the message that was bound, and after a frame that says that no more are to come it is the whole message. (A tag has
 -- 8 bytes of the number.)
 pub record IsBeginning (bytes whole : List ℕ) : Type 0 where
   pub rest : List ℕ

@@ -1,5 +1,5 @@
--- What decided a delivery (AMQP 1.0 part 2, sections 2.6.12 and 2.7.6; the outcomes in part 3, section 3.4): an entry of the trace, and by
--- that entry the outcome is given. All of it is said of any trace.
+-- What decided a delivery (AMQP 1.0 part 2, sections 2.6.12 and 2.7.6; the outcomes in part 3, section 3.4): an entry of the trace, which
+-- gives the outcome. All of this holds of any trace.
 use Rattle.std.specs.Prelude.{◌≡◌, ℕ, Bool, true, false, List, ◌∷◌, ◌++◌, Some, None}
 use Rattle.amqp_perf.specs.declared.perf.Disposition.{Disposition}
 use Rattle.amqp_perf.specs.declared.perf.Perf.TheVariants as perf
@@ -18,8 +18,8 @@ use Rattle.router_trace.specs.Links.{ends_handle}
 use Rattle.router_trace.specs.Sessions.{theirs}
 use Rattle.router_trace.specs.Deliveries.{Delivery, delivery, named, terminal, decision, failed, last_of, tag_in, carried, sending}
 
--- Its consumer gave it: a disposition came, as a receiver's, on the session of the link; the delivery-id of the delivery is in its range, and
--- names this delivery; the outcome is its state, where that is terminal, and modified with delivery-failed where it settles without one.
+-- Its consumer gave it: a disposition was received, as a receiver's, on the link's session; the delivery's id is in its range, and
+-- names this delivery; the outcome is its state if that is terminal, and modified with delivery-failed if it settles without one.
 pub record GivenByConsumer (entry : Entry) (t : Trace) (n : ℕ) (d : Delivery) (outcome : DeliveryState) : Type 0 where
   pub step : Step
   pub conn : ConnectionId
@@ -54,7 +54,7 @@ pub record LinkEnded (entry : Entry) (d : Delivery) : Type 0 where
   pub on_connection : d.link.conn.0 ≡ conn
   pub ends : ends_handle item d.link.channel d.link.handle ≡ true
 
--- Its producer had settled it, so nobody is asked: it is accepted behind the last of its frames.
+-- Its producer had settled it, so no consumer decides: it is accepted after the last of its frames.
 pub record SentSettled (entry : Entry) (t : Trace) (n : ℕ) (d : Delivery) : Type 0 where
   pub conn : ℕ
   pub sasl : Bool
@@ -66,7 +66,7 @@ pub record SentSettled (entry : Entry) (t : Trace) (n : ℕ) (d : Delivery) : Ty
   pub last : transfer.more ≡ false
   pub presettled : d.presettled ≡ true
 
--- an entry over a trace decides a delivery of a number, as it stood there
+-- an entry after a trace decides the delivery with a number, as it was in the trace
 pub data Decides (entry : Entry) (t : Trace) (n : ℕ) (d : Delivery) (outcome : DeliveryState) : Type 0 where
   given_by_consumer : GivenByConsumer entry t n d outcome → Decides entry t n d outcome
   link_lost : LinkLost entry d → d.outcome ≡ None → outcome ≡ failed → Decides entry t n d outcome
@@ -83,7 +83,7 @@ pub record Decided (u : Trace) (n : ℕ) (outcome : DeliveryState) : Type 0 wher
   pub there : delivery before n ≡ Some found
   pub decides : Decides entry before n found outcome
 
--- by its consumer, or by the end of the consumer's link
+-- the delivery is decided by its consumer, or by the end of the consumer's link
 abbrev pub IsByConsumer : (entry : Entry) (t : Trace) (n : ℕ) (d : Delivery) (outcome : DeliveryState) → Decides entry t n d outcome → Type 0
 IsByConsumer entry t n d outcome (sent_settled by accepted) = ⊥
 IsByConsumer entry t n d outcome _ = Unit {0}
@@ -92,7 +92,7 @@ pub record DecidedByConsumer (u : Trace) (n : ℕ) (outcome : DeliveryState) : T
   pub decided : Decided u n outcome
   pub by_consumer : IsByConsumer decided.entry decided.before n decided.found outcome decided.decides
 
--- Each outcome of a delivery is as it was given; by its consumer, or the end of the consumer's link, where its producer hadn't settled it.
+-- Each outcome of a delivery is as it was given: by its consumer, or the end of the consumer's link, if its producer hadn't settled it.
 abbrev pub OutcomesAreGiven : Type 0
 OutcomesAreGiven = (u : Trace) (n : ℕ) (d : Delivery) (outcome : DeliveryState)
     → delivery u n ≡ Some d → d.outcome ≡ Some outcome → Decided u n outcome

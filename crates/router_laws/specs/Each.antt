@@ -1,4 +1,4 @@
--- What holds of each item that was put out, and of each message that was bound, over the trace in which it was: it stands on what happened
+-- What holds of each item that was put out, and of each message that was bound, over the trace at that time: it depends on what happened
 -- before it.
 use Rattle.std.specs.Prelude.{ℕ, [], ◌∷◌}
 use Rattle.amqp_frames.specs.declared.item.Item.{Item}

@@ -1,4 +1,4 @@
--- What holds of every trace of the router, and so of every list of events.
+-- Laws of every trace of the router, and so of every list of events.
 use Rattle.std.specs.Prelude.{◌≡◌, ℕ, List, Some}
 use Rattle.route_table.specs.Places.{Routing}
 use Rattle.router_trace.specs.Configuration.{configured}
@@ -18,11 +18,11 @@ use Rattle.router_laws.specs.Told.{TellsAsGiven}
 abbrev pub InTraces : (Trace → Type 0) → Type 0
 InTraces P = (id : List ℕ) (g : Routing) (u : Trace) → IsTrace id g u → P u
 
--- in the trace of every list of events, the outboxes emptied behind each
+-- in the trace of every list of events, the outboxes emptied after each
 abbrev pub InRuns : (Trace → Type 0) → Type 0
 InRuns P = (id : List ℕ) (g : Routing) (events : List Event) (xs : List Sent) (u : Trace) → Run id 0 (configured g) events xs u → P u
 
--- each transfer carries the next bytes of a message that was bound, on the link of its consumer
+-- each transfer carries the next bytes of a message that was bound, on its consumer's link
 abbrev pub AllCarry : Trace → Type 0
 AllCarry u = EachOut CarriesWhatWasBound u
 
@@ -30,11 +30,11 @@ AllCarry u = EachOut CarriesWhatWasBound u
 abbrev pub AllJoin : Trace → Type 0
 AllJoin u = GoesInOrder u × EachOut CompletesMessage u
 
--- each message that is bound is one that came whole just now, and none is bound twice
+-- each message that is bound is just complete, and none is bound twice
 abbrev pub AllBindOnce : Trace → Type 0
 AllBindOnce u = EachBound BindsMessage u
 
--- so each delivery is of a message that came whole and was bound
+-- so each delivery is of a message that was received completely and was bound
 pub record CameAndWasBound (u : Trace) (n : ℕ) (d : Delivery) : Type 0 where
   pub message : IsOfMessage u n d
   pub binds : BindsMessage message.before message.binding
@@ -42,6 +42,6 @@ pub record CameAndWasBound (u : Trace) (n : ℕ) (d : Delivery) : Type 0 where
 abbrev pub AllCame : Trace → Type 0
 AllCame u = (n : ℕ) (d : Delivery) → delivery u n ≡ Some d → CameAndWasBound u n d
 
--- each disposition to a producer tells the outcome that was given, for the first time, or releases a message that nobody takes
+-- each disposition to a producer reports the outcome that was given, for the first time, or releases a message that no consumer takes
 abbrev pub AllTell : Trace → Type 0
 AllTell u = EachOut TellsAsGiven u

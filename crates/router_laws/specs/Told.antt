@@ -1,4 +1,4 @@
--- What producers are told (AMQP 1.0 part 2, sections 2.6.12 and 2.7.6): dispositions of the router as a receiver, each of one delivery of theirs.
+-- Reports to producers (AMQP 1.0 part 2, sections 2.6.12 and 2.7.6): dispositions of the router as a receiver, each for one of their deliveries.
 use Rattle.std.specs.Prelude.{◌≡◌, ◌≤◌, ◌⊎◌, ℕ, ◌+◌, Bool, true, false, ◌&&◌, if◌then◌else◌, List, [], ◌∷◌, ◌++◌, Option, Some, None}
 use Rattle.amqp_perf.specs.declared.perf.Disposition.{Disposition}
 use Rattle.amqp_perf.specs.declared.perf.Perf.{Perf}
@@ -21,7 +21,7 @@ use Rattle.router_laws.specs.OneConsumer.{WhileThere}
 use Rattle.router_laws.specs.Decided.{DecidedByConsumer}
 use Rattle.router_laws.specs.Came.{CameWhole}
 
--- A disposition of the router as a receiver tells the outcome of a delivery where it settles and its range has the id that the delivery's
+-- A disposition of the router as a receiver reports the outcome of a delivery if it settles and its range has the id that the delivery's
 -- producer gave it, on the session of the producer's link.
 abbrev pub tells_as : Role → Disposition → ℕ → ℕ → Option Origin → Bool
 tells_as Receiver x c own origin = x.settled && is_meant x (origin_id origin c own)
@@ -35,7 +35,7 @@ abbrev pub tells : Item → ℕ → Option Delivery → Bool
 tells (item.Frame sasl own body payload) c (Some d) = tells_in body c own d.origin
 tells _ c v = false
 
--- how often the producer of a delivery was told of it
+-- how often the outcome of a delivery was reported to its producer
 abbrev pub tellings : Trace → ℕ → ℕ
 tellings [] n = 0
 tellings (Did s ∷ t) n = tellings t n
@@ -44,12 +44,12 @@ tellings (Took c k ∷ t) n = tellings t n
 tellings (Bound b ∷ t) n = tellings t n
 tellings (Configured g ∷ t) n = tellings t n
 
--- once at most, whatever happens
+-- at most once, whatever happens
 abbrev pub ToldAtMostOnce : Type 0
 ToldAtMostOnce = (u : Trace) (n : ℕ) → tellings u n ≤ 1
 
--- Behind a disposition of the router as a receiver that settles one id, no delivery that was bound before it has that id to be told any more, on
--- that session: another outcome under the id is of a message that was bound later.
+-- After a disposition of the router as a receiver that settles one id, no delivery that was bound before it still has an outcome to report with
+-- that id, on that session: another outcome with the id belongs to a message that was bound later.
 abbrev pub IsUnder : ℕ → ℕ → ℕ → Delivery → Type 0
 IsUnder c own id d = origin_id d.origin c own ≡ Some id
 
@@ -57,8 +57,8 @@ abbrev pub ToldAnew : Type 0
 ToldAnew = (t later : Trace) (c own : ℕ) (sasl : Bool) (x : Disposition) (payload : List ℕ) (n : ℕ) → x.role ≡ Receiver → x.settled ≡ true → x.last ≡ None → n ≤ bindings t
     → WhileThere (λ d. IsUnder c own x.first d → ⊥) (delivery (later ++ Out c (item.Frame sasl own (perf.Disposition x) payload) ∷ t) n)
 
--- The outcome of a delivery is told: its producer is still to be told, under the id that it gave, on the session of its link; what is told is
--- the outcome that its consumer gave before, as the router keeps it; and nothing was told of it before.
+-- The outcome of a delivery is reported: its producer has not been sent it, and gets it with its own delivery-id, on its link's session. It is
+-- the outcome that the consumer gave before, as the router keeps it, and none was reported before.
 pub record TellsOutcome (t : Trace) (c own : ℕ) (x : Disposition) : Type 0 where
   pub number : ℕ
   pub of : Delivery
@@ -74,7 +74,7 @@ pub record TellsOutcome (t : Trace) (c own : ℕ) (x : Disposition) : Type 0 whe
   pub told : x.state ≡ Some (kept_outcome outcome)
   pub first_time : tellings t number ≡ 0
 
--- Or a message that came whole just now is released, as no consumer is chosen for it: it is bound to none.
+-- Or a message that is just complete is released, as no consumer is chosen for it: it is bound to none.
 pub record ReleasesMessage (t : Trace) (c own : ℕ) (x : Disposition) : Type 0 where
   pub handle : ℕ
   pub message : Told
@@ -86,7 +86,7 @@ pub record ReleasesMessage (t : Trace) (c own : ℕ) (x : Disposition) : Type 0 
   pub nobody : consumer_of t (link t c own handle) ≡ None
   pub told : x.state ≡ Some state.Released
 
--- A disposition of the router as a receiver settles one delivery: it tells an outcome, or it releases a message.
+-- A disposition of the router as a receiver settles one delivery: it reports an outcome, or releases a message.
 pub record TellsProducer (t : Trace) (c own : ℕ) (x : Disposition) : Type 0 where
   pub settles : x.settled ≡ true
   pub one : x.last ≡ None

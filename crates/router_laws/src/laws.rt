@@ -1,12 +1,13 @@
-//! What holds of each message that the router passes on, in the words of the protocol. The functions do nothing: their contracts are
+//! Laws of each message that the router passes on, in terms of the protocol. The functions do nothing: their contracts are
 //! the laws.
 ghost use Rattle.router_laws.specs.OneConsumer.{StaysWithConsumer, NeverComesBack, OfMessages};
 ghost use Rattle.router_laws.specs.Decided.{OutcomesAreGiven, OutcomesAreOfConsumers};
 ghost use Rattle.router_laws.specs.Told.{ToldAtMostOnce, ToldAnew};
 ghost use Rattle.router_laws.specs.Laws.{InTraces, InRuns, AllCarry, AllJoin, AllBindOnce, AllCame, AllTell};
 
-/// In every trace of the router a message is bound where it came whole, as the last frame of its delivery came; what is bound is what its
-/// frames carried, and it is bound once; so each delivery is of such a message (AMQP 1.0 part 2, sections 2.6.14 and 2.7.5). Lists of events have such traces.
+/// In every trace of the router a message is bound when it is complete: the last frame of its delivery has just been received. What is bound
+/// is what its frames carried, and it is bound once; so each delivery is of such a message (AMQP 1.0 part 2, sections 2.6.14 and 2.7.5).
+/// Lists of events have such traces.
 pub fn messages_are_bound_once()
     ensures traces { InTraces AllBindOnce }
     ensures runs { InRuns AllBindOnce }
@@ -14,8 +15,8 @@ pub fn messages_are_bound_once()
     ensures runs_deliveries { InRuns AllCame }
 {}
 
-/// A message goes to one consumer at most: once it is bound, its delivery is on the link of that consumer and has the payload that came,
-/// as long as it is there, and it never comes back once it is over (AMQP 1.0 part 2, sections 2.6.12 and 2.7.5).
+/// A message goes to at most one consumer: once it is bound, its delivery is on that consumer's link and has the payload received,
+/// as long as it exists, and it never comes back once it is over (AMQP 1.0 part 2, sections 2.6.12 and 2.7.5).
 pub fn a_delivery_has_one_consumer()
     ensures stays { StaysWithConsumer }
     ensures over { NeverComesBack }
@@ -23,8 +24,8 @@ pub fn a_delivery_has_one_consumer()
 {}
 
 /// In every trace of the router each transfer carries the next bytes of a message, on the link of the consumer that it was bound to: the
-/// first has the tag of the delivery, a later one none, and the last all that were left. What a consumer gets of a delivery is a beginning
-/// of the message, and behind the last frame the message (AMQP 1.0 part 2, sections 2.6.14 and 2.7.5). Lists of events have such traces.
+/// first has the delivery-tag, a later one none, and the last carries all remaining bytes. What a consumer gets of a delivery is a beginning
+/// of the message, and after the last frame the whole message (AMQP 1.0 part 2, sections 2.6.14 and 2.7.5). Lists of events have such traces.
 pub fn frames_carry_what_was_bound()
     ensures traces { InTraces AllCarry }
     ensures runs { InRuns AllCarry }
@@ -33,14 +34,15 @@ pub fn frames_carry_what_was_bound()
 {}
 
 /// Each outcome is as it was given: by a disposition of the delivery's consumer, by the end of its link (it is then modified, with
-/// delivery-failed), or, where the message was settled before, by its last frame (AMQP 1.0 part 2, sections 2.6.12 and 2.7.6).
+/// delivery-failed), or, if the message was settled before, by its last frame (AMQP 1.0 part 2, sections 2.6.12 and 2.7.6).
 pub fn outcomes_are_as_given()
     ensures given { OutcomesAreGiven }
     ensures of_consumers { OutcomesAreOfConsumers }
 {}
 
-/// Of each delivery its producer is told at most once, and another outcome under the same delivery-id is of a message that was bound later. In every trace of the router each disposition as a receiver settles one delivery: it
-/// tells the outcome that was given, for the first time, or releases a message that came just now and for which no consumer is chosen (AMQP
+/// The producer of each delivery is sent its outcome at most once; another outcome with the same delivery-id belongs to a message that was
+/// bound later. In every trace of the router each disposition as a receiver settles one delivery: it
+/// reports the outcome that was given, for the first time, or releases a message that is just complete and for which no consumer is chosen (AMQP
 /// 1.0 part 2, sections 2.6.12 and 2.7.6). Lists of events have such traces.
 pub fn outcomes_are_told_once()
     ensures once { ToldAtMostOnce }

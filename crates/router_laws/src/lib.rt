@@ -1,4 +1,4 @@
-//! What holds of each message that the router passes on.
+//! Laws of each message that the router passes on.
 #![tactic(auto)]
 
 mod laws;

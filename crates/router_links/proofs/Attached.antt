@@ -1,4 +1,4 @@
--- What a table knows of keys and numbers it knows behind an entry too.
+-- What a table knows of keys and numbers it still knows after an entry.
 use Rattle.std.proofs.Common.{◌≡◌, ◌∙◌, ◌+◌, ◌≤◌, ℕ, Bool, true, false, refl, sym, ap, List, ◌∷◌, Option, Some, None}
 use Rattle.std.specs.Prelude.{◌&&◌, ◌==◌, if◌then◌else◌, is_some}
 use Rattle.std.specs.Ordering.{nat_cmp, is_eq}
@@ -17,7 +17,7 @@ use Rattle.router_links.specs.declared.names.Names.{Names}
 use Rattle.router_links.specs.Naming.{on_handle, IsThinned, Thinned, Remembers, NamesFit}
 use Rattle.router_links.proofs.Numbered.{old_key, old_number, newest_same, did_stays, out_stays, attached_other, not_next}
 
--- From a trace to another, of the attachments of the first: who isn't attached stays so, and those that pass a test go.
+-- From one trace to another, for the attachments of the first: an attachment that isn't attached stays so, and those that pass a test end.
 pub record Going (t u : Trace) (gone : Attachment → Bool) : Type 0 where
   pub stays : (a : Attachment) → a.number ≤ attachments t → is_attached t a ≡ false → is_attached u a ≡ false
   pub goes : (a : Attachment) → a.number ≤ attachments t → gone a ≡ true → is_attached u a ≡ false
@@ -47,7 +47,7 @@ kept : (t u : Trace) (gone : Attachment → Bool) (e f last : Option Attachment)
 kept t u gone e None last going old thin r = forgotten t u gone e last going old thin r
 kept t u gone e (Some a) last going old thin r = remembered e last (if_attached t last) a thin r
 
--- behind an event
+-- after an event
 pub names_heard : (x : Event) (t : Trace) (gone : Attachment → Bool) (old new : Names)
     → ((a : Attachment) → gone a ≡ true → is_attached (did x ∷ t) a ≡ false) → Thinned gone old new → NamesFit old t → NamesFit new (did x ∷ t)
 names_heard x t gone old new goes thin fit =
@@ -57,7 +57,7 @@ names_heard x t gone old new goes thin fit =
       numbers = λ n. kept t (did x ∷ t) gone _ _ (numbered t n) going (old_number t n) (thin.numbers n) (fit.numbers n);
     }
 
--- behind an item that takes no link
+-- after an item that takes no link
 going_out : (d : ℕ) (i : Item) (t : Trace) (gone : Attachment → Bool)
     → ((a : Attachment) → a.number ≤ attachments t → gone a ≡ true → is_attached (Out d i ∷ t) a ≡ false) → Going t (Out d i ∷ t) gone
 going_out d i t gone goes = record { stays = λ a below e. out_stays d i t a below e; goes = goes }
@@ -76,7 +76,7 @@ names_put d i t gone old new untaken goes thin fit =
           (kept t (Out d i ∷ t) gone _ _ (numbered t n) going (old_number t n) (thin.numbers n) (fit.numbers n));
     }
 
--- behind an attach that takes a link
+-- after an attach that takes a link
 taken : (u : Trace) (addressed b : Bool) (f g last : Option Attachment) (a new : Attachment) → a ≡ new → addressed ≡ true → g ≡ (if b then Some a else f)
     → Remembers f last (if_attached u last) → Remembers g (if addressed && b then Some new else last) (if_attached u (if addressed && b then Some new else last))
 taken u true true f g last a new is e x r = rw x (sym (ap Some is))
@@ -114,7 +114,7 @@ names_taken d own sasl x payload t gone old middle new a is addressed goes thin 
     at_number : (n : ℕ) → get nat_cmp new.numbers.entries n ≡ (if attachments t + 1 == n then Some a else get nat_cmp middle.numbers.entries n)
     at_number n = number_of n (ap number is)
 
--- whoever stood where an attach stands now has gone
+-- the link that was where an attach is now has ended
 place_gone : (here own handle : Bool) (n : ℕ) (m v : Option Link) → (here && (own && handle)) ≡ true → has_number n m ≡ false
     → has_number n (if here then (if own && handle then m else v) else v) ≡ false
 place_gone true own handle n m v e new = rw e new

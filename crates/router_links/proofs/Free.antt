@@ -1,4 +1,4 @@
--- The first handle that is free.
+-- The first free handle.
 use Rattle.std.proofs.Common.{◌≡◌, ◌∙◌, ◌+◌, ◌-◌, ◌<◌, ℕ, zero, suc, Bool, true, false, refl, sym, ap, Some, None, arith}
 use Rattle.std.specs.Prelude.{if◌then◌else◌}
 use Rattle.router_trace.specs.Links.{first_free_below}
@@ -26,7 +26,7 @@ found end free h below e = at_next (end - h) (end - (h + 1)) free h (one_less en
 pub further : (end : ℕ) (free : ℕ → Bool) (h : ℕ) → h < end → free h ≡ false → first_free_below (end - h) free h ≡ first_free_below (end - (h + 1)) free (h + 1)
 further end free h below e = at_next (end - h) (end - (h + 1)) free h (one_less end h below) ∙ ap (λ b. if b then Some h else first_free_below (end - (h + 1)) free (h + 1)) e
 
--- what is alike at each handle has the same first
+-- equal tests at each handle have the same first
 pub alike : (n : ℕ) (f g : ℕ → Bool) → ((h : ℕ) → f h ≡ g h) → (h : ℕ) → first_free_below n f h ≡ first_free_below n g h
 alike zero f g same h = none_below f h ∙ sym (none_below g h)
 alike (suc n) f g same h =

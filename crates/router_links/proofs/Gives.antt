@@ -1,4 +1,4 @@
--- What a transfer gives on a link of a table is what it gives on the view's.
+-- What a transfer makes of its delivery is the same on a link of a table and on the view's.
 use Rattle.std.proofs.Common.{◌≡◌, ◌∙◌, ℕ, false, refl, ap, List, Option, Some, None}
 use Rattle.std.specs.Prelude.{option_map}
 use Rattle.amqp_perf.specs.declared.perf.Flow.{Flow}
@@ -51,7 +51,7 @@ by_body (perf.Flow f) payload o handles known views fit = by_flow f payload o (h
 by_body (perf.Transfer x) payload o handles known views fit = by_transfer x payload o (handles x.handle) known views fit
 by_body _ payload o handles known views fit = refl
 
--- handles that are named alike
+-- handles with equal names
 handle_same : (body : Perf) (known handles : ℕ → Option PeerHandle) → ((p : ℕ) → known p ≡ handles p) → handle_in body known ≡ handle_in body handles
 handle_same (perf.Flow f) known handles same = named f.handle
   where

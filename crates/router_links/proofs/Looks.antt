@@ -1,4 +1,4 @@
--- What is looked up of a table's link is what the view's has.
+-- What is looked up of a table's link agrees with the view's.
 use Rattle.std.proofs.Common.{◌≡◌, ◌∙◌, ℕ, refl, ap, List, [], ◌∷◌, Option, Some, None}
 use Rattle.std.specs.Prelude.{option_map}
 use Rattle.amqp_link.specs.Deliveries.{Frame}

@@ -1,4 +1,4 @@
--- Numbers of attachments: those that a trace names are at most its count, and a link that goes or changes never gets a number
+-- Attachment numbers: those in a trace are at most its count, and a link that ends or changes never gets a number
 -- again.
 use Rattle.std.proofs.Common.{◌≡◌, ◌∙◌, ◌+◌, ◌≤◌, ℕ, Bool, true, false, refl, sym, ap, List, [], ◌∷◌, Option, Some, None, arith}
 use Rattle.std.specs.Prelude.{◌&&◌, ◌==◌, if◌then◌else◌, option_map, is_some}
@@ -19,7 +19,7 @@ use Rattle.router_trace.specs.Trace.{Trace, Did, Out, Took, Bound, Configured, d
 use Rattle.router_trace.specs.Sessions.{theirs, maps}
 use Rattle.router_trace.specs.Links.{Link, address_by, is_taken, is_taken_in, attachments, attached, asked, key_at, link, link_in, link_behind, link_at, link_by, heard_link, names, names_by, their_handle, is_handle, ends_handle_in, has_number, is_attached, newest_in, newest_by, last_of_key, numbered, same_key, behind_their_flow, behind_their_transfer, behind_our_flow, behind_our_transfer}
 
--- what is found is no later than the count
+-- a number that is found is at most the count
 bound_if : (taken pass : Bool) (new : Attachment) (n : ℕ) (v : Option Attachment) (a : Attachment) → new.number ≡ n + 1
     → ((b : Attachment) → v ≡ Some b → b.number ≤ n) → (if taken && pass then Some new else v) ≡ Some a → a.number ≤ (if taken then n + 1 else n)
 bound_if true true new n v a is old e = newest new a is e
@@ -59,7 +59,7 @@ old_number (Took d n ∷ t) m a e = old_number t m a e
 old_number (Bound b ∷ t) m a e = old_number t m a e
 old_number (Configured g ∷ t) m a e = old_number t m a e
 
--- an item that takes no link leaves the newest
+-- an item that takes no link doesn't change the newest
 newest_in_same : (body : Perf) (own c n : ℕ) (passes : Attach → Bool) (v : Option Attachment) → is_taken_in body ≡ false → newest_in body own c n passes v ≡ v
 newest_in_same (perf.Attach x) own c n passes v e = rw e refl
 newest_in_same _ own c n passes v e = refl
@@ -68,7 +68,7 @@ pub newest_same : (i : Item) (c n : ℕ) (passes : Attach → Bool) (v : Option 
 newest_same (item.Frame sasl own body payload) c n passes v e = newest_in_same body own c n passes v e
 newest_same _ c n passes v e = refl
 
--- a number that a link hasn't it doesn't get
+-- a link that doesn't have a number doesn't get it
 pub number_if : (n : ℕ) (b : Bool) (x y : Option Link) → has_number n x ≡ false → has_number n y ≡ false → has_number n (if b then x else y) ≡ false
 number_if n true x y e f = e
 number_if n false x y e f = f

@@ -1,4 +1,4 @@
--- The links that owe a drain, gathered.
+-- Gathering the links that owe a drain.
 use Rattle.std.proofs.Common.{◌≡◌, ◌∙◌, ℕ, Bool, true, false, refl, sym, ap, subst, arith, List, [], ◌∷◌, ◌++◌, append_assoc, append-nil, Option, Some, None}
 use Rattle.std.specs.Prelude.{◌&&◌, ◌||◌, ◌==◌, if◌then◌else◌, is_some, option_map}
 use Rattle.std.specs.List.{list_any, flat_map}
@@ -42,7 +42,7 @@ absorbed h true = refl
 absorbed true false = refl
 absorbed false false = refl
 
--- what is listed of a key is listed of them all
+-- what is listed of one key is listed of all
 any_gathered : (p : Attachment → Bool) (f : ℕ → List Attachment) (q : ℕ) (r : ℕ → Bool)
     → ((k : ℕ) → list_any p (f k) ≡ ((k == q) && r k)) → (ks : List ℕ) → list_any p (flat_map f ks) ≡ (has q ks && r q)
 any_gathered p f q r each [] = refl
@@ -70,7 +70,7 @@ has_key {X} q (e ∷ es) =
     either true = refl
     either false = refl
 
--- a link of this number owes a drain, and the router sends on it
+-- a link with this number owes a drain, and the router is its sender
 abbrev passes : ℕ → Option Link → Bool
 passes n None = false
 passes n (Some l) = (l.number == n) && (l.owes_drain && sends_at l.end)
@@ -162,7 +162,7 @@ owed_follows s t xs are fit a =
     ∙ ap (passes a.number) (fit.links a.conn.0 a.channel a.handle)
     ∙ owes_same a.number (link t a.conn.0 a.channel a.handle)
 
--- marks that are taken off
+-- marks that are removed
 neither : (a b : Bool) → (a || b) ≡ false → (a ≡ false) × (b ≡ false)
 neither true b e = absurd cc
 neither false b e = (refl, e)

@@ -1,4 +1,4 @@
--- A table of links behind the router's flow or transfer.
+-- A table of links after the router's flow or transfer.
 use Rattle.std.proofs.Common.{◌≡◌, ◌∙◌, ℕ, Bool, true, false, refl, sym, ap, subst, List, ◌∷◌, Option, Some, None}
 use Rattle.std.specs.Prelude.{◌&&◌, ◌==◌, not, if◌then◌else◌, option_map}
 use Rattle.std.specs.BTreeSet.{BTreeSet}
@@ -48,7 +48,7 @@ put_owes true false handle body payload x old is o = ap owes is ∙ o
 put_owes true true false body payload x old is o = ap owes is ∙ o
 put_owes true true true body payload x old is o = ap owes is ∙ our_owes body payload old o
 
--- a table behind the router's flow or transfer
+-- a table after the router's flow or transfer
 pub put_noted : (conn own : ℕ) (handle : Option ℕ) (sasl : Bool) (body : Perf) (payload : List ℕ) (s : LinkTable) (rows : ByHandle Link) (touched : BTreeSet ℕ) (t : Trace)
     → ((c o h : ℕ) → at rows c o h ≡ (if conn == c then (if own == o then (if is_handle handle h then option_map (noted Router body payload) (at s.links c o h) else at s.links c o h) else at s.links c o h) else at s.links c o h))
     → IsNoted body handle → TableFit s t → TableFit (record s { links = rows; touched = touched }) (Out conn (item.Frame sasl own body payload) ∷ t)

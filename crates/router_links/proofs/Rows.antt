@@ -1,4 +1,4 @@
--- The rows of a table of links behind what the peer sends, and behind the router's attach.
+-- The rows of a table of links after what the peer sends, and after the router's attach.
 use Rattle.std.proofs.Common.{◌≡◌, ◌∙◌, ◌+◌, ℕ, Bool, true, false, refl, sym, ap, List, [], Option, Some, None}
 use Rattle.std.specs.Prelude.{◌&&◌, if◌then◌else◌, option_map, is_some}
 use Rattle.amqp_perf.specs.declared.perf.Attach.{Attach}
@@ -37,7 +37,7 @@ pub mapped : (f : Link → Link) (g : view.Link → view.Link) (old : Option Lin
 mapped f g old None follows is = ap (option_map f) is
 mapped f g old (Some l) follows is = ap (option_map f) is ∙ ap Some (follows l)
 
--- a row that something of the peer may change
+-- a row that a performative of the peer may change
 pub heard_row : (here own maps handle named : Bool) (f : Link → Link) (g : view.Link → view.Link) (x old : Option Link) (v w : Option view.Link)
     → x ≡ (if here then (if own then (if handle then option_map f old else old) else old) else old)
     → old ≡ option_map link_of v → w ≡ (if named then option_map g v else v) → ((l : view.Link) → f (link_of l) ≡ link_of (g l))
@@ -68,7 +68,7 @@ attached_row true false handle n x old m v is fit at = is ∙ fit
 attached_row true true false n x old m v is fit at = is ∙ fit
 attached_row true true true n x old m v is fit at = is ∙ at refl
 
--- what was taken away first makes no difference
+-- what was removed before makes no difference
 pub over : (here own handle : Bool) (n x middle old : Option Link)
     → x ≡ (if here then (if own then (if handle then n else middle) else middle) else middle)
     → middle ≡ (if here then (if own then (if handle then None else old) else old) else old)
@@ -152,7 +152,7 @@ uncounted there n m e = rw e refl
 pub same_key_of : (k l : LinkKey) → Some k ≡ Some l → k ≡ l
 same_key_of k l e = cc
 
--- handles that are named alike
+-- handles with equal names
 pub named_same : (body : Perf) (known handles : ℕ → Option PeerHandle) → ((p : ℕ) → known p ≡ handles p) → (h : ℕ) → names_in body known h ≡ names_in body handles h
 named_same (perf.Flow f) known handles same h = by_handle f.handle
   where

@@ -1,4 +1,4 @@
--- Entries that were taken away.
+-- Removed entries.
 use Rattle.std.proofs.Common.{◌≡◌, ◌∙◌, ℕ, Bool, true, false, refl, sym, Option, Some, None}
 use Rattle.std.specs.Prelude.{◌&&◌, ◌==◌, if◌then◌else◌}
 use Rattle.std.specs.Ordering.{nat_cmp}
@@ -72,7 +72,7 @@ first : (a b : Bool) → (a && b) ≡ true → a ≡ true
 first true b e = refl
 first false b e = e
 
--- what stood at a handle stood on its session, and what stood on a session stood on its connection
+-- what was at a handle was on its session, and what was on a session was on its connection
 pub handle_of_session : (c o h : ℕ) (s t : Names) → Thinned (on_handle c o h) s t → Thinned (on_session c o) s t
 handle_of_session c o h s t x = more (on_handle c o h) (on_session c o) s t (λ a e. both_first (c == a.conn.0) (o == a.channel) (h == a.handle) e) x
 

@@ -1,4 +1,4 @@
--- What wasn't touched hasn't changed.
+-- A link that wasn't touched hasn't changed.
 use Rattle.std.proofs.Common.{◌≡◌, ◌∙◌, ℕ, Bool, true, false, refl, sym, ap, List, [], ◌∷◌, Option, Some, None}
 use Rattle.std.specs.Prelude.{◌||◌, ◌==◌, if◌then◌else◌, option_map, Result, Ok, Err, OnOk}
 use Rattle.std.specs.List.{list_any}
@@ -28,7 +28,7 @@ pub untrue : (a b : Bool) → (if a then true else b) ≡ false → (a ≡ false
 untrue true b e = absurd cc
 untrue false b e = (refl, e)
 
--- where a call goes well, what it tells holds, and so what follows from it
+-- if a call succeeds, what it ensures holds, and so does what follows from it
 pub then_ok : {A E P Q : Type 0} → (r : Result A E) → (P → Q) → OnOk r P → OnOk r Q
 then_ok (Ok x) f p = f p
 then_ok (Err x) f p = tt
@@ -59,7 +59,7 @@ place_same links conn d o h (Some p) None e f g = absurd cc
 place_same links conn d o h (Some p) (Some q) e f g =
     ap (λ c. links c o h) (sym (eqb-true conn d e)) ∙ ap (λ c. links conn c h) (sym (eqb-true p o f)) ∙ ap (links conn p) (sym (eqb-true q h g))
 
--- behind a performative that is noted on a link
+-- after a performative is applied to a link
 keeps_number : (side : Side) (body : Perf) (payload : List ℕ) (l : Link) → (noted side body payload l).number ≡ l.number
 keeps_number Peer (perf.Flow f) payload l = refl
 keeps_number Peer (perf.Transfer x) payload l = refl
@@ -85,7 +85,7 @@ noted_touches side body payload conn own handle old new touched links names =
       numbers = λ k e. ap (λ s. get nat_cmp s.numbers.entries k) (sym names);
     }
 
--- behind a link that is taken away at a place
+-- after a link is removed at a place
 pub left_touches : (conn own handle : ℕ) (old new : LinkTable)
     → ((k : ℕ) → contains nat_cmp new.touched k ≡ (if is_numbered k (at old.links conn own handle) then true else contains nat_cmp old.touched k))
     → ((c o h : ℕ) → at new.links c o h ≡ (if conn == c then (if own == o then (if handle == h then None else at old.links c o h) else at old.links c o h) else at old.links c o h))
@@ -101,7 +101,7 @@ left_touches conn own handle old new touched links numbers =
       numbers = λ k e. numbers k (un k e).0;
     }
 
--- behind one that is taken at a place, where another may have stood
+-- after a link is taken at a place where another may have been
 pub joined_touches : (conn own handle : ℕ) (l : Link) (a : Attachment) (old new : LinkTable) (touched : ℕ → Bool) (middle : ℕ → Option Attachment)
     → ((k : ℕ) → touched k ≡ (if is_numbered k (at old.links conn own handle) then true else contains nat_cmp old.touched k))
     → ((k : ℕ) → contains nat_cmp new.touched k ≡ (if l.number == k then true else touched k))
@@ -120,7 +120,7 @@ joined_touches conn own handle l a old new touched middle left joined links befo
       numbers = λ k e. before k (gone k e).0 ∙ sym (behind k ∙ ap (λ b. if b then Some a else middle k) (un k e).0);
     }
 
--- of a session or a connection that goes
+-- of a session or a connection that ends
 lookup_unnumbered : (k : ℕ) (test : ℕ → Bool) (es : List (ℕ × Link)) → list_any (λ e. e.1.number == k) es ≡ false → is_numbered k (lookup test es) ≡ false
 lookup_unnumbered k test [] e = refl
 lookup_unnumbered k test (x ∷ es) e =
@@ -134,7 +134,7 @@ lookup_unnumbered k test (x ∷ es) e =
 session_unnumbered : (k h : ℕ) (m : BTreeMap ℕ Link) → in_session k m ≡ false → is_numbered k (get nat_cmp m h) ≡ false
 session_unnumbered k h m e = lookup_unnumbered k (is_at (nat_cmp h)) m.entries e
 
--- one that is there or not
+-- a link that may be there
 abbrev pub in_ended : ℕ → Option (BTreeMap ℕ Link) → Bool
 in_ended k None = false
 in_ended k (Some m) = in_session k m

@@ -1,4 +1,4 @@
--- The links of a table: what a view's list of what happened comes to.
+-- The links of a table, and the state that a view's history gives them.
 use Rattle.std.specs.Prelude.{ℕ, Bool, false, not, ◌&&◌, nat_le, if◌then◌else◌, List, Option, Some, None, unwrap_or}
 use Rattle.amqp_perf.specs.declared.perf.Attach.{Attach}
 use Rattle.amqp_perf.specs.declared.perf.Flow.{Flow}
@@ -35,7 +35,7 @@ link_of l = record {
   owes_drain = l.owes_drain;
 }
 
--- What becomes of a table's link: one that an attach begins, ...
+-- How a table's link changes: the link that an attach begins, ...
 abbrev pub begun_end : Role → Option ℕ → ℕ → LinkEnd
 begun_end Sender initial theirs = ends.Sends (begun_at (unwrap_or initial 0))
 begun_end Receiver initial theirs = ends.Receives (awaiting_at theirs)
@@ -51,7 +51,7 @@ begun number key a theirs address = record {
   owes_drain = false;
 }
 
--- ... behind a flow of the peer, ...
+-- ... after a flow of the peer, ...
 abbrev pub with_grant : Option ℕ → Option ℕ → SendEnd → SendEnd
 with_grant count None e = e
 with_grant count (Some credit) e = behind_grant count credit e
@@ -67,7 +67,7 @@ end_behind_their_flow f (ends.Receives e) = ends.Receives (with_count f.delivery
 abbrev pub behind_their_flow : Flow → Link → Link
 behind_their_flow f l = record l { end = end_behind_their_flow f l.end; drains = f.drain; owes_drain = f.drain }
 
--- ... a transfer of the peer, ...
+-- ... after a transfer of the peer, ...
 abbrev pub end_behind_their_transfer : Transfer → List ℕ → LinkEnd → LinkEnd
 end_behind_their_transfer x payload (ends.Sends e) = ends.Sends e
 end_behind_their_transfer x payload (ends.Receives e) = ends.Receives (behind_transfer (frame x payload) e)
@@ -75,7 +75,7 @@ end_behind_their_transfer x payload (ends.Receives e) = ends.Receives (behind_tr
 abbrev pub behind_their_transfer : Transfer → List ℕ → Link → Link
 behind_their_transfer x payload l = record l { end = end_behind_their_transfer x payload l.end }
 
--- ... a flow of the router, ...
+-- ... after a flow of the router, ...
 abbrev pub with_our_count : Option ℕ → SendEnd → SendEnd
 with_our_count None e = e
 with_our_count (Some n) e = behind_told_count n e
@@ -91,7 +91,7 @@ end_behind_our_flow f (ends.Receives e) = ends.Receives (with_our_grant f.delive
 abbrev pub behind_our_flow : Flow → Link → Link
 behind_our_flow f l = record l { end = end_behind_our_flow f l.end; owes_drain = l.owes_drain && not f.drain }
 
--- ... and a transfer of the router
+-- ... and after a transfer of the router
 abbrev pub end_behind_our_transfer : Bool → LinkEnd → LinkEnd
 end_behind_our_transfer going_on (ends.Sends e) = ends.Sends (if going_on then e else behind_start e)
 end_behind_our_transfer going_on (ends.Receives e) = ends.Receives e
@@ -99,7 +99,7 @@ end_behind_our_transfer going_on (ends.Receives e) = ends.Receives e
 abbrev pub behind_our_transfer : Transfer → Link → Link
 behind_our_transfer x l = record l { end = end_behind_our_transfer l.going_on l.end; going_on = x.more && not x.aborted }
 
--- behind a performative of one side
+-- after a performative of one side
 abbrev pub noted : Side → Perf → List ℕ → Link → Link
 noted Peer (perf.Flow f) payload l = behind_their_flow f l
 noted Peer (perf.Transfer x) payload l = behind_their_transfer x payload l

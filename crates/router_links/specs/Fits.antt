@@ -1,4 +1,4 @@
--- When the table of links is that which a trace gives.
+-- When the table of links agrees with a trace.
 use Rattle.std.specs.Prelude.{◌≡◌, ℕ, Bool, true, false, ◌==◌, if◌then◌else◌, Option, Some, None, option_map}
 use Rattle.std.specs.Ordering.{nat_cmp}
 use Rattle.std.specs.BTreeSet.{contains}
@@ -38,7 +38,7 @@ owes_drain (Some l) = l.owes_drain
 abbrev pub Owing : (ℕ → ℕ → ℕ → Option Link) → (ℕ → Bool) → Type 0
 Owing known marked = (c o h : ℕ) → marked c ≡ false → owes (known c o h) ≡ false
 
--- the marks behind a flow that asks for a drain
+-- the marks after a flow that asks for a drain
 abbrev pub with_mark : ℕ → Bool → (ℕ → Bool) → ℕ → Bool
 with_mark conn drains marked c = if conn == c then (if drains then true else marked c) else marked c
 
@@ -53,7 +53,7 @@ pub record TableFit (s : LinkTable) (t : Trace) : Type 0 where
   pub names : NamesFit s.names t
   pub owing : Owing (at s.links) (contains nat_cmp s.owing)
 
--- the table of links is that of the trace
+-- the table of links agrees with the trace
 pub record LinksFit (s : Links) (t : Trace) : Type 0 where
   pub handles : HandlesFit s.handles t
   pub table : TableFit s.table t
@@ -74,7 +74,7 @@ IsNoted _ handle = ⊥
 abbrev pub attachment : ℕ → ℕ → ℕ → ℕ → Attachment
 attachment number c o h = record { number = number; conn = record { 0 = c }; channel = o; handle = h }
 
--- the key that a table of links asks for an item that is put out: that of an attach
+-- the key that a table of links needs for an outgoing item: that of an attach
 abbrev pub key_in : Trace → ℕ → Perf → Option LinkKey
 key_in t c (perf.Attach a) = Some (key_at t c a)
 key_in t c _ = None
@@ -83,12 +83,12 @@ abbrev pub key_by : Trace → ℕ → Item → Option LinkKey
 key_by t c (item.Frame sasl own body payload) = key_in t c body
 key_by t c _ = None
 
--- the channel of an item; 0 where it has none
+-- the channel of an item; 0 if it has none
 abbrev pub channel_of : Item → ℕ
 channel_of (item.Frame sasl channel body payload) = channel
 channel_of _ = 0
 
--- what was found on a handle of the router
+-- what is on a handle of the router
 abbrev pub found_end : ℕ → LinkEnd → LinkAt
 found_end h (ends.Sends e) = found.Sends h e
 found_end h (ends.Receives e) = found.Receives h e.count (unused_at e)

@@ -1,4 +1,4 @@
--- What a transfer gives on a link of a table.
+-- What a transfer makes of its delivery, on a link of a table.
 use Rattle.std.specs.Prelude.{ℕ, List, Option, Some, None}
 use Rattle.amqp_perf.specs.declared.perf.Perf.{Perf}
 use Rattle.amqp_perf.specs.declared.perf.Perf.TheVariants as perf
@@ -23,7 +23,7 @@ abbrev pub handle_by : Option ℕ → (ℕ → Option PeerHandle) → Option ℕ
 handle_by None known = None
 handle_by (Some p) known = handle_of (known p)
 
--- the one that a flow or a transfer of the peer names, on the session on this channel of the router, where there is one
+-- the handle that a flow or a transfer of the peer names, on the session with this router's channel, if there is one
 abbrev pub handle_in : Perf → (ℕ → Option PeerHandle) → Option ℕ
 handle_in (perf.Flow f) known = handle_by f.handle known
 handle_in (perf.Transfer x) known = handle_of (known x.handle)
@@ -33,12 +33,12 @@ abbrev pub handle_on : Option ℕ → Perf → (ℕ → ℕ → Option PeerHandl
 handle_on None body known = None
 handle_on (Some o) body known = handle_in body (known o)
 
--- what a transfer of the peer gives at the router's end of its link
+-- what a transfer of the peer makes of its delivery, at the router's end of its link
 abbrev pub given_at : Transfer → List ℕ → LinkEnd → Option Part
 given_at x payload (ends.Sends e) = None
 given_at x payload (ends.Receives e) = Some (given_by (frame x payload) e)
 
--- what a performative of one side gives
+-- what a performative of one side makes of a delivery
 abbrev pub part_noted : Side → Perf → List ℕ → Link → Option Part
 part_noted Peer (perf.Transfer x) payload l = given_at x payload l.end
 part_noted _ _ payload l = None
@@ -47,7 +47,7 @@ abbrev pub part_here : Side → Perf → List ℕ → Option Link → Option Par
 part_here side body payload None = None
 part_here side body payload (Some l) = part_noted side body payload l
 
--- the same on the session and the handle that it names
+-- the same on the session and the handle that the performative names
 abbrev pub part_named : Side → Perf → List ℕ → Option ℕ → Option ℕ → (ℕ → ℕ → Option Link) → Option Part
 part_named side body payload None handle known = None
 part_named side body payload (Some o) None known = None

@@ -1,4 +1,4 @@
--- What is looked up of a link: its figures, what it is in the middle of, and its attachment.
+-- What can be looked up of a link: its credit state, the delivery in its middle, and its attachment.
 use Rattle.std.specs.Prelude.{ℕ, Bool, true, false, not, Option, Some, None, option_map}
 use Rattle.amqp_link.specs.declared.part.Delivery.{Delivery as Told}
 use Rattle.amqp_link.specs.Credit as credit
@@ -12,7 +12,7 @@ use Rattle.router_links.specs.declared.link.LinkEnd.{LinkEnd}
 use Rattle.router_links.specs.declared.link.LinkEnd.TheVariants as ends
 use Rattle.router_links.specs.Fits.{attachment}
 
--- the credit left, where the router sends
+-- the link credit left, if the router is the sender
 abbrev pub credit_on : Happened → ℕ
 credit_on (sends list) = credit.credit list
 credit_on (receives list) = 0
@@ -21,7 +21,7 @@ abbrev pub credit_at : LinkEnd → ℕ
 credit_at (ends.Sends e) = left_at e
 credit_at (ends.Receives e) = 0
 
--- the credit that the peer was granted and hasn't used, where it sends
+-- the link credit that the peer was granted and hasn't used, if the peer is the sender
 abbrev pub unused_on : Happened → ℕ
 unused_on (sends list) = 0
 unused_on (receives list) = receiving.unused list
@@ -30,7 +30,7 @@ abbrev pub unused_end : LinkEnd → ℕ
 unused_end (ends.Sends e) = 0
 unused_end (ends.Receives e) = unused_at e
 
--- the delivery-count of the one that sends
+-- the sender's delivery-count
 abbrev pub count_on : Happened → ℕ
 count_on (sends list) = credit.count list
 count_on (receives list) = receiving.delivery_count list
@@ -39,12 +39,12 @@ abbrev pub count_at : LinkEnd → ℕ
 count_at (ends.Sends e) = e.count
 count_at (ends.Receives e) = e.count
 
--- the router sends
+-- the router is the sender
 abbrev pub sends_at : LinkEnd → Bool
 sends_at (ends.Sends e) = true
 sends_at (ends.Receives e) = false
 
--- what is told of the delivery in the middle, where the peer sends
+-- the delivery in the middle, if the peer is the sender
 abbrev pub middle_at : LinkEnd → Option Told
 middle_at (ends.Sends e) = None
 middle_at (ends.Receives e) = option_map (λ g. g.delivery) e.middle
@@ -57,7 +57,7 @@ abbrev pub middle_named : Option ℕ → (ℕ → Option Link) → Option Told
 middle_named None known = None
 middle_named (Some h) known = middle_here (known h)
 
--- one that isn't resumed is in the middle
+-- a delivery that isn't resumed is in the middle
 abbrev pub is_new : Option Told → Bool
 is_new None = false
 is_new (Some d) = not d.resume

@@ -1,5 +1,5 @@
--- The attachments of keys and of numbers, as a table has them: what it has is the one that came last, and where it has none
--- nobody is attached.
+-- Attachments by key and by number, as a table has them: an entry is the last attachment of its name, and without an entry
+-- no link of that name is attached.
 use Rattle.std.specs.Prelude.{◌≡◌, ℕ, Bool, true, ◌&&◌, ◌==◌, if◌then◌else◌, Option, Some, None}
 use Rattle.std.specs.Ordering.{nat_cmp}
 use Rattle.std.specs.BTreeMap.{get}
@@ -20,12 +20,12 @@ on_session c o a = (c == a.conn.0) && (o == a.channel)
 abbrev pub on_handle : ℕ → ℕ → ℕ → Attachment → Bool
 on_handle c o h a = (c == a.conn.0) && ((o == a.channel) && (h == a.handle))
 
--- an entry is taken away where it passes a test
+-- an entry is removed if it passes a test
 abbrev pub unless : (Attachment → Bool) → Option Attachment → Option Attachment
 unless gone None = None
 unless gone (Some a) = if gone a then None else Some a
 
--- behind a change an entry is as it was, or one that passes a test is gone
+-- after a change an entry is as before, or it passes a test and is gone
 abbrev pub IsThinned : (Attachment → Bool) → Option Attachment → Option Attachment → Type 0
 IsThinned gone was (Some a) = was ≡ Some a
 IsThinned gone None None = Unit {0}
@@ -35,7 +35,7 @@ pub record Thinned (gone : Attachment → Bool) (old new : Names) : Type 0 where
   pub keys : (k : LinkKey) → IsThinned gone (get key_cmp old.keys.entries k) (get key_cmp new.keys.entries k)
   pub numbers : (n : ℕ) → IsThinned gone (get nat_cmp old.numbers.entries n) (get nat_cmp new.numbers.entries n)
 
--- an entry, the attachment that came last, and the one that is attached
+-- an entry, the last attachment, and the one that is attached
 abbrev pub Remembers : Option Attachment → Option Attachment → Option Attachment → Type 0
 Remembers (Some a) last attached = last ≡ Some a
 Remembers None last attached = attached ≡ None

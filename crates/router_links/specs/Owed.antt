@@ -1,4 +1,4 @@
--- The links that owe a drain: those of marked connections, on which the router sends.
+-- The links that owe a drain: those of marked connections on which the router is the sender.
 use Rattle.std.specs.Prelude.{ℕ, Bool, false, ◌&&◌, ◌==◌, if◌then◌else◌, List, [], ◌∷◌, Option, Some, None}
 use Rattle.std.specs.List.{list_any, flat_map}
 use Rattle.std.specs.Map.{keys_of}
@@ -11,7 +11,7 @@ use Rattle.router_links.specs.declared.links.Links.{Links}
 use Rattle.router_links.specs.Fits.{attachment}
 use Rattle.router_links.specs.Looking.{sends_at}
 
--- an attachment stands in a list
+-- an attachment is in a list
 abbrev pub is_same : Attachment → Attachment → Bool
 is_same a b = (a.handle == b.handle) && (((a.channel == b.channel) && (a.conn.0 == b.conn.0)) && (a.number == b.number))
 
@@ -46,7 +46,7 @@ owed_of_connection c (Some sessions) = owed_in_connection c sessions
 abbrev pub owed_of : (ℕ → Option (BTreeMap ℕ (BTreeMap ℕ Link))) → List ℕ → List Attachment
 owed_of rows conns = flat_map (λ c. owed_of_connection c (rows c)) conns
 
--- some link of a session, or of a connection, owes a drain
+-- a link of a session, or of a connection, owes a drain
 abbrev pub owes_in_session : BTreeMap ℕ Link → Bool
 owes_in_session handles = list_any (λ e. e.1.owes_drain) handles.entries
 

@@ -1,4 +1,4 @@
--- What a table by connection, session and handle has at a place.
+-- The value at a place in a table by connection, session and handle.
 use Rattle.std.specs.Prelude.{ℕ, Option, Some, None}
 use Rattle.std.specs.Ordering.{nat_cmp}
 use Rattle.std.specs.BTreeMap.{BTreeMap, get}

@@ -1,4 +1,4 @@
--- Links that were touched: between two tables, nothing changed of a link whose number isn't among them.
+-- Touched links: between two tables, a link whose number isn't touched hasn't changed.
 use Rattle.std.specs.Prelude.{◌≡◌, ◌≤◌, ℕ, Bool, true, false, ◌==◌, if◌then◌else◌, Option, Some, None}
 use Rattle.std.specs.List.{list_any}
 use Rattle.std.specs.Ordering.{nat_cmp}
@@ -14,7 +14,7 @@ abbrev pub is_numbered : ℕ → Option Link → Bool
 is_numbered k None = false
 is_numbered k (Some l) = l.number == k
 
--- a link, where it has this number
+-- a link, if it has this number
 abbrev pub if_number : ℕ → Option Link → Option Link
 if_number k None = None
 if_number k (Some l) = if l.number == k then Some l else None
@@ -25,7 +25,7 @@ named_link None handle known = None
 named_link (Some o) None known = None
 named_link (Some o) (Some h) known = known o h
 
--- some link of a session, or of a connection, has this number
+-- a link of a session, or of a connection, has this number
 abbrev pub in_session : ℕ → BTreeMap ℕ Link → Bool
 in_session k handles = list_any (λ e. e.1.number == k) handles.entries
 
@@ -41,11 +41,11 @@ pub record Touched (old new : LinkTable) : Type 0 where
 abbrev pub is_touched : Links → ℕ → Bool
 is_touched s k = contains nat_cmp s.table.touched k
 
--- of each number that the new table hasn't touched, the old one hasn't either, and link and attachment are the same in both
+-- for each number that the new table hasn't touched: the old one hasn't either, and link and attachment are the same in both
 abbrev pub Touches : Links → Links → Type 0
 Touches old new = Touched old.table new.table
 
--- the lowest number that passes, where one does
+-- the lowest number that passes, if any does
 abbrev pub IsLowest : (ℕ → Bool) → Option ℕ → Type 0
 IsLowest passes None = (n : ℕ) → passes n ≡ false
 IsLowest passes (Some n) = (passes n ≡ true) × ((m : ℕ) → passes m ≡ true → n ≤ m)

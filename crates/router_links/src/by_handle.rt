@@ -28,7 +28,7 @@ pub(crate) struct ByHandle<V> {
 }
 
 impl<V: Drop> ByHandle<V> {
-    /// No values.
+    /// An empty table.
     pub(crate) fn new(alloc: Global) -> ByHandle<V>
         ensures { (c o h : ℕ) → at result c o h ≡ None }
     {
@@ -51,7 +51,7 @@ impl<V: Drop> ByHandle<V> {
         }
     }
 
-    /// Puts a value at a place, for the one that stood there.
+    /// Puts a value at a place and replaces the one there.
     pub(crate) fn insert(
         &mut self,
         conn: u64,
@@ -74,7 +74,7 @@ impl<V: Drop> ByHandle<V> {
         }
     }
 
-    /// Takes the value at a place away.
+    /// Removes the value at a place.
     pub(crate) fn remove(&mut self, conn: u64, own: u16, handle: u32) -> Option<V>
         ensures gives { result ≡ at self.old conn own handle }
         ensures gone { (c o h : ℕ) → at self.new c o h
@@ -86,7 +86,7 @@ impl<V: Drop> ByHandle<V> {
         }
     }
 
-    /// Takes all values of a session away.
+    /// Removes all values of a session.
     pub(crate) fn end(&mut self, conn: u64, own: u16) -> Option<InSession<V>>
         ensures gives { result ≡ in_map (get nat_cmp self.old.rows conn) own }
         ensures gone { (c o h : ℕ) → at self.new c o h ≡ (if conn == c then (if own == o then None else at self.old c o h) else at self.old c o h) }
@@ -97,7 +97,7 @@ impl<V: Drop> ByHandle<V> {
         }
     }
 
-    /// Takes all values of a connection away.
+    /// Removes all values of a connection.
     pub(crate) fn forget(&mut self, conn: u64) -> Option<InConnection<V>>
         ensures gives { result ≡ get nat_cmp self.old.rows conn }
         ensures gone { (c o h : ℕ) → at self.new c o h ≡ (if conn == c then None else at self.old c o h) }
@@ -107,8 +107,8 @@ impl<V: Drop> ByHandle<V> {
 }
 
 impl ByHandle<Link> {
-    /// Notes a performative of one side on a link, where one stands at the place, and gives what a transfer of the peer gives.
-    /// Where memory is refused nothing can be said of the link.
+    /// Applies a performative of one side to the link at a place, if there is one. Returns what a transfer of the
+    /// peer makes of its delivery. If memory is refused, the link's state is unspecified.
     pub(crate) fn note(
         &mut self,
         conn: u64,
@@ -129,7 +129,7 @@ impl ByHandle<Link> {
     }
 }
 
-/// Notes a performative on the link at a handle of a session.
+/// Applies a performative to the link at a handle of a session.
 fn note_in(
     sessions: &mut InConnection<Link>,
     own: u16,
@@ -148,7 +148,7 @@ fn note_in(
     }
 }
 
-/// Notes a performative on the link at a handle.
+/// Applies a performative to the link at a handle.
 fn note_at(
     handles: &mut InSession<Link>,
     handle: u32,
@@ -198,7 +198,7 @@ fn put<V: Drop>(handles: &mut InSession<V>, handle: u32, value: V) -> Result<(),
     }
 }
 
-/// Takes the value at a handle of a session away.
+/// Removes the value at a handle of a session.
 fn remove_in<V: Drop>(sessions: &mut InConnection<V>, own: u16, handle: u32) -> Option<V>
     ensures gives { result ≡ in_map (get nat_cmp sessions.old own) handle }
     ensures gone { (o h : ℕ) → in_map (get nat_cmp sessions.new o) h

@@ -1,4 +1,4 @@
-//! What attaches asked, and what handles stand for.
+//! What attaches ask for, and what handles stand for.
 ghost use Rattle.std.specs.Prelude.{◌≡◌, ◌==◌, ◌∷◌, List, ℕ, Bool, None, true, false, if◌then◌else◌, OnOk};
 ghost use Rattle.std.specs.Option.{option_map};
 ghost use Rattle.std.specs.Ordering.{nat_cmp};
@@ -24,18 +24,18 @@ use router_trace::{Asked, ConnectionId, PeerHandle};
 use std::alloc::{AllocError, Global};
 use std::collections::BTreeMap;
 
-/// So many handles the router has on a session.
+/// The number of handles that the router has on a session.
 const HANDLES: u32 = 64;
 
-/// What attaches asked, and what handles stand for. Behind a refused growth nothing can be said of the table.
+/// What attaches ask for, and what handles stand for. If an operation fails to allocate, the table's contents are unspecified.
 #[derive(Debug, Drop)]
 pub struct HandleTable {
     alloc: Global,
-    // by connection, what the peer's last attach asked
+    // by connection, what the peer's last attach asks for
     asked: BTreeMap<u64, Asked>,
-    // by connection, the highest handle that the peer's last begin told
+    // by connection, the handle-max of the peer's last begin
     told: BTreeMap<u64, u32>,
-    // by connection and session, the highest handle that the peer takes
+    // by connection and session, the highest handle that the peer accepts
     highest: BTreeMap<u64, BTreeMap<u16, u32>>,
     // by the router's handle, the peer's handle whose attach it answered
     answered: ByHandle<u32>,
@@ -44,7 +44,7 @@ pub struct HandleTable {
 }
 
 impl HandleTable {
-    /// No handles.
+    /// An empty table.
     pub fn new(alloc: Global) -> HandleTable
         ensures { (g : Routing) → HandlesFit result (configured g) }
     {
@@ -58,7 +58,7 @@ impl HandleTable {
         }
     }
 
-    /// What the last attach of a peer asked.
+    /// What the last attach of a peer asks for.
     pub fn asked(&self, conn: u64) -> Option<Asked>
         ensures { result ≡ get nat_cmp self.now.asked conn }
     {
@@ -72,8 +72,8 @@ impl HandleTable {
         self.theirs.get(conn, own, handle).copied()
     }
 
-    /// The router's handle of the link that a flow or a transfer of the peer names, on the session on this channel of the
-    /// router, where there is one.
+    /// The router's handle of the link that a flow or a transfer of the peer names, on the session on the router's channel `own`;
+    /// none if there is no such session or link.
     pub fn named(&self, conn: u64, own: Option<u16>, perf: &Perf) -> Option<u32>
         ensures names { (o h : ℕ) → is_channel own o ≡ true → is_handle result h ≡ names_in perf.now (at self.now.theirs conn o) h }
         ensures exact { result ≡ handle_on own perf.now (at self.now.theirs conn) }
@@ -97,7 +97,7 @@ impl HandleTable {
         }
     }
 
-    /// The lowest handle of the router, of 64, that the peer takes too and on which nothing is attached.
+    /// The router's lowest handle, of 64, that the peer accepts too and on which nothing is attached.
     #[tactic(auto, unfolding(router_trace::specs::Links::free_handle))]
     pub fn free_handle(&self, conn: u64, own: u16) -> Option<u32>
         ensures { (t : List Entry) → HandlesFit self.now t → result ≡ free_handle t conn own }
@@ -105,7 +105,7 @@ impl HandleTable {
         self.first_free(conn, own, self.highest(conn, own).unwrap_or(HANDLES - 1))
     }
 
-    /// The lowest handle of the router, of 64 and at most this one, on which nothing is attached.
+    /// The router's lowest handle, of 64 and at most `most`, on which nothing is attached.
     fn first_free(&self, conn: u64, own: u16, most: u32) -> Option<u32>
         ensures { result ≡ first_free_below 64 (is_free_handle most (at self.now.answered conn own)) 0 }
     {
@@ -117,14 +117,14 @@ impl HandleTable {
         None
     }
 
-    /// Whether nothing is attached on a handle of the router, which is at most this one.
+    /// Whether nothing is attached on a handle of the router, and it is at most `most`.
     fn is_free(&self, conn: u64, own: u16, handle: u32, most: u32) -> bool
         ensures { result ≡ is_free_handle most (at self.now.answered conn own) handle }
     {
         handle <= most && self.answered.get(conn, own, handle).is_none()
     }
 
-    /// The highest handle that the peer takes.
+    /// The highest handle that the peer accepts.
     fn highest(&self, conn: u64, own: u16) -> Option<u32>
         ensures { result ≡ in_map (get nat_cmp self.now.highest conn) own }
     {
@@ -141,7 +141,7 @@ impl HandleTable {
         self.forget(conn.0);
     }
 
-    /// A performative came on the peer's channel of the session on this channel of the router, where there is one.
+    /// A performative was received on the peer's channel; `own` is the router's channel of its session, if it has one.
     pub fn hear(
         &mut self,
         conn: ConnectionId,
@@ -189,7 +189,7 @@ impl HandleTable {
         }
     }
 
-    /// A performative is put in the outbox of a connection, on a channel of the router.
+    /// A performative is put into the outbox of a connection, on a channel of the router.
     pub fn put(&mut self, conn: u64, own: u16, perf: &Perf) -> Result<(), AllocError>
         ensures { OnOk result ((t : List Entry) (sasl : Bool) (payload : List ℕ) → HandlesFit self.old t
             → HandlesFit self.new (Out conn (item.Frame sasl own perf.now payload) ∷ t)) }
@@ -247,7 +247,7 @@ impl HandleTable {
         let _ = self.theirs.end(conn, own);
     }
 
-    /// Nothing is known of a connection any more.
+    /// Removes all that is known of a connection.
     fn forget(&mut self, conn: u64)
         ensures asked { (c : ℕ) → get nat_cmp self.new.asked c ≡ (if conn == c then None else get nat_cmp self.old.asked c) }
         ensures told { (c : ℕ) → get nat_cmp self.new.told c ≡ (if conn == c then None else get nat_cmp self.old.told c) }
@@ -263,7 +263,7 @@ impl HandleTable {
     }
 }
 
-/// Sets the highest handle that the peer of a session takes.
+/// Sets the highest handle that the peer of a session accepts.
 fn set_highest(
     alloc: Global,
     highest: &mut BTreeMap<u64, BTreeMap<u16, u32>>,
@@ -285,7 +285,7 @@ fn set_highest(
     }
 }
 
-/// Gives a key this value, or none.
+/// Gives a key this value, or removes it.
 fn set(map: &mut BTreeMap<u16, u32>, key: u16, value: Option<u32>) -> Result<(), AllocError>
     ensures { OnOk result ((k : ℕ) → get nat_cmp map.new k ≡ (if key == k then value else get nat_cmp map.old k)) }
 {
@@ -299,7 +299,7 @@ fn set(map: &mut BTreeMap<u16, u32>, key: u16, value: Option<u32>) -> Result<(),
     }
 }
 
-/// The peer's detach is awaited on the handle whose attach was answered; where none was, on that of the last attach.
+/// The router now waits for the peer's detach, on the handle whose attach was answered; if none was, on that of the last attach.
 fn await_detach(
     theirs: &mut ByHandle<PeerHandle>,
     conn: u64,
@@ -319,7 +319,7 @@ fn await_detach(
     }
 }
 
-/// The peer's detach is awaited on a handle that stands for something.
+/// The router now waits for the peer's detach on a handle that stands for something.
 fn detach(
     theirs: &mut ByHandle<PeerHandle>,
     conn: u64,

@@ -1,4 +1,4 @@
-//! Links, as a table has them.
+//! Links as the table keeps them.
 ghost use Rattle.std.specs.Prelude.{◌≡◌, List, ℕ, if◌then◌else◌, IfOk, OnOk};
 ghost use Rattle.std.specs.Option.{option_map};
 ghost use Rattle.router_trace.specs.Links.{address_by, source_address, target_address, text_of};
@@ -22,13 +22,13 @@ use std::alloc::{AllocError, Global};
 /// The router's end of a link.
 #[derive(Debug, Drop)]
 pub enum LinkEnd {
-    /// The router sends.
+    /// The router is the sender.
     Sends(SendEnd),
-    /// The peer sends.
+    /// The peer is the sender.
     Receives(RecvEnd),
 }
 
-/// Who sends a frame.
+/// The sender of a frame.
 #[derive(Clone, Copy, Debug, PartialEq, Eq)]
 pub enum Side {
     /// The peer.
@@ -40,23 +40,23 @@ pub enum Side {
 /// A link that the router took (AMQP 1.0 part 2, section 2.6).
 #[derive(Debug, Drop)]
 pub struct Link {
-    /// The number of its attachment, which never comes again.
+    /// The number of its attachment, which is never reused.
     pub number: u64,
-    /// What names it, whichever connection it is attached on.
+    /// What identifies it, whichever connection it is attached on.
     pub key: LinkKey,
     /// The address at the router's own terminus.
     pub address: Text,
     /// The router's end.
     pub end: LinkEnd,
-    /// Whether the router has begun a delivery of which more frames are to go.
+    /// Whether the router has begun a delivery of which more frames remain to be sent.
     pub going_on: bool,
     /// Whether the peer's last flow asks for a drain.
     pub drains: bool,
-    /// Whether a drain was asked for and is not told yet.
+    /// Whether a drain was asked for and is not yet answered.
     pub owes_drain: bool,
 }
 
-/// The address at the router's own terminus of its attach; none where the attach refuses the link.
+/// The address at the router's own terminus of its attach; none if the attach refuses the link.
 pub(crate) fn address_of(attach: &Attach) -> Option<&Text>
     ensures { option_map (λ a. a.now) result ≡ address_by attach.now.role attach.now }
 {
@@ -94,7 +94,7 @@ fn text_of(address: &Option<Address>) -> Option<&Text>
 }
 
 impl LinkEnd {
-    /// The router's end of a link that was just attached, whose peer told this delivery-count if it sends.
+    /// The router's end of a link that was just attached; `theirs` is the peer's initial delivery-count if the peer is the sender.
     fn begun(alloc: Global, attach: &Attach, theirs: u32) -> LinkEnd
         ensures { result ≡ begun_end attach.now.role attach.now.initial_delivery_count theirs }
     {
@@ -107,7 +107,7 @@ impl LinkEnd {
         }
     }
 
-    /// The credit left, where the router sends.
+    /// The link credit left, if the router is the sender.
     fn credit(&self) -> u32
         ensures { result ≡ credit_at self.now }
     {
@@ -117,7 +117,7 @@ impl LinkEnd {
         }
     }
 
-    /// The credit that the peer was granted and hasn't used, where it sends.
+    /// The link credit that the peer was granted and hasn't used, if the peer is the sender.
     fn unused(&self) -> u32
         ensures { result ≡ unused_end self.now }
     {
@@ -127,7 +127,7 @@ impl LinkEnd {
         }
     }
 
-    /// The delivery-count of the one that sends.
+    /// The sender's delivery-count.
     fn count(&self) -> Serial
         ensures { result ≡ count_at self.now }
     {
@@ -137,14 +137,14 @@ impl LinkEnd {
         }
     }
 
-    /// Whether the router sends.
+    /// Whether the router is the sender.
     pub(crate) fn sends(&self) -> bool
         ensures { result ≡ sends_at self.now }
     {
         matches!(self, LinkEnd::Sends(_))
     }
 
-    /// What is told of the delivery in the middle, where the peer sends and one is.
+    /// The delivery in the middle, if the peer is the sender and there is one.
     fn middle(&self) -> Option<&Delivery>
         ensures { option_map (λ d. d.now) result ≡ middle_at self.now }
     {
@@ -156,7 +156,7 @@ impl LinkEnd {
 }
 
 impl Link {
-    /// A link that the router's attach begins.
+    /// The link that the router's attach begins.
     pub(crate) fn begun(
         alloc: Global,
         number: u64,
@@ -178,7 +178,7 @@ impl Link {
         }
     }
 
-    /// The credit left, where the router sends; 0 elsewhere.
+    /// The link credit left, if the router is the sender; else 0.
     #[tactic(auto, using(crate::proofs::Looks::credit_follows))]
     pub fn credit(&self) -> u32
         ensures { (l : View) → self.now ≡ link_of l → result ≡ credit_on l.happened }
@@ -186,7 +186,7 @@ impl Link {
         self.end.credit()
     }
 
-    /// The credit that the peer was granted and hasn't used, where it sends; 0 elsewhere.
+    /// The link credit that the peer was granted and hasn't used, if the peer is the sender; else 0.
     #[tactic(auto, using(crate::proofs::Looks::unused_follows))]
     pub fn unused(&self) -> u32
         ensures { (l : View) → self.now ≡ link_of l → result ≡ unused_on l.happened }
@@ -194,7 +194,7 @@ impl Link {
         self.end.unused()
     }
 
-    /// The delivery-count of the one that sends.
+    /// The sender's delivery-count.
     #[tactic(auto, using(crate::proofs::Looks::count_follows))]
     pub fn count(&self) -> Serial
         ensures { (l : View) → self.now ≡ link_of l → result ≡ count_on l.happened }
@@ -202,7 +202,7 @@ impl Link {
         self.end.count()
     }
 
-    /// Whether the router sends.
+    /// Whether the router is the sender.
     #[tactic(auto, using(crate::proofs::Looks::sends_follows))]
     pub fn is_consumer(&self) -> bool
         ensures { (l : View) → self.now ≡ link_of l → result ≡ is_sending l.happened }
@@ -210,7 +210,7 @@ impl Link {
         self.end.sends()
     }
 
-    /// Whether a delivery of the peer is in the middle that isn't resumed.
+    /// Whether a delivery of the peer is in the middle and isn't resumed.
     #[tactic(auto, using(crate::proofs::Looks::in_middle_follows))]
     pub fn is_in_middle(&self) -> bool
         ensures { (l : View) → self.now ≡ link_of l → result ≡ is_in_middle l }
@@ -218,15 +218,15 @@ impl Link {
         is_new(self.middle())
     }
 
-    /// What is told of the delivery in the middle, where the peer sends and one is.
+    /// The delivery in the middle, if the peer is the sender and there is one.
     pub(crate) fn middle(&self) -> Option<&Delivery>
         ensures { option_map (λ d. d.now) result ≡ middle_at self.now.end }
     {
         self.end.middle()
     }
 
-    /// Notes a flow or a transfer of one side, and gives what a transfer of the peer gives; other performatives change nothing.
-    /// Where memory is refused nothing can be said of the link.
+    /// Applies a flow or a transfer of one side, and returns what a transfer of the peer makes of its delivery; other performatives
+    /// change nothing. If memory is refused, the link's state is unspecified.
     pub(crate) fn note(
         &mut self,
         side: Side,
@@ -245,7 +245,7 @@ impl Link {
         }
     }
 
-    /// Notes a performative of the peer.
+    /// Applies a performative of the peer.
     fn note_theirs(&mut self, perf: &Perf, payload: &Bytes) -> Result<Option<Part>, AllocError>
         ensures link { OnOk result (self.new ≡ noted Peer perf.now payload.now self.old) }
         ensures part { IfOk result (λ p. p ≡ part_noted Peer perf.now payload.now self.old) }
@@ -260,7 +260,7 @@ impl Link {
         }
     }
 
-    /// Notes a performative of the router.
+    /// Applies a performative of the router.
     fn note_ours(&mut self, perf: &Perf)
         ensures { (payload : List ℕ) → self.new ≡ noted Router perf.now payload self.old }
     {
@@ -271,7 +271,7 @@ impl Link {
         }
     }
 
-    /// Takes a flow of the peer: what it grants, or the count that it tells; and whether it drains.
+    /// Applies a flow of the peer: the credit that it grants or the delivery-count that it has, and its drain flag.
     pub fn on_their_flow(&mut self, flow: &Flow)
         ensures { self.new ≡ behind_their_flow flow.now self.old }
     {
@@ -283,8 +283,8 @@ impl Link {
         self.owes_drain = flow.drain;
     }
 
-    /// Takes a transfer of the peer and what it carries, and gives what it makes of its delivery, where the peer sends. Where
-    /// memory is refused nothing can be said of the link.
+    /// Applies a transfer of the peer with its payload. Returns what it makes of its delivery, if the peer is the sender. If
+    /// memory is refused, the link's state is unspecified.
     pub fn on_their_transfer(
         &mut self,
         transfer: &Transfer,
@@ -299,7 +299,7 @@ impl Link {
         }
     }
 
-    /// Notes a flow of the router: the count that it tells, or what it grants; and a drain that it tells.
+    /// Applies a flow of the router: its delivery-count or the credit that it grants, and a drain that it answers.
     pub fn on_our_flow(&mut self, flow: &Flow)
         ensures { self.new ≡ behind_our_flow flow.now self.old }
     {
@@ -310,7 +310,7 @@ impl Link {
         self.owes_drain = self.owes_drain && !flow.drain;
     }
 
-    /// Notes a transfer of the router: it starts a delivery where none goes on.
+    /// Applies a transfer of the router: it starts a delivery unless one is going on.
     pub fn on_our_transfer(&mut self, transfer: &Transfer)
         ensures { self.new ≡ behind_our_transfer transfer.now self.old }
     {
@@ -321,7 +321,7 @@ impl Link {
     }
 }
 
-/// Whether there is a delivery, and it isn't resumed.
+/// Whether there is a delivery and it isn't resumed.
 fn is_new(delivery: Option<&Delivery>) -> bool
     ensures { result ≡ is_new (option_map (λ d. d.now) delivery.entry) }
 {
@@ -331,7 +331,7 @@ fn is_new(delivery: Option<&Delivery>) -> bool
     }
 }
 
-/// Takes what a flow of the peer grants, where it grants.
+/// Applies the credit that a flow of the peer grants, if it grants any.
 fn take_grant(end: &mut SendEnd, count: Option<u32>, credit: Option<u32>)
     ensures { end.new ≡ with_grant count credit end.old }
 {
@@ -340,7 +340,7 @@ fn take_grant(end: &mut SendEnd, count: Option<u32>, credit: Option<u32>)
     }
 }
 
-/// Takes the count that a flow of the peer tells, unless it is out of reach.
+/// Applies the delivery-count of a peer's flow, unless it is out of reach.
 fn take_count(end: &mut RecvEnd, count: Option<u32>)
     ensures { end.new ≡ with_count count end.old }
 {
@@ -349,7 +349,7 @@ fn take_count(end: &mut RecvEnd, count: Option<u32>)
     }
 }
 
-/// Notes the count that a flow of the router tells, where it tells one.
+/// Notes the delivery-count of a router's flow, if it has one.
 fn note_count(end: &mut SendEnd, count: Option<u32>)
     ensures { end.new ≡ with_our_count count end.old }
 {
@@ -358,7 +358,7 @@ fn note_count(end: &mut SendEnd, count: Option<u32>)
     }
 }
 
-/// Notes what a flow of the router grants, where it grants.
+/// Notes the credit that a flow of the router grants, if it grants any.
 fn note_grant(end: &mut RecvEnd, count: Option<u32>, credit: Option<u32>)
     ensures { end.new ≡ with_our_grant count credit end.old }
 {
@@ -370,7 +370,7 @@ fn note_grant(end: &mut RecvEnd, count: Option<u32>, credit: Option<u32>)
     }
 }
 
-/// Notes the start of a delivery, where none goes on.
+/// Notes the start of a delivery, unless one is going on.
 fn note_start(end: &mut SendEnd, going_on: bool)
     ensures { end.new ≡ (if going_on then end.old else behind_start end.old) }
 {

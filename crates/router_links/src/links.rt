@@ -30,7 +30,7 @@ use bytes::Bytes;
 use router_trace::{Attachment, ConnectionId, LinkAt, PeerHandle};
 use std::alloc::{AllocError, Global};
 
-/// The links of all connections. Behind a refused growth nothing can be said of the table.
+/// The links of all connections. If an operation fails to allocate, the table's contents are unspecified.
 #[derive(Debug, Drop)]
 pub struct Links {
     handles: HandleTable,
@@ -38,7 +38,7 @@ pub struct Links {
 }
 
 impl Links {
-    /// No links.
+    /// An empty table.
     pub fn new(alloc: Global) -> Links
         ensures fits { (g : Routing) → LinksFit result (configured g) }
         ensures untouched { (k : ℕ) → is_touched result k ≡ false }
@@ -49,7 +49,7 @@ impl Links {
         }
     }
 
-    /// What stands on a handle of the peer, on the session on a channel of the router.
+    /// What is on a peer's handle, on the session with the router's channel `own`.
     pub fn place(&self, conn: u64, own: u16, handle: u32) -> LinkAt
         ensures { (t : List Entry) → LinksFit self.now t → result ≡ found_link (link_place t conn own handle) }
     {
@@ -60,8 +60,8 @@ impl Links {
         }
     }
 
-    /// What is told of the delivery in the middle of the link on a handle of the peer, on the session on a channel of the
-    /// router.
+    /// The delivery in the middle of the link on a peer's handle, on the session with the router's channel
+    /// `own`.
     #[tactic(auto, using(crate::proofs::Looks::middle_follows))]
     pub fn middle(&self, conn: u64, own: u16, handle: u32) -> Option<&Delivery>
         ensures { (t : List Entry) → LinksFit self.now t → option_map (λ d. d.now) result ≡ middle_on (link_place t conn own handle) }
@@ -70,14 +70,14 @@ impl Links {
         self.table.middle(conn, own, handle)
     }
 
-    /// The link at the place of an attachment; whether it is that attachment's its number says.
+    /// The link at an attachment's place; its number says whether it is that attachment's.
     pub fn link(&self, place: Attachment) -> Option<&Link>
         ensures { (t : List Entry) → LinksFit self.now t → option_map (λ l. l.now) result ≡ option_map link_of (link t place.conn.0 place.channel place.handle) }
     {
         self.table.link(place.conn.0, place.channel, place.handle)
     }
 
-    /// The attachment of the link on a handle of the router, of the session on a channel of the router.
+    /// The attachment of the link on a router's handle, of the session with the router's channel `own`.
     #[tactic(auto, using(crate::proofs::Looks::attachment_follows))]
     pub fn attachment(&self, conn: u64, own: u16, handle: u32) -> Option<Attachment>
         ensures { (t : List Entry) → LinksFit self.now t → result ≡ attachment_on conn own handle (link t conn own handle) }
@@ -85,43 +85,43 @@ impl Links {
         self.table.attachment(conn, own, handle)
     }
 
-    /// The lowest handle of the router, of 64, that the peer of a session takes too and on which nothing is attached.
+    /// The router's lowest handle, of 64, that the session's peer accepts too and on which nothing is attached.
     pub fn free_handle(&self, conn: u64, own: u16) -> Option<u32>
         ensures { (t : List Entry) → LinksFit self.now t → result ≡ free_handle t conn own }
     {
         self.handles.free_handle(conn, own)
     }
 
-    /// Whether some link may owe a drain; where none is known to, none does.
+    /// Whether any link may owe a drain: false only if none does.
     pub fn may_owe(&self) -> bool
         ensures { result ≡ false → (t : List Entry) → LinksFit self.now t → (c o h : ℕ) → owes_drain (link t c o h) ≡ false }
     {
         !self.table.is_calm()
     }
 
-    /// Whether a link of a connection may owe a drain; where none is known to, none does.
+    /// Whether a link of a connection may owe a drain: false only if none does.
     pub fn may_owe_on(&self, conn: u64) -> bool
         ensures { result ≡ false → (t : List Entry) → LinksFit self.now t → (o h : ℕ) → owes_drain (link t conn o h) ≡ false }
     {
         self.table.is_marked(conn)
     }
 
-    /// The attachment that has a key.
+    /// The attachment with a key.
     pub fn holder(&self, key: &LinkKey) -> Option<Attachment>
         ensures { (t : List Entry) → LinksFit self.now t → result ≡ holder t key.now }
     {
         self.table.holder(key)
     }
 
-    /// The attachment of a number, where it still has its link.
+    /// The attachment with a number, if it still has its link.
     pub fn place_of(&self, number: u64) -> Option<Attachment>
         ensures { (t : List Entry) → LinksFit self.now t → result ≡ place_of t number }
     {
         self.table.place_of(number)
     }
 
-    /// The attachments of the links that owe a drain and on which the router sends, by connection and by channel. It looks at
-    /// marked connections alone.
+    /// The attachments of the links that owe a drain and on which the router is the sender, by connection and by channel. Only
+    /// marked connections are looked at.
     pub fn owed(&self) -> Result<Vec<Attachment>, AllocError>
         ensures owes { (t : List Entry) → LinksFit self.now t
             → IfOk result (λ xs. (a : Attached) → is_listed a xs.items ≡ owes_one (link t a.conn.0 a.channel a.handle) a.number) }
@@ -132,7 +132,7 @@ impl Links {
         Ok(owed)
     }
 
-    /// Takes the marks off connections none of whose links owes a drain any more.
+    /// Unmarks the connections on which no link owes a drain any more.
     pub fn settle_owed(&mut self)
         ensures fits { (t : List Entry) → LinksFit self.old t → LinksFit self.new t }
         ensures marks { (c : ℕ) → is_marked self.new c ≡ (owes_on (get nat_cmp self.old.table.links.rows c) && is_marked self.old c) }
@@ -150,7 +150,7 @@ impl Links {
         self.table.touched()
     }
 
-    /// Forgets that the link of a number may have changed.
+    /// Forgets that the link with a number may have changed.
     pub fn forget_touched(&mut self, number: u64)
         ensures fits { (t : List Entry) → LinksFit self.old t → LinksFit self.new t }
         ensures gone { (k : ℕ) → is_touched self.new k ≡ (if number == k then false else is_touched self.old k) }
@@ -169,8 +169,8 @@ impl Links {
         self.table.down(conn)
     }
 
-    /// An item came on a connection, on the session on this channel of the router, where its channel has one. Gives what a
-    /// transfer gives on the link that it finds.
+    /// An item was received on a connection; `own` is the router's channel of its session, if its channel has one. Returns what
+    /// a transfer makes of its delivery, on the link that it names.
     pub fn hear(
         &mut self,
         conn: ConnectionId,
@@ -199,7 +199,7 @@ impl Links {
         }
     }
 
-    /// A performative came on a connection.
+    /// A performative was received on a connection.
     fn hear_perf(
         &mut self,
         conn: ConnectionId,
@@ -219,8 +219,8 @@ impl Links {
         Ok(part)
     }
 
-    /// An item is put in the outbox of a connection; an attach comes with its key. Fails where memory is refused, where
-    /// attachments can't be numbered any more, and for an attach without its key.
+    /// An item is put into the outbox of a connection; an attach comes with its key. Fails if memory is refused, if
+    /// no attachment number is left, and for an attach without its key.
     pub fn put(&mut self, conn: u64, item: &Item, key: Option<LinkKey>) -> Result<(), AllocError>
         ensures fits { OnOk result ((t : List Entry) → key ≡ key_by t conn item.now → LinksFit self.old t → LinksFit self.new (Out conn item.now ∷ t)) }
         ensures touches { OnOk result (Touches self.old self.new) }
@@ -237,7 +237,7 @@ impl Links {
         Ok(())
     }
 
-    /// A performative is put in the outbox of a connection.
+    /// A performative is put into the outbox of a connection.
     fn put_perf(
         &mut self,
         conn: u64,

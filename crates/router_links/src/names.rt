@@ -1,4 +1,4 @@
-//! The attachments of keys and of numbers.
+//! Attachments by key and by number.
 ghost use Rattle.std.specs.Prelude.{◌≡◌, ◌==◌, ℕ, Some, None, false, if◌then◌else◌, OnOk};
 ghost use Rattle.std.specs.Ordering.{nat_cmp, is_eq};
 ghost use Rattle.std.specs.BTreeMap.{get};
@@ -14,14 +14,14 @@ use router_trace::Attachment;
 use std::alloc::{AllocError, Global};
 use std::collections::BTreeMap;
 
-/// Attachments by what names them.
+/// Attachments by the name that identifies them.
 #[derive(Debug, Drop)]
 pub(crate) struct Attachments<K: Ord> {
     pub(crate) entries: BTreeMap<K, Attachment>,
 }
 
 impl<K: Ord + Drop> Attachments<K> {
-    /// No attachments.
+    /// An empty table.
     fn new(alloc: Global) -> Attachments<K>
         ensures { (q : K) → get K.cmp result.entries q ≡ None }
     {
@@ -30,7 +30,7 @@ impl<K: Ord + Drop> Attachments<K> {
         }
     }
 
-    /// The attachment of a name.
+    /// The attachment with a name.
     fn get(&self, key: &K) -> Option<Attachment>
         ensures { result ≡ get K.cmp self.now.entries key.now }
     {
@@ -47,7 +47,7 @@ impl<K: Ord + Drop> Attachments<K> {
         }
     }
 
-    /// Takes a name from the attachment at a place.
+    /// Removes a name if its attachment is at this place.
     fn forget(&mut self, key: &K, conn: u64, own: u16, handle: u32)
         ensures { (q : K) → get K.cmp self.new.entries q
             ≡ (if is_eq (K.cmp key.now q) then unless (on_handle conn own handle) (get K.cmp self.old.entries q) else get K.cmp self.old.entries q) }
@@ -61,14 +61,14 @@ impl<K: Ord + Drop> Attachments<K> {
     }
 }
 
-/// Whether an attachment stands at this place.
+/// Whether an attachment is at this place.
 fn is_on(attachment: Attachment, conn: u64, own: u16, handle: u32) -> bool
     ensures { result ≡ on_handle conn own handle attachment }
 {
     conn == attachment.conn.0 && own == attachment.channel && handle == attachment.handle
 }
 
-/// The attachments of keys and of numbers. Of those that aren't attached any more there may be some or none.
+/// Attachments by key and by number. Some of those that are no longer attached may still be in it.
 #[derive(Debug, Drop)]
 pub(crate) struct Names {
     pub(crate) keys: Attachments<LinkKey>,
@@ -76,7 +76,7 @@ pub(crate) struct Names {
 }
 
 impl Names {
-    /// No attachments.
+    /// An empty table.
     pub(crate) fn new(alloc: Global) -> Names
         ensures keys { (k : AKey) → get key_cmp result.keys.entries k ≡ None }
         ensures numbers { (n : ℕ) → get nat_cmp result.numbers.entries n ≡ None }
@@ -87,21 +87,21 @@ impl Names {
         }
     }
 
-    /// The attachment of a key.
+    /// The attachment with a key.
     pub(crate) fn of_key(&self, key: &LinkKey) -> Option<Attachment>
         ensures { result ≡ get key_cmp self.now.keys.entries key.now }
     {
         self.keys.get(key)
     }
 
-    /// The attachment of a number.
+    /// The attachment with a number.
     pub(crate) fn of_number(&self, number: u64) -> Option<Attachment>
         ensures { result ≡ get nat_cmp self.now.numbers.entries number }
     {
         self.numbers.get(&number)
     }
 
-    /// Gives a key and its number to an attachment.
+    /// Enters an attachment under its key and its number.
     pub(crate) fn take(&mut self, key: LinkKey, attachment: Attachment) -> Result<(), AllocError>
         ensures keys { OnOk result ((k : AKey) → get key_cmp self.new.keys.entries k ≡ (if is_eq (key_cmp key k) then Some attachment else get key_cmp self.old.keys.entries k)) }
         ensures numbers { OnOk result ((n : ℕ) → get nat_cmp self.new.numbers.entries n ≡ (if attachment.number == n then Some attachment else get nat_cmp self.old.numbers.entries n)) }
@@ -110,7 +110,7 @@ impl Names {
         self.numbers.insert(attachment.number, attachment)
     }
 
-    /// Takes its names from a link that goes.
+    /// Removes the names of a link that ends.
     pub(crate) fn forget(&mut self, conn: u64, own: u16, handle: u32, link: &Link)
         ensures thinned { Thinned (on_handle conn own handle) self.old self.new }
         ensures others { (k : ℕ) → (link.now.number == k) ≡ false → get nat_cmp self.old.numbers.entries k ≡ get nat_cmp self.new.numbers.entries k }
@@ -119,7 +119,7 @@ impl Names {
         self.numbers.forget(&link.number, conn, own, handle);
     }
 
-    /// Takes their names from the links of a session that goes.
+    /// Removes the names of the links of a session that ends.
     pub(crate) fn forget_session(&mut self, conn: u64, own: u16, handles: &InSession<Link>)
         ensures thinned { Thinned (on_session conn own) self.old self.new }
         ensures others { (k : ℕ) → in_session k handles.now ≡ false → get nat_cmp self.old.numbers.entries k ≡ get nat_cmp self.new.numbers.entries k }
@@ -129,7 +129,7 @@ impl Names {
         }
     }
 
-    /// Takes their names from the links of a connection that goes.
+    /// Removes the names of the links of a connection that ends.
     pub(crate) fn forget_connection(&mut self, conn: u64, sessions: &InConnection<Link>)
         ensures thinned { Thinned (on_conn conn) self.old self.new }
         ensures others { (k : ℕ) → in_connection k sessions.now ≡ false → get nat_cmp self.old.numbers.entries k ≡ get nat_cmp self.new.numbers.entries k }

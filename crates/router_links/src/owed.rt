@@ -11,7 +11,7 @@ use router_trace::{Attachment, ConnectionId};
 use std::alloc::AllocError;
 use std::collections::BTreeSet;
 
-/// Puts a link behind others, where it owes a drain.
+/// Appends a link if it owes a drain.
 fn append_link(
     owed: &mut Vec<Attachment>,
     conn: u64,
@@ -32,7 +32,7 @@ fn append_link(
     Ok(())
 }
 
-/// Puts the links of a session that owe a drain behind others.
+/// Appends the links of a session that owe a drain.
 fn append_session(
     owed: &mut Vec<Attachment>,
     conn: u64,
@@ -47,7 +47,7 @@ fn append_session(
     Ok(())
 }
 
-/// Puts the links of a connection that owe a drain behind others.
+/// Appends the links of a connection that owe a drain.
 fn append_connection(
     owed: &mut Vec<Attachment>,
     conn: u64,
@@ -61,7 +61,7 @@ fn append_connection(
     Ok(())
 }
 
-/// Puts the links of a connection that owe a drain behind others, where it has links.
+/// Appends the links of a connection that owe a drain, if it has links.
 fn append_of(
     owed: &mut Vec<Attachment>,
     conn: u64,
@@ -75,7 +75,7 @@ fn append_of(
     }
 }
 
-/// Puts the links of these connections that owe a drain behind others.
+/// Appends the links of these connections that owe a drain.
 pub(crate) fn append_all(
     owed: &mut Vec<Attachment>,
     conns: &BTreeSet<u64>,
@@ -89,7 +89,7 @@ pub(crate) fn append_all(
     Ok(())
 }
 
-/// Whether some link of a session owes a drain.
+/// Whether any link of a session owes a drain.
 fn owes_in_session(handles: &InSession<Link>) -> bool
     ensures { result ≡ owes_in_session handles.now }
 {
@@ -101,7 +101,7 @@ fn owes_in_session(handles: &InSession<Link>) -> bool
     false
 }
 
-/// Whether some link of a connection owes a drain.
+/// Whether any link of a connection owes a drain.
 fn owes_in_connection(sessions: &InConnection<Link>) -> bool
     ensures { result ≡ owes_in_connection sessions.now }
 {
@@ -113,7 +113,7 @@ fn owes_in_connection(sessions: &InConnection<Link>) -> bool
     false
 }
 
-/// Whether some link of a connection owes a drain, where it has links.
+/// Whether the connection has a link that owes a drain.
 fn owes_on(links: &ByHandle<Link>, conn: u64) -> bool
     ensures { result ≡ owes_on (get nat_cmp links.now.rows conn) }
 {
@@ -123,7 +123,7 @@ fn owes_on(links: &ByHandle<Link>, conn: u64) -> bool
     }
 }
 
-/// Takes the marks off connections none of whose links owes a drain.
+/// Unmarks the connections on which no link owes a drain.
 pub(crate) fn settle(marks: &mut BTreeSet<u64>, links: &ByHandle<Link>)
     ensures { (c : ℕ) → contains nat_cmp marks.new c ≡ (owes_on (get nat_cmp links.now.rows c) && contains nat_cmp marks.old c) }
 {

@@ -39,14 +39,14 @@ use router_trace::{Asked, Attachment, ConnectionId, LinkAt};
 use std::alloc::{AllocError, Global};
 use std::collections::BTreeSet;
 
-/// The links that the router took, with their keys and numbers. Behind a refused growth nothing can be said of the table.
+/// The links that the router took, with their keys and numbers. If an operation fails to allocate, the table's contents are unspecified.
 #[derive(Debug, Drop)]
 pub struct LinkTable {
     alloc: Global,
     // by the router's handle
     links: ByHandle<Link>,
     names: Names,
-    // so many attachments there were
+    // how many attachments there were
     count: u64,
     // the connections that may have a link that owes a drain
     owing: BTreeSet<u64>,
@@ -55,7 +55,7 @@ pub struct LinkTable {
 }
 
 impl LinkTable {
-    /// No links.
+    /// An empty table.
     pub fn new(alloc: Global) -> LinkTable
         ensures fits { (g : Routing) → TableFit result (configured g) }
         ensures untouched { (k : ℕ) → contains nat_cmp result.touched k ≡ false }
@@ -70,7 +70,7 @@ impl LinkTable {
         }
     }
 
-    /// What stands on a handle of the router.
+    /// What is on a handle of the router.
     pub fn found(&self, conn: u64, own: u16, handle: u32) -> LinkAt
         ensures { result ≡ found_at handle (at self.now.links conn own handle) }
     {
@@ -94,7 +94,7 @@ impl LinkTable {
         self.links.get(conn, own, handle)
     }
 
-    /// What is told of the delivery in the middle of the link on a handle of the router, where there is such.
+    /// The delivery in the middle of the link on a handle of the router, if there is one.
     pub fn middle(&self, conn: u64, own: u16, handle: Option<u32>) -> Option<&Delivery>
         ensures { option_map (λ d. d.now) result ≡ middle_named handle (at self.now.links conn own) }
     {
@@ -122,21 +122,21 @@ impl LinkTable {
         }
     }
 
-    /// The attachment that has a key.
+    /// The attachment with a key.
     pub fn holder(&self, key: &LinkKey) -> Option<Attachment>
         ensures { (t : List Entry) → TableFit self.now t → result ≡ holder t key.now }
     {
         self.if_attached(self.names.of_key(key))
     }
 
-    /// The attachment of a number.
+    /// The attachment with a number.
     pub fn place_of(&self, number: u64) -> Option<Attachment>
         ensures { (t : List Entry) → TableFit self.now t → result ≡ place_of t number }
     {
         self.if_attached(self.names.of_number(number))
     }
 
-    /// An attachment, where it still has its link.
+    /// The attachment, if it still has its link.
     fn if_attached(&self, attachment: Option<Attachment>) -> Option<Attachment>
         ensures { (t : List Entry) → TableFit self.now t → result ≡ if_attached t attachment }
     {
@@ -168,14 +168,14 @@ impl LinkTable {
         self.owing.is_empty()
     }
 
-    /// Whether a connection is marked; on another no link owes a drain.
+    /// Whether a connection is marked; on an unmarked one no link owes a drain.
     pub fn is_marked(&self, conn: u64) -> bool
         ensures { result ≡ contains nat_cmp self.now.owing conn }
     {
         self.owing.contains(&conn)
     }
 
-    /// The attachments of the links that owe a drain and on which the router sends, by connection and by channel.
+    /// The attachments of the links that owe a drain and on which the router is the sender, by connection and by channel.
     pub fn owed(&self) -> Result<Vec<Attachment>, AllocError>
         ensures { IfOk result (λ xs. xs.items ≡ owed_of (get nat_cmp self.now.links.rows) self.now.owing.keys) }
     {
@@ -184,7 +184,7 @@ impl LinkTable {
         Ok(owed)
     }
 
-    /// Takes the marks off connections none of whose links owes a drain.
+    /// Unmarks the connections on which no link owes a drain.
     pub fn settle_owed(&mut self)
         ensures rest { self.new ≡ record self.old { owing = self.new.owing } }
         ensures marks { (c : ℕ) → contains nat_cmp self.new.owing c ≡ (owes_on (get nat_cmp self.old.links.rows c) && contains nat_cmp self.old.owing c) }
@@ -199,7 +199,7 @@ impl LinkTable {
         self.touched.first().copied()
     }
 
-    /// Forgets that the link of a number may have changed.
+    /// Forgets that the link with a number may have changed.
     pub fn forget_touched(&mut self, number: u64)
         ensures rest { self.new ≡ record self.old { touched = self.new.touched } }
         ensures gone { (k : ℕ) → contains nat_cmp self.new.touched k ≡ (if number == k then false else contains nat_cmp self.old.touched k) }
@@ -215,8 +215,8 @@ impl LinkTable {
         self.forget(conn.0)
     }
 
-    /// A performative of the peer came on the session on this channel of the router, for the link on this handle of the
-    /// router, where there are such. Gives what a transfer gives.
+    /// A performative of the peer was received on the session with the router's channel `own`, for the link on the router's handle
+    /// `handle`, if there are such. Returns what a transfer makes of its delivery.
     pub fn hear(
         &mut self,
         conn: ConnectionId,
@@ -245,8 +245,8 @@ impl LinkTable {
         Ok(part)
     }
 
-    /// A performative is put in the outbox of a connection, on a channel of the router. An attach comes with its key, and with
-    /// what the peer's last attach asked.
+    /// A performative is put into the outbox of a connection, on a channel of the router. An attach comes with its key and with
+    /// what the peer's last attach asks for.
     pub fn put(
         &mut self,
         conn: u64,
@@ -398,7 +398,7 @@ impl LinkTable {
         }
     }
 
-    /// Nothing is known of the links of a connection any more.
+    /// Removes all links of a connection.
     fn forget(&mut self, conn: u64) -> Result<(), AllocError>
         ensures down { (t : List Entry) → TableFit self.old t → TableFit self.new (did (event.Down (record { 0 = conn })) ∷ t) }
         ensures closed { (t : List Entry) (sasl : Bool) (own : ℕ) (payload : List ℕ) (x : Close) → TableFit self.old t
@@ -413,7 +413,7 @@ impl LinkTable {
     }
 }
 
-/// Takes a link away, where one stands at the place, and its names.
+/// Removes the link at a place, if there is one, and its names.
 fn leave(links: &mut ByHandle<Link>, names: &mut Names, conn: u64, own: u16, handle: u32)
     ensures links { (c o h : ℕ) → at links.new c o h
         ≡ (if conn == c then (if own == o then (if handle == h then None else at links.old c o h) else at links.old c o h) else at links.old c o h) }
@@ -425,7 +425,7 @@ fn leave(links: &mut ByHandle<Link>, names: &mut Names, conn: u64, own: u16, han
     }
 }
 
-/// Takes their names from the links of a session that went, and touches them.
+/// Removes the names of the links of a session that ended, and touches the links.
 fn leave_session(
     names: &mut Names,
     touched: &mut BTreeSet<u64>,
@@ -441,7 +441,7 @@ fn leave_session(
     touch_session(touched, &handles)
 }
 
-/// Takes their names from the links of a connection that went, and touches them.
+/// Removes the names of the links of a connection that ended, and touches the links.
 fn leave_connection(
     names: &mut Names,
     touched: &mut BTreeSet<u64>,
@@ -456,7 +456,7 @@ fn leave_connection(
     touch_connection(touched, &sessions)
 }
 
-/// Notes a performative of one side on a link, where there is one, and gives what a transfer of the peer gives.
+/// Applies a performative of one side to a link, if there is one, and returns what a transfer of the peer makes of its delivery.
 fn note(
     links: &mut ByHandle<Link>,
     conn: u64,
@@ -476,7 +476,7 @@ fn note(
     links.note(conn, own, handle, side, perf, payload)
 }
 
-/// Notes a performative of the router on a link, where there is one.
+/// Applies a performative of the router to a link, if there is one.
 fn note_ours(
     links: &mut ByHandle<Link>,
     conn: u64,
@@ -515,7 +515,7 @@ fn mark(marks: &mut BTreeSet<u64>, conn: u64, drains: bool) -> Result<(), AllocE
     }
 }
 
-/// The delivery-count at which the peer begins to send.
+/// The peer's initial delivery-count.
 fn initial_of(last: Option<Asked>) -> u32
     ensures { result ≡ initial_of last }
 {

@@ -1,4 +1,4 @@
-//! Numbers of links that may have changed.
+//! The numbers of links that may have changed.
 ghost use Rattle.std.specs.Prelude.{◌≡◌, ◌==◌, ◌||◌, ℕ, true, if◌then◌else◌, OnOk};
 ghost use Rattle.std.specs.Ordering.{nat_cmp};
 ghost use Rattle.std.specs.BTreeMap.{get};
@@ -21,7 +21,7 @@ pub(crate) fn touch(touched: &mut BTreeSet<u64>, number: u64) -> Result<(), Allo
     }
 }
 
-/// Touches the link on a session and a handle of a connection, where there is one.
+/// Touches the link at a session and a handle of a connection, if there is one.
 pub(crate) fn touch_at(
     touched: &mut BTreeSet<u64>,
     links: &ByHandle<Link>,

@@ -1,4 +1,4 @@
--- What is asked of a link of the table is what the view's says.
+-- Queries on a link of the table agree with the view's.
 use Rattle.std.proofs.Common.{◌≡◌, ◌∙◌, ◌+◌, ℕ, true, false, refl, ap, Option, Some, None}
 use Rattle.std.specs.Prelude.{◌&&◌, ◌==◌, ◌%◌, ◌^◌, not, nat_lt, option_map}
 use Rattle.router_trace.specs.declared.frames.LinkState.{LinkState}

@@ -1,4 +1,4 @@
--- The consumer that is chosen is attached, at its producer's address.
+-- The chosen consumer is attached, at its producer's address.
 use Rattle.std.proofs.Common.{◌≡◌, ◌∙◌, ℕ, Bool, true, false, true≢false, refl, sym, ap, Option, Some, None, List, [], ◌∷◌}
 use Rattle.std.specs.Prelude.{◌==◌, ◌&&◌, if◌then◌else◌, is_some, option_and_then}
 use Rattle.std.specs.Str.{bytes_eq}
@@ -20,7 +20,7 @@ use Rattle.router_passing.specs.Passing.{choice_of, is_of, last_behind, last_cho
 use Rattle.router_passing.proofs.Numbered.{number_is}
 use Rattle.router_passing.proofs.Seen.{are_numbered, by_test}
 
--- who has the least figure has one
+-- the consumer with the least figure has a figure
 inside : (x y : ℕ) → Some x ≡ Some y → x ≡ y
 inside x y e = ap number e
   where
@@ -42,7 +42,7 @@ least_has f [] id e = absurd cc
 least_has f (l ∷ ls) id e =
     least_by f (is_sooner (f l.0) (option_and_then f (least f ls))) l.0 id (least f ls) (sooner_has (f l.0) (option_and_then f (least f ls))) (least_has f ls id) e
 
--- so the consumer that is chosen has a link in the pool
+-- so the chosen consumer has a link in the pool
 in_pool : (pool : Sharing) (id : ℕ) → choice pool ≡ Some id → is_some (link_at pool.consumers id) ≡ true
 in_pool pool id e = by_link (link_at pool.consumers id) (least_has (turn pool) pool.consumers id e)
   where
@@ -80,14 +80,14 @@ chosen_stands t address id e =
     (ap is_some (sym (listed_at (λ n. offer_at address (figure t n)) (attachments t) (ap (offer_at address) (are_numbered t).first) (λ m l. ap (offer_at address) ((are_numbered t).most m l)) id))
     ∙ in_pool (pool_of t address) id e)
 
--- it has its place
+-- it is at its place
 pub chosen_place : (t : Trace) (address : List ℕ) (id : ℕ) → IsConsumer t address id → place_of t id ≡ numbered t id
 chosen_place t address id c =
     ap (if_attached t) c.numbered
     ∙ ap (λ b. if b then Some c.at else None) (ap (λ v. has_number c.at.number v) c.there ∙ ap (λ k. c.link.number == k) (number_is t id c.at c.numbered) ∙ c.number)
     ∙ sym c.numbered
 
--- what the pools note is what the trace says of it
+-- what the pools note agrees with the trace
 pub chosen_last : (t : Trace) (address : List ℕ) (id : ℕ) (v : Option Attachment) → IsConsumer t address id → v ≡ numbered t id
     → (a : List ℕ) → last_behind t v a ≡ chosen_at address (Some id) (last_chosen t) a
 chosen_last t address id v c is a =
@@ -98,11 +98,11 @@ chosen_last t address id v c is a =
     ∙ ap (λ b. if b && bytes_eq c.link.address a then id else last_chosen t a) c.number
     ∙ ap (λ b. if bytes_eq b a then id else last_chosen t a) c.same
 
--- where nobody is chosen nothing is noted
+-- if no consumer is chosen, nothing is noted
 pub none_last : (t : Trace) (address : List ℕ) (a : List ℕ) → last_behind t None a ≡ chosen_at address None (last_chosen t) a
 none_last t address a = by_test (bytes_eq address a) (λ e. ap (λ b. if b then last_chosen t a else last_chosen t a) (sym e)) (λ e. ap (λ b. if b then last_chosen t a else last_chosen t a) (sym e))
 
--- the choice as the table of pools gives it
+-- the choice as the table of pools makes it
 pub chooses_none : (t : Trace) (address : List ℕ) → None ≡ choice (pool_of t address) → None ≡ option_and_then (numbered t) (choice_of t address)
 unfolding choice_of
 chooses_none t address e = ap (option_and_then (numbered t)) e

@@ -1,4 +1,4 @@
--- A session is busy exactly where one of the deliveries that its handles send goes on.
+-- A session is busy exactly if one of the deliveries being sent on its handles goes on.
 use Rattle.std.proofs.Common.{◌≡◌, ◌∙◌, ◌<◌, ◌+◌, ◌||◌, ◌&&◌, ℕ, Bool, true, false, refl, sym, ap, arith, List, [], ◌∷◌, Option, Some, None}
 use Rattle.std.specs.Prelude.{◌==◌, nat_le}
 use Rattle.std.proofs.lemmas.Bool.{eqb-true}
@@ -19,7 +19,7 @@ same_tests true b f g = sym (f refl)
 same_tests false true f g = g refl
 same_tests false false f g = refl
 
--- one that goes on is sent on its handle
+-- a delivery that goes on is being sent on its handle
 pub both_left : (a b : Bool) → (a && b) ≡ true → a ≡ true
 both_left true b e = refl
 both_left false b e = absurd cc

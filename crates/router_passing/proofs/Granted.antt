@@ -42,7 +42,7 @@ unfolding lowest_below
 all_keep zero f q none = tt
 all_keep (suc n) f q none = lower_keeps q (lowest_below n f) (f n) (all_keep n f q none) (none n)
 
--- the lower of two, where one is this and the other isn't below it
+-- the lower of two, of which one is this and the other isn't below it
 second : (q : List ℕ) (v : Option (List ℕ)) → IsNotBelow q v → lower v (Some q) ≡ Some q
 second q None e = refl
 second q (Some a) e = by_order (slice_cmp nat_cmp a q) refl
@@ -71,13 +71,13 @@ lowest_is (suc n) f q m none below is = by_test (m == n)
     less : (m n : ℕ) → m < suc n → (m == n) ≡ false → m < n
     less m n l e = grind (arith, nat_tests)
 
--- where none has an address there is none
+-- if none has an address, there is no lowest
 pub lowest_none : (n : ℕ) (f : ℕ → Option (List ℕ)) → ((k : ℕ) → f k ≡ None) → lowest_below n f ≡ None
 unfolding lowest_below
 lowest_none zero f none = refl
 lowest_none (suc n) f none = ap (λ v. lower v (f n)) (lowest_none n f none) ∙ none n
 
--- a list of numbers that isn't empty has one
+-- a nonempty list of numbers has one
 pub record Has {X : Type 0} (f : ℕ → Option X) (n : ℕ) : Type 0 where
   pub number : ℕ
   pub below : number < n + 1
@@ -98,7 +98,7 @@ listed_has : {X : Type 0} (f : ℕ → Option X) (n : ℕ) → 0 < length (liste
 listed_has f zero some = absurd (omega (arith, some))
 listed_has f (suc n) some = listed_by f n (f (suc n)) refl (listed_has f n) some
 
--- where something is granted there is a producer
+-- if something is granted, there is a producer
 gains_some : {X : Type 0} (amount : ℕ → ℕ) (links : List (ℕ × X)) → 0 < length (gains amount (keys_of links)) → 0 < length links
 gains_some amount [] some = absurd (omega (arith, some))
 gains_some amount (l ∷ ls) some = let g : 0 < suc (length ls) = omega arith in g
@@ -151,7 +151,7 @@ grants_are t q sums is some none =
     ∙ sym (ap (grants_of_address t) (lowest_is (attachments t + 1) (λ n. wants t (figure t n)) q one.number (λ k. wants_not t q (figure t k) none) one.below
     (wants_is t q (figure t one.number) one.has filled)))
 
--- what is told of an answer where there is none, and where there is one
+-- what holds of a result if there is none, and if there is one
 pub at_none : {A : Type 0} {P : Type 0} (r : Option A) → r ≡ None → IfNone r P → P
 at_none None e p = p
 at_none (Some x) e p = absurd cc

@@ -1,4 +1,4 @@
--- What the pools know of the links, behind a change of the tables.
+-- What the pools know of the links, after a change of the tables.
 use Rattle.std.proofs.Common.{◌≡◌, ◌∙◌, ◌+◌, ℕ, zero, suc, Bool, false, refl, sym, ap, subst, Option, Some, None, List, ◌∷◌, arith}
 use Rattle.std.specs.Prelude.{◌==◌, if◌then◌else◌, option_map}
 use Rattle.std.specs.Ordering.{nat_cmp}
@@ -38,7 +38,7 @@ use Rattle.router_passing.specs.Fits.{IsTold, NotedFit, PassingFit, PoolsKnow, U
 use Rattle.router_passing.specs.Passing.{binding_to, last_behind, last_chosen, with_bound}
 use Rattle.router_passing.proofs.Seen.{by_test, figure_same}
 
--- Other functions that say the same serve the pools as well.
+-- Equal functions serve the pools as well.
 pub exchanged : (s : Pools) (share shares : List ℕ → Distribution) (known other : ℕ → Option Figure) (last now : List ℕ → ℕ) → ((a : List ℕ) → shares a ≡ share a)
     → ((n : ℕ) → other n ≡ known n) → ((a : List ℕ) → now a ≡ last a) → PoolsFit s share known last → PoolsFit s shares other now
 exchanged s share shares known other last now alike same chosen fits = record {
@@ -54,11 +54,11 @@ exchanged s share shares known other last now alike same chosen fits = record {
   quiet = fits.quiet;
 }
 
--- once all was told the pools know all
+-- once they were told of all links, the pools know all
 pub all_known : (s : Passing) (t : Trace) (last : List ℕ → ℕ) → Untouched s → PoolsKnow s t last → PoolsFit s.pools (distribution t) (figure t) last
 all_known s t last none know = exchanged s.pools (distribution t) (distribution t) know.known (figure t) last last (λ a. refl) (λ n. sym (know.same n (none.links n) (none.deliveries n))) (λ a. refl) know.fits
 
--- How many deliveries pass is the same where the same ones do.
+-- Equal tests have equal counts of deliveries.
 pub count_alike : (b : ℕ) (p q : ℕ → Bool) → ((n : ℕ) → p n ≡ q n) → count_below b p ≡ count_below b q
 unfolding count_below
 count_alike zero p q same = refl
@@ -72,7 +72,7 @@ more b q none = let next : b + 1 ≡ suc b = omega arith in
     right : (k : ℕ) → k ≡ k + 0
     right k = omega arith
 
--- as many deliveries pass, in both traces, where each number passes in both
+-- both traces have the same count if each number passes in both or in neither
 abbrev pub CountSame : Trace → Trace → Type 0
 CountSame t w = (p : Option Delivery → Bool) → p None ≡ false → ((n : ℕ) → p (delivery t n) ≡ p (delivery w n)) → count_deliveries t p ≡ count_deliveries w p
 
@@ -81,7 +81,7 @@ bound_counts b t p none same =
     count_alike (bindings t + 1) (λ n. p (delivery t n)) (λ n. p (delivery (Bound b ∷ t) n)) same
     ∙ more (bindings t + 1) (λ n. p (delivery (Bound b ∷ t) n)) (sym (same (bindings t + 1)) ∙ ap p (none_beyond t (bindings t + 1) (omega arith)) ∙ none)
 
--- Of a link that neither table has touched the figure is the same.
+-- A link that neither table has touched has the same figure in both.
 pub figures_same : (s u : Links) (d e : Deliveries) (t w : Trace) → LinksFit s t → LinksFit u w → DeliveriesFit d t → DeliveriesFit e w
     → links.Touches s u → deliveries.Touches d e → CountSame t w
     → (n : ℕ) → links.is_touched u n ≡ false → deliveries.is_touched e n ≡ false → figure t n ≡ figure w n
@@ -91,7 +91,7 @@ figures_same s u d e t w fit fit' stand stand' one other counts n quiet silent =
     (counts (undecided_on n) refl (λ m. ap (undecided_on n) (sym (stand.store.deliveries m)) ∙ (other.same n m silent).undecided ∙ ap (undecided_on n) (stand'.store.deliveries m)))
     (counts (held_from n) refl (λ m. ap (held_from n) (sym (stand.store.deliveries m)) ∙ (other.same n m silent).held ∙ ap (held_from n) (stand'.store.deliveries m)))
 
--- So what the pools know they know behind any change that touches what it changes.
+-- So what the pools know stays true after any change that touches the links that it changes.
 pub knows_still : (s u : Passing) (t w : Trace) (last now : List ℕ → ℕ) → u.pools ≡ s.pools → LinksFit s.links t → LinksFit u.links w → DeliveriesFit s.deliveries t → DeliveriesFit u.deliveries w
     → links.Touches s.links u.links → deliveries.Touches s.deliveries u.deliveries → CountSame t w
     → ((a : List ℕ) → distribution w a ≡ distribution t a) → ((a : List ℕ) → now a ≡ last a) → PoolsKnow s t last → PoolsKnow u w now
@@ -102,7 +102,7 @@ knows_still s u t w last now pools fit fit' stand stand' one other counts alike 
       ∙ figures_same s.links u.links s.deliveries u.deliveries t w fit fit' stand stand' one other counts n quiet silent;
 }
 
--- Behind telling what a link has, its number is forgotten.
+-- After the pools were told what a link has, its number is forgotten.
 pub knows_told : (s u : Passing) (t : Trace) (last : List ℕ → ℕ) (n : ℕ) → IsTold s.pools u.pools n (figure t n)
     → ((k : ℕ) → links.is_touched u.links k ≡ (if n == k then false else links.is_touched s.links k))
     → ((k : ℕ) → deliveries.is_touched u.deliveries k ≡ (if n == k then false else deliveries.is_touched s.deliveries k))
@@ -128,7 +128,7 @@ put_counts d i t p none same = count_alike (bindings t + 1) (λ n. p (delivery t
 pub did_counts : (x : Event) (t : Trace) → CountSame t (did x ∷ t)
 did_counts x t p none same = count_alike (bindings t + 1) (λ n. p (delivery t n)) (λ n. p (delivery (did x ∷ t) n)) same
 
--- All tables behind such a change.
+-- All tables after such a change.
 pub moved : (s u : Passing) (t w : Trace) (last now : List ℕ → ℕ) → u.pools ≡ s.pools → LinksFit u.links w → DeliveriesFit u.deliveries w → ClaimsFit u.claims w
     → links.Touches s.links u.links → deliveries.Touches s.deliveries u.deliveries → CountSame t w
     → ((a : List ℕ) → distribution w a ≡ distribution t a) → ((a : List ℕ) → now a ≡ last a) → NotedFit s t last → NotedFit u w now
@@ -139,7 +139,7 @@ moved s u t w last now pools fit stand claimed one other counts alike chosen old
   pools = knows_still s u t w last now pools old.links fit old.deliveries stand one other counts alike chosen old.pools;
 }
 
--- Behind telling.
+-- After the pools were told.
 pub told_fits : (s u : Passing) (t : Trace) (n : ℕ) → LinksFit u.links t → DeliveriesFit u.deliveries t → u.claims ≡ s.claims → IsTold s.pools u.pools n (figure t n)
     → ((k : ℕ) → links.is_touched u.links k ≡ (if n == k then false else links.is_touched s.links k))
     → ((k : ℕ) → deliveries.is_touched u.deliveries k ≡ (if n == k then false else deliveries.is_touched s.deliveries k))
@@ -151,7 +151,7 @@ told_fits s u t n fit stand claimed told quiet silent old = record {
   pools = knows_told s u t (last_chosen t) n told quiet silent old.pools;
 }
 
--- A table of links says the same behind a binding and behind a take, and so do claims.
+-- A table of links is the same after a binding and after a take, and so are claims.
 pub links_bound : (s : Links) (b : Binding) (t : Trace) → LinksFit s t → LinksFit s (Bound b ∷ t)
 links_bound s b t fit = record {
   handles = record { asked = fit.handles.asked; told = fit.handles.told; highest = fit.handles.highest; answered = fit.handles.answered; theirs = fit.handles.theirs };
@@ -187,7 +187,7 @@ pub channel_same : (i : Item) → of_links i ≡ of_deliveries i
 channel_same (item.Frame sasl channel body payload) = refl
 channel_same _ = refl
 
--- a message that is bound to the consumer that is chosen
+-- a message that is bound to the chosen consumer
 pub passed : (u : Passing) (t : Trace) (a : Attachment) (origin : Option Origin) (format : ℕ) (payload : List ℕ) (chosen : Option Attachment) → Some a ≡ chosen
     → PassingFit u (Bound (binding_to origin format payload a) ∷ t) → PassingFit u (with_bound (option_map (binding_to origin format payload) chosen) t)
 passed u t a origin format payload chosen is fit = subst (λ v. PassingFit u (with_bound (option_map (binding_to origin format payload) v) t)) is fit

@@ -1,4 +1,4 @@
--- The numbers that attachments have: from 1 to as many as there were.
+-- The numbers of attachments: from 1 to the number of attachments.
 use Rattle.std.proofs.Common.{◌≡◌, ◌∙◌, ◌+◌, ◌<◌, ◌≤◌, ℕ, Bool, true, false, refl, sym, ap, [], ◌∷◌, Option, Some, None, arith}
 use Rattle.std.specs.Prelude.{◌&&◌, ◌==◌, if◌then◌else◌, is_some}
 use Rattle.std.proofs.lemmas.Bool.{eqb-true}
@@ -12,7 +12,7 @@ use Rattle.router_trace.specs.Trace.{Trace, Did, Out, Took, Bound, Configured}
 use Rattle.router_trace.specs.Links.{address_by, attachments, newest_in, newest_by, numbered}
 use Rattle.router_links.proofs.Numbered.{old_number}
 
--- the attachment of a number has it
+-- the attachment with a number has that number
 is_if : (taken pass : Bool) (new : Attachment) (n : ℕ) (v : Option Attachment) (a : Attachment)
     → (pass ≡ true → new.number ≡ n) → (v ≡ Some a → a.number ≡ n) → (if taken && pass then Some new else v) ≡ Some a → a.number ≡ n
 is_if true true new n v a fresh old e = sym (ap number e) ∙ fresh refl
@@ -41,7 +41,7 @@ number_is (Took d k ∷ t) n a e = number_is t n a e
 number_is (Bound b ∷ t) n a e = number_is t n a e
 number_is (Configured g ∷ t) n a e = number_is t n a e
 
--- 0 is nobody's
+-- no attachment has the number 0
 none_if : (taken pass : Bool) (new : Attachment) (v : Option Attachment) → pass ≡ false → v ≡ None → (if taken && pass then Some new else v) ≡ None
 none_if true true new v e f = absurd cc
 none_if true false new v e f = f
@@ -66,7 +66,7 @@ none_first (Took d k ∷ t) = none_first t
 none_first (Bound b ∷ t) = none_first t
 none_first (Configured g ∷ t) = none_first t
 
--- nor are those above the count
+-- or one above the count
 pub none_beyond : (t : Trace) (n : ℕ) → attachments t < n → numbered t n ≡ None
 none_beyond t n above = by_case (numbered t n) refl
   where

@@ -14,7 +14,7 @@ use Rattle.router_passing.specs.Asking.{is_below, lower_number, lowest_of, owes_
 use Rattle.router_passing.proofs.Numbered.{number_is}
 use Rattle.router_passing.proofs.Going.{same_tests, either_left, either_right, both_left, both_right}
 
--- a number is that of one of these attachments
+-- a number belongs to one of these attachments
 abbrev pub number_in : ℕ → List Attachment → Bool
 number_in n [] = false
 number_in n (a ∷ others) = (a.number == n) || number_in n others
@@ -23,8 +23,8 @@ abbrev is_that : Option ℕ → ℕ → Bool
 is_that None n = false
 is_that (Some m) n = m == n
 
--- The first that passes one test is the first that passes another, where who passes the one passes the other, and under each that passes the other
--- is one that passes the first.
+-- The first number that passes one test is the first that passes another, if each that passes the one passes the other, and below each that passes
+-- the other is one that passes the first.
 pub record Under (passes : ℕ → Bool) (n : ℕ) : Type 0 where
   pub number : ℕ
   pub under : number ≤ n
@@ -41,7 +41,7 @@ pub first_alike : (p q : ℕ → Bool) (r : Option ℕ) → ((n : ℕ) → p n �
 first_alike p q r same first =
     first_move p q r (λ n e. sym (same n) ∙ e) (λ n e. record { number = n; under = omega arith; is = same n ∙ e }) first
 
--- those that may be the lowest: the one found so far, and those of the rest
+-- the numbers that may be the lowest: the one found so far, and those of the rest
 abbrev seen : Option ℕ → Option ℕ → List Attachment → ℕ → Bool
 seen above lowest xs n = is_that lowest n || (is_above above n && number_in n xs)
 
@@ -158,7 +158,7 @@ fold_first above lowest (a ∷ others) =
     (λ n e. back_step above lowest a.number (λ m. number_in m others) n _ refl (ways _ _ _ _ e))
     (fold_first above (lower_number above lowest a.number) others)
 
--- who stands in the list owes a drain, and who owes one stands there
+-- each attachment in the list owes a drain, and each that owes one is in the list
 pub record Held (n : ℕ) (xs : List Attachment) : Type 0 where
   pub attachment : Attachment
   pub listed : is_listed attachment xs ≡ true
@@ -199,7 +199,7 @@ listed_in a (b ∷ others) e = by_test (is_same b a) refl (listed_in a others)
         either_left _ _ (both_right ((b.channel == a.channel) && (b.conn.0 == a.conn.0)) (b.number == a.number) (both_right (b.handle == a.handle) (((b.channel == a.channel) && (b.conn.0 == a.conn.0)) && (b.number == a.number)) q))
     by_test false q rest = either_right _ _ (rest (ap (λ x. x || is_listed a others) (sym q) ∙ e))
 
--- where an attachment stands
+-- the place of an attachment
 placed : (t : Trace) (v : Option Attachment) (a : Attachment) → if_attached t v ≡ Some a → v ≡ Some a
 placed t None a e = absurd cc
 placed t (Some b) a e = by_test (is_attached t b) refl

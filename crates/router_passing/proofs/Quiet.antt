@@ -1,4 +1,4 @@
--- Behind an entry that says nothing of links, deliveries and claims the tables of these are as they were.
+-- After an entry that doesn't concern links, deliveries and claims their tables are unchanged.
 use Rattle.std.proofs.Common.{◌≡◌, ◌∙◌, ◌≤◌, ◌+◌, ℕ, refl, sym, ap, subst, List, Option, Some, None, ◌∷◌}
 use Rattle.std.specs.Prelude.{if◌then◌else◌}
 use Rattle.std.specs.Ordering.{nat_cmp}
@@ -30,7 +30,7 @@ use Rattle.router_passing.specs.Passing.{last_chosen}
 use Rattle.router_passing.proofs.Known.{CountSame, count_alike, moved}
 use Rattle.std.specs.Option.{option_map}
 
--- two traces say the same of links, deliveries and claims, and of how addresses are shared
+-- two traces agree on links, deliveries and claims, and on the distribution of addresses
 pub record IsQuiet (t u : Trace) : Type 0 where
   pub handle_max : (c : ℕ) → asked u c ≡ asked t c
   pub told_max : (c : ℕ) → told_handle_max u c ≡ told_handle_max t c
@@ -113,7 +113,7 @@ quiet_fits s t u q old =
     (record { before = λ n e. e; same = λ n m e. record { waits = refl; undecided = refl; held = refl } })
     (counts_quiet t u q) q.shared q.chosen old
 
--- so it is with a take of an outbox, a connection that comes up, a tick, and a start
+-- this holds for a take from an outbox, a connection that comes up, a tick, and a start
 pub taken_fits : (s : Passing) (d k : ℕ) (t : Trace) → PassingFit s t → PassingFit s (Took d k ∷ t)
 taken_fits s d k t old = quiet_fits s t (Took d k ∷ t) quiet old
   where

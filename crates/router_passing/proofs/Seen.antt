@@ -33,7 +33,7 @@ pub by_test : {P : Type 0} (b : Bool) → ((b ≡ true) → P) → ((b ≡ false
 by_test true f g = f refl
 by_test false f g = g refl
 
--- what a link of the table has, on which so many deliveries wait, are undecided and are held
+-- what a link of the table has, with this many waiting, undecided and held deliveries
 abbrev pub seen_end : ℕ → ℕ → ℕ → Link → LinkEnd → Figure
 seen_end waits pending kept l (ends.Sends e) = consumer l.address (free_of l.drains (left_at e) waits pending) pending
 seen_end waits pending kept l (ends.Receives e) = producer l.address (unused_at e + begun_credit (option_map (λ g. g.delivery) e.middle)) kept
@@ -65,7 +65,7 @@ on_same t n (Some l) = by_test (l.number == n)
     (λ e. rw e (ap Some (end_same t n l l.happened (eqb-true l.number n e))))
     (λ e. rw e refl)
 
--- one that is nowhere has nothing
+-- a link that is nowhere has nothing
 pub none_on : (t : Trace) (n : ℕ) (v : Option view.Link) → has_number n v ≡ false → figure_on t n v ≡ None
 none_on t n None e = refl
 none_on t n (Some l) e = rw e refl
@@ -95,7 +95,7 @@ seen_is s t n fit = by_entry (get nat_cmp s.table.names.numbers.entries n) (fit.
         ∙ on_same t n (view_of t a)
         ∙ ap (λ v. seen_one (waiting t n) (undecided t n) (held t n) (if_number n v)) (sym (fit.table.links a.conn.0 a.channel a.handle))
 
--- A link that is the same in both tables, with as many deliveries, has the same.
+-- A link that is the same in both tables, with equal counts of deliveries, has the same figure.
 pub figure_same : (s u : Links) (t w : Trace) (n : ℕ) → LinksFit s t → LinksFit u w
     → get nat_cmp s.table.names.numbers.entries n ≡ get nat_cmp u.table.names.numbers.entries n
     → ((c o h : ℕ) → if_number n (at s.table.links c o h) ≡ if_number n (at u.table.links c o h))
@@ -114,11 +114,11 @@ figure_same s u t w n fit fit' numbers links waits pending kept =
     by_entry None = refl
     by_entry (Some a) = ap (seen_one (waiting w n) (undecided w n) (held w n)) (links a.conn.0 a.channel a.handle)
 
--- no number but those of attachments has anything
+-- only numbers of attachments have anything
 pub are_numbered : (t : Trace) → AreNumbered (figure t) (attachments t)
 are_numbered t = record { first = ap (figure_at t 0) (none_first t); most = λ m above. ap (figure_at t m) (none_beyond t m above) }
 
--- one that stands somewhere has what its link has
+-- an attached number has what its link has
 pub figure_there : (t : Trace) (n : ℕ) (a : Attachment) → place_of t n ≡ Some a → (numbered t n ≡ Some a) × (has_number n (view_of t a) ≡ true)
 figure_there t n a e = by_number (numbered t n) refl e
   where
@@ -137,7 +137,7 @@ figure_there t n a e = by_number (numbered t n) refl e
         attached None = false
         attached (Some d) = is_attached t d
 
--- where nothing is attached on the handle of an attachment, its number has nothing
+-- if nothing is attached on an attachment's handle, its number has nothing
 pub figure_empty : (t : Trace) (n : ℕ) (a : Attachment) (v : Option Link) → place_of t n ≡ Some a → v ≡ None → v ≡ option_map link_of (view_of t a) → figure t n ≡ None
 figure_empty t n a v place none is =
     let there : (numbered t n ≡ Some a) × (has_number n (view_of t a) ≡ true) = figure_there t n a place in
@@ -147,7 +147,7 @@ figure_empty t n a v place none is =
     by_view None e = refl
     by_view (Some l) e = absurd cc
 
--- and else it has what is seen of the link there
+-- otherwise it has what the link there has
 pub record IsThere (t : Trace) (n : ℕ) (k : Link) : Type 0 where
   pub link : view.Link
   pub is : k ≡ link_of link

@@ -1,4 +1,4 @@
--- What is told to pools and producers, as the tables give it.
+-- What pools and producers are told, as the tables give it.
 use Rattle.std.proofs.Common.{◌≡◌, ◌∙◌, ◌+◌, ◌<◌, ◌≤◌, ℕ, Bool, true, false, refl, sym, ap, Option, Some, None, List, [], ◌∷◌, ◌++◌, drop, length, get_or}
 use Rattle.std.specs.Prelude.{if◌then◌else◌, option_map}
 use Rattle.std.proofs.lemmas.List.{at_drop_all, at_drop_more}
@@ -50,7 +50,7 @@ producer_is t l n address unused kept number sending same one two =
     ∙ ap (λ k. producer l.address unused k) (sym two)
     ∙ ap (λ a. producer a unused kept) (sym same))
 
--- a number that has no place is granted nothing
+-- a number without a place is granted nothing
 none_granted : (t : Trace) (n amount : ℕ) (a : Attachment) (v : Option view.Link) → has_number n v ≡ false → grant_on n a amount v ≡ []
 none_granted t n amount a None e = refl
 none_granted t n amount a (Some l) e = ap (λ b. if b then grant_by a amount l.happened else []) e
@@ -74,7 +74,7 @@ grant_empty t n amount a place is = ap (grant_at t n amount) (figure_there t n a
     by_view None e = refl
     by_view (Some l) e = absurd cc
 
--- and one that has is granted what its link is
+-- and a number with one is granted what its link says
 pub record IsGranted (t : Trace) (n amount : ℕ) (a : Attachment) (k : Link) : Type 0 where
   pub link : view.Link
   pub is : k ≡ link_of link
@@ -91,7 +91,7 @@ grant_here t n amount a k place is = by_view (view_of t a) is (figure_there t n 
     by_view None e f g = absurd cc
     by_view (Some l) e f g = record { link = l; is = ap the_link e; grant = g ∙ ap (λ b. if b then grant_by a amount l.happened else []) f }
 
--- grants told one after the other
+-- grants added one after another
 joined : (xs ys zs : List LinkGrant) → (xs ++ ys) ++ zs ≡ xs ++ (ys ++ zs)
 joined [] ys zs = refl
 joined (x ∷ xs) ys zs = ap (λ ws. x ∷ ws) (joined xs ys zs)

@@ -1,4 +1,4 @@
--- What the tables are asked of what follows an event's rows.
+-- Queries on the tables by what follows an event's rows.
 use Rattle.std.specs.Prelude.{ℕ, ◌+◌, ◌%◌, ◌^◌, Bool, true, false, ◌&&◌, ◌||◌, ◌==◌, nat_lt, is_some, if◌then◌else◌, List, [], ◌∷◌, Option, Some, None}
 use Rattle.amqp_link.specs.Credit as credit
 use Rattle.router_trace.specs.declared.frames.LinkState.{LinkState}
@@ -9,11 +9,11 @@ use Rattle.router_trace.specs.Deliveries.{delivery}
 use Rattle.router_trace.specs.Following.{link_of, first_delivery, is_unsent_on, owes_one, is_going_on}
 use Rattle.router_deliveries.specs.Finding.{is_above}
 
--- frames of deliveries are still to go on a link
+-- frames of deliveries remain to be sent on a link
 abbrev pub has_unsent : Trace → ℕ → Bool
 has_unsent t number = is_some (first_delivery t (is_unsent_on number))
 
--- the router has begun a delivery on a link, of which more frames are to go
+-- the router has begun a delivery on a link, of which more frames remain to be sent
 abbrev pub goes_on : Option Link → ℕ → Bool
 goes_on None number = false
 goes_on (Some l) number = (l.number == number) && l.going_on
@@ -26,7 +26,7 @@ owes_on t n (Some a) = owes_one (link_of t a) n
 abbrev pub owes_drain : Trace → ℕ → Bool
 owes_drain t n = owes_on t n (numbered t n)
 
--- what tells a drain: the count ahead by the credit left, and no credit
+-- the link state that answers a drain: the delivery-count advanced by the credit left, and no credit
 abbrev pub drained_by : ℕ → Happened → Option LinkState
 drained_by h (sends list) = Some (record { handle = h; count = (credit.count list + credit.credit list) % 2 ^ 32; credit = 0; drain = true })
 drained_by h (receives list) = None
@@ -35,17 +35,17 @@ abbrev pub drained_state : ℕ → Option Link → Option LinkState
 drained_state h None = None
 drained_state h (Some l) = drained_by h l.happened
 
--- one of the deliveries of these numbers goes on on a session
+-- one of the deliveries with these numbers is in progress on a session
 abbrev pub some_go_on : Trace → ℕ → ℕ → List ℕ → Bool
 some_go_on t c o [] = false
 some_go_on t c o (n ∷ ns) = is_going_on t c o n (delivery t n) || some_go_on t c o ns
 
--- a number is below another, if there is one
+-- a number is below another, or there is no other
 abbrev pub is_below : Option ℕ → ℕ → Bool
 is_below None n = true
 is_below (Some m) n = nat_lt n m
 
--- the lowest number of these attachments above another
+-- the lowest number, above another, of these attachments
 abbrev pub lower_number : Option ℕ → Option ℕ → ℕ → Option ℕ
 lower_number above lowest n = if is_above above n && is_below lowest n then Some n else lowest
 

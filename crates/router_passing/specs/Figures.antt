@@ -1,4 +1,4 @@
--- What each link offers and wants, of a trace (AMQP 1.0 part 2, section 2.6.7): the free credit of consumers, the credit that producers have.
+-- What each link offers and wants, in a trace (AMQP 1.0 part 2, section 2.6.7): the free credit of consumers, the credit that producers have.
 use Rattle.std.specs.Prelude.{ℕ, Bool, ◌+◌, ◌-◌, ◌==◌, min, if◌then◌else◌, Option, Some, None}
 use Rattle.amqp_link.specs.declared.part.Delivery.{Delivery as Told}
 use Rattle.amqp_link.specs.Credit as credit
@@ -13,7 +13,7 @@ use Rattle.router_trace.specs.Following.{link_of}
 use Rattle.router_trace.specs.Numbers.{count_below}
 use Rattle.router_trace.specs.Settling.{told_first}
 
--- the deliveries that wait on a consumer's link, those that are undecided there, and those that a producer's link gave and that are undecided
+-- the deliveries that wait on a consumer's link, those that are undecided there, and the undecided ones from a producer's link
 abbrev pub waiting : Trace → ℕ → ℕ
 waiting t number = count_below (bindings t + 1) (λ n. waits_on number (delivery t n))
 
@@ -23,14 +23,14 @@ undecided t number = count_below (bindings t + 1) (λ n. undecided_on number (de
 abbrev pub held : Trace → ℕ → ℕ
 held t number = count_below (bindings t + 1) (λ n. held_from number (delivery t n))
 
--- Free credit: what is left less the deliveries that wait, up to 64 undecided ones; none while the link drains.
+-- Free credit: the credit left less the waiting deliveries, at most 64 less the undecided ones; none while the link drains.
 abbrev pub free_of : Bool → ℕ → ℕ → ℕ → ℕ
 free_of drains left waits pending = if drains then 0 else min (left - waits) (64 - pending)
 
 abbrev pub free_credit : Trace → Link → credit.Link → ℕ
 free_credit t l list = free_of l.drains (credit.credit list) (waiting t l.number) (undecided t l.number)
 
--- A delivery in the middle that isn't resumed has used its credit for its producer, but isn't any consumer's yet: it counts as one unused.
+-- A delivery in the middle that isn't resumed has used its producer's credit, but is bound to no consumer yet: it counts as one unused credit.
 abbrev pub begun_credit : Option Told → ℕ
 begun_credit None = 0
 begun_credit (Some d) = if d.resume then 0 else 1

@@ -1,4 +1,4 @@
--- When links, deliveries, claims and pools are those that a trace gives.
+-- When links, deliveries, claims and pools agree with a trace.
 use Rattle.std.specs.Prelude.{◌≡◌, ℕ, false, List, Option}
 use Rattle.route_table.specs.declared.sections.Distribution.{Distribution}
 use Rattle.router_pools.specs.Fits.{AgreeBut, PoolsFit, NoneTouched}
@@ -15,24 +15,25 @@ use Rattle.router_passing.specs.declared.passing.Passing.{Passing}
 use Rattle.router_passing.specs.Figures.{figure}
 use Rattle.router_passing.specs.Passing.{last_chosen}
 
--- The pools have what the links had that were touched since, and what the others have; addresses are shared as the configuration says, and these were last chosen.
+-- The pools know what touched links had before, and what all others have now. Addresses are shared as the configuration says,
+-- and these consumers were last chosen.
 pub record PoolsKnow (s : Passing) (t : Trace) (last : List ℕ → ℕ) : Type 0 where
   pub known : ℕ → Option Figure
   pub fits : PoolsFit s.pools (distribution t) known last
   pub same : (n : ℕ) → links.is_touched s.links n ≡ false → deliveries.is_touched s.deliveries n ≡ false → known n ≡ figure t n
 
--- all tables are those of the trace, and these consumers were last chosen
+-- all tables agree with the trace, and these consumers were last chosen
 pub record NotedFit (s : Passing) (t : Trace) (last : List ℕ → ℕ) : Type 0 where
   pub links : LinksFit s.links t
   pub deliveries : DeliveriesFit s.deliveries t
   pub claims : ClaimsFit s.claims t
   pub pools : PoolsKnow s t last
 
--- all tables are those of the trace
+-- all tables agree with the trace
 abbrev pub PassingFit : Passing → Trace → Type 0
 PassingFit s t = NotedFit s t (last_chosen t)
 
--- what all links have was told to the pools
+-- the pools were told what all links have
 pub record Untouched (s : Passing) : Type 0 where
   pub pools : NoneTouched s.pools
   pub links : (n : ℕ) → links.is_touched s.links n ≡ false

@@ -1,4 +1,4 @@
--- Messages that go from a producer to a consumer of its address, and the credit that producers are granted.
+-- Messages that go from a producer to a consumer of its address, and the credit granted to producers.
 use Rattle.std.specs.Prelude.{ℕ, zero, suc, Bool, false, ◌+◌, ◌==◌, ◌&&◌, if◌then◌else◌, List, [], ◌∷◌, ◌++◌, bytes_eq, Option, Some, None, option_and_then, option_map}
 use Rattle.std.specs.Cmp.Lexicographic.{slice_cmp}
 use Rattle.std.specs.Ordering.{nat_cmp}
@@ -22,7 +22,7 @@ use Rattle.router_trace.specs.Following.{link_of}
 use Rattle.router_passing.specs.declared.grant.LinkGrant.{LinkGrant}
 use Rattle.router_passing.specs.Figures.{figure}
 
--- The consumer last chosen for an address, 0 before the first: the one of the last message that was bound to a link of this address.
+-- The consumer last chosen for an address, 0 before the first: that of the last message bound to a link of this address.
 abbrev pub is_of : List ℕ → Option Link → ℕ → Bool
 is_of address None number = false
 is_of address (Some l) number = (l.number == number) && bytes_eq l.address address
@@ -35,7 +35,7 @@ last_chosen (Took c n ∷ t) address = last_chosen t address
 last_chosen (Bound b ∷ t) address = if is_of address (link_of t b.consumer) b.consumer.number then b.consumer.number else last_chosen t address
 last_chosen (Configured g ∷ t) address = last_chosen t address
 
--- the same once this consumer is chosen too, if one is
+-- the same after this consumer is chosen too, if there is one
 abbrev pub last_behind : Trace → Option Attachment → List ℕ → ℕ
 last_behind t None address = last_chosen t address
 last_behind t (Some a) address = if is_of address (link_of t a) a.number then a.number else last_chosen t address
@@ -44,16 +44,16 @@ last_behind t (Some a) address = if is_of address (link_of t a) a.number then a.
 abbrev pub pool_of : Trace → List ℕ → Sharing
 pool_of t address = sharing (distribution t address) (figure t) (attachments t) (last_chosen t address) address
 
--- the consumer that is chosen for an address
+-- the consumer chosen for an address
 unfoldable pub choice_of : Trace → List ℕ → Option ℕ
 choice_of t address = choice (pool_of t address)
 
--- the consumer for a message of a producer's link
+-- the consumer chosen for a message of a producer's link
 abbrev pub consumer_of : Trace → Option Link → Option Attachment
 consumer_of t None = None
 consumer_of t (Some l) = option_and_then (numbered t) (choice_of t l.address)
 
--- a message of a producer's link, bound to the consumer that is chosen, if one is
+-- a message of a producer's link, bound to the chosen consumer, if there is one
 abbrev pub binding_to : Option Origin → ℕ → List ℕ → Attachment → Binding
 binding_to origin format payload at = record { consumer = at; origin = origin; format = format; payload = payload }
 
@@ -65,14 +65,14 @@ abbrev pub with_bound : Option Binding → Trace → Trace
 with_bound None t = t
 with_bound (Some b) t = Bound b ∷ t
 
--- the attachment that stands on a handle of the router
+-- the attachment on a handle of the router
 abbrev pub standing_at : ℕ → ℕ → ℕ → Link → Attachment
 standing_at c o h l = record { number = l.number; conn = record { 0 = c }; channel = o; handle = h }
 
 abbrev pub attachment_at : Trace → ℕ → ℕ → ℕ → Option Attachment
 attachment_at t c o h = option_map (standing_at c o h) (link t c o h)
 
--- What grants tell: of each producer its delivery-count and all its unused credit, so much more than before (2.7.4).
+-- A grant gives a producer's delivery-count and all its unused credit, including this much more than before (2.7.4).
 abbrev pub grant_by : Attachment → ℕ → Happened → List LinkGrant
 grant_by a amount (sends list) = []
 grant_by a amount (receives list) =
@@ -90,7 +90,7 @@ abbrev pub grants_on : Trace → List (ℕ × ℕ) → List LinkGrant
 grants_on t [] = []
 grants_on t (sum ∷ sums) = grant_at t sum.0 sum.1 (numbered t sum.0) ++ grants_on t sums
 
--- The address whose grants come first: of those of producers' links that have any, the lowest in byte order.
+-- The address whose grants come first: the lowest in byte order, of the addresses of producers' links that have any.
 abbrev pub if_some : List (ℕ × ℕ) → List ℕ → Option (List ℕ)
 if_some [] address = None
 if_some (sum ∷ sums) address = Some address
@@ -120,7 +120,7 @@ grants_of_address t (Some address) = grants_on t (grants_of (pool_of t address))
 unfoldable pub grants : Trace → List LinkGrant
 grants t = grants_of_address t (lowest_below (attachments t + 1) (λ n. wants t (figure t n)))
 
--- the flows that tell them
+-- the flows that carry them
 abbrev pub grant_flow : LinkGrant → Option Session → List Put
 grant_flow g None = []
 grant_flow g (Some s) = record { conn = g.at.conn.0; item = link_flow_item g.at.channel (told_of s) g.state } ∷ []

@@ -1,4 +1,4 @@
-//! What is asked of the links of attachments.
+//! Queries on the links of attachments.
 ghost use Rattle.std.specs.Prelude.{◌≡◌, List, Some};
 ghost use Rattle.router_trace.specs.Trace.{Entry};
 ghost use Rattle.router_trace.specs.Links.{Link as View, has_number, is_attached};
@@ -12,7 +12,7 @@ use router_links::Link;
 use router_trace::{Attachment, LinkState};
 
 impl Passing {
-    /// Whether the link of an attachment takes a delivery that waits: it is attached, none goes on there, and the peer granted credit.
+    /// Whether an attachment's link can start a waiting delivery: it is attached, no delivery is in progress there, and the peer granted credit.
     pub fn takes_more(&self, at: Attachment) -> bool
         ensures { (t : List Entry) → PassingFit self.now t → result ≡ takes_more (link_of t at) at.number }
     {
@@ -22,7 +22,7 @@ impl Passing {
         }
     }
 
-    /// Whether a delivery goes on at the link of an attachment.
+    /// Whether a delivery is in progress on an attachment's link.
     pub fn goes_on(&self, at: Attachment) -> bool
         ensures { (t : List Entry) → PassingFit self.now t → result ≡ goes_on (link_of t at) at.number }
     {
@@ -32,7 +32,7 @@ impl Passing {
         }
     }
 
-    /// What tells a drain at the place of an attachment, where the router sends there.
+    /// The link state of the flow that answers a drain at an attachment's place, if the router is the sender there.
     pub fn drained(&self, at: Attachment) -> Option<LinkState>
         ensures { (t : List Entry) → PassingFit self.now t → result ≡ drained_state at.handle (link_of t at) }
     {
@@ -42,7 +42,7 @@ impl Passing {
         }
     }
 
-    /// Whether an attachment has its link.
+    /// Whether an attachment still has its link.
     pub fn is_attached(&self, at: Attachment) -> bool
         ensures { (t : List Entry) → PassingFit self.now t → result ≡ is_attached t at }
     {
@@ -53,7 +53,7 @@ impl Passing {
     }
 }
 
-/// Whether a link of this number takes a delivery that waits.
+/// Whether the link has this number and can start a waiting delivery.
 #[tactic(auto, using(crate::proofs::Asked::takes_is))]
 fn link_takes_more(link: &Link, number: u64) -> bool
     ensures { (l : View) → link.now ≡ link_of_view l → result ≡ takes_more (Some l) number }
@@ -61,14 +61,14 @@ fn link_takes_more(link: &Link, number: u64) -> bool
     link.number == number && !link.going_on && link.credit() > 0
 }
 
-/// Whether a delivery goes on at a link of this number.
+/// Whether the link has this number and a delivery is in progress on it.
 fn link_goes_on(link: &Link, number: u64) -> bool
     ensures { (l : View) → link.now ≡ link_of_view l → result ≡ goes_on (Some l) number }
 {
     link.number == number && link.going_on
 }
 
-/// What tells a drain of a link on this handle.
+/// The link state of the flow that answers a drain of a link on this handle.
 #[tactic(auto, using(crate::proofs::Asked::drained_is, crate::proofs::Asked::drained_not))]
 fn link_drained(link: &Link, handle: u32) -> Option<LinkState>
     ensures { (l : View) → link.now ≡ link_of_view l → result ≡ drained_by handle l.happened }

@@ -1,4 +1,4 @@
-//! Sessions on which a delivery goes on.
+//! Sessions on which a delivery is in progress.
 ghost use Rattle.std.specs.Prelude.{◌≡◌, List, Some, IfOk};
 ghost use Rattle.router_trace.specs.Trace.{Entry};
 ghost use Rattle.router_trace.specs.Deliveries.{delivery, is_number, stands_on};
@@ -14,7 +14,7 @@ use router_trace::Attachment;
 use std::alloc::AllocError;
 
 impl Passing {
-    /// Whether a delivery goes on on a session: it has begun, and more frames of it are to go.
+    /// Whether a delivery is in progress on a session: it has begun, and more frames of it remain to be sent.
     pub fn is_busy(&self, conn: u64, own: u16) -> Result<bool, AllocError>
         ensures { IfOk result (λ busy. (t : List Entry) → PassingFit self.now t → busy ≡ is_busy t conn own) }
     {
@@ -22,7 +22,7 @@ impl Passing {
         Ok(self.some_go_on(conn, own, numbers.as_slice()))
     }
 
-    /// Whether one of the deliveries of these numbers goes on on a session.
+    /// Whether one of the deliveries with these numbers is in progress on a session.
     fn some_go_on(&self, conn: u64, own: u16, numbers: &[u64]) -> bool
         ensures { (t : List Entry) → PassingFit self.now t → result ≡ some_go_on t conn own numbers.now }
     {
@@ -34,7 +34,7 @@ impl Passing {
         false
     }
 
-    /// Whether the delivery of a number goes on on a session.
+    /// Whether the delivery with this number is in progress on a session.
     fn is_going_on(&self, conn: u64, own: u16, number: u64) -> bool
         ensures { (t : List Entry) → PassingFit self.now t → result ≡ is_going_on t conn own number (delivery t number) }
     {
@@ -47,7 +47,7 @@ impl Passing {
             && ((delivery.id.is_some() && delivery.going_on) && self.is_sent_on(at, sent, number))
     }
 
-    /// Whether frames of the delivery of a number are still to go on an attachment's link, where they are of this one on its handle.
+    /// Whether frames of this delivery remain to be sent on an attachment's link, where `sent` is the delivery on its handle.
     fn is_sent_on(&self, at: Attachment, sent: Option<u64>, number: u64) -> bool
         ensures { (t : List Entry) → PassingFit self.now t → result ≡ goes_on_at (link_of t at) at.number sent number }
     {
@@ -58,14 +58,14 @@ impl Passing {
     }
 }
 
-/// Whether a link of this number goes on with a delivery, where this one is on its handle.
+/// Whether the link has this number and goes on with this delivery, where `sent` is the delivery on its handle.
 fn link_sends(link: &Link, at: u64, sent: Option<u64>, number: u64) -> bool
     ensures { (l : View) → link.now ≡ link_of_view l → result ≡ goes_on_at (Some l) at sent number }
 {
     link.number == at && (link.going_on && is_number(sent, number))
 }
 
-/// Whether this is the number that there is.
+/// Whether there is a number and it is this one.
 fn is_number(sent: Option<u64>, number: u64) -> bool
     ensures { result ≡ is_number sent number }
 {
@@ -75,7 +75,7 @@ fn is_number(sent: Option<u64>, number: u64) -> bool
     }
 }
 
-/// Whether an attachment stands on a session.
+/// Whether an attachment is on a session.
 fn is_on(at: Attachment, conn: u64, own: u16) -> bool
     ensures { result ≡ stands_on at conn own }
 {

@@ -15,7 +15,7 @@ use router_pools::Pools;
 use router_trace::Attachment;
 use std::alloc::AllocError;
 
-/// The most deliveries of a link that are undecided at once.
+/// The most undecided deliveries that a link may have at once.
 const UNDECIDED: u64 = 64;
 
 /// Tells the pools what a link has now.
@@ -34,7 +34,7 @@ pub(crate) fn tell(
     Ok(())
 }
 
-/// Tells the pools what a link has now whose attachment is this.
+/// Tells the pools what the link of this attachment has now.
 fn tell_at(
     pools: &mut Pools,
     links: &Links,
@@ -75,7 +75,7 @@ fn tell_link(
     Ok(())
 }
 
-/// A number in 32 bits.
+/// The number in 32 bits.
 fn small(count: usize) -> Result<u32, AllocError>
     ensures { IfOk result (λ small. small ≡ count) }
 {
@@ -85,7 +85,7 @@ fn small(count: usize) -> Result<u32, AllocError>
     }
 }
 
-/// The free credit of a consumer's link on which so many deliveries wait and are undecided.
+/// The free credit of a consumer's link with this many waiting and undecided deliveries.
 fn free(link: &Link, waiting: u64, undecided: u64) -> u64
     ensures { (l : View) → link.now ≡ link_of l → result ≡ free_of l.drains (credit_on l.happened) waiting undecided }
 {
@@ -96,7 +96,7 @@ fn free(link: &Link, waiting: u64, undecided: u64) -> u64
     left.min(UNDECIDED.saturating_sub(undecided))
 }
 
-/// The unused credit of a producer's link, with that of a delivery in the middle.
+/// The unused credit of a producer's link, plus one for a delivery in the middle.
 fn unused(link: &Link) -> Result<u32, AllocError>
     ensures { IfOk result (λ unused. (l : View) → link.now ≡ link_of l → unused ≡ unused_by l.happened) }
 {

@@ -1,4 +1,4 @@
-//! The consumer that is chosen for a message, and the credit that producers are granted.
+//! The choice of the consumer for a message, and the credit that producers are granted.
 ghost use Rattle.std.specs.Prelude.{◌≡◌, ◌++◌, ℕ, List, Option, Some, None, IfOk, IfNone, OnOk, is_some, option_and_then};
 ghost use Rattle.router_trace.specs.Trace.{Entry};
 ghost use Rattle.route_table.specs.declared.sections.Distribution.{Distribution};
@@ -25,7 +25,7 @@ use router_trace::{Attachment, Binding, LinkState, Origin};
 use std::alloc::{AllocError, Global};
 
 impl Passing {
-    /// A link that may have changed since the pools were told of it.
+    /// A link that may have changed since the pools were last told.
     fn touched(&self) -> Option<u64>
         ensures { IfNone result (Untouched self.now) }
     {
@@ -62,8 +62,8 @@ impl Passing {
         Err(AllocError)
     }
 
-    /// Binds a message of a producer's link to the consumer of its address that is chosen; whether one was. Fails where memory is refused, and
-    /// where bindings can't be numbered any more.
+    /// Binds a message of a producer's link to the chosen consumer of its address; returns whether there is one. Fails if memory is refused, and
+    /// if no binding number is left.
     pub fn pass(
         &mut self,
         from: Attachment,
@@ -92,7 +92,7 @@ impl Passing {
         }
     }
 
-    /// The consumer that is chosen for a message of a producer's link, once the pools know what all links have; it is noted as the last one.
+    /// The consumer chosen for a message of a producer's link, after the pools were told of all links; it is noted as the last one.
     fn choose(&mut self, from: Attachment) -> Option<Attachment>
         ensures chosen { (t : List Entry) → Untouched self.old → PassingFit self.old t → result ≡ consumer_of t (link_of t from) }
         ensures fits { (t : List Entry) → Untouched self.old → PassingFit self.old t → NotedFit self.new t (last_behind t result) }
@@ -103,7 +103,7 @@ impl Passing {
         }
     }
 
-    /// The grants that the producers of an address are due; none where no producer is due any.
+    /// The grants that the producers of an address are due; empty if no producer is due any.
     pub fn grants(&mut self) -> Result<Vec<LinkGrant>, AllocError>
         ensures due { IfOk result (λ due. (t : List Entry) → PassingFit self.old t → due.items ≡ grants t) }
         ensures fits { OnOk result ((t : List Entry) → PassingFit self.old t → PassingFit self.new t) }
@@ -114,7 +114,7 @@ impl Passing {
     }
 }
 
-/// The consumer that is chosen for an address, once the pools know what all links have; it is noted as the last one.
+/// The consumer chosen for an address, after the pools were told of all links; it is noted as the last one.
 fn choose_of(pools: &mut Pools, links: &Links, address: &str) -> Option<Attachment>
     ensures chosen { (t : List Entry) → LinksFit links.now t → NoneTouched pools.old → PoolsFit pools.old (distribution t) (figure t) (last_chosen t)
         → result ≡ option_and_then (numbered t) (choice_of t address.now) }
@@ -127,7 +127,7 @@ fn choose_of(pools: &mut Pools, links: &Links, address: &str) -> Option<Attachme
     }
 }
 
-/// The grants that the producers of the first address that has some are due, once the pools know what all links have.
+/// The grants due to the producers of the first address that has any, after the pools were told of all links.
 fn grants_due(alloc: Global, pools: &mut Pools, links: &Links) -> Result<Vec<LinkGrant>, AllocError>
     ensures due { IfOk result (λ due. (t : List Entry) → LinksFit links.now t → NoneTouched pools.old → PoolsFit pools.old (distribution t) (figure t) (last_chosen t) → due.items ≡ grants t) }
     ensures fits { OnOk result ((share : List ℕ → Distribution) (known : ℕ → Option Figure) (last : List ℕ → ℕ) → PoolsFit pools.old share known last → PoolsFit pools.new share known last) }
@@ -141,7 +141,7 @@ fn grants_due(alloc: Global, pools: &mut Pools, links: &Links) -> Result<Vec<Lin
     }
 }
 
-/// What tells these grants.
+/// These grants, with the state of each link.
 fn told(
     alloc: Global,
     links: &Links,
@@ -156,7 +156,7 @@ fn told(
     Ok(told)
 }
 
-/// Adds what tells a producer that it was given so much credit.
+/// Adds the grant of this credit to a producer.
 fn add_grant(
     told: &mut Vec<LinkGrant>,
     links: &Links,
@@ -175,7 +175,7 @@ fn add_grant(
     Ok(())
 }
 
-/// Adds what tells the producer of this link that it was given so much credit; nothing where the router sends on it.
+/// Adds the grant of this credit to the producer of a link; nothing if the router is the sender on it.
 fn add_grant_on(
     told: &mut Vec<LinkGrant>,
     at: Attachment,

@@ -1,4 +1,4 @@
-//! What a transfer of a peer finds.
+//! The link that a transfer of a peer names.
 ghost use Rattle.std.specs.Prelude.{◌≡◌, ℕ, List, true};
 ghost use Rattle.router_trace.specs.Trace.{Entry};
 ghost use Rattle.router_trace.specs.Links.{their_handle, link};
@@ -12,7 +12,7 @@ use router_deliveries::{Middle, Receiving};
 use router_links::Links;
 use router_trace::LinkAt;
 
-/// The link on which the peer sends that a transfer of it finds, on the session on this channel of the router.
+/// The link on which the peer is the sender and that its transfer names, on the session with the router's channel `own`.
 pub(crate) fn receiving(
     links: &Links,
     conn: u64,
@@ -28,7 +28,7 @@ pub(crate) fn receiving(
     }
 }
 
-/// The link that a performative finds.
+/// The link that a performative names.
 fn receiving_in(links: &Links, conn: u64, own: u16, perf: &Perf) -> Option<Receiving>
     ensures { (t : List Entry) → LinksFit links.now t → result ≡ found_in perf.now (their_handle t conn own) (link t conn own) }
 {
@@ -38,7 +38,7 @@ fn receiving_in(links: &Links, conn: u64, own: u16, perf: &Perf) -> Option<Recei
     }
 }
 
-/// The link on which the peer sends, on a handle of the peer.
+/// The link on a peer's handle, if the peer is its sender.
 fn receiving_at(links: &Links, conn: u64, own: u16, handle: u32) -> Option<Receiving>
     ensures { (t : List Entry) → LinksFit links.now t → result ≡ receiving_at (their_handle t conn own handle) (link t conn own) }
 {

@@ -10,7 +10,7 @@ use router_trace::Attachment;
 use std::alloc::AllocError;
 
 impl Passing {
-    /// The lowest number above another of an attachment whose link owes a drain.
+    /// The lowest number, above another, of an attachment whose link owes a drain.
     pub fn owing_behind(&self, number: Option<u64>) -> Result<Option<u64>, AllocError>
         ensures { IfOk result (λ owing. (t : List Entry) → PassingFit self.now t → IsFirst (λ n. is_above number n && owes_drain t n) owing) }
     {
@@ -19,7 +19,7 @@ impl Passing {
     }
 }
 
-/// The lowest number of these attachments above another.
+/// The lowest number, above another, of these attachments.
 fn lowest_above(number: Option<u64>, places: &[Attachment]) -> Option<u64>
     ensures { result ≡ lowest_of number None places.now }
 {
@@ -32,7 +32,7 @@ fn lowest_above(number: Option<u64>, places: &[Attachment]) -> Option<u64>
     lowest
 }
 
-/// A number is above another, if there is one.
+/// Whether a number is above another, or there is no other.
 fn is_above(other: Option<u64>, number: u64) -> bool
     ensures { result ≡ is_above other number }
 {
@@ -42,7 +42,7 @@ fn is_above(other: Option<u64>, number: u64) -> bool
     }
 }
 
-/// A number is below another, if there is one.
+/// Whether a number is below another, or there is no other.
 fn is_below(other: Option<u64>, number: u64) -> bool
     ensures { result ≡ is_below other number }
 {

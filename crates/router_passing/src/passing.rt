@@ -22,8 +22,8 @@ use router_pools::Pools;
 use router_trace::ConnectionId;
 use std::alloc::{AllocError, Global};
 
-/// Links, the deliveries on them, what peers have not settled, and the pools of addresses. Behind a refused growth nothing can be said of
-/// them.
+/// Links, the deliveries on them, what peers have not settled, and the pools of addresses. If an operation fails to allocate, their contents
+/// are unspecified.
 #[derive(Drop)]
 pub struct Passing {
     pub(crate) alloc: Global,
@@ -34,7 +34,7 @@ pub struct Passing {
 }
 
 impl Passing {
-    /// No links, where addresses are shared as this table says.
+    /// Tables without any links; addresses are shared as this table says.
     pub fn new(alloc: Global, table: Table) -> Passing
         ensures { (g : Routing) → FindsAs table g → PassingFit result (configured g) }
     {
@@ -78,7 +78,7 @@ impl Passing {
         Ok(())
     }
 
-    /// An item came on a connection, on the session on this channel of the router, where its channel has one: what a transfer gives on its link.
+    /// An item was received on a connection; `own` is the router's channel of its session, if it has one. Returns what a transfer makes of its delivery.
     pub fn hear(
         &mut self,
         conn: ConnectionId,
@@ -96,8 +96,8 @@ impl Passing {
         Ok(part)
     }
 
-    /// An item is put in the outbox of a connection; an attach comes with its key. Fails where memory is refused, and where attachments can't be
-    /// numbered any more.
+    /// An item is put into the outbox of a connection; an attach comes with its key. Fails if memory is refused, and if no attachment number
+    /// is left.
     pub fn put(&mut self, conn: u64, item: &Item, key: Option<LinkKey>) -> Result<(), AllocError>
         ensures { OnOk result ((t : List Entry) → key ≡ key_by t conn item.now → PassingFit self.old t → PassingFit self.new (Out conn item.now ∷ t)) }
     {
@@ -107,7 +107,7 @@ impl Passing {
         Ok(())
     }
 
-    /// Forgets which connections had links that owed a drain, where none does any more.
+    /// Unmarks the connections on which no link owes a drain any more.
     pub fn settle_owed(&mut self)
         ensures { (t : List Entry) → PassingFit self.old t → PassingFit self.new t }
     {

@@ -1,4 +1,4 @@
--- What isn't live stays so, until it comes up.
+-- A connection that isn't live stays so, until it comes up.
 use Rattle.std.proofs.Common.{◌≡◌, ◌∙◌, ap, refl, true≢false, ℕ, Bool, true, false, not, ◌&&◌, List, [], ◌∷◌}
 use Rattle.std.specs.Prelude.{◌==◌, length, Option, Some, None, option_map, option_and_then, if◌then◌else◌}
 use Rattle.amqp_frames.specs.declared.item.Item.{Item}
@@ -16,9 +16,9 @@ use Rattle.router_conns.proofs.Lists.{by_test}
 use Rattle.router_conns.proofs.Turns.{over_lives, stays}
 use Rattle.router_core.proofs.Following.{all_keep}
 
--- what isn't live stays so, until it comes up
+-- a connection that isn't live stays so, until it comes up
 
--- the same items came on a connection, and it isn't live where it wasn't
+-- the same items were received on a connection, and it isn't live if it wasn't
 pub record Alike (t u : List Entry) (c : ℕ) : Type 0 where
   pub came : ins u c ≡ ins t c
   pub over : is_live (conn t c) ≡ false → is_live (conn u c) ≡ false

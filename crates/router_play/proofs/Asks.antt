@@ -1,4 +1,4 @@
--- What the answer of a door makes of a script's scene.
+-- The effect of a door's answer on a script's scene.
 use Rattle.std.proofs.Common.{◌≡◌, ◌∙◌, sym, ap, refl, subst, ℕ, Bool, true, false}
 use Rattle.std.specs.Prelude.{◌==◌, map, Option, Some, None, if◌then◌else◌}
 use Rattle.std.proofs.lemmas.Bool.{eqb-true}
@@ -23,7 +23,7 @@ use Rattle.router_core.specs.Handling.{Fits, id_of}
 use Rattle.router_play.specs.Playing.{Follows}
 use Rattle.router_conns.proofs.Lists.{by_test}
 
--- a scene that has this table of connections, and from which the answer leads to another
+-- a scene with this table of connections, from which the answer leads to another
 record Asks (c : ConnectionId) (i : Item) (new : ℕ → Option Socket) (a : Asked) (s goal : Scene) : Type 0 where
   pub after : Scene
   pub id : after.id ≡ s.id
@@ -124,7 +124,7 @@ asked_by c i old new a s None here same asks = record {
   leads = ap (λ (b : Asked). follow c i b s) asks.0;
 }
 
--- what a player asked follows a scene from which the answer leads where the item enters
+-- after an answer a player agrees with a scene if the answer leads from it to where the item is handled
 pub asked_scene : (p q : Player) (c : ConnectionId) (i : Item) (a : Asked) (s : Scene)
     → AsksAt c.0 i (get nat_cmp p.sockets) (get nat_cmp p.sockets c.0) (get nat_cmp q.sockets) a
     → q.core ≡ p.core → q.config ≡ p.config → q.newest ≡ p.newest → q.lines.items ≡ p.lines.items → Follows p s

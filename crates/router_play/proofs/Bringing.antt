@@ -1,4 +1,4 @@
--- Bytes come on a connection of a script.
+-- Bytes are received on a connection of a script.
 use Rattle.std.proofs.Common.{◌≡◌, ◌∙◌, sym, ap, refl, subst, true≢false, ℕ, Bool, true, false, List, [], ◌++◌, append_assoc, append-nil}
 use Rattle.std.specs.Prelude.{◌==◌, Option, Some, None}
 use Rattle.amqp_frames.specs.declared.item.Item.{Item}
@@ -17,12 +17,12 @@ use Rattle.router_play.proofs.Entering.{Quiet, Stands, Entered, quiet_entered, e
 use Rattle.router_play.proofs.Passing.{Keeps, enter_all_own, enter_all_keeps, enter_all_last, enter_all_kept}
 use Rattle.router_play.proofs.Stages.{Opened, refused_quiet}
 
--- Bytes come on the connection.
+-- Bytes are received on the connection.
 
 pub wrong_more : (stream : List ℕ) (items : List Item) (rest bytes : List ℕ) → Cuts true stream items rest → Cuts true (stream ++ bytes) items (rest ++ bytes)
 wrong_more stream items rest bytes cut = (cut.0, cut.1, cut.2, leads_stays stream cut.0 rest bytes cut.3, wrong_stays rest bytes cut.1 cut.4)
 
--- a stream with more bytes has more items, or its last one ended it
+-- a stream with more bytes has more items, or its last item ended it
 pub further : (ended : Bool) (stream : List ℕ) (items : List Item) (rest bytes : List ℕ) → Cuts ended stream items rest
     → (e : Bool) × (more : List Item) × (r : List ℕ) × Cuts e (stream ++ bytes) (items ++ more) r
 further false stream items rest bytes cut =
@@ -31,7 +31,7 @@ further false stream items rest bytes cut =
 further true stream items rest bytes cut =
     (true, [], rest ++ bytes, subst (λ (xs : List Item). Cuts true (stream ++ bytes) xs (rest ++ bytes)) (sym (append-nil items)) (wrong_more stream items rest bytes cut))
 
--- to a closed connection it is all the same what else comes
+-- further items make no difference to a closed connection
 pub closed_entered : (s : Scene) (c : ℕ) (D P E Q : List Item → List Item) (more : List Item → List Item) → ((m : List Item) → E m ≡ D (more m)) → ((m : List Item) → Q m ≡ P (more m))
     → s.sockets c ≡ None → Entered s c D P → Entered s c E Q
 closed_entered s c D P E Q more spoken let_in closed h =
@@ -50,7 +50,7 @@ closed_entered s c D P E Q more spoken let_in closed h =
       );
     }
 
--- a stream that ended keeps nothing that counts
+-- what a stream that ended keeps doesn't matter
 pub keeps_failed : (rest : List ℕ) (ended : Bool) (new : List ℕ) (o : Option Socket) → ended ≡ true → Keeps rest ended o → Keeps new true o
 keeps_failed rest ended new None over h = tt
 keeps_failed rest ended new (Some k) over h = (h.0 ∙ over, λ e. absurd (true≢false e))

@@ -1,4 +1,4 @@
--- What bytes that come make of a script's scene.
+-- The effect of received bytes on a script's scene.
 use Rattle.std.proofs.Common.{◌∙◌, sym, ap, refl, subst, ℕ, Bool, true, false, List, [], ◌∷◌, ◌++◌}
 use Rattle.std.specs.Prelude.{Option, Some, None}
 use Rattle.std.specs.Ordering.{nat_cmp}
@@ -13,7 +13,7 @@ use Rattle.router_core.specs.Handling.{Fits, id_of}
 use Rattle.router_play.specs.Script.{Scene, refused, say, say_all, enter_all, Reads, BytesCome, with_socket, stream_of}
 use Rattle.router_play.specs.Playing.{Follows, Said, IsRead, IsReadOne}
 
--- lines more follow lines more
+-- appended lines, then more of them
 pub said_follows : (p q : Player) (ls : List Line) (s : Scene) → Said p q ls → Follows p s → Follows q (say_all ls s)
 said_follows p q ls s said follows = record {
   core = subst (λ (k : Core). Fits k s.trace) (sym said.core) follows.core;

@@ -1,4 +1,4 @@
--- No outbox was full when an event came: then none was before, and the router hears of an event what it hears without takes.
+-- If no outbox was full when an event came, none was before, and the router receives the same of an event as without takes.
 use Rattle.std.proofs.Common.{◌≡◌, ap, refl, subst, ℕ, false, not, List, [], ◌∷◌}
 use Rattle.std.specs.Prelude.{Option, Some, None, is_some}
 use Rattle.amqp_frames.specs.declared.item.Item.{Item}
@@ -32,7 +32,7 @@ room_calm (Took c n ∷ t) room = room_calm t room
 room_calm (Bound b ∷ t) room = room_calm t room
 room_calm (Configured g ∷ t) room = room_calm t room
 
--- what was before
+-- the state before
 
 goes_before : (ps : List Put) (t : List Entry) → Calm (goes ps t) → Calm t
 goes_before [] t calm = calm
@@ -65,7 +65,7 @@ moves_before id (takes x ∷ ms) t u went calm = moves_before id ms (took_one x 
 pub calm_before : (s u : Scene) → Onward s u → Calm u.trace → Calm s.trace
 calm_before s u onward calm = moves_before s.id onward.leads.0 s.trace u.trace onward.leads.1 calm
 
--- what is refused
+-- which events are refused
 
 same_newest : (t : List Entry) → newest t ≡ newest (untaken t)
 same_newest [] = refl

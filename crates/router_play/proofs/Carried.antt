@@ -87,9 +87,9 @@ play_opened start (step.Tick ms ∷ xs) s u c stream f h plays =
     play_opened start xs plays.1 u c stream plays.3.empty
     (opened_flushed start plays.0 plays.1 c stream plays.3 (subst (λ (w : Scene). Opened start w c stream) (sym plays.2) (opened_quiet start s (hand (event.Tick ms) s) c stream (tick_quiet ms s c) h))) plays.4
 
--- before its making a connection has no stream
+-- before it is made a connection has no stream
 
--- it carries what comes behind its making, at the door of its role
+-- it carries the bytes after its making, at the door of its role
 abbrev FromUp : Settings → Option ℕ → List Step → Scene → ℕ → Type 0
 FromUp config newest xs u c = Carries (door_for config (role_in c newest xs)) (bytes_of c (behind_up c newest xs)) u.trace u.lines c
 

@@ -1,4 +1,4 @@
--- A script without its takes: what events and doors alone make of it.
+-- A script without its takes: the effect of events and doors alone.
 use Rattle.std.proofs.Common.{◌≡◌, refl, ℕ, Bool, true, false, not, List, [], ◌∷◌, ◌++◌}
 use Rattle.std.specs.Prelude.{◌==◌, Option, Some, None, is_some, option_map, if◌then◌else◌}
 use Rattle.amqp_frames.specs.declared.item.Item.{Item}
@@ -18,12 +18,12 @@ use Rattle.router_play.specs.declared.script.Step.{Step}
 use Rattle.router_play.specs.declared.script.Step.TheVariants as step
 use Rattle.router_play.specs.Listening.{door_for}
 
--- a connection: its door, and the bytes that wait for the rest of an item, until its stream ended
+-- a connection: its door, and the bytes that wait for the rest of an item, until its stream ends
 pub record Spot : Type 0 where
   pub door : Option DoorState
   pub stream : Option (List ℕ)
 
--- where a script stands, without its takes
+-- the state of a script, without its takes
 pub record Course : Type 0 where
   pub id : List ℕ
   pub config : Settings
@@ -37,7 +37,7 @@ with_spot c k p = record { id = p.id; config = p.config; trace = p.trace; last =
 abbrev pub on_trace : List Entry → Course → Course
 on_trace t p = record { id = p.id; config = p.config; trace = t; last = p.last; spots = p.spots }
 
--- the stream of a connection stands here
+-- the stream of a connection is replaced
 abbrev pub flowing : Option (List ℕ) → Spot → Spot
 flowing st k = record { door = k.door; stream = st }
 

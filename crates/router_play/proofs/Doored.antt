@@ -1,4 +1,4 @@
--- Nothing came of a connection at the door: what becomes of that as a scene goes on.
+-- Nothing was received from a connection at the door: how this holds as a scene continues.
 use Rattle.std.proofs.Common.{◌≡◌, ◌∙◌, sym, ap, refl, subst, ℕ, Bool, true, false, List, [], ◌∷◌}
 use Rattle.std.specs.Prelude.{◌==◌, Option, Some, None, if◌then◌else◌}
 use Rattle.std.proofs.lemmas.Bool.{eqb-true}
@@ -30,14 +30,14 @@ hand_alike e s c other = by_answer (refuses s.trace e)
       over = over_answered s.id s.trace e c other;
     }
 
--- where connections of a scene stand
+-- where the connections of a scene are
 
 -- its first item is a header, or there is none
 abbrev pub header_or_none : List Item → Bool
 header_or_none [] = true
 header_or_none (i ∷ is) = is_header i
 
--- nothing came of a connection at the door; one that passed, and of which nothing came, isn't live
+-- nothing was received from a connection at the door; one that passed, and from which nothing was received, isn't live
 abbrev pub AtDoor : List Entry → ℕ → Option DoorState → Type 0
 AtDoor t c (Some d) = ins t c ≡ []
 AtDoor t c None = ins t c ≡ [] → is_live (conn t c) ≡ false
@@ -66,7 +66,7 @@ said ls s was = record {
   unmade = was.unmade;
 }
 
--- the trace grew by what is about no connection
+-- the trace grew by entries about no connection
 pub grown : (s : Scene) (u : List Entry) → ((c : ℕ) → Alike s.trace u c) → Doored s → Doored (with_trace u s)
 grown s u alike was = record {
   first = λ c. ap header_or_none (alike c).came ∙ was.first c;
@@ -92,7 +92,7 @@ handed e s none was = by_answer (refuses s.trace e)
       over = over_answered s.id s.trace e c (none c);
     }) was
 
--- what became of one connection that was made, and of no other
+-- the change of one connection that was made, and of no other
 pub record Changed (s u : Scene) (c : ℕ) : Type 0 where
   pub last : u.last ≡ s.last
   pub others : (n : ℕ) → (c == n) ≡ false → (u.sockets n ≡ s.sockets n) × Alike s.trace u.trace n

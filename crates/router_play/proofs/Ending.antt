@@ -1,4 +1,4 @@
--- What a connection carried, where all outboxes are empty.
+-- What a connection carried, once all outboxes are empty.
 use Rattle.std.proofs.Common.{◌≡◌, ◌∙◌, sym, ap, subst, true≢false, ℕ, Bool, true, false, List, [], ◌++◌, append-nil}
 use Rattle.std.specs.Prelude.{Option, Some, None}
 use Rattle.amqp_frames.specs.declared.item.Item.{Item}

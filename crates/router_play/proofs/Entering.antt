@@ -1,4 +1,4 @@
--- Where a connection of a script stands: what came of the items that entered on it.
+-- The state of a connection of a script: the effect of the items that were handled on it.
 use Rattle.std.proofs.Common.{◌≡◌, ◌∙◌, sym, ap, refl, subst, ℕ, Bool, true, false, List, [], ◌∷◌, ◌++◌, append_assoc, append-nil}
 use Rattle.std.specs.Prelude.{◌==◌, map, Option, Some, None, is_some, if◌then◌else◌}
 use Rattle.amqp_frames.specs.declared.item.Item.{Item}
@@ -69,7 +69,7 @@ hand_last e s = hand_cases (λ u. u.last ≡ s.last) e s (λ r. refl) (λ r. ref
 pub hand_kept : (e : Event) (s : Scene) (c : ℕ) → is_loss_of e c ≡ false → was_lost (hand e s).trace c ≡ was_lost s.trace c
 hand_kept e s c other = hand_cases (λ u. was_lost u.trace c ≡ was_lost s.trace c) e s (λ r. refl) (λ r. answered_kept s.id s.trace e c other)
 
--- nothing came of it for this connection but items in its outbox
+-- nothing happened to this connection except items in its outbox
 pub record Quiet (s u : Scene) (c : ℕ) : Type 0 where
   pub socket : u.sockets c ≡ s.sockets c
   pub bytes : bytes_out c u.lines ≡ bytes_out c s.lines
@@ -170,15 +170,15 @@ enter_all_quiet d [] s c apart = quiet_refl s c
 enter_all_quiet d (i ∷ is) s c apart =
     quiet_trans s (enter d i s) (enter_all d (i ∷ is) s) c (enter_by_quiet d i s c apart (s.sockets d.0)) (enter_all_quiet d is (enter d i s) c apart)
 
--- Where a connection stands. D is what the door says and P what it lets pass, as the items go on.
+-- The state of a connection. D is what the door answers and P what it lets pass, as the items continue.
 
--- past the door: the router was told the first of the items that passed, and all of them while the connection lives
+-- past the door: the router received the first of the items that passed, and all of them while the connection is live
 pub record Through (said : List Item) (t : List Entry) (c : ℕ) (D P : List Item → List Item) : Type 0 where
   pub silent : (m : List Item) → D m ≡ said
   pub begins : (m : List Item) → Begins (ins t c) (P m)
   pub whole : is_live (conn t c) ≡ true → (m : List Item) → P m ≡ ins t c ++ m
 
--- at the door: the router knows nothing of it
+-- at the door: the connection is unknown to the router
 pub record AtDoor (said : List Item) (t : List Entry) (c : ℕ) (D P : List Item → List Item) (start : DoorState) : Type 0 where
   pub speaks : (m : List Item) → D m ≡ said ++ door_says start m
   pub lets : (m : List Item) → P m ≡ passed start m
@@ -194,7 +194,7 @@ abbrev pub Stands : List Item → List Entry → ℕ → (List Item → List Ite
 Stands said t c D P None = Through said t c D P × (is_live (conn t c) ≡ false)
 Stands said t c D P (Some k) = StandsAt said t c D P k.door
 
--- what went out and what waits are what the door said and what the router put out
+-- what was sent and what is waiting are the door's answers and what the router put out
 abbrev pub Balances : List Item → List Entry → ℕ → List ℕ → Type 0
 Balances said t c bytes = bytes ++ spelled (waiting_of (conn t c)) ≡ spelled said ++ spelled (outs t c)
 
@@ -204,7 +204,7 @@ pub record Entered (s : Scene) (c : ℕ) (D P : List Item → List Item) : Type 
   pub balance : Balances said s.trace c (bytes_out c s.lines)
   pub stands : Stands said s.trace c D P (s.sockets c)
 
--- the same where only the trace goes on
+-- the same if only the trace continues
 
 pub level_balance : (said : List Item) (t u : List Entry) (c : ℕ) (bytes : List ℕ) → Level t u c → Balances said t c bytes → Balances said u c bytes
 level_balance said t u c bytes level h =
@@ -224,7 +224,7 @@ through_goes said t u c D P lives came h = record {
   whole = λ l m. h.whole (lives l) m ∙ ap (λ xs. xs ++ m) (sym came);
 }
 
--- nothing is put out for a connection that isn't known
+-- nothing is put out for an unknown connection
 pub even_unknown : (t u : List Entry) (c : ℕ) → Even t u c → conn t c ≡ None → conn u c ≡ None
 even_unknown t u c even none = none_of (conn u c) (even.known ∙ ap (λ (o : Option Connection). is_some o) none)
 
@@ -263,7 +263,7 @@ quiet_entered s u c D P q h = record {
   stands = subst (λ (k : Option Socket). Stands h.said u.trace c D P k) (sym q.socket) (stands_goes h.said s.trace u.trace c D P (q.even h.real) q.came (s.sockets c) h.stands);
 }
 
--- the same in other words
+-- the same in other terms
 
 through_as : (said : List Item) (t : List Entry) (c : ℕ) (D P E Q : List Item → List Item) → ((m : List Item) → E m ≡ D m) → ((m : List Item) → Q m ≡ P m)
     → Through said t c D P → Through said t c E Q

@@ -1,4 +1,4 @@
--- An event that is refused is told by a line, and nothing else changes.
+-- A refused event appends a line, and nothing else changes.
 use Rattle.std.proofs.Common.{◌≡◌, ◌∙◌, ◌++◌, ◌∷◌, ℕ, Bool, true, false, refl, sym, ap, subst, List, []}
 use Rattle.std.specs.Prelude.{if◌then◌else◌}
 use Rattle.std.specs.Ordering.{nat_cmp}
@@ -15,7 +15,7 @@ use Rattle.router_play.specs.declared.player.Player.{Player}
 use Rattle.router_play.specs.Playing.{Follows, Said}
 use Rattle.router_play.specs.Script.{Scene, hand, refused, say, with_trace}
 
--- the player with a line more for what is refused
+-- the player with one more line for a refusal
 refused_follows : (p q r : Player) (s : Scene) → q.core ≡ p.core → q.config ≡ p.config → q.newest ≡ p.newest → q.sockets ≡ p.sockets → q.lines ≡ p.lines
     → Said q r (refused ∷ []) → Follows p s → Follows r (say refused s)
 refused_follows p q r s core config newest sockets lines said f = record {
@@ -27,7 +27,7 @@ refused_follows p q r s core config newest sockets lines said f = record {
   lines = said.lines ∙ ap (λ l. l.items ++ refused ∷ []) lines ∙ ap (λ l. l ++ refused ∷ []) f.lines;
 }
 
--- Where the router answers a fault and hasn't failed, the event is refused.
+-- If the router answers with a fault and hasn't failed, the event is refused.
 pub fault_follows : (p q r : Player) (fault : CoreFault) (e : Event) (s : Scene)
     → (fault ≡ NoConnection → (q.core ≡ p.core) × ((t : Trace) → Fits p.core t → refuses t e ≡ true))
     → (fault ≡ Failed → (q.core ≡ p.core) × (is_failed p.core ≡ true))

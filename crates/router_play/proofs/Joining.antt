@@ -1,4 +1,4 @@
--- Steps with their bytes joined do what they did.
+-- Steps with their bytes joined have the same effect.
 use Rattle.std.proofs.Common.{◌≡◌, ◌∙◌, sym, ap, refl, subst, ℕ, Bool, true, false, List, [], ◌∷◌, ◌++◌}
 use Rattle.std.specs.Prelude.{◌==◌, Option, Some, None, option_map, if◌then◌else◌}
 use Rattle.std.proofs.lemmas.Bool.{eqb-true}
@@ -21,7 +21,7 @@ use Rattle.router_conns.proofs.Lists.{by_test}
 use Rattle.router_play.proofs.Courses.{Spot, Course, with_spot, flowing, with_stream, tell, judge, come_at, come_by, come, come_all, kept, stream_at, bytes_by, bytes_come, made_by, told_at, lost_by, moved_by, course, tell_spots}
 use Rattle.router_play.proofs.Streaming.{two_pieces, no_piece}
 
--- what waits on each connection is less than an item
+-- what is waiting on each connection is less than an item
 abbrev pub Less : Option (List ℕ) → Type 0
 Less None = Unit {0}
 Less (Some r) = front r ≡ more
@@ -93,7 +93,7 @@ moved_waits (step.Down c) p waits = by_spot (p.spots c.0)
     by_spot (Some k) = by_door k.door
 moved_waits (step.Tick ms) p waits = tell_waits (event.Tick ms) p waits
 
--- Joined steps do what they did.
+-- Joined steps have the same effect.
 
 pub same_id : (c d : ConnectionId) → c.0 ≡ d.0 → c ≡ d
 same_id c d e = λ j. record { 0 = e j }

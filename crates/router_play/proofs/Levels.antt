@@ -1,4 +1,4 @@
--- What was put out for a connection and what waits in its outbox grow alike.
+-- What is put out for a connection and what is waiting in its outbox grow alike.
 use Rattle.std.proofs.Common.{◌≡◌, ◌∙◌, sym, ap, refl, subst, true≢false, ℕ, zero, suc, Bool, true, false, ◌||◌, List, [], ◌∷◌, ◌++◌, append_assoc, append-nil, length, drop}
 use Rattle.std.specs.Prelude.{◌==◌, Option, Some, None, is_some, option_map, option_and_then, if◌then◌else◌}
 use Rattle.std.proofs.lemmas.Bool.{eqb-true, eq-eqb}
@@ -44,13 +44,13 @@ use Rattle.router_play.specs.Carrying.{is_loss_of, was_lost}
 use Rattle.router_conns.proofs.Lists.{by_test}
 use Rattle.router_conns.proofs.Turns.{stays}
 
--- the same items were put out for a connection and wait there
+-- the same items were put out for a connection and are waiting there
 pub record Level (t u : List Entry) (c : ℕ) : Type 0 where
   pub added : List Item
   pub written : outs u c ≡ outs t c ++ added
   pub waits : waiting_of (conn u c) ≡ waiting_of (conn t c) ++ added
 
--- and it is known and lives as before, or no more
+-- and it is known and live as before, or no longer
 pub record Even (t u : List Entry) (c : ℕ) : Type 0 where
   pub level : Level t u c
   pub known : is_some (conn u c) ≡ is_some (conn t c)
@@ -77,7 +77,7 @@ even_trans t u w c h k = record {
   lives = λ l. h.lives (k.lives l);
 }
 
--- an item more
+-- one more item
 
 with_lives : (i : Item) (o : Option Connection) → is_live (option_map (with_item i) o) ≡ true → is_live o ≡ true
 with_lives i None h = h
@@ -121,7 +121,7 @@ puts_even (i ∷ is) t d c there =
     even_trans t (Out d i ∷ t) (puts d is (Out d i ∷ t)) c (out_even t d i c there)
     (puts_even is (Out d i ∷ t) d c ((out_even t d i d there).known ∙ there))
 
--- the ends for full outboxes
+-- the closes because of full outboxes
 
 closing_even : (id : List ℕ) (t : List Entry) (d c : ℕ) (x : Condition) (o : Option Connection) → conn t d ≡ o → Even t (puts d (closing_of id o x) t) c
 closing_even id t d c x None is = even_refl t c
@@ -135,7 +135,7 @@ ends_even id (d ∷ ds) t c =
 
 -- the event itself
 
--- an event makes or unmakes a connection
+-- an event brings up a connection or loses it
 abbrev pub moves : Event → ℕ → Bool
 moves (event.Up d p) c = d.0 == c
 moves (event.Down d) c = d.0 == c
@@ -176,7 +176,7 @@ did_even t e c h =
       lives = λ l. found_lives (has c (due t e)) (conn t c) (sym (ap is_live same) ∙ l);
     }
 
--- items for connections that are known
+-- items for known connections
 
 abbrev AllKnown : List Put → List Entry → Type 0
 AllKnown [] t = Unit {0}
@@ -240,7 +240,7 @@ windows_known t known there (k ∷ ks) =
 widened_even : (t : List Entry) (c : ℕ) → Even t (widened t) c
 widened_even t c = goes_even (windows t) t c (windows_known t (conn t) (λ k l. live_known (conn t k) l) (ups t))
 
--- what goes out on links goes to live connections
+-- what is sent on links goes to live connections
 links_known : (ps : List Put) (t : List Entry) → Lively t → AllOnLinks t ps → AllKnown ps t
 links_known [] t lively all = tt
 links_known (p ∷ ps) t lively all =
@@ -268,7 +268,7 @@ followed_even t c lively =
 
 -- what an event's own row puts
 
--- links stand on connections that are known
+-- links are on known connections
 abbrev LinksKnown : List Entry → Type 0
 LinksKnown u = (c o h : ℕ) → is_some (link u c o h) ≡ true → is_some (conn u c) ≡ true
 
@@ -349,7 +349,7 @@ up_level id g t d p real taken none =
     (record { added = []; written = sym (append-nil (outs t d.0)); waits = rw here (sym (ap (λ (o : Option Connection). waiting_of o ++ []) none)) })
     (behind_even id g t e d.0 real taken).level
 
--- a connection for which nothing waits is lost
+-- a connection for which nothing is waiting is lost
 pub down_level : (id : List ℕ) (g : Routing) (t : List Entry) (d : ConnectionId) → IsTrace id g t → refuses t (event.Down d) ≡ false → waiting_of (conn t d.0) ≡ []
     → Level t (answered id t (step_of (event.Down d))) d.0
 down_level id g t d real taken none =
@@ -426,7 +426,7 @@ took_lives n (Some v) h = let live : v.phase.closed ≡ false = by_phase (draine
     by_phase w true e h = absurd (over w w.waiting e h)
     by_phase w false e h = refl
 
--- nothing waits where nothing can be taken
+-- nothing is waiting on a connection that isn't ready
 pub ready_waits : (o : Option Connection) → is_ready o ≡ false → waiting_of o ≡ []
 ready_waits None h = refl
 ready_waits (Some v) h = by_test v.phase.closed (λ e. absurd (true≢false (rw e at h))) (λ e. empty v.waiting (rw e at h))

@@ -71,7 +71,7 @@ told_lost d s real said D P ds ps spoken let_in none closed balance (Some dd) h 
   );
 }
 
--- where the router is told of the loss, the connection lived until then
+-- if the router is told of the loss, the connection was live until then
 told_until : (d : ConnectionId) (s : Scene) (said : List Item) (D P : List Item → List Item) (ps : List Item) → ps ≡ P [] → was_lost s.trace d.0 ≡ false
     → (o : Option DoorState) → StandsAt said s.trace d.0 D P o → was_lost (told d s o).trace d.0 ≡ true → ins (told d s o).trace d.0 ≡ ps
 told_until d s said D P ps let_in kept None h =

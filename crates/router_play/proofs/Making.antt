@@ -1,4 +1,4 @@
--- Connections are made: what it is to one that is made, and to the others.
+-- Connections are made: the effect on the one that is made, and on the others.
 use Rattle.std.proofs.Common.{◌≡◌, sym, ap, refl, subst, true≢false, ℕ, true, false, ◌<◌, ◌≤◌, List, [], ◌∷◌, ◌++◌, arith}
 use Rattle.std.specs.Prelude.{◌==◌, Option, Some, None}
 use Rattle.std.proofs.lemmas.Bool.{eqb-true, ltb-true, leb-true, le-leb}
@@ -61,7 +61,7 @@ made_lost start d role s c stream apart rise h = record {
   until = h.until;
 }
 
--- a number that rises wasn't reached
+-- a number that rises was not reached before
 pub new_number : (d : ConnectionId) (c : ℕ) (last : Option ℕ) → rises d.0 last ≡ true → reaches c last ≡ true → (d.0 == c) ≡ false
 new_number d c None rise reach = absurd (true≢false (sym reach))
 new_number d c (Some l) rise reach = by_test (d.0 == c) (λ e. absurd (below d.0 c l (eqb-true d.0 c e) (ltb-true l d.0 rise) (leb-true c l reach))) (λ e. e)

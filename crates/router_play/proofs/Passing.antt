@@ -1,4 +1,4 @@
--- What comes of the items of a connection, and of takes.
+-- The effect of a connection's items, and of takes.
 use Rattle.std.proofs.Common.{◌≡◌, ◌∙◌, sym, ap, refl, subst, true≢false, ℕ, zero, suc, Bool, true, false, List, [], ◌∷◌, ◌++◌, append_assoc, append-nil, length, take, drop}
 use Rattle.std.specs.Prelude.{◌==◌, map, Option, Some, None, is_some, is_none, option_and_then}
 use Rattle.std.proofs.lemmas.Bool.{eqb-true}
@@ -32,7 +32,7 @@ record Past (s : Scene) (c : ℕ) (D P : List Item → List Item) : Type 0 where
   balance : Balances said s.trace c (bytes_out c s.lines)
   through : Through said s.trace c D P
 
--- a line that tells of no bytes
+-- a line without bytes
 unsaid : (c : ℕ) (s : Scene) → bytes_out c (say refused s).lines ≡ bytes_out c s.lines
 unsaid c s = bytes_more c s.lines (refused ∷ []) ∙ append-nil (bytes_out c s.lines)
 
@@ -67,7 +67,7 @@ item_past d i s D P h =
       };
     })
 
--- a connection of which the router knows nothing comes up
+-- a connection that is unknown to the router comes up
 up_past : (d : ConnectionId) (p : Peer) (s : Scene) (said : List Item) → Real s → conn s.trace d.0 ≡ None → ins s.trace d.0 ≡ []
     → Balances said s.trace d.0 (bytes_out d.0 s.lines) → Past (hand (event.Up d p) s) d.0 (λ m. said) (λ m. m)
 up_past d p s said real unknown none balance =
@@ -89,7 +89,7 @@ up_past d p s said real unknown none balance =
     new : (t : List Entry) → ins t d.0 ≡ [] → Through said t d.0 (λ m. said) (λ m. m)
     new t none = record { silent = λ m. refl; begins = λ m. (m, ap (λ xs. xs ++ m) none); whole = λ l m. ap (λ xs. xs ++ m) (sym none) }
 
--- items that the door says go out
+-- the door's answers are sent
 door_balance : (said items : List Item) (t : List Entry) (c : ℕ) (bytes : List ℕ) → conn t c ≡ None → outs t c ≡ [] → Balances said t c bytes
     → Balances (said ++ items) t c (bytes ++ spelled items)
 door_balance said items t c bytes unknown silent h =
@@ -161,7 +161,7 @@ judged_own d i k dd s real said D P h balance (ends items) is =
       );
     }
 
--- an item enters
+-- an item is handled
 enter_at_own : (d : ConnectionId) (i : Item) (k : Socket) (s : Scene) → Real s → (said : List Item) (D P : List Item → List Item) → s.sockets d.0 ≡ Some k
     → Balances said s.trace d.0 (bytes_out d.0 s.lines) → (o : Option DoorState) → k.door ≡ o → StandsAt said s.trace d.0 D P o
     → Entered (enter_at d i k s o) d.0 (λ m. D (i ∷ m)) (λ m. P (i ∷ m))
@@ -195,7 +195,7 @@ enter_all_own d [] s D P h = h
 enter_all_own d (i ∷ is) s D P h =
     enter_all_own d is (enter d i s) (λ m. D (i ∷ m)) (λ m. P (i ∷ m)) (enter_by_own d i s h.real h.said D P h.balance (s.sockets d.0) refl h.stands)
 
--- what a socket keeps of its stream, until it ended
+-- what a socket keeps of its stream, until it ends
 
 abbrev pub Keeps : List ℕ → Bool → Option Socket → Type 0
 Keeps rest ended None = Unit {0}
@@ -226,7 +226,7 @@ pub enter_all_keeps : (rest : List ℕ) (ended : Bool) (d : ConnectionId) (is : 
 enter_all_keeps rest ended d [] s h = h
 enter_all_keeps rest ended d (i ∷ is) s h = enter_all_keeps rest ended d is (enter d i s) (enter_keeps rest ended d i s (s.sockets d.0) refl h)
 
--- no connection is made by items
+-- items make no connection
 
 judged_last : (d : ConnectionId) (i : Item) (k : Socket) (dd : DoorState) (s : Scene) (v : Verdict) → (judged_by d i k dd s v).last ≡ s.last
 judged_last d i k dd s (says items) = refl
@@ -248,7 +248,7 @@ pub enter_all_last : (d : ConnectionId) (is : List Item) (s : Scene) → (enter_
 enter_all_last d [] s = refl
 enter_all_last d (i ∷ is) s = enter_all_last d is (enter d i s) ∙ enter_last d i s (s.sockets d.0)
 
--- nor is one lost
+-- and lose none
 
 judged_kept : (d : ConnectionId) (i : Item) (k : Socket) (dd : DoorState) (s : Scene) (c : ℕ) (v : Verdict) → was_lost (judged_by d i k dd s v).trace c ≡ was_lost s.trace c
 judged_kept d i k dd s c (says items) = refl
@@ -315,7 +315,7 @@ closes true d m D P h over =
       stands = rw here (over refl);
     }
 
--- with the last item of a connection that is over nothing is known of it any more
+-- with the last item of a connection that is over the connection becomes unknown
 pub last_none : (n : ℕ) (o : Option Connection) → is_last n o ≡ true → (is_some o ≡ true) × (option_and_then (took n) o ≡ None)
 last_none n None h = absurd (true≢false (sym h))
 last_none n (Some v) h = (refl, gone (took n v) h)
@@ -352,7 +352,7 @@ take_own x s D P h =
     (λ last. let gone = last_none n (conn t c) last
     in (took_through h.said t c n D P lives (stands_through h.said t c D P (s.sockets c) gone.0 h.stands), ap is_live (row ∙ gone.1)))
 
--- takes of another outbox
+-- takes from another outbox
 close_quiet : (b : Bool) (d : ConnectionId) (m : Scene) (c : ℕ) → (d.0 == c) ≡ false → Quiet m (close_if b d m) c
 close_quiet false d m c apart = quiet_refl m c
 close_quiet true d m c apart =
@@ -418,7 +418,7 @@ close_trace : (b : Bool) (d : ConnectionId) (m : Scene) → (close_if b d m).tra
 close_trace false d m = refl
 close_trace true d m = refl
 
--- what isn't known stays so
+-- an unknown connection stays so
 pub took_unknown : (t : List Entry) (d n c : ℕ) → conn t c ≡ None → conn (Took d n ∷ t) c ≡ None
 took_unknown t d n c h =
     by_test (d == c) (λ e. rw e (ap (λ (o : Option Connection). option_and_then (took n) o) h)) (λ e. rw e h)
@@ -430,7 +430,7 @@ take_all_unknown (x ∷ xs) s c h =
     (ap (λ (t : List Entry). conn t c) (close_trace (is_last (length (items_of x s.trace)) (conn s.trace x.conn.0)) x.conn (say_all (map (out_line x.conn) (items_of x s.trace)) (with_trace (took_one x s.trace) s)))
     ∙ took_unknown s.trace x.conn.0 (length (items_of x s.trace)) c h)
 
--- what takes leave as it is
+-- what takes don't change
 pub take_all_same : {A : Type 0} (view : List Entry → A) → ((d n : ℕ) (t : List Entry) → view (Took d n ∷ t) ≡ view t) → (xs : List Taking) (s : Scene)
     → view (take_all xs s).trace ≡ view s.trace
 take_all_same view stays [] s = refl

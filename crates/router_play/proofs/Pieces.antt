@@ -24,7 +24,7 @@ use Rattle.router_play.proofs.Courses.{Course, course}
 use Rattle.router_play.proofs.Joining.{same_id, joined_course}
 use Rattle.router_play.proofs.Shadowing.{first, play_course}
 
--- the bytes that come on a connection are those of the joined steps
+-- the bytes received on a connection are those of the joined steps
 
 front_bytes : (n : ℕ) (c : ConnectionId) (bytes : List ℕ) (xs : List Step) → bytes_of n (in_front c bytes xs) ≡ bytes_of n (step.In c bytes ∷ xs)
 front_bytes n c bytes [] = refl
@@ -99,7 +99,7 @@ joined_in n xs = ap (bytes_of n) (joined_behind n None xs) ∙ joined_bytes n (b
 joined_door : (config : Settings) (n : ℕ) (xs : List Step) → door_in config n (joined xs) ≡ door_in config n xs
 joined_door config n xs = ap (door_for config) (joined_role n None xs)
 
--- what goes out on a connection hangs on its door, the bytes that came and what the router put out
+-- what is sent on a connection depends on its door, the bytes received and what the router put out
 same_bytes : (gate : DoorState) (stream : List ℕ) (t v : List Entry) (ls ks : List Line) (c : ℕ) → outs t c ≡ outs v c → Carries gate stream t ls c → Carries gate stream v ks c
     → bytes_out c ls ≡ bytes_out c ks
 same_bytes gate stream t v ls ks c put h k =

@@ -1,4 +1,4 @@
--- Plays go by moves: their traces are traces of the router.
+-- Plays consist of moves: their traces are traces of the router.
 use Rattle.std.proofs.Common.{◌≡◌, ◌∙◌, sym, ap, refl, subst, ℕ, Bool, true, false, List, [], ◌∷◌}
 use Rattle.std.specs.Prelude.{map, length, Option, Some, None, if◌then◌else◌}
 use Rattle.amqp_frames.specs.declared.item.Item.{Item}

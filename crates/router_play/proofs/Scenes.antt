@@ -1,4 +1,4 @@
--- What takes and losses make of a script's scene.
+-- The effect of takes and losses on a script's scene.
 use Rattle.std.proofs.Common.{◌≡◌, ◌∙◌, sym, ap, refl, subst, ℕ, Bool, true, false, List, [], ◌∷◌, ◌++◌, length, take, drop, get_or, not, append_assoc, append-nil, ◌+◌, ◌<◌, ◌≤◌}
 use Rattle.std.specs.Prelude.{◌==◌, map, is_none, Option, Some, None, if◌then◌else◌}
 use Rattle.std.proofs.lemmas.Bool.{eqb-true}
@@ -27,7 +27,7 @@ use Rattle.router_play.specs.Script.{Scene, with_socket, with_trace, say_all, ou
 use Rattle.router_play.specs.Playing.{Follows, PartsAt, part_by}
 use Rattle.router_conns.proofs.Lists.{by_test}
 
--- what holds only of a failed router doesn't hold where it works
+-- what holds only of a failed router doesn't hold of one that works
 pub back : (a b : Bool) → (a ≡ true → b ≡ true) → b ≡ false → a ≡ false
 back true b h e = sym (h refl) ∙ e
 back false b h e = refl
@@ -99,7 +99,7 @@ parted_scene p q c r s parts rows core config newest lines follows =
       w.leads,
     )
 
--- a batch is what the outbox gives
+-- a batch has the first items of the outbox
 batch_items : (o : Option Connection) (b : Batch) → IsBatchOf o 64 b → b.items.items ≡ take 64 (waiting_of o)
 batch_items None b is = absurd is
 batch_items (Some v) b is = is.in_order
@@ -128,7 +128,7 @@ taken_scene c b s is =
     in ap (λ (x : Bool). close_if x c (say_all (map (out_line c) b.items.items) (with_trace (took_one (taking c) s.trace) s))) (batch_last (conn s.trace c.0) b is)
     ∙ ap (λ (ys : List Item). close_if (is_last (length ys) (conn s.trace c.0)) c (say_all (map (out_line c) ys) (with_trace (took_one (taking c) s.trace) s))) items
 
--- one take more
+-- one more take
 pub take_all_more : (xs : List Taking) (x : Taking) (s : Scene) → take_all (xs ++ x ∷ []) s ≡ take_one x (take_all xs s)
 take_all_more [] x s = refl
 take_all_more (y ∷ ys) x s = take_all_more ys x (take_one y s)
@@ -137,7 +137,7 @@ pub turns_more : (xs : List Taking) (x : Taking) (s : Scene) → AllInTurn xs s 
 turns_more [] x s turns next = (next, turns)
 turns_more (y ∷ ys) x s turns next = (turns.0, turns_more ys x (take_one y s) turns.1 next)
 
--- a step more, and then the rest
+-- one more step, then the rest
 pub plays_more : (steps : List Step) (i : ℕ) (x : Step) (m mid next u : Scene) → x ≡ get_or steps i x → i < length steps
     → Takes x m mid → Flushes mid next → Plays (drop (i + 1) steps) next u → Plays (drop i steps) m u
 plays_more steps i x m mid next u is lt takes flushes rest =
@@ -159,7 +159,7 @@ or_false false b h = (refl, h)
 abbrev pub steps_of : List Run → List (List Step)
 steps_of runs = map (λ r. r.steps.items) runs
 
--- a run more, and then the rest
+-- one more run, then the rest
 pub runs_more : (config : Settings) (runs : List Run) (i : ℕ) (x : Run) (u : Scene) (before now others : List Line) → x ≡ get_or runs i x → i < length runs
     → Plays x.steps.items (opening config) u → now ≡ before ++ u.lines
     → ((ls : List Line) → PlaysAll config (steps_of (drop i runs)) ls → PlaysAll config (steps_of runs) (before ++ ls))

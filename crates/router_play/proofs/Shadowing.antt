@@ -1,4 +1,4 @@
--- A script of which no outbox is ever full goes as its course without takes.
+-- A script of which no outbox is ever full agrees with its course without takes.
 use Rattle.std.proofs.Common.{◌≡◌, ◌∙◌, sym, ap, refl, subst, true≢false, ℕ, Bool, true, false, ◌<◌, List, [], ◌∷◌, ◌++◌, length, arith}
 use Rattle.std.specs.Prelude.{◌==◌, Option, Some, None, is_some, map, option_map, nat_lt, if◌then◌else◌}
 use Rattle.std.proofs.lemmas.Bool.{eqb-true, ltb-true, lt-ltb}
@@ -38,7 +38,7 @@ use Rattle.router_play.proofs.Shadows.{Unknown, Shades, Kin, Shadows, Moved, mov
 say_shadows : (s : Scene) (p : Course) → Shadows s p → Shadows (say refused s) p
 say_shadows s p h = record { kin = record { id = h.kin.id; config = h.kin.config; last = h.kin.last; trace = h.kin.trace; real = h.kin.real }; spots = h.spots; unmade = h.unmade }
 
--- what isn't open in the scene may stand as it likes, or go
+-- what isn't open in the scene may be in any state in the course, or be removed
 spot_shadows : (c : ℕ) (b : Option Spot) (s : Scene) (p : Course) → Shades s.trace c (s.sockets c) b → Shadows s p → Shadows s (with_spot c b p)
 spot_shadows c b s p at h = record {
   kin = record { id = h.kin.id; config = h.kin.config; last = h.kin.last; trace = h.kin.trace; real = h.kin.real };
@@ -135,7 +135,7 @@ lose_shadows c s p h (Some k) (Some q) is at calm =
     subst (λ (d : Option DoorState). Shadows (told c (with_socket c None s) k.door) (told_at c (with_spot c.0 None p) d)) (sym at.0)
     (open_lost c k s p is h k.door calm)
 
--- bytes come
+-- bytes are received
 
 dead_all : (c : ConnectionId) (is : List Item) (s : Scene) (p : Course) (o : Option Spot) → p.spots c.0 ≡ o → Shades s.trace c.0 None o → Calm s.trace → Kin s p → come_all c is p ≡ p
 dead_all c [] s p o at shade calm kin = refl
@@ -226,7 +226,7 @@ shades_took t d n c (Some k) (Some q) h = (h.0, h.1, by_door k.door h.2)
     by_door None h = tt
     by_door (Some dd) h = took_unknown t d n c h
 
--- with its last item a connection is closed, which the router knew, and of which nothing is known any more
+-- with its last item a connection is closed that the router knew and that is unknown from then on
 shades_last : (t : List Entry) (d n : ℕ) (a : Option Socket) (b : Option Spot) → is_last n (conn t d) ≡ true → Shades t d a b → Shades (Took d n ∷ t) d None b
 shades_last t d n a b last h = by_both a b h
   where

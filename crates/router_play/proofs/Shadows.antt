@@ -1,4 +1,4 @@
--- A scene of a script, and its course without takes: how both go on with an item.
+-- A scene of a script, and its course without takes: how both continue with an item.
 use Rattle.std.proofs.Common.{◌≡◌, ◌∙◌, sym, ap, refl, subst, true≢false, ℕ, Bool, true, false, not, List, [], ◌∷◌}
 use Rattle.std.specs.Prelude.{◌==◌, Option, Some, None, if◌then◌else◌}
 use Rattle.std.proofs.lemmas.Bool.{eqb-true}
@@ -27,12 +27,12 @@ use Rattle.router_play.proofs.PlayMoves.{Real, onward_real, hand_onward, enter_a
 use Rattle.router_play.proofs.Calming.{answered_before, calm_before, same_refused}
 use Rattle.router_play.proofs.Courses.{Spot, Course, with_spot, on_trace, tell, judge, come_at, come_by, come, come_all, kept, plain_refuses, tell_spots}
 
--- a connection at the door isn't known to the router
+-- a connection at the door is unknown to the router
 abbrev pub Unknown : List Entry → ℕ → Option DoorState → Type 0
 Unknown t c None = Unit {0}
 Unknown t c (Some d) = conn t c ≡ None
 
--- an open connection stands in both at the same door with the same stream; one that is closed may be open in the course, if it is past
+-- an open connection is at the same door with the same stream in both; one that is closed may be open in the course, if it is past
 -- the door and isn't live
 abbrev pub Shades : List Entry → ℕ → Option Socket → Option Spot → Type 0
 Shades t c None None = Unit {0}
@@ -40,7 +40,7 @@ Shades t c None (Some q) = (q.door ≡ None) × (is_live (conn t c) ≡ false)
 Shades t c (Some k) None = ⊥
 Shades t c (Some k) (Some q) = (q.door ≡ k.door) × (q.stream ≡ kept k.reader.failed k.reader.rest) × Unknown t c k.door
 
--- the same but for lines, takes and connections
+-- the same except lines, takes and connections
 pub record Kin (s : Scene) (p : Course) : Type 0 where
   pub id : p.id ≡ s.id
   pub config : p.config ≡ s.config
@@ -51,10 +51,10 @@ pub record Kin (s : Scene) (p : Course) : Type 0 where
 pub record Shadows (s : Scene) (p : Course) : Type 0 where
   pub kin : Kin s p
   pub spots : (c : ℕ) → Shades s.trace c (s.sockets c) (p.spots c)
-  -- a connection that isn't made is closed, and isn't known
+  -- a connection that isn't made is closed, and unknown
   pub unmade : (c : ℕ) → rises c s.last ≡ true → (s.sockets c ≡ None) × (conn s.trace c ≡ None)
 
--- where a trace goes on with what is about another connection
+-- the trace continues with entries about another connection
 
 unknown_even : (t u : List Entry) (c : ℕ) → Even t u c → (d : Option DoorState) → Unknown t c d → Unknown u c d
 unknown_even t u c even None h = tt
@@ -95,7 +95,7 @@ hand_kin e s p calm kin =
           real = real;
         }
 
--- an event that makes and unmakes no connection
+-- an event that brings up and loses no connection
 pub hand_shadows : (e : Event) (s : Scene) (p : Course) → ((c : ℕ) → moves e c ≡ false) → Calm (hand e s).trace → Shadows s p → Shadows (hand e s) (tell e p)
 hand_shadows e s p still calm h = record {
   kin = hand_kin e s p calm h.kin;
@@ -110,7 +110,7 @@ hand_shadows e s p still calm h = record {
         (subst (λ (b : Option Spot). Shades (hand e s).trace c (s.sockets c) b) (sym (tell_spots e p c))
         (shades_even s.trace (hand e s).trace c (hand_even e s c h.kin.real (still c)) (s.sockets c) (p.spots c) (h.spots c)))
 
--- what became of one connection that was open, and of no other
+-- the change of one connection that was open, and of no other
 pub record Moved (s u : Scene) (p q : Course) (c : ℕ) : Type 0 where
   pub kin : Kin u q
   pub last : u.last ≡ s.last
@@ -175,14 +175,14 @@ judged_moved c i k l d s p stream unknown kin (ends items) calm =
       here = rw here tt;
     }
 
--- an item comes on an open connection
+-- an item is received on an open connection
 enter_at_shadows : (c : ConnectionId) (i : Item) (k : Socket) (l : Spot) (s : Scene) (p : Course) → s.sockets c.0 ≡ Some k → l.stream ≡ kept k.reader.failed k.reader.rest
     → Shadows s p → (d : Option DoorState) → Unknown s.trace c.0 d → Calm (enter_at c i k s d).trace → Shadows (enter_at c i k s d) (come_at c i l p d)
 enter_at_shadows c i k l s p is stream h None unknown calm = hand_shadows (event.Item c i) s p (λ n. refl) calm h
 enter_at_shadows c i k l s p is stream h (Some d) unknown calm =
     moved_on s (judged_by c i k d s (door d i)) p (judge c i l d p (door d i)) c.0 k is (judged_moved c i k l d s p stream unknown h.kin (door d i) calm) h
 
--- what comes on a connection that isn't live is refused
+-- what is received on a connection that isn't live is refused
 
 refused_in : (b : Bool) (x y : Course) → b ≡ true → (if b then x else y) ≡ x
 refused_in true x y h = refl
@@ -198,7 +198,7 @@ dead_down c s p calm kin dead =
     refused_in (plain_refuses p.trace (event.Down c)) p (on_trace (plain_answered p.id p.trace (step_of (event.Down c))) p)
     (sym (same_refused s.trace (event.Down c) calm ∙ ap (λ (x : List Entry). plain_refuses x (event.Down c)) kin.trace) ∙ ap not dead)
 
--- an item comes
+-- an item is received
 
 enter_by_shadows : (c : ConnectionId) (i : Item) (s : Scene) (p : Course) → Shadows s p → (a : Option Socket) (b : Option Spot) → s.sockets c.0 ≡ a → Shades s.trace c.0 a b
     → Calm (enter_by c i s a).trace → Shadows (enter_by c i s a) (come_by c i p b)

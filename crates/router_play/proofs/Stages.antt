@@ -1,4 +1,4 @@
--- The stages of a connection of a script, behind flushes and what it doesn't hear.
+-- The stages of a connection of a script, after flushes and after steps that don't concern it.
 use Rattle.std.proofs.Common.{◌≡◌, ◌∙◌, sym, ap, refl, subst, true≢false, ℕ, Bool, true, false, List, [], ◌∷◌, ◌++◌}
 use Rattle.std.specs.Prelude.{◌==◌, Option, Some, None, is_some}
 use Rattle.std.proofs.lemmas.Bool.{eqb-true}
@@ -17,7 +17,7 @@ use Rattle.router_conns.proofs.Lists.{by_test}
 use Rattle.router_play.proofs.Entering.{Quiet, quiet_refl, say_quiet, hand_quiet, socket_quiet, quiet_trans, enter_all_quiet, Entered, quiet_entered, even_unknown, even_silent}
 use Rattle.router_play.proofs.Passing.{Keeps, take_all_entered, take_all_socket, take_all_last, take_all_unknown, take_all_same}
 
--- The stages of a connection: it isn't made yet, bytes come on it, it is lost.
+-- The stages of a connection: it isn't made yet, bytes are received on it, it is lost.
 
 pub record Unmade (s : Scene) (c : ℕ) : Type 0 where
   pub entered : Entered s c (λ m. []) (λ m. [])
@@ -46,7 +46,7 @@ pub record Lost (start : DoorState) (s : Scene) (c : ℕ) (stream : List ℕ) : 
   pub reached : reaches c s.last ≡ true
   pub until : was_lost s.trace c ≡ true → ins s.trace c ≡ passed start items
 
--- behind a flush
+-- after a flush
 
 pub unmade_flushed : (s u : Scene) (c : ℕ) → Flushes s u → Unmade s c → Unmade u c
 unmade_flushed s u c f h = subst (λ (w : Scene). Unmade w c) (sym f.scene) (record {
@@ -81,7 +81,7 @@ lost_flushed start s u c stream f h = subst (λ (w : Scene). Lost start w c stre
   until = λ l. take_all_same (λ t. ins t c) (λ d n t. refl) f.takes s ∙ h.until (sym (take_all_same (λ t. was_lost t c) (λ d n t. refl) f.takes s) ∙ l);
 })
 
--- behind what it doesn't hear
+-- after a step that doesn't concern it
 
 pub unmade_quiet : (s u : Scene) (c : ℕ) → Quiet s u c → Unmade s c → Unmade u c
 unmade_quiet s u c q h = record {
@@ -138,7 +138,7 @@ lose_quiet d s c apart (Some k) = quiet_trans s (with_socket d None s) (lose_by 
     by_door None = hand_quiet (event.Down d) (with_socket d None s) c apart (λ is. refl)
     by_door (Some dd) = quiet_refl (with_socket d None s) c
 
--- nothing comes on a connection that is closed
+-- nothing is received on a connection that is closed
 closed_bytes : (d : ConnectionId) (bytes : List ℕ) (s u : Scene) (c : ℕ) → (o : Option Socket) → o ≡ None → BytesCome d bytes s o u → Quiet s u c
 closed_bytes d bytes s u c None h come = subst (λ (w : Scene). Quiet s w c) (sym come) (refused_quiet s c)
 closed_bytes d bytes s u c (Some k) h come = absurd (true≢false (ap (λ (o : Option Socket). is_some o) h))
@@ -151,7 +151,7 @@ closed_loss d s c (Some k) h = absurd (true≢false (ap (λ (o : Option Socket).
 either : {G : Type 0} (d : ConnectionId) (c : ℕ) → (d.0 ≡ c → G) → ((d.0 == c) ≡ false → G) → G
 either d c f g = by_test (d.0 == c) (λ e. f (eqb-true d.0 c e)) g
 
--- a closed connection hears of no step but its making
+-- no step concerns a closed connection except its making
 
 pub closed_in : (d : ConnectionId) (bytes : List ℕ) (s u : Scene) (c : ℕ) → s.sockets c ≡ None → BytesCome d bytes s (s.sockets d.0) u → Quiet s u c
 closed_in d bytes s u c closed come =

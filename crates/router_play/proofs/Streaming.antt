@@ -1,4 +1,4 @@
--- Bytes in two pieces do what they do in one.
+-- Bytes in two pieces have the same effect as in one.
 use Rattle.std.proofs.Common.{◌≡◌, ◌∙◌, sym, ap, refl, subst, ℕ, Bool, true, false, List, [], ◌∷◌, ◌++◌, append_assoc, append-nil}
 use Rattle.std.specs.Prelude.{◌==◌, Option, Some, None, option_map, if◌then◌else◌}
 use Rattle.std.proofs.lemmas.Bool.{eqb-true}
@@ -18,7 +18,7 @@ use Rattle.router_play.proofs.Bringing.{wrong_more, further}
 use Rattle.router_play.proofs.Levels.{same}
 use Rattle.router_play.proofs.Courses.{Spot, Course, with_spot, on_trace, flowing, with_stream, plain_refuses, tell, judge, come_at, come_by, come, come_all, kept, stream_at, take_in, bytes_by, bytes_come, spots_same}
 
--- The stream of a connection has no part in what comes of its items.
+-- The stream of a connection doesn't affect its items.
 
 stream_tell : (c : ℕ) (st : Option (List ℕ)) (e : Event) (p : Course) → with_stream c st (tell e p) ≡ tell e (with_stream c st p)
 stream_tell c st e p = pick (plain_refuses p.trace e)
@@ -63,7 +63,7 @@ stream_all : (c : ConnectionId) (st : Option (List ℕ)) (is : List Item) (p : C
 stream_all c st [] p = refl
 stream_all c st (i ∷ is) p = stream_all c st is (come c i p) ∙ ap (come_all c is) (stream_come c st i p)
 
--- the last word on a stream holds
+-- the last change of a stream counts
 stream_twice : (c : ℕ) (st su : Option (List ℕ)) (p : Course) → with_stream c st (with_stream c su p) ≡ with_stream c st p
 stream_twice c st su p =
     spots_same p (with_stream c st (with_stream c su p)).spots (with_stream c st p).spots (λ n. by_test (c == n) (λ e. rw e (twice (p.spots n))) (λ e. rw e refl))
@@ -72,26 +72,26 @@ stream_twice c st su p =
     twice None = refl
     twice (Some k) = refl
 
--- a stream that stands where it stood
+-- a stream that is unchanged
 stream_stays : (c : ℕ) (st : Option (List ℕ)) (p : Course) → option_map (flowing st) (p.spots c) ≡ p.spots c → with_stream c st p ≡ p
 stream_stays c st p h =
     spots_same p (with_stream c st p).spots p.spots
     (λ n. by_test (c == n) (λ e. rw e (subst (λ (m : ℕ). option_map (flowing st) (p.spots m) ≡ p.spots m) (eqb-true c n e) h)) (λ e. rw e refl))
 
--- Items one behind the other.
+-- Items one after another.
 
 come_more : (c : ConnectionId) (xs ys : List Item) (p : Course) → come_all c (xs ++ ys) p ≡ come_all c ys (come_all c xs p)
 come_more c [] ys p = refl
 come_more c (x ∷ xs) ys p = come_more c xs ys (come c x p)
 
--- nobody takes the items of a connection that is closed
+-- the items of a closed connection are dropped
 closed_come : (c : ConnectionId) (is : List Item) (p : Course) → p.spots c.0 ≡ None → come_all c is p ≡ p
 closed_come c [] p none = refl
 closed_come c (i ∷ is) p none =
     let here : come c i p ≡ p = ap (come_by c i p) none
     in ap (come_all c is) here ∙ closed_come c is p none
 
--- Bytes do what the cut of their stream says.
+-- Bytes have the effect of the cut of their stream.
 
 pub read_as : (c : ConnectionId) (bytes r : List ℕ) (p : Course) (ended : Bool) (items : List Item) (rest : List ℕ) → Cuts ended (r ++ bytes) items rest
     → bytes_by c bytes p (Some r) ≡ take_in c ended items rest p

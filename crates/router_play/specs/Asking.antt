@@ -1,4 +1,4 @@
--- Who takes an item of an open connection, and what becomes of the connection.
+-- Who takes an item of an open connection, and what happens to the connection.
 use Rattle.std.specs.Prelude.{◌≡◌, ◌==◌, ◌++◌, ℕ, Bool, true, false, if◌then◌else◌, map, List, Option, Some, None}
 use Rattle.amqp_frames.specs.Cuts.{Cuts}
 use Rattle.router_trace.specs.declared.event.ConnectionId.{ConnectionId}
@@ -19,7 +19,7 @@ IsVerdict i k d (passes user) new (asked.Pass peer) = (peer ≡ record { user = 
 IsVerdict i k d (ends items) new (asked.End ys) = ys.items ≡ items
 IsVerdict i k d verdict new answer = ⊥
 
--- at the door its verdict, and behind it the router
+-- at the door its verdict, and past it the router
 abbrev pub IsAskedAt : Item → Socket → Option DoorState → Socket → Asked → Type 0
 IsAskedAt i k (Some d) new answer = IsVerdict i k d (door d i) new answer
 IsAskedAt i k None new asked.Router = new ≡ k
@@ -28,7 +28,7 @@ IsAskedAt i k None new _ = ⊥
 abbrev pub IsAsked : Item → Socket → Socket → Asked → Type 0
 IsAsked i old new answer = IsAskedAt i old old.door new answer
 
--- the connection behind the answer: it is closed with its end
+-- the connection after the answer: it is closed at its end
 abbrev pub behind : Asked → Socket → Option Socket
 behind (asked.End ys) k = None
 behind _ k = Some k
@@ -38,7 +38,7 @@ abbrev pub AsksAt : ℕ → Item → (ℕ → Option Socket) → Option Socket �
 AsksAt c i old None new answer = (answer ≡ asked.Nobody) × ((n : ℕ) → new n ≡ old n)
 AsksAt c i old (Some k) new answer = (after : Socket) × IsAsked i k after answer × ((n : ℕ) → new n ≡ (if c == n then behind answer after else old n))
 
--- bytes read: none where the stream ended, else the items of the cut
+-- bytes read: none if the stream ended, else the items of the cut
 abbrev pub ReadsOne : List ℕ → Socket → Bool → Socket → Option (List Item) → Type 0
 ReadsOne bytes k true after None = after ≡ k
 ReadsOne bytes k false after (Some items) = (ended : Bool) × (rest : List ℕ) × Cuts ended (k.reader.rest ++ bytes) items rest × (after ≡ stream_of k rest ended)
@@ -49,7 +49,7 @@ abbrev pub ReadsAt : ℕ → List ℕ → (ℕ → Option Socket) → Option Soc
 ReadsAt c bytes old None new read = (read ≡ None) × ((n : ℕ) → new n ≡ old n)
 ReadsAt c bytes old (Some k) new read = (after : Socket) × ReadsOne bytes k k.reader.failed after read × ((n : ℕ) → new n ≡ (if c == n then Some after else old n))
 
--- what the router and the lines get of an answer
+-- the effect of an answer on the router and the lines
 abbrev pub follow : ConnectionId → Item → Asked → Scene → Scene
 follow c i asked.Nobody s = s
 follow c i asked.Router s = hand (event.Item c i) s

@@ -1,4 +1,4 @@
--- From bytes to bytes: what goes out on each connection of a script, for the bytes that come on it.
+-- From bytes to bytes: the bytes sent on each connection of a script, for the bytes received on it.
 use Rattle.std.specs.Prelude.{◌≡◌, ℕ, Bool, true, false, ◌||◌, ◌==◌, if◌then◌else◌, List, [], ◌∷◌, ◌++◌, Option, Some, None}
 use Rattle.amqp_frames.specs.declared.item.Item.{Item}
 use Rattle.amqp_frames.specs.Cuts.{Cuts}
@@ -21,7 +21,7 @@ use Rattle.router_core.specs.Door.{Verdict, says, passes, ends, door, door_behin
 use Rattle.router_core.specs.Moves.{IsTrace, ins, outs}
 use Rattle.router_play.specs.Listening.{door_for}
 
--- the events tell that a connection was lost
+-- the events report the loss of a connection
 abbrev pub is_loss_of : Event → ℕ → Bool
 is_loss_of (event.Down d) c = d.0 == c
 is_loss_of _ c = false
@@ -34,7 +34,7 @@ was_lost (Took d n ∷ t) c = was_lost t c
 was_lost (Bound b ∷ t) c = was_lost t c
 was_lost (Configured g ∷ t) c = was_lost t c
 
--- the steps behind the making of a connection: its number is above that of each connection made before
+-- the steps after a connection is made: its number is above that of each connection made before
 abbrev pub behind_up : ℕ → Option ℕ → List Step → List Step
 behind_up c last [] = []
 behind_up c last (step.Up d role ∷ xs) =
@@ -48,7 +48,7 @@ role_in c last (step.Up d role ∷ xs) =
     if rises d.0 last then (if d.0 == c then role else role_in c (Some d.0) xs) else role_in c last xs
 role_in c last (_ ∷ xs) = role_in c last xs
 
--- the door at which a connection of a script stands when it is made
+-- the door of a connection of a script when it is made
 abbrev pub door_in : Settings → ℕ → List Step → DoorState
 door_in config c steps = door_for config (role_in c None steps)
 
@@ -59,11 +59,11 @@ bytes_of c (step.In d bytes ∷ xs) = if d.0 == c then bytes ++ bytes_of c xs el
 bytes_of c (step.Down d ∷ xs) = if d.0 == c then [] else bytes_of c xs
 bytes_of c (_ ∷ xs) = bytes_of c xs
 
--- the bytes that come on a connection of a script, from its making to its loss
+-- the bytes received on a connection of a script, from its making to its loss
 abbrev pub bytes_in : ℕ → List Step → List ℕ
 bytes_in c steps = bytes_of c (behind_up c None steps)
 
--- the bytes that lines put out on a connection
+-- the bytes that lines send on a connection
 abbrev pub bytes_out : ℕ → List Line → List ℕ
 bytes_out c [] = []
 bytes_out c (line.Out d bytes ∷ ls) = if d.0 == c then bytes ++ bytes_out c ls else bytes_out c ls
@@ -74,7 +74,7 @@ abbrev pub spelled : List Item → List ℕ
 spelled [] = []
 spelled (i ∷ is) = item_spelling i ++ spelled is
 
--- what the door says to the items of a stream, until it lets the connection pass or ends it
+-- what the door answers to the items of a stream, until it lets the connection pass or ends it
 abbrev pub said_by : Verdict → List Item → List Item
 said_by (says xs) later = xs ++ later
 said_by (passes user) later = []
@@ -84,7 +84,7 @@ abbrev pub door_says : DoorState → List Item → List Item
 door_says d [] = []
 door_says d (i ∷ is) = said_by (door d i) (door_says (door_behind d i) is)
 
--- the items of a stream that are past the door: from the one on that it lets pass
+-- the items of a stream that are past the door: beginning with the one that it lets pass
 abbrev pub passed_by : Verdict → List Item → List Item → List Item
 passed_by (says xs) here later = later
 passed_by (passes user) here later = here
@@ -94,26 +94,26 @@ abbrev pub passed : DoorState → List Item → List Item
 passed d [] = []
 passed d (i ∷ is) = passed_by (door d i) (i ∷ is) (passed (door_behind d i) is)
 
--- a list is a beginning of another
+-- a list is the beginning of another
 abbrev pub Begins : List Item → List Item → Type 0
 Begins xs ys = (more : List Item) × (xs ++ more ≡ ys)
 
--- a connection at this door carries the stream that came on it, where these lines were printed of this trace
+-- a connection at this door carries the stream received on it, if these lines were printed for this trace
 pub record Carries (start : DoorState) (stream : List ℕ) (t : Trace) (lines : List Line) (c : ℕ) : Type 0 where
   pub ended : Bool
   pub items : List Item
   pub rest : List ℕ
-  -- the bytes that came are cut once, as one stream
+  -- the bytes received are cut once, as one stream
   pub cut : Cuts ended stream items rest
-  -- the items that the router is told are those past the door, up to the connection's end
+  -- the items that the router receives are those past the door, up to the connection's end
   pub enters : Begins (ins t c) (passed start items)
-  -- all of them, while it lives, and where it lived until it was lost
+  -- all of them, while the connection is live, and if it was live until it was lost
   pub whole : is_live (conn t c) ≡ true → ins t c ≡ passed start items
   pub until : was_lost t c ≡ true → ins t c ≡ passed start items
-  -- what goes out are the canonical bytes of what the door says, and then of all that the router put out for it
+  -- the bytes sent are the canonical bytes of the door's answers, then of all that the router put out for it
   pub out : bytes_out c lines ≡ spelled (door_says start items) ++ spelled (outs t c)
 
--- runs, one after the other: each has a trace of its own, of a router that was opened with the configuration, of which its lines carry every connection
+-- runs, one after another: each has a trace of its own, of a router opened with the configuration, and its lines carry every connection
 abbrev pub RunsCarry : Settings → List (List Step) → List Line → Type 0
 RunsCarry config [] lines = lines ≡ []
 RunsCarry config (steps ∷ runs) lines = (t : Trace) × (mine : List Line) × (others : List Line)

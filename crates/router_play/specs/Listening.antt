@@ -1,4 +1,4 @@
--- The door at which a connection of a script stands.
+-- The door for a connection of a script.
 use Rattle.std.specs.Prelude.{Bool, true, false, find, unwrap_or}
 use Rattle.route_table.specs.declared.sections.Listener.{Listener}
 use Rattle.route_table.specs.declared.sections.Role.{Role}
@@ -9,7 +9,7 @@ use Rattle.router_trace.specs.declared.event.PeerRole.TheVariants as peer
 use Rattle.router_core.specs.declared.door.Door.{Door as DoorState}
 use Rattle.router_core.specs.Door.{door_of}
 
--- a listener's role for peers of this role
+-- a listener's role for peers in this role
 abbrev pub listening_for : PeerRole → Role
 listening_for peer.Normal = role.Normal
 listening_for peer.RouteContainer = role.RouteContainer
@@ -19,7 +19,7 @@ is_for peer.Normal role.Normal = true
 is_for peer.RouteContainer role.RouteContainer = true
 is_for _ _ = false
 
--- the file's first listener for peers of this role, or the standard one where it has none
+-- the file's first listener for peers in this role, or the standard one if it has none
 abbrev pub listener_for : Settings → PeerRole → Listener
 listener_for config peers = unwrap_or (find (λ l. is_for peers l.role) config.listeners) (standard_listener (listening_for peers))
 

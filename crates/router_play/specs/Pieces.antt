@@ -10,7 +10,7 @@ use Rattle.router_play.specs.declared.script.Step.TheVariants as step
 use Rattle.router_play.specs.Script.{Scene, opening, Plays}
 use Rattle.router_play.specs.Carrying.{bytes_out}
 
--- bytes in front of steps: with those of the same connection that come next they are one piece
+-- bytes before steps: with those of the same connection that come next they are one piece
 abbrev pub in_front : ConnectionId → List ℕ → List Step → List Step
 in_front c bytes [] = step.In c bytes ∷ []
 in_front c bytes (step.In d others ∷ xs) = if c.0 == d.0 then step.In c (bytes ++ others) ∷ xs else step.In c bytes ∷ step.In d others ∷ xs
@@ -21,7 +21,7 @@ abbrev pub with_bytes : ConnectionId → List ℕ → List Step → List Step
 with_bytes c [] xs = xs
 with_bytes c (b ∷ bs) xs = in_front c (b ∷ bs) xs
 
--- a script with all bytes of a connection joined that no other step stands between
+-- a script in which the bytes of a connection are joined if no other step is between them
 abbrev pub joined : List Step → List Step
 joined [] = []
 joined (step.In c bytes ∷ xs) = with_bytes c bytes (joined xs)
@@ -36,9 +36,9 @@ AlwaysRoom (Took c n ∷ t) = AlwaysRoom t
 AlwaysRoom (Bound b ∷ t) = AlwaysRoom t
 AlwaysRoom (Configured g ∷ t) = AlwaysRoom t
 
--- Pieces make no difference: two scripts that differ only in how bytes of a connection are cut, whether into many steps or into one, go
--- alike where no outbox is ever full. The router is told the same and puts out the same, but for when items are taken, and
--- on each connection the same bytes go out.
+-- Pieces make no difference: two scripts that differ only in how bytes of a connection are cut, whether into many steps or into one, have
+-- the same effect if no outbox is ever full. The router receives the same events and puts out the same items, except for when items are taken,
+-- and on each connection the same bytes are sent.
 abbrev pub PiecesMakeNoDifference : Type 0
 PiecesMakeNoDifference = (config : Settings) (steps others : List Step) (u w : Scene) → Plays steps (opening config) u → Plays others (opening config) w
     → AlwaysRoom u.trace → AlwaysRoom w.trace → joined steps ≡ joined others → (untaken u.trace ≡ untaken w.trace) × ((c : ℕ) → bytes_out c u.lines ≡ bytes_out c w.lines)

@@ -1,4 +1,4 @@
--- When a player stands where a script does.
+-- When a player agrees with a script's scene.
 use Rattle.std.specs.Prelude.{◌≡◌, ◌++◌, ℕ, Bool, true, false, is_none, if◌then◌else◌, List, Option, Some, None}
 use Rattle.amqp_frames.specs.declared.item.Item.{Item}
 use Rattle.amqp_frames.specs.Cuts.{Cuts}
@@ -22,7 +22,7 @@ pub record Follows (p : Player) (s : Scene) : Type 0 where
   pub sockets : (c : ℕ) → get nat_cmp p.sockets c ≡ s.sockets c
   pub lines : p.lines.items ≡ s.lines
 
--- lines more, and nothing else
+-- more lines, and nothing else
 pub record Said (old new : Player) (ls : List Line) : Type 0 where
   pub lines : new.lines.items ≡ old.lines.items ++ ls
   pub core : new.core ≡ old.core
@@ -30,7 +30,7 @@ pub record Said (old new : Player) (ls : List Line) : Type 0 where
   pub sockets : new.sockets ≡ old.sockets
   pub last : new.newest ≡ old.newest
 
--- bytes were read on a connection: what comes of them follows the script
+-- bytes were read on a connection: what follows agrees with the script
 abbrev pub IsReadOne : ConnectionId → List ℕ → Scene → Socket → Bool → Player → Option (List Item) → Type 0
 IsReadOne c bytes s k true p None = Follows p s
 IsReadOne c bytes s k false p (Some items) = (ended : Bool) × (rest : List ℕ) × Cuts ended (k.reader.rest ++ bytes) items rest × Follows p (with_socket c (Some (stream_of k rest ended)) s)
@@ -41,12 +41,12 @@ IsRead c bytes s None p None = Follows p s
 IsRead c bytes s None p (Some items) = ⊥
 IsRead c bytes s (Some k) p read = IsReadOne c bytes s k k.reader.failed p read
 
--- where a connection stood that was closed
+-- where a connection was when it was closed
 abbrev pub PartsAt : Option Socket → Parted → Type 0
 PartsAt None p = p ≡ parted.Closed
 PartsAt (Some k) p = p ≡ (if is_none k.door then parted.Passed else parted.AtDoor)
 
--- what the router and the lines get of it
+-- the effect of this on the router and the lines
 abbrev pub part_by : ConnectionId → Parted → Scene → Scene
 part_by c parted.Closed s = say refused s
 part_by c parted.Passed s = hand (event.Down c) s

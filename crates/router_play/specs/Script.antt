@@ -1,4 +1,4 @@
--- A script, step by step: what becomes of its connections, of the trace and of the lines.
+-- A script, step by step: what happens to its connections, the trace and the lines.
 use Rattle.std.specs.Prelude.{◌≡◌, ℕ, Bool, true, false, ◌==◌, if◌then◌else◌, is_none, List, [], ◌∷◌, ◌++◌, map, length, Option, Some, None}
 use Rattle.amqp_frames.specs.declared.item.Item.{Item}
 use Rattle.amqp_frames.specs.Cuts.{Cuts}
@@ -25,7 +25,7 @@ use Rattle.router_core.specs.Runs.{Taking, IsNext, items_of, took_one}
 use Rattle.router_core.specs.Door.{Verdict, says, passes, ends, door, door_behind}
 use Rattle.router_play.specs.Listening.{door_for}
 
--- where a script stands: the router's id, its configuration and its trace, the number of the last connection made, the
+-- the state of a script: the router's id, its configuration and its trace, the number of the last connection made, the
 -- connections that are open (those at the door, and those that passed), and the lines so far
 pub record Scene : Type 0 where
   pub id : List ℕ
@@ -39,14 +39,14 @@ pub record Scene : Type 0 where
 abbrev pub opening : Settings → Scene
 opening config = record { id = config.router_id; config = config; trace = configured (routing_of config); last = None; sockets = λ c. None; lines = [] }
 
--- lines more
+-- more lines
 abbrev pub say_all : List Line → Scene → Scene
 say_all ls s = record { id = s.id; config = s.config; trace = s.trace; last = s.last; sockets = s.sockets; lines = s.lines ++ ls }
 
 abbrev pub say : Line → Scene → Scene
 say l s = say_all (l ∷ []) s
 
--- the line of what is refused
+-- the line of a refusal
 abbrev pub refused : Line
 refused = line.Failed NoConnection
 
@@ -54,23 +54,23 @@ refused = line.Failed NoConnection
 abbrev pub book : Line
 book = line.Book 0 0 0
 
--- the line of an item that goes out: its canonical spelling
+-- the line of an outgoing item: its canonical encoding
 abbrev pub out_line : ConnectionId → Item → Line
 out_line c i = line.Out c (item_spelling i)
 
--- a connection as it is now; none where it is closed
+-- a connection's state is replaced; none if it is closed
 abbrev pub with_socket : ConnectionId → Option Socket → Scene → Scene
 with_socket c k s = record { id = s.id; config = s.config; trace = s.trace; last = s.last; sockets = λ n. if c.0 == n then k else s.sockets n; lines = s.lines }
 
--- the trace is this now
+-- the trace is replaced
 abbrev pub with_trace : Trace → Scene → Scene
 with_trace t s = record { id = s.id; config = s.config; trace = t; last = s.last; sockets = s.sockets; lines = s.lines }
 
--- an event is handed to the router: it is refused, or its replies stand behind it
+-- an event is handed to the router: it is refused, or its replies come after it
 abbrev pub hand : Event → Scene → Scene
 hand e s = if refuses s.trace e then say refused s else with_trace (answered s.id s.trace (step_of e)) s
 
--- what the door makes of an item
+-- the effect of the door's verdict on an item
 abbrev pub judged_by : ConnectionId → Item → Socket → DoorState → Scene → Verdict → Scene
 judged_by c i k d s (says items) =
     say_all (map (out_line c) items) (with_socket c (Some (record { door = Some (door_behind d i); reader = k.reader })) s)
@@ -78,7 +78,7 @@ judged_by c i k d s (passes user) =
     hand (event.Item c i) (hand (event.Up c (record { user = user; role = d.role })) (with_socket c (Some (record { door = None; reader = k.reader })) s))
 judged_by c i k d s (ends items) = say (line.End c) (say_all (map (out_line c) items) (with_socket c None s))
 
--- an item comes on a connection: at the door, or to the router; nobody takes it once the connection is closed
+-- an item is received on a connection: it goes to the door, or to the router; it is dropped once the connection is closed
 abbrev pub enter_at : ConnectionId → Item → Socket → Scene → Option DoorState → Scene
 enter_at c i k s None = hand (event.Item c i) s
 enter_at c i k s (Some d) = judged_by c i k d s (door d i)
@@ -94,8 +94,8 @@ abbrev pub enter_all : ConnectionId → List Item → Scene → Scene
 enter_all c [] s = s
 enter_all c (i ∷ is) s = enter_all c is (enter c i s)
 
--- bytes come on a connection: the items that the stream is cut into with them enter; they are refused where the
--- connection is closed or its stream ended in what is no item
+-- bytes are received on a connection: the items that the stream is cut into with them are handled; the bytes are refused if the
+-- connection is closed or its stream ended with a faulty frame
 abbrev pub stream_of : Socket → List ℕ → Bool → Socket
 stream_of k rest ended = record { door = k.door; reader = record { rest = rest; failed = ended } }
 
@@ -118,7 +118,7 @@ made c role s = record { id = s.id; config = s.config; trace = s.trace; last = S
 abbrev pub make : ConnectionId → PeerRole → Scene → Scene
 make c role s = if rises c.0 s.last then made c role s else say refused s
 
--- a connection is lost: the router is told of it where it passed the door
+-- a connection is lost: the router is told of it if the connection passed the door
 abbrev pub told : ConnectionId → Scene → Option DoorState → Scene
 told c s None = hand (event.Down c) s
 told c s (Some d) = s
@@ -137,7 +137,7 @@ Takes (step.In c bytes) s u = BytesCome c bytes s (s.sockets c.0) u
 Takes (step.Down c) s u = u ≡ lose c s
 Takes (step.Tick ms) s u = u ≡ hand (event.Tick ms) s
 
--- items taken of an outbox go out; a connection that is over is closed with the last of them
+-- items taken from an outbox are sent; a connection that is over is closed with the last of them
 abbrev pub is_last : ℕ → Option Connection → Bool
 is_last n None = false
 is_last n (Some v) = is_none (took n v)
@@ -155,7 +155,7 @@ abbrev pub take_all : List Taking → Scene → Scene
 take_all [] s = s
 take_all (x ∷ xs) s = take_all xs (take_one x s)
 
--- takes in turn: 64 items of the lowest connection of which something can be taken, and so on
+-- takes in turn: 64 items of the lowest ready connection, and so on
 abbrev pub AllInTurn : List Taking → Scene → Type 0
 AllInTurn [] s = Unit {0}
 AllInTurn (x ∷ xs) s = IsNext s.trace x × AllInTurn xs (take_one x s)
@@ -167,12 +167,12 @@ pub record Flushes (s u : Scene) : Type 0 where
   pub scene : u ≡ take_all takes s
   pub empty : (c : ℕ) → is_ready (conn u.trace c) ≡ false
 
--- steps, one after the other, the outboxes emptied behind each
+-- steps, one after another, the outboxes emptied after each
 abbrev pub Plays : List Step → Scene → Scene → Type 0
 Plays [] s u = u ≡ s
 Plays (x ∷ xs) s u = (mid : Scene) × (next : Scene) × Takes x s mid × Flushes mid next × Plays xs next u
 
--- the lines of runs: each against a router to which nothing happened
+-- the lines of runs: each against a new router
 abbrev pub PlaysAll : Settings → List (List Step) → List Line → Type 0
 PlaysAll config [] lines = lines ≡ []
 PlaysAll config (steps ∷ runs) lines =

@@ -1,4 +1,4 @@
--- Every script of bytes keeps the order of what is written on a connection, the windows of sessions and the credit of links.
+-- Every script of bytes keeps the order of items on a connection, the windows of sessions and the credit of links.
 use Rattle.std.specs.Prelude.{ℕ, List}
 use Rattle.route_table.specs.Settings.{Settings}
 use Rattle.router_core.specs.Moves.{outs}
@@ -11,7 +11,7 @@ abbrev pub PlaysKeepOrder : Type 0
 PlaysKeepOrder = (config : Settings) (steps : List Step) (u : Scene) → Plays steps (opening config) u → KeepsOrder u.trace
 
 -- in a script of bytes, whatever the peers send, the router writes its header first on each connection, or nothing: the
--- door lets nothing but a header come first
+-- door lets only a header pass first
 abbrev pub PlaysBeginWithHeaders : Type 0
 PlaysBeginWithHeaders = (config : Settings) (steps : List Step) (u : Scene) → Plays steps (opening config) u → (c : ℕ) → NothingBeforeHeader (outs u.trace c)
 
@@ -19,6 +19,6 @@ PlaysBeginWithHeaders = (config : Settings) (steps : List Step) (u : Scene) → 
 abbrev pub PlaysKeepWindows : Type 0
 PlaysKeepWindows = (config : Settings) (steps : List Step) (u : Scene) → Plays steps (opening config) u → WindowKept u.trace
 
--- and each transfer is put out on a link that stands; before each that starts a delivery the link's credit left is at least 1
+-- and each transfer is put out on an attached link; before each that starts a delivery the link's remaining credit is at least 1
 abbrev pub PlaysStartWithinCredit : Type 0
 PlaysStartWithinCredit = (config : Settings) (steps : List Step) (u : Scene) → Plays steps (opening config) u → WithinCredit u.trace

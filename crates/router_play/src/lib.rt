@@ -1,4 +1,4 @@
-//! A script played against the router, in memory: connections come up, bytes come in, and bytes go out.
+//! Plays a script against the router, in memory: connections come up, bytes are received, and bytes are sent.
 #![tactic(auto)]
 
 mod laws;

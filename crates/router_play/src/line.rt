@@ -1,4 +1,4 @@
-//! What a play prints.
+//! The lines that a play prints.
 use amqp_perf::Binary;
 use router_core::CoreFault;
 use router_trace::ConnectionId;
@@ -7,11 +7,11 @@ use std::fmt::{self, Display, Formatter, Write};
 /// A line of a play's output; `{}` prints it, without the LF.
 #[derive(Debug, Drop)]
 pub enum Line {
-    /// An item goes out on a connection: `out N HEX`.
+    /// An item is sent on a connection: `out N HEX`.
     Out {
         /// The connection.
         conn: ConnectionId,
-        /// The item's canonical spelling.
+        /// The item's canonical encoding.
         bytes: Binary,
     },
     /// The router ends a connection: `end N`.
@@ -19,9 +19,9 @@ pub enum Line {
         /// The connection.
         conn: ConnectionId,
     },
-    /// An event was answered by a fault: `failed C`.
+    /// The router answered an event with a fault: `failed C`.
     Failed(CoreFault),
-    /// What is in the book at the end: `book rows R termini T batches B`.
+    /// The size of the book at the end: `book rows R termini T batches B`.
     Book {
         /// The rows.
         rows: u64,

@@ -1,4 +1,4 @@
-//! The door at which a connection of a script stands.
+//! The door for a connection of a script.
 ghost use Rattle.std.specs.Prelude.{◌≡◌, IfOk, option_map, find};
 ghost use Rattle.std.specs.Option.{option_copied};
 ghost use Rattle.router_play.specs.Listening.{is_for, listening_for, door_for};
@@ -8,8 +8,8 @@ use router_core::Door;
 use router_trace::PeerRole;
 use std::alloc::{AllocError, Global};
 
-/// The door of a new connection in this role: that of the configuration's first listener for it, or of the standard one
-/// where it has none.
+/// The door of a new connection in this role: that of the configuration's first listener for it, or of the standard listener
+/// if it has none.
 pub fn door_for(alloc: Global, config: &Config, peers: PeerRole) -> Result<Door, AllocError>
     ensures { IfOk result (λ d. d ≡ door_for config.now peers) }
 {
@@ -23,7 +23,7 @@ pub fn door_for(alloc: Global, config: &Config, peers: PeerRole) -> Result<Door,
     }
 }
 
-/// The first listener for peers of this role.
+/// The first listener for peers in this role.
 fn first_for(listeners: &[Listener], peers: PeerRole) -> Option<&Listener>
     ensures { option_copied result ≡ find (λ l. is_for peers l.role) listeners.now }
 {
@@ -35,7 +35,7 @@ fn first_for(listeners: &[Listener], peers: PeerRole) -> Option<&Listener>
     None
 }
 
-/// Whether a listener of this role is for peers of this one.
+/// Whether a listener in `role` is for peers in the role `peers`.
 fn is_for(peers: PeerRole, role: Role) -> bool
     ensures { result ≡ is_for peers role }
 {
@@ -46,7 +46,7 @@ fn is_for(peers: PeerRole, role: Role) -> bool
     }
 }
 
-/// The role of a listener for peers of this one.
+/// The role of a listener for peers in this role.
 fn listening_for(peers: PeerRole) -> Role
     ensures { result ≡ listening_for peers }
 {

@@ -23,10 +23,10 @@ use router_trace::{ConnectionId, Event, Peer, PeerRole};
 use std::alloc::{AllocError, Global};
 use std::collections::BTreeMap;
 
-/// So many items are taken at a time.
+/// The number of items taken at a time.
 const MOST: usize = 64;
 
-/// A script as it is played.
+/// The state of a script that is being played.
 #[derive(Drop)]
 struct Player<'a> {
     alloc: Global,
@@ -37,8 +37,8 @@ struct Player<'a> {
     lines: Vec<Line>,
 }
 
-/// Plays runs, one after the other, each against a router to which nothing happened: after each step all outboxes are
-/// taken, by connection. The last line tells of the book. Where memory is refused to the play itself the lines end there.
+/// Plays runs, one after another, each against a new router: after each step all outboxes are
+/// emptied, by connection. The last line describes the book. If memory is refused to the play itself, the lines end there.
 pub fn play_runs(alloc: Global, config: Config, runs: &[Run]) -> Report
     ensures plays { result.out_of_memory ≡ false → result.failed ≡ false → (lines : List ALine) × PlaysAll config (map (λ r. r.steps.items) runs.now) lines × (result.lines.items ≡ lines ++ book ∷ []) }
     ensures carries { result.out_of_memory ≡ false → result.failed ≡ false → (lines : List ALine) × RunsCarry config (map (λ r. r.steps.items) runs.now) lines × (result.lines.items ≡ lines ++ book ∷ []) }
@@ -78,7 +78,7 @@ fn either(one: bool, other: bool) -> bool
     one || other
 }
 
-/// Plays a run, and puts its lines behind the others. Gives whether the router works at its end.
+/// Plays a run, and appends its lines. Returns whether the router still works at its end.
 fn play_run(
     alloc: Global,
     config: &Config,
@@ -96,7 +96,7 @@ fn play_run(
     Ok(works)
 }
 
-/// Puts lines behind others.
+/// Appends lines.
 fn append(lines: &mut Vec<Line>, told: Vec<Line>) -> Result<(), AllocError>
     ensures { OnOk result (lines.new.items ≡ lines.old.items ++ told.items) }
 {
@@ -109,7 +109,7 @@ fn append(lines: &mut Vec<Line>, told: Vec<Line>) -> Result<(), AllocError>
     Ok(())
 }
 
-/// The line of the book at the end.
+/// Appends the line of the book, at the end.
 fn say_book(lines: &mut Vec<Line>) -> Result<(), AllocError>
     ensures { OnOk result (lines.new.items ≡ lines.old.items ++ book ∷ []) }
 {
@@ -138,7 +138,7 @@ impl<'a> Player<'a> {
         })
     }
 
-    /// One line more.
+    /// Appends a line.
     fn say(&mut self, line: Line) -> Result<(), AllocError>
         ensures said { OnOk result (Said self.old self.new (line ∷ [])) }
         ensures core { self.new.core ≡ self.old.core }
@@ -149,7 +149,7 @@ impl<'a> Player<'a> {
         }
     }
 
-    /// The line of an item that goes out.
+    /// Appends the line of an outgoing item.
     fn say_out(&mut self, conn: ConnectionId, item: &Item) -> Result<(), AllocError>
         ensures said { OnOk result (Said self.old self.new (out_line conn item.now ∷ [])) }
         ensures core { self.new.core ≡ self.old.core }
@@ -162,7 +162,7 @@ impl<'a> Player<'a> {
         })
     }
 
-    /// The lines of items that go out.
+    /// Appends the lines of outgoing items.
     fn say_all(&mut self, conn: ConnectionId, items: &[Item]) -> Result<(), AllocError>
         ensures said { OnOk result (Said self.old self.new (map (out_line conn) items.now)) }
         ensures core { self.new.core ≡ self.old.core }
@@ -184,7 +184,7 @@ impl<'a> Player<'a> {
         }
     }
 
-    /// An item comes on a connection: at the door, or to the router.
+    /// An item was received on a connection: it goes to the door, or to the router.
     fn enter(&mut self, conn: ConnectionId, item: Item) -> Result<(), AllocError>
         ensures follows { OnOk result (is_failed self.new.core ≡ false → (s : Scene) → Follows self.old s → Follows self.new (enter conn item s)) }
         ensures stays { is_failed self.old.core ≡ true → is_failed self.new.core ≡ true }
@@ -193,7 +193,7 @@ impl<'a> Player<'a> {
         self.follow(conn, item, asked)
     }
 
-    /// Items come on a connection, one after the other.
+    /// Items were received on a connection; they are handled in order.
     fn enter_all(&mut self, conn: ConnectionId, items: Vec<Item>) -> Result<(), AllocError>
         ensures follows { OnOk result (is_failed self.new.core ≡ false → (s : Scene) → Follows self.old s → Follows self.new (enter_all conn items.items s)) }
         ensures stays { is_failed self.old.core ≡ true → is_failed self.new.core ≡ true }
@@ -204,7 +204,7 @@ impl<'a> Player<'a> {
         Ok(())
     }
 
-    /// Bytes come on a connection.
+    /// Bytes were received on a connection.
     fn bytes(&mut self, conn: ConnectionId, bytes: &[u8]) -> Result<(), AllocError>
         ensures follows { OnOk result (is_failed self.new.core ≡ false → (s : Scene) → Follows self.old s → (u : Scene) × BytesCome conn bytes.now s (s.sockets conn.0) u × Follows self.new u) }
         ensures stays { is_failed self.old.core ≡ true → is_failed self.new.core ≡ true }
@@ -215,7 +215,7 @@ impl<'a> Player<'a> {
         }
     }
 
-    /// Cuts bytes into items, where they are taken.
+    /// Cuts bytes into items; none if the connection is closed or its stream ended.
     fn read(&mut self, conn: ConnectionId, bytes: &[u8]) -> Result<Option<Vec<Item>>, AllocError>
         ensures reads { IfOk result (λ read. (s : Scene) → Follows self.old s → IsRead conn bytes.now s (s.sockets conn.0) self.new (option_map (λ v. v.items) read)) }
         ensures core { self.new.core ≡ self.old.core }
@@ -223,7 +223,7 @@ impl<'a> Player<'a> {
         read_in(&mut self.sockets, conn.0, bytes)
     }
 
-    /// The line of what is refused.
+    /// Appends the line of a refusal.
     fn refuse(&mut self) -> Result<(), AllocError>
         ensures said { OnOk result (Said self.old self.new (refused ∷ [])) }
         ensures core { self.new.core ≡ self.old.core }
@@ -262,7 +262,7 @@ impl<'a> Player<'a> {
         }
     }
 
-    /// Closes a connection, and tells where it stood.
+    /// Closes a connection, and returns where it was.
     fn part(&mut self, conn: ConnectionId) -> Parted
         ensures parted { (s : Scene) → Follows self.old s → (after : Scene) × Follows self.new after × (part_by conn result after ≡ lose conn s) }
         ensures core { self.new.core ≡ self.old.core }
@@ -301,7 +301,7 @@ impl<'a> Player<'a> {
         Err(AllocError)
     }
 
-    /// Takes items of an outbox that has some, or of a connection that is over.
+    /// Takes items from the outbox of a ready connection.
     fn take(&mut self, conn: ConnectionId) -> Result<(), AllocError>
         ensures follows { OnOk result (is_failed self.new.core ≡ false → (s : Scene) → Follows self.old s → is_ready (known s.trace conn.0) ≡ true → Follows self.new (take_one (taking conn) s)) }
         ensures stays { is_failed self.old.core ≡ true → is_failed self.new.core ≡ true }
@@ -312,7 +312,7 @@ impl<'a> Player<'a> {
         }
     }
 
-    /// The lines of a batch; a connection that is over is closed with its last.
+    /// Appends the lines of a batch; a connection that is over is closed with its last batch.
     fn send(&mut self, conn: ConnectionId, batch: Batch) -> Result<(), AllocError>
         ensures follows { OnOk result ((s : Scene) → Follows self.old s → Follows self.new (close_if batch.ended conn (say_all (map (out_line conn) batch.items.items) s))) }
         ensures core { self.new.core ≡ self.old.core }
@@ -322,7 +322,7 @@ impl<'a> Player<'a> {
         Ok(())
     }
 
-    /// Closes a connection, where it is over.
+    /// Closes a connection if it is over.
     fn close_if(&mut self, conn: ConnectionId, ended: bool) -> Result<(), AllocError>
         ensures follows { OnOk result ((s : Scene) → Follows self.old s → Follows self.new (close_if ended conn s)) }
         ensures core { self.new.core ≡ self.old.core }
@@ -334,7 +334,7 @@ impl<'a> Player<'a> {
         Ok(())
     }
 
-    /// Steps, one after the other.
+    /// Plays steps, one after another.
     fn play(&mut self, steps: &[Step]) -> Result<(), AllocError>
         ensures follows { OnOk result (is_failed self.new.core ≡ false → (s : Scene) → Follows self.old s → (u : Scene) × Plays steps.now s u × Follows self.new u) }
         ensures stays { is_failed self.old.core ≡ true → is_failed self.new.core ≡ true }
@@ -354,7 +354,7 @@ impl<'a> Player<'a> {
         ask_in(&mut self.sockets, self.alloc, conn.0, item)
     }
 
-    /// Gives an item to who takes it.
+    /// Hands an item to the one that takes it.
     fn follow(&mut self, conn: ConnectionId, item: Item, asked: Asked) -> Result<(), AllocError>
         ensures follows { OnOk result (is_failed self.new.core ≡ false → (s : Scene) → Follows self.old s → Follows self.new (follow conn item asked s)) }
         ensures stays { is_failed self.old.core ≡ true → is_failed self.new.core ≡ true }
@@ -386,7 +386,7 @@ impl<'a> Player<'a> {
         self.hand(Event::Item(conn, item))
     }
 
-    /// The last lines of a connection.
+    /// Appends the last lines of a connection.
     fn say_end(&mut self, conn: ConnectionId, items: &[Item]) -> Result<(), AllocError>
         ensures said { OnOk result (Said self.old self.new (map (out_line conn) items.now ++ line.End conn ∷ [])) }
         ensures core { self.new.core ≡ self.old.core }
@@ -396,5 +396,5 @@ impl<'a> Player<'a> {
     }
 }
 
-/// Lets go of an item.
+/// Drops an item.
 fn discard(_item: Item) {}

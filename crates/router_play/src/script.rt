@@ -1,4 +1,4 @@
-//! A script: the steps of its runs, and what comes of playing it.
+//! A script: the steps of its runs, and the result of playing it.
 use crate::line::Line;
 use amqp_perf::Binary;
 use router_trace::{ConnectionId, PeerRole};
@@ -10,10 +10,10 @@ pub enum Step {
     Up {
         /// Its number, above those of all before it.
         conn: ConnectionId,
-        /// What the peer is to the router.
+        /// The peer's role.
         role: PeerRole,
     },
-    /// Bytes come on a connection.
+    /// Bytes are received on a connection.
     In {
         /// The connection.
         conn: ConnectionId,
@@ -25,7 +25,7 @@ pub enum Step {
         /// The connection.
         conn: ConnectionId,
     },
-    /// So many milliseconds have passed since a moment of the script's choice.
+    /// The time: milliseconds since a moment that the script chose.
     Tick {
         /// The milliseconds.
         ms: u64,
@@ -39,13 +39,13 @@ pub struct Run {
     pub steps: Vec<Step>,
 }
 
-/// What a play printed, and how it ended.
+/// The output of a play, and how it ended.
 #[derive(Debug, Drop)]
 pub struct Report {
     /// The lines, in order.
     pub lines: Vec<Line>,
     /// Whether memory was refused to the play itself, which ended it there.
     pub out_of_memory: bool,
-    /// Whether the router answered a fault of the disk or of memory, so that it answered nothing else behind it.
+    /// Whether the router failed with a fault of the disk or of memory, after which it answers nothing else.
     pub failed: bool,
 }

@@ -13,12 +13,12 @@ use std::alloc::{AllocError, Global};
 pub struct Socket {
     /// The door, until the connection passes.
     pub door: Option<Door>,
-    /// The reader of the bytes that come.
+    /// The reader of the bytes received.
     pub reader: FrameReader,
 }
 
 impl Socket {
-    /// A connection at this door, of which nothing has come.
+    /// A connection at this door, on which nothing was received.
     pub fn new(alloc: Global, door: Door) -> Socket
         ensures { result ≡ new_socket door }
     {
@@ -28,7 +28,7 @@ impl Socket {
         }
     }
 
-    /// Asks the door, while the connection stands at it.
+    /// Asks the door, while the connection is at it.
     pub fn ask(&mut self, alloc: Global, item: &Item) -> Result<Asked, AllocError>
         ensures { IfOk result (λ asked. IsAsked item.now self.old self.new asked) }
     {
@@ -50,14 +50,14 @@ impl Socket {
 /// Who takes an item of a connection.
 #[derive(Drop)]
 pub enum Asked {
-    /// Nobody: the connection is over.
+    /// No one: the connection is over.
     Nobody,
     /// The router.
     Router,
-    /// The door, which says these items.
+    /// The door, which sends these items.
     Say(Vec<Item>),
-    /// The router, behind the event that the connection of this peer came up.
+    /// The router, after the event that this peer's connection came up.
     Pass(Peer),
-    /// The door, which says these items and ends the connection.
+    /// The door, which sends these items and ends the connection.
     End(Vec<Item>),
 }

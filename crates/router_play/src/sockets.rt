@@ -10,7 +10,7 @@ use amqp_frames::{FrameFault, Item};
 use std::alloc::{AllocError, Global};
 use std::collections::BTreeMap;
 
-/// Asks who takes an item of a connection, which is closed where the door ends it.
+/// Asks who takes an item of a connection, which is closed if the door ends it.
 pub fn ask_in(
     sockets: &mut BTreeMap<u64, Socket>,
     alloc: Global,
@@ -29,7 +29,7 @@ pub fn ask_in(
     Ok(asked)
 }
 
-/// Cuts the bytes that come on a connection into items; none where it is closed, or its stream ended.
+/// Cuts the bytes received on a connection into items; none if it is closed, or its stream ended.
 pub fn read_in(
     sockets: &mut BTreeMap<u64, Socket>,
     conn: u64,
@@ -43,7 +43,7 @@ pub fn read_in(
     }
 }
 
-/// Cuts the bytes that come into items; none where the stream ended.
+/// Cuts the bytes received into items; none if the stream ended.
 fn read_one(socket: &mut Socket, bytes: &[u8]) -> Result<Option<Vec<Item>>, AllocError>
     ensures { IfOk result (λ read. ReadsOne bytes.now socket.old socket.old.reader.failed socket.new (option_map (λ v. v.items) read)) }
 {
@@ -54,18 +54,18 @@ fn read_one(socket: &mut Socket, bytes: &[u8]) -> Result<Option<Vec<Item>>, Allo
     }
 }
 
-/// Where a connection stood that was closed.
+/// Where a connection was when it was closed.
 #[derive(Clone, Copy)]
 pub enum Parted {
     /// Nowhere: it was closed before.
     Closed,
-    /// Behind the door.
+    /// Past the door.
     Passed,
     /// At the door.
     AtDoor,
 }
 
-/// Closes a connection, and tells where it stood.
+/// Closes a connection, and returns where it was.
 pub fn part_in(sockets: &mut BTreeMap<u64, Socket>, conn: u64) -> Parted
     ensures parted { PartsAt (get nat_cmp sockets.old conn) result }
     ensures rows { (n : ℕ) → get nat_cmp sockets.new n ≡ (if conn == n then None else get nat_cmp sockets.old n) }

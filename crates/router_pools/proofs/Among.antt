@@ -42,7 +42,7 @@ module _ {K : Type 0} (read : K → List ℕ) where
           twice (bytes_eq a (read x)) (among xs read a) ∙ ap (λ b. b || (bytes_eq a (read x) || among xs read a)) (ap (bytes_eq a) (sym same) ∙ turned a (read k))
       by_order Greater is rest = ap (λ b. bytes_eq a (read x) || b) rest ∙ swapped (bytes_eq a (read x)) (bytes_eq (read k) a) (among xs read a)
 
-  -- one came
+  -- one was added
   pub come : (ks new : List K) (k : K) (a : List ℕ) → read k ≡ a → new ≡ insert_key (λ x y. slice_cmp nat_cmp (read x) (read y)) ks k → among new read a ≡ true
   come ks new k a is set = ap (λ l. among l read a) set ∙ insert_among ks k a ∙ ap (λ b. b || among ks read a) (equal_bytes (read k) a is)
 

@@ -1,4 +1,4 @@
--- What stands at an address behind a change of a map.
+-- What is at an address after a change of a map.
 use Rattle.std.proofs.Common.{◌≡◌, ◌∙◌, sym, ap, refl, ℕ, Bool, true, false, true≢false, cond, Some, option_map, List, [], ◌∷◌}
 use Rattle.std.specs.BTreeMap.{insert_entry}
 use Rattle.std.specs.Cmp.Lexicographic.{slice_cmp}
@@ -33,7 +33,7 @@ module _ {K V : Type 0} (read : K → List ℕ) where
   lookup_is [] a = refl
   lookup_is (e ∷ es) a = rw (is_eq-slice_cmp a (read e.0), lookup_is es a) refl
 
-  -- where a value is written
+  -- after a value is written
   pub set_at : (es : List (K × V)) (q a : List ℕ) (w : V) → at_address (set_value (λ k. is_eq (slice_cmp nat_cmp q (read k))) es w) read a ≡ cond (bytes_eq q a) (option_map (λ v. w) (at_address es read a)) (at_address es read a)
   set_at [] q a w = by_test (bytes_eq q a) (λ e. rw e refl) (λ e. rw e refl)
   set_at (e ∷ es) q a w = by_head (bytes_eq q (read e.0)) refl (set_at es q a w)
@@ -57,7 +57,7 @@ module _ {K V : Type 0} (read : K → List ℕ) where
           (λ g. rw (f, g) refl))
           (λ f. rw f rest))
 
-  -- where an entry comes
+  -- after an entry is added
   pub insert_at : (es : List (K × V)) (k : K) (v : V) (a : List ℕ) → at_address (insert_entry (λ x y. slice_cmp nat_cmp (read x) (read y)) es k v) read a ≡ cond (bytes_eq (read k) a) (Some v) (at_address es read a)
   insert_at [] k v a = rw (turned a (read k)) refl
   insert_at (e ∷ es) k v a = by_order (slice_cmp nat_cmp (read k) (read e.0)) refl (insert_at es k v a)
@@ -78,7 +78,7 @@ module _ {K V : Type 0} (read : K → List ℕ) where
           (λ g. rw (f, g) refl))
           (λ f. rw f rest)
 
-  -- where another is taken out
+  -- after another is removed
   pub removed_elsewhere : (es : List (K × V)) (q a : List ℕ) → bytes_eq q a ≡ false → at_address (remove_entry (λ k. is_eq (slice_cmp nat_cmp q (read k))) es) read a ≡ at_address es read a
   removed_elsewhere [] q a other = refl
   removed_elsewhere (e ∷ es) q a other = by_head (bytes_eq q (read e.0)) refl (removed_elsewhere es q a other)

@@ -24,7 +24,7 @@ use Rattle.router_pools.specs.Sharing.{demand_at, Figure, offer_at}
 use Rattle.router_pools.specs.Sharing.Figure.{consumer, producer}
 use Rattle.router_pools.proofs.AtAddress.{by_test, equal_bytes, same_bytes}
 
--- a pool that rests has as much of its last choice
+-- a rested pool has as much of its last choice
 rest_last : (d : Distribution) (pool : Sharing) → pool.distribution ≡ d → remembered d (rested pool).last ≡ remembered d pool.last
 rest_last Balanced pool is = refl
 rest_last Closest pool is = ap (λ b. if b then 0 else pool.last) (ap (λ d. has_no_links pool && forgets d) is ∙ never (has_no_links pool))
@@ -35,7 +35,7 @@ rest_last Closest pool is = ap (λ b. if b then 0 else pool.last) (ap (λ d. has
 rest_last Multicast pool is = refl
 
 module _ (apart : ℕ → Bool) (table share : List ℕ → Distribution) (pools : List ℕ → Sharing) (place : ℕ → Option (List ℕ)) (due : List ℕ → Bool) (known : ℕ → Option Figure) (last : List ℕ → ℕ) (fits : Fits apart table share pools place due known last) where
-  -- more may be apart, of which other things may be known, and more may be due
+  -- more links may be apart, with other figures known of them, and more addresses may be due
   pub widened : (apart' : ℕ → Bool) (due' : List ℕ → Bool) (known' : ℕ → Option Figure)
       → ((n : ℕ) → apart' n ≡ false → (apart n ≡ false) × (known' n ≡ known n)) → ((a : List ℕ) → due' a ≡ false → due a ≡ false)
       → Fits apart' table share pools place due' known' last
@@ -52,7 +52,7 @@ module _ (apart : ℕ → Bool) (table share : List ℕ → Distribution) (pools
     quiet = λ a is. fits.quiet a (later a is);
   }
 
-  -- One pool changes, and with it one link. Its address is due.
+  -- One pool changes, and with it one link. The pool's address is due.
   module _ (pools' : List ℕ → Sharing) (q : List ℕ) (change : Sharing → Sharing) (changes : (a : List ℕ) → pools' a ≡ with_pool pools q change a) where
     -- a property of the pools that the change keeps
     keeps : (P : List ℕ → Sharing → Type 0) → ((a : List ℕ) → bytes_eq q a ≡ true → P a (change (pools a))) → ((a : List ℕ) → bytes_eq q a ≡ false → P a (pools a)) → (a : List ℕ) → P a (pools' a)
@@ -60,7 +60,7 @@ module _ (apart : ℕ → Bool) (table share : List ℕ → Distribution) (pools
         (λ e. subst (λ b. P a (if b then change (pools a) else pools a)) (sym e) (one a e))
         (λ e. subst (λ b. P a (if b then change (pools a) else pools a)) (sym e) (other a e)))
 
-    -- an address that is elsewhere has its pool
+    -- another address keeps its pool
     elsewhere : (a : List ℕ) → bytes_eq q a ≡ false → pools' a ≡ pools a
     elsewhere a e = changes a ∙ ap (λ b. if b then change (pools a) else pools a) e
 
@@ -69,7 +69,7 @@ module _ (apart : ℕ → Bool) (table share : List ℕ → Distribution) (pools
         (λ e. absurd (true≢false (sym is_due ∙ ap due' (same_bytes q a e) ∙ none)))
         (λ e. ap grants_of (elsewhere a e) ∙ fits.quiet a (later a none))
 
-    -- A link is taken out of the pool that it stands in.
+    -- A link is removed from its pool.
     module _ (n : ℕ) (change_is : (pool : Sharing) → change pool ≡ without pool n) (at : place n ≡ Some q) (is_apart : apart n ≡ true)
         (place' : ℕ → Option (List ℕ)) (moves : (m : ℕ) → place' m ≡ (if n == m then None else place m))
         (due' : List ℕ → Bool) (is_due : due' q ≡ true) (later : (a : List ℕ) → due' a ≡ false → due a ≡ false) where
@@ -112,7 +112,7 @@ module _ (apart : ℕ → Bool) (table share : List ℕ → Distribution) (pools
         quiet = quiet_still due' is_due later;
       }
 
-    -- A link has other figures at the place where it stands.
+    -- A link gets other figures at its place.
     module _ (n : ℕ) (at : place n ≡ Some q) (is_due : due q ≡ true)
         (apart' : ℕ → Bool) (less : (m : ℕ) → apart' m ≡ false → (n == m) ≡ false → apart m ≡ false)
         (known' : ℕ → Option Figure) (others : (m : ℕ) → (n == m) ≡ false → known' m ≡ known m)
@@ -162,7 +162,7 @@ module _ (apart : ℕ → Bool) (table share : List ℕ → Distribution) (pools
         quiet = quiet_still due is_due (λ a none. none);
       }
 
-  -- a pool may go where a new one would do as well
+  -- a pool may be removed if a new one would do as well
   pub rested_fits : (pools' : List ℕ → Sharing) (q : List ℕ) → ((a : List ℕ) → pools' a ≡ with_pool pools q rested a) → Fits apart table share pools' place due known last
   rested_fits pools' q changes = record {
     consumers = λ n a is. keep (λ a p. link_at p.consumers n ≡ offer_at a (known n)) (λ a e. fits.consumers n a is) (λ a e. fits.consumers n a is) a;
@@ -180,7 +180,7 @@ module _ (apart : ℕ → Bool) (table share : List ℕ → Distribution) (pools
       keep : (P : List ℕ → Sharing → Type 0) → ((a : List ℕ) → bytes_eq q a ≡ true → P a (rested (pools a))) → ((a : List ℕ) → bytes_eq q a ≡ false → P a (pools a)) → (a : List ℕ) → P a (pools' a)
       keep = keeps pools' q rested changes
 
-  -- a link that stands nowhere is given a place
+  -- a link without a place gets one
   pub placed : (n : ℕ) (q : List ℕ) → place n ≡ None → (place' : ℕ → Option (List ℕ)) → ((m : ℕ) → place' m ≡ (if n == m then Some q else place m)) → Fits apart table share pools place' due known last
   placed n q none place' moves = record {
     consumers = fits.consumers;
@@ -200,7 +200,7 @@ module _ (apart : ℕ → Bool) (table share : List ℕ → Distribution) (pools
           (λ e. ap (λ k. is_place (place k) a) (sym (eqb-true n m e)) ∙ ap (λ p. is_place p a) none)
           (λ e. sym (ap (λ p. is_place p a) (moves m ∙ ap (λ b. if b then Some q else place m) e)) ∙ is)
 
-  -- a link that stands nowhere has nothing
+  -- a link without a place has nothing
   pub gone : (n : ℕ) → place n ≡ None → (apart' : ℕ → Bool) → ((m : ℕ) → apart' m ≡ false → (n == m) ≡ false → apart m ≡ false)
       → (known' : ℕ → Option Figure) → known' n ≡ None → ((m : ℕ) → (n == m) ≡ false → known' m ≡ known m) → Fits apart' table share pools place due known' last
   gone n none apart' less known' nothing others = record {
@@ -274,7 +274,7 @@ module _ (apart : ℕ → Bool) (table share : List ℕ → Distribution) (pools
       same_producers : (a : List ℕ) → (pools' a).producers ≡ (pools a).producers
       same_producers a = ap (λ p. p.producers) (changes a) ∙ producers_kept (bytes_eq q a) (pools a) r
 
-  -- the grants of an address were given, and those who got some are apart
+  -- the grants of an address were given, and the producers that got some are apart
   pub granted_fits : (pools' : List ℕ → Sharing) (q : List ℕ) → ((a : List ℕ) → pools' a ≡ with_pool pools q all_granted a)
       → (apart' : ℕ → Bool) → ((n : ℕ) → apart' n ≡ false → (apart n ≡ false) × (link_at (grants_of (pools q)) n ≡ None))
       → (due' : List ℕ → Bool) → ((a : List ℕ) → bytes_eq q a ≡ false → due' a ≡ false → due a ≡ false)
@@ -357,7 +357,7 @@ none_fits apart table share pools place due known same new none = record {
   quiet = λ a is. ap grants_of (new a);
 }
 
--- as maps and sets by number tell a change
+-- how maps and sets by number describe a change
 pub places_moved : {V : Type 0} (read : V → List ℕ) (f g : ℕ → Option V) (n : ℕ) (x : Option V) → ((q : ℕ) → g q ≡ cond (is_at (nat_cmp n) q) x (f q))
     → (m : ℕ) → option_map read (g m) ≡ (if n == m then option_map read x else option_map read (f m))
 places_moved read f g n x moves m = ap (option_map read) (moves m ∙ ap (λ b. cond b x (f m)) (same_test n m)) ∙ inside (n == m)
@@ -380,7 +380,7 @@ but_one n f known m is = (right (n == m) (f m) is, refl)
 pub itself : (n : ℕ) (b : Bool) → (n == n || b) ≡ true
 itself n b = ap (λ c. c || b) (eq-eqb n n refl)
 
--- who is not touched was not, and was granted nothing
+-- a link that is not touched now was not touched before, and was granted nothing
 pub more_apart : {X : Type 0} (new old : Bool) (x : Option X) → new ≡ (old || is_some x) → new ≡ false → (old ≡ false) × (x ≡ None)
 more_apart new true x is none = absurd (true≢false (sym is ∙ none))
 more_apart new false None is none = (refl, refl)

@@ -1,4 +1,4 @@
--- A list of numbers that have something says of each what it has.
+-- A list of the numbers that have something gives what each has.
 use Rattle.std.proofs.Common.{◌≡◌, ◌∙◌, sym, ap, refl, ℕ, zero, suc, Bool, true, false, cond, ◌&&◌, ◌<◌, ◌≤◌, Option, Some, None, List, [], ◌∷◌, ◌++◌, arith}
 use Rattle.std.specs.Prelude.{◌==◌, nat_lt, nat_le}
 use Rattle.std.specs.List.{AllByRecursion}
@@ -76,7 +76,7 @@ module _ {X : Type 0} where
       elsewhere : (q == suc n) ≡ false → or_else (cond (nat_lt 0 q && nat_le q n) (f q) None) (cond (q == suc n) (f (suc n)) None) ≡ cond (nat_lt 0 q && nat_le q (suc n)) (f q) None
       elsewhere e = ap (λ b. or_else (cond (nat_lt 0 q && nat_le q n) (f q) None) (cond b (f (suc n)) None)) e ∙ or_none (cond (nat_lt 0 q && nat_le q n) (f q) None) ∙ ap (λ b. cond (nat_lt 0 q && b) (f q) None) (alike e)
 
-  -- what is found is what each number has
+  -- the list gives what each number has
   pub listed_at : (f : ℕ → Option X) (n : ℕ) → f 0 ≡ None → ((m : ℕ) → n < m → f m ≡ None) → (q : ℕ) → link_at (listed f n) q ≡ f q
   listed_at f n first most q = listed_in f n q ∙ by_zero q
     where
@@ -115,7 +115,7 @@ module _ {X : Type 0} where
 
 module _ (apart : ℕ → Bool) (table share : List ℕ → Distribution) (pools : List ℕ → Sharing) (place : ℕ → Option (List ℕ)) (due : List ℕ → Bool) (known : ℕ → Option Figure) (last : List ℕ → ℕ) (count : ℕ) (address : List ℕ)
     (fits : Fits apart table share pools place due known last) (none : (n : ℕ) → apart n ≡ false) (numbered : AreNumbered known count) where
-  -- where nothing is apart the pool of an address is that of what each link has, with as much of its last choice as the next ones go by
+  -- if nothing is apart, the pool of an address is the one computed from what each link has, with as much of its last choice as the next ones depend on
   pub pool_is : remembering (pools address) ≡ sharing (share address) known count (remembered (share address) (last address)) address
   pool_is =
       λ i. record {
@@ -136,10 +136,10 @@ module _ (apart : ℕ → Bool) (table share : List ℕ → Distribution) (pools
   abbrev shared : Sharing
   shared = sharing (share address) known count (last address) address
 
-  -- so what it chooses is
+  -- so its choice is
   pub choice_is : choice (pools address) ≡ choice shared
   choice_is = sym (choice_but_last (pools address)) ∙ ap choice pool_is ∙ choice_but_last shared
 
-  -- and what it grants
+  -- and its grants are
   pub grants_are : grants_of (pools address) ≡ grants_of shared
   grants_are = sym (grants_but_last (pools address) (remembering (pools address)).last) ∙ ap grants_of pool_is ∙ grants_but_last shared (remembering shared).last

@@ -1,4 +1,4 @@
--- Links that are touched one after the other.
+-- Links that are touched one after another.
 use Rattle.std.proofs.Common.{◌≡◌, ◌∙◌, sym, ap, refl, ℕ, Bool, true, false, ◌||◌, cond, ◌+◌, ◌<◌, ◌≤◌, Option, Some, is_some, List, drop, length, get_or}
 use Rattle.std.specs.Prelude.{◌==◌}
 use Rattle.std.specs.BTreeMap.{is_at}

@@ -1,4 +1,4 @@
--- The pools behind a change of one.
+-- The pools after a change of one.
 use Rattle.std.proofs.Common.{◌≡◌, ◌∙◌, sym, ap, refl, subst, ℕ, Bool, true, false, true≢false, cond, ◌&&◌, if◌then◌else◌, Result, Ok, Err, OnOk, IfOk, Option, Some, None, is_some, List, [], ◌∷◌, length, arith}
 use Rattle.std.specs.Prelude.{◌==◌}
 use Rattle.std.specs.BTreeMap.{insert_entry}
@@ -37,13 +37,13 @@ module _ {K : Type 0} (read : K → List ℕ) (es : List (K × Sharing)) (q : Li
   pub missing : None ≡ found → is_some (at_address es read q) ≡ true → ⊥
   missing none there = true≢false (sym there ∙ ap is_some (sym (lookup_is read es q) ∙ sym none))
 
--- a new pool rests as it is
+-- a new pool rests unchanged
 pub rested_new : (d : Distribution) → rested (no_links d) ≡ no_links d
 rested_new Balanced = refl
 rested_new Closest = refl
 rested_new Multicast = refl
 
--- and one that isn't spent does
+-- and so does one that isn't spent
 rested_same : (pool : Sharing) → is_spent pool ≡ false → rested pool ≡ pool
 rested_same pool not_spent = ap (λ b. record pool { last = if b then 0 else pool.last }) not_spent
 
@@ -72,7 +72,7 @@ rested_spent pool d shared spent = λ i. record {
     none (x ∷ xs) h = absurd (omega (arith, eqb-true (length (x ∷ xs)) 0 h))
 
 module _ {K : Type 0} (read : K → List ℕ) (share : List ℕ → Distribution) (es : List (K × Sharing)) (q : List ℕ) where
-  -- the pools of a map, where addresses are shared so
+  -- the pools of a map, with this distribution of addresses
   abbrev pub pools_of : List (K × Sharing) → List ℕ → Sharing
   pools_of fs a = pool_or (share a) (at_address fs read a)
 
@@ -100,7 +100,7 @@ module _ {K : Type 0} (read : K → List ℕ) (share : List ℕ → Distribution
       rw (e, at) (subst (λ b. no_links (share b) ≡ change (no_links (share b))) same (sym kept)))
       (λ e. rw e refl)
 
-  -- one of no links came
+  -- one without links was added
   pub come : (fs : List (K × Sharing)) (k : K) (pool : Sharing) → read k ≡ q → pool ≡ no_links (share q) → None ≡ found read es q
       → fs ≡ insert_entry (λ x y. slice_cmp nat_cmp (read x) (read y)) es k pool → (a : List ℕ) → pools_of fs a ≡ pools_of es a
   come fs k pool is new none set a =
@@ -110,7 +110,7 @@ module _ {K : Type 0} (read : K → List ℕ) (share : List ℕ → Distribution
       rw (e, at) (new ∙ ap (λ b. no_links (share b)) same))
       (λ e. rw e refl)
 
-  -- one that was spent was taken out
+  -- a spent one was removed
   pub forgotten : (fs : List (K × Sharing)) (pool : Sharing) → Some pool ≡ found read es q → is_spent pool ≡ true → pool.distribution ≡ share q
       → fs ≡ remove_entry (λ k. is_eq (slice_cmp nat_cmp q (read k))) es → lookup (λ k. is_eq (slice_cmp nat_cmp q (read k))) fs ≡ None
       → (a : List ℕ) → pools_of fs a ≡ with_pool (pools_of es) q rested a
@@ -121,7 +121,7 @@ module _ {K : Type 0} (read : K → List ℕ) (share : List ℕ → Distribution
       rw (e, now, before) (rested_spent pool (share a) (shared ∙ ap share same) spent))
       (λ e. ap (λ l. pool_or (share a) (at_address l read a)) set ∙ ap (pool_or (share a)) (removed_elsewhere read es q a e) ∙ sym (ap (λ b. if b then rested (pools_of es a) else pools_of es a) e))
 
-  -- one that wasn't stays
+  -- one that isn't spent stays
   pub stayed : (pool : Sharing) → Some pool ≡ found read es q → is_spent pool ≡ false → (a : List ℕ) → pools_of es a ≡ with_pool (pools_of es) q rested a
   stayed pool is not_spent a = by_test (bytes_eq q a)
       (λ e. let same : q ≡ a = same_bytes q a e in
@@ -133,7 +133,7 @@ module _ {K : Type 0} (read : K → List ℕ) (share : List ℕ → Distribution
 pub same_elsewhere : (one other : List ℕ → Sharing) (q : List ℕ) (change : Sharing → Sharing) → ((a : List ℕ) → one a ≡ other a) → (a : List ℕ) → with_pool one q change a ≡ with_pool other q change a
 same_elsewhere one other q change same a = ap (λ pool. if bytes_eq q a then change pool else pool) (same a)
 
--- what a call ends with
+-- what a call ensures at its end
 pub on_ok_then : {T E : Type 0} (r : Result T E) (P Q : Type 0) → OnOk r P → (P → Q) → OnOk r Q
 on_ok_then (Ok x) P Q is f = f is
 on_ok_then (Err e) P Q is f = tt

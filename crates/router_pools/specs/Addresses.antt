@@ -1,4 +1,4 @@
--- What stands at an address, in maps by the bytes of addresses.
+-- What is at an address, in maps by the bytes of addresses.
 use Rattle.std.specs.Prelude.{ℕ, Bool, true, false, ◌&&◌, List, Option, None, Some, if◌then◌else◌}
 use Rattle.std.specs.List.{list_any}
 use Rattle.std.specs.Map.{lookup}
@@ -14,12 +14,12 @@ at_address entries read address = lookup (λ k. bytes_eq address (read k)) entri
 abbrev pub among : {K : Type 0} → List K → (K → List ℕ) → List ℕ → Bool
 among keys read address = list_any (λ k. bytes_eq address (read k)) keys
 
--- the pool of an address that is shared so: one of no links where there is none
+-- the pool of an address with this distribution; one without links if there is none
 abbrev pub pool_or : Distribution → Option Sharing → Sharing
 pool_or distribution None = no_links distribution
 pool_or distribution (Some pool) = pool
 
--- the pools, where that of one address has changed
+-- the pools after that of one address has changed
 abbrev pub with_pool : (List ℕ → Sharing) → List ℕ → (Sharing → Sharing) → List ℕ → Sharing
 with_pool pools address change other = if bytes_eq address other then change (pools other) else pools other
 
@@ -27,7 +27,7 @@ with_pool pools address change other = if bytes_eq address other then change (po
 abbrev pub without : Sharing → ℕ → Sharing
 without pool id = without_producer (without_consumer pool id) id
 
--- whether a choice goes by none of those before
+-- whether the next choice doesn't depend on those before
 abbrev pub forgets : Distribution → Bool
 forgets Balanced = true
 forgets Closest = false
@@ -37,6 +37,6 @@ forgets Multicast = true
 abbrev pub is_spent : Sharing → Bool
 is_spent pool = has_no_links pool && forgets pool.distribution
 
--- a pool behind a look whether a new one would do as well
+-- a pool after the test whether a new one would do as well
 abbrev pub rested : Sharing → Sharing
 rested pool = record pool { last = if is_spent pool then 0 else pool.last }

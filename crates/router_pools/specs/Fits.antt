@@ -1,4 +1,4 @@
--- When the pools are those of what each link has.
+-- When the pools agree with what each link has.
 use Rattle.std.specs.Prelude.{◌≡◌, ◌==◌, ◌||◌, ℕ, Bool, false, List, [], Option, None, Some, option_map, is_some, length, if◌then◌else◌}
 use Rattle.std.specs.BTreeMap.{get}
 use Rattle.std.specs.BTreeSet.{contains}
@@ -16,11 +16,11 @@ use Rattle.router_pools.specs.Sharing.{demand_at, Figure, offer_at}
 use Rattle.router_pools.specs.declared.by_address.ByAddress.{ByAddress}
 use Rattle.router_pools.specs.declared.pools.Pools.{Pools}
 
--- the pool of an address, where addresses are shared so
+-- the pool of an address, with this distribution of addresses
 abbrev pub pool_in : (List ℕ → Distribution) → ByAddress → List ℕ → Sharing
 pool_in share pools address = pool_or (share address) (at_address pools.pools.entries (λ k. k.items) address)
 
--- how the table of prefixes says that addresses are shared
+-- the distribution that the table of prefixes gives each address
 abbrev pub table_of : Pools → List ℕ → Distribution
 table_of pools address = distribution_of pools.table address
 
@@ -39,7 +39,7 @@ touched_count pools = length pools.touched.keys
 abbrev pub is_due : Pools → List ℕ → Bool
 is_due pools address = among pools.due.addresses.keys (λ k. k.items) address
 
--- the address that a link stands at
+-- the address that a link is at
 abbrev pub place_of : Pools → ℕ → Option (List ℕ)
 place_of pools number = option_map (λ place. place.items) (get nat_cmp pools.places number)
 
@@ -47,8 +47,8 @@ abbrev pub is_place : Option (List ℕ) → List ℕ → Bool
 is_place None address = false
 is_place (Some place) address = bytes_eq place address
 
--- Pools say of each link, but for those apart, what it has, and of each address how it is shared and the consumer last chosen, as far as the next choice goes by it; a link stands at its place only,
--- and an address that isn't due has no grants. The table says how addresses are shared.
+-- The pools agree with what each link has that isn't apart, and with each address's distribution and the consumer chosen last, as far as
+-- the next choice depends on it. A link is only at its place, and an address that isn't due has no grants. The table gives the distributions.
 pub record Fits (apart : ℕ → Bool) (table share : List ℕ → Distribution) (pools : List ℕ → Sharing) (place : ℕ → Option (List ℕ)) (due : List ℕ → Bool) (known : ℕ → Option Figure) (last : List ℕ → ℕ) : Type 0 where
   pub consumers : (n : ℕ) (address : List ℕ) → apart n ≡ false → link_at (pools address).consumers n ≡ offer_at address (known n)
   pub producers : (n : ℕ) (address : List ℕ) → apart n ≡ false → link_at (pools address).producers n ≡ demand_at address (known n)
@@ -61,15 +61,15 @@ pub record Fits (apart : ℕ → Bool) (table share : List ℕ → Distribution)
   pub producers_rise : (address : List ℕ) → IsStrictlySortedBy nat_cmp (keys_of (pools address).producers)
   pub quiet : (address : List ℕ) → due address ≡ false → grants_of (pools address) ≡ []
 
--- the pools are those of what each link has, but for the links that are touched
+-- the pools agree with what each link has, except the touched links
 abbrev pub PoolsFit : Pools → (List ℕ → Distribution) → (ℕ → Option Figure) → (List ℕ → ℕ) → Type 0
 PoolsFit pools share known last = Fits (is_touched pools) (table_of pools) share (pool_at pools) (place_of pools) (is_due pools) known last
 
--- the same, but for one link more
+-- the same, except one more link
 abbrev pub PoolsFitBut : ℕ → Pools → (List ℕ → Distribution) → (ℕ → Option Figure) → (List ℕ → ℕ) → Type 0
 PoolsFitBut number pools share known last = Fits (λ n. number == n || is_touched pools n) (table_of pools) share (pool_at pools) (place_of pools) (is_due pools) known last
 
--- two say the same of each link but one
+-- both agree on each link but one
 abbrev pub AgreeBut : ℕ → (ℕ → Option Figure) → (ℕ → Option Figure) → Type 0
 AgreeBut number one other = (n : ℕ) → (number == n) ≡ false → one n ≡ other n
 
@@ -77,7 +77,7 @@ AgreeBut number one other = (n : ℕ) → (number == n) ≡ false → one n ≡ 
 abbrev pub NoneTouched : Pools → Type 0
 NoneTouched pools = (n : ℕ) → is_touched pools n ≡ false
 
--- what was chosen last, behind a choice at an address
+-- the consumer chosen last, after a choice at an address
 abbrev pub or_last : Option ℕ → ℕ → ℕ
 or_last None last = last
 or_last (Some id) last = id

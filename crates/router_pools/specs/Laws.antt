@@ -7,16 +7,16 @@ use Rattle.router_pools.specs.Fits.{is_touched, NoneTouched, pool_at, PoolsFit}
 use Rattle.router_pools.specs.Sharing.{AreNumbered, Figure, sharing}
 use Rattle.router_pools.specs.declared.pools.Pools.{Pools}
 
--- pools that fit say nothing of what touched links have
+-- pools that agree with the links don't depend on what touched links have
 abbrev pub TouchedSayNothing : Type 0
 TouchedSayNothing = (pools : Pools) (share : List ℕ → Distribution) (known other : ℕ → Option Figure) (last : List ℕ → ℕ) → PoolsFit pools share known last → ((n : ℕ) → is_touched pools n ≡ false → other n ≡ known n) → PoolsFit pools share other last
 
--- where nothing is touched the pool of an address is that of what each link has, with as much of its last choice as the next ones go by
+-- if nothing is touched, the pool of an address is the one computed from what each link has, with as much of its last choice as the next ones depend on
 abbrev pub PoolsAreSharing : Type 0
 PoolsAreSharing = (pools : Pools) (share : List ℕ → Distribution) (known : ℕ → Option Figure) (last : List ℕ → ℕ) (count : ℕ) → PoolsFit pools share known last → NoneTouched pools → AreNumbered known count
     → (address : List ℕ) → remembering (pool_at pools address) ≡ sharing (share address) known count (remembered (share address) (last address)) address
 
--- so what it chooses and what it grants are those of what each link has and of the one last chosen
+-- so its choice and its grants depend only on what each link has and on the consumer chosen last
 abbrev pub PoolsAnswerAsSharing : Type 0
 PoolsAnswerAsSharing = (pools : Pools) (share : List ℕ → Distribution) (known : ℕ → Option Figure) (last : List ℕ → ℕ) (count : ℕ) → PoolsFit pools share known last → NoneTouched pools → AreNumbered known count
     → (address : List ℕ) → (choice (pool_at pools address) ≡ choice (sharing (share address) known count (last address) address)) × (grants_of (pool_at pools address) ≡ grants_of (sharing (share address) known count (last address) address))

@@ -1,4 +1,4 @@
--- The pool of an address, from what each link has.
+-- The pool of an address, computed from what each link has.
 use Rattle.std.specs.Prelude.{◌≡◌, ◌<◌, ℕ, zero, suc, List, [], ◌∷◌, ◌++◌, Option, None, Some, if◌then◌else◌}
 use Rattle.std.specs.Str.{bytes_eq}
 use Rattle.route_credit.specs.Pool.{demand_of, Sharing}
@@ -6,7 +6,7 @@ use Rattle.route_credit.specs.declared.demand.Demand.{Demand}
 use Rattle.route_credit.specs.declared.offer.Offer.{Offer}
 use Rattle.route_table.specs.declared.sections.Distribution.{Distribution}
 
--- What a link has: of a consumer its address, its free credit and its undecided deliveries; of a producer its address, its unused credit and its deliveries held.
+-- What a link has: a consumer its address, its free credit and its undecided deliveries; a producer its address, its unused credit and its held deliveries.
 pub data Figure : Type 0 where
   consumer : (address : List ℕ) (free undecided : ℕ) → Figure
   producer : (address : List ℕ) (unused held : ℕ) → Figure
@@ -17,7 +17,7 @@ offer_at address None = None
 offer_at address (Some (consumer at free undecided)) = if bytes_eq at address then Some (record { free = free; undecided = undecided }) else None
 offer_at address (Some (producer at unused held)) = None
 
--- and what it wants of it
+-- and what it wants from the address
 abbrev pub demand_at : List ℕ → Option Figure → Option Demand
 demand_at address None = None
 demand_at address (Some (consumer at free undecided)) = None
@@ -33,7 +33,7 @@ abbrev pub listed : {X : Type 0} → (ℕ → Option X) → ℕ → List (ℕ ×
 listed known zero = []
 listed known (suc n) = listed known n ++ entry (suc n) (known (suc n))
 
--- the pool of an address that is shared so, where so many links were ever attached, and this one was chosen last
+-- the pool of an address with this distribution, when `count` links were ever attached and this one was chosen last
 abbrev pub sharing : Distribution → (ℕ → Option Figure) → ℕ → ℕ → List ℕ → Sharing
 sharing distribution known count last address = record {
   distribution = distribution;
@@ -42,7 +42,7 @@ sharing distribution known count last address = record {
   last = last;
 }
 
--- no link but those from 1 to n has anything
+-- only numbers from 1 to n have anything
 pub record AreNumbered (known : ℕ → Option Figure) (n : ℕ) : Type 0 where
   pub first : known 0 ≡ None
   pub most : (m : ℕ) → n < m → known m ≡ None

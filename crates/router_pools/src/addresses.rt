@@ -1,4 +1,4 @@
-//! A set of addresses, in the order of their bytes.
+//! A set of addresses, ordered by their bytes.
 ghost use Rattle.std.specs.Prelude.{◌≡◌, ◌||◌, ℕ, List, Bool, true, false, None, Some, OnOk, IfNone, IfSome, length, ◌<◌};
 ghost use Rattle.std.specs.Cmp.Lexicographic.{slice_cmp};
 ghost use Rattle.std.specs.Ordering.{nat_cmp};
@@ -9,7 +9,7 @@ ghost use Rattle.router_pools.specs.Addresses.{among};
 use std::alloc::{AllocError, Global};
 use std::collections::BTreeSet;
 
-/// Addresses, in the order of their bytes.
+/// Addresses, ordered by their bytes.
 #[derive(Debug, Drop)]
 pub(crate) struct Addresses {
     alloc: Global,
@@ -26,7 +26,7 @@ impl Addresses {
         }
     }
 
-    /// Puts an address in.
+    /// Adds an address.
     pub(crate) fn add(&mut self, address: &[u8]) -> Result<(), AllocError>
         ensures added { OnOk result (among self.new.addresses.keys (λ k. k.items) address.now ≡ true) }
         ensures others { OnOk result ((a : List ℕ) → among self.new.addresses.keys (λ k. k.items) a ≡ false → among self.old.addresses.keys (λ k. k.items) a ≡ false) }
@@ -39,7 +39,7 @@ impl Addresses {
         Ok(())
     }
 
-    /// Takes the first address out.
+    /// Removes and returns the first address.
     pub(crate) fn pop(&mut self) -> Option<Vec<u8>>
         ensures none { IfNone result ((a : List ℕ) → among self.old.addresses.keys (λ k. k.items) a ≡ false) }
         ensures kept { IfNone result ((a : List ℕ) → among self.new.addresses.keys (λ k. k.items) a ≡ false) }

@@ -11,8 +11,8 @@ use route_table::Distribution;
 use std::alloc::{AllocError, Global};
 use std::collections::BTreeMap;
 
-/// Pools by the bytes of their addresses. One without links is let go, but on a closest address: there the next choice goes by
-/// the consumer that was chosen last.
+/// Pools by the bytes of their addresses. A pool without links is removed, except on a closest address: there the next choice depends
+/// on the consumer that was chosen last.
 #[derive(Debug, Drop)]
 pub(crate) struct ByAddress {
     alloc: Global,
@@ -29,7 +29,7 @@ impl ByAddress {
         }
     }
 
-    /// Sees to it that there is a pool at an address, which is shared so.
+    /// Makes sure that there is a pool at an address with this distribution.
     fn found(&mut self, address: &[u8], distribution: Distribution) -> Result<(), AllocError>
         ensures same { OnOk result ((share : List ℕ → Distribution) → distribution ≡ share address.now → (a : List ℕ) → pool_in share self.new a ≡ pool_in share self.old a) }
         ensures there { OnOk result (is_some (at_address self.new.pools.entries (λ k. k.items) address.now) ≡ true) }
@@ -44,7 +44,7 @@ impl ByAddress {
         }
     }
 
-    /// What a consumer offers to an address, which is shared so. It is no producer of it.
+    /// Sets what a consumer offers to an address with this distribution. It is no producer there.
     pub(crate) fn offer(
         &mut self,
         address: &[u8],
@@ -65,7 +65,7 @@ impl ByAddress {
         }
     }
 
-    /// What a producer wants of an address, which is shared so. It is no consumer of it.
+    /// Sets what a producer wants of an address with this distribution. It is no consumer there.
     pub(crate) fn want(
         &mut self,
         address: &[u8],
@@ -86,7 +86,7 @@ impl ByAddress {
         }
     }
 
-    /// Takes a link out of the pool of an address.
+    /// Removes a link from the pool of an address.
     pub(crate) fn leave(&mut self, address: &[u8], number: u64)
         ensures { (share : List ℕ → Distribution) (a : List ℕ) → pool_in share self.new a ≡ with_pool (pool_in share self.old) address.now (λ pool. without pool number) a }
     {
@@ -96,7 +96,7 @@ impl ByAddress {
         }
     }
 
-    /// Lets the pool of an address go, where a new one would do as well.
+    /// Removes the pool of an address if a new one would do as well.
     pub(crate) fn forget(&mut self, address: &[u8])
         ensures { (share : List ℕ → Distribution) → (pool_in share self.old address.now).distribution ≡ share address.now → (a : List ℕ) → pool_in share self.new a ≡ with_pool (pool_in share self.old) address.now rested a }
     {
@@ -130,7 +130,7 @@ impl ByAddress {
     }
 }
 
-/// Whether a new pool would do as well: it has no links, and no choice goes by those before.
+/// Whether a new pool would do as well: this one has no links, and the next choice doesn't depend on those before.
 fn is_spent(pool: &Pool) -> bool
     ensures { result ≡ is_spent pool.now }
 {

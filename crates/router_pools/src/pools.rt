@@ -22,10 +22,10 @@ use std::collections::{BTreeMap, BTreeSet};
 
 /// The pools of all addresses, with the links that may have changed, and the addresses that may have grants.
 ///
-/// A link is named by its number, which is its order of attach. Each call costs a logarithm of the number of links, and
-/// `grants` that much for each credit that it gives. The pool of an address goes with the last of its links; on a closest
-/// address it stays, since the next choice goes by the consumer last chosen. How an address is shared is what the table of
-/// prefixes says. Behind a refused growth nothing can be said of the pools.
+/// A link is identified by its number, which is its order of attach. Each call takes time logarithmic in the number of links, and
+/// `grants` that much for each credit that it gives. The pool of an address is removed with the last of its links; on a closest
+/// address it stays, since the next choice depends on the consumer chosen last. The table of prefixes determines how an address is
+/// shared. If an operation fails to allocate, the contents are unspecified.
 #[derive(Drop)]
 pub struct Pools {
     alloc: Global,
@@ -36,7 +36,7 @@ pub struct Pools {
     touched: BTreeSet<u64>,
 }
 
-/// What the producers of an address are granted, in order of attach.
+/// The credit granted to the producers of an address, in order of attach.
 #[derive(Debug, Drop)]
 pub struct Grants {
     pub address: Vec<u8>,
@@ -44,7 +44,7 @@ pub struct Grants {
 }
 
 impl Pools {
-    /// No links at all, where addresses are shared as this table says.
+    /// Pools without any links; addresses are shared as this table says.
     pub fn new(alloc: Global, table: Table) -> Pools
         ensures { (g : Routing) → FindsAs table g → (known : ℕ → Option Figure) → ((n : ℕ) → known n ≡ None) → PoolsFit result (distribution_of g) known (λ a. 0) }
     {
@@ -65,7 +65,7 @@ impl Pools {
         self.table.find(address).distribution
     }
 
-    /// What a link has may have changed.
+    /// Notes that what a link has may have changed.
     pub fn touch(&mut self, number: u64) -> Result<(), AllocError>
         ensures fits { OnOk result ((share : List ℕ → Distribution) (known other : ℕ → Option Figure) (last : List ℕ → ℕ) → PoolsFit self.old share known last → AgreeBut number other known → PoolsFit self.new share other last) }
         ensures touched { OnOk result ((n : ℕ) → is_touched self.new n ≡ (number == n || is_touched self.old n)) }
@@ -83,7 +83,7 @@ impl Pools {
         self.touched.first().copied()
     }
 
-    /// What a consumer has now: its free credit and its undecided deliveries, at an address.
+    /// Sets what a consumer has: its free credit and its undecided deliveries, at an address.
     pub fn offer(
         &mut self,
         number: u64,
@@ -105,7 +105,7 @@ impl Pools {
         Ok(())
     }
 
-    /// What a producer has now: its unused credit and the deliveries that the router holds, at an address.
+    /// Sets what a producer has: its unused credit and its deliveries that the router holds, at an address.
     pub fn want(
         &mut self,
         number: u64,
@@ -126,7 +126,7 @@ impl Pools {
         Ok(())
     }
 
-    /// A link has nothing any more.
+    /// Notes that a link has nothing any more.
     pub fn leave(&mut self, number: u64) -> Result<(), AllocError>
         ensures fits { OnOk result ((share : List ℕ → Distribution) (known other : ℕ → Option Figure) (last : List ℕ → ℕ) → PoolsFit self.old share known last
             → other number ≡ None → AgreeBut number other known → PoolsFit self.new share other last) }
@@ -138,7 +138,7 @@ impl Pools {
         Ok(())
     }
 
-    /// Chooses the consumer of the next delivery of an address, where one has free credit. It takes no memory.
+    /// Chooses the consumer of the next delivery of an address; none if no consumer has free credit. It allocates no memory.
     pub fn choose(&mut self, address: &str) -> Option<ConsumerId>
         ensures chosen { (share : List ℕ → Distribution) (known : ℕ → Option Figure) (last : List ℕ → ℕ) (count : ℕ) → PoolsFit self.old share known last → NoneTouched self.old → AreNumbered known count
             → option_map (λ c. c.0) result ≡ choice (sharing (share address.now) known count (last address.now) address.now) }
@@ -148,9 +148,9 @@ impl Pools {
         self.pools.choose(address.as_bytes())
     }
 
-    /// What the producers of an address are granted, of the first address in the order of bytes that has grants. None where no
-    /// address has. Those who are granted credit may have changed then. Where memory was refused, credit may be lent
-    /// that is told to nobody.
+    /// The grants for the producers of the first address, in the order of bytes, that has any; none if no address has any. The producers
+    /// that are granted credit count as touched. If memory is refused, credit may be lent without any producer
+    /// being told.
     pub fn grants(&mut self) -> Result<Option<Grants>, AllocError>
         ensures none { IfOk result (λ r. IfNone r ((share : List ℕ → Distribution) (known : ℕ → Option Figure) (last : List ℕ → ℕ) (count : ℕ) → PoolsFit self.old share known last → NoneTouched self.old → AreNumbered known count
             → (a : List ℕ) → grants_of (sharing (share a) known count (last a) a) ≡ [])) }
@@ -174,7 +174,7 @@ impl Pools {
         }
     }
 
-    /// The grants of the first address that may have some, which are none where it has none.
+    /// The grants of the first address that may have any; they may be empty.
     fn next_grants(&mut self) -> Result<Option<Grants>, AllocError>
         ensures none { IfOk result (λ r. IfNone r ((share : List ℕ → Distribution) (known : ℕ → Option Figure) (last : List ℕ → ℕ) (count : ℕ) → PoolsFit self.old share known last → NoneTouched self.old → AreNumbered known count
             → (a : List ℕ) → grants_of (sharing (share a) known count (last a) a) ≡ [])) }
@@ -197,7 +197,7 @@ impl Pools {
         Ok(Some(Grants { address, sums }))
     }
 
-    /// Takes a link from the pool where it stands, which may then have grants, or go.
+    /// Removes a link from its pool, which may then have grants, or be removed.
     fn take_out(&mut self, number: u64) -> Result<(), AllocError>
         ensures fits { OnOk result ((share : List ℕ → Distribution) (known : ℕ → Option Figure) (last : List ℕ → ℕ) → PoolsFitBut number self.old share known last → PoolsFitBut number self.new share known last) }
         ensures nowhere { OnOk result (place_of self.new number ≡ None) }
@@ -216,7 +216,7 @@ impl Pools {
         }
     }
 
-    /// Gives a link its place at an address, which may then have grants, and takes it from where it was before.
+    /// Places a link at an address, which may then have grants, and removes it from where it was before.
     fn place(&mut self, number: u64, address: &[u8]) -> Result<(), AllocError>
         ensures fits { OnOk result ((share : List ℕ → Distribution) (known : ℕ → Option Figure) (last : List ℕ → ℕ) → PoolsFitBut number self.old share known last → PoolsFitBut number self.new share known last) }
         ensures there { OnOk result (place_of self.new number ≡ Some address.now) }
@@ -231,7 +231,7 @@ impl Pools {
         self.due.add(address)
     }
 
-    /// Whether a link stands at an address.
+    /// Whether a link is at an address.
     fn stands_at(&self, number: u64, address: &[u8]) -> bool
         ensures { result ≡ true → place_of self.now number ≡ Some address.now }
     {
@@ -242,7 +242,7 @@ impl Pools {
     }
 }
 
-/// Each link that was granted credit may have changed.
+/// Touches each link that was granted credit.
 fn touch_all(touched: &mut BTreeSet<u64>, sums: &[(ProducerId, u32)]) -> Result<(), AllocError>
     ensures { OnOk result ((n : ℕ) → contains nat_cmp touched.new n ≡ (contains nat_cmp touched.old n || is_some (link_at (by_id sums.now) n))) }
 {

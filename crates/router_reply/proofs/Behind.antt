@@ -1,4 +1,4 @@
--- What stands behind an item, by its answer.
+-- The trace after an item, by its answer.
 use Rattle.std.proofs.Common.{◌≡◌, ◌∙◌, ap, refl, ℕ, true, false, List, []}
 use Rattle.std.specs.Prelude.{Option, Some, None}
 use Rattle.amqp_perf.specs.declared.perf.Disposition.{Disposition as ADisposition}
@@ -64,7 +64,7 @@ unbound : (t u : List Entry) (c : ℕ) (i : Item) (a : Answer) → NotTaken a �
 unbound t u c i (Taken own handle) none = absurd (none own handle refl)
 unbound t u c i _ none = refl
 
--- what stands behind it
+-- the trace after it
 pub taken_is : (id : List ℕ) (t after : List Entry) (c : ℕ) (p : Conn) (i : Item) (own handle : ℕ)
     → behind_answer id t after c p i (Taken own handle) ≡ given_behind after c own handle (part_of i (link_place t c own))
 taken_is id t after c p i own handle =
@@ -81,7 +81,7 @@ other_is id t after c p i a taken settled =
     ∙ goes_both (each_to c (said id p a)) (links_put t (puts c (said id p a) after) c i a) after
     ∙ ap (λ (ps : List Put). goes ps (puts c (said id p a) after)) (attach_by t (puts c (said id p a) after) c i a taken settled)
 
--- a transfer that is taken and a disposition that is answered have nothing put for an attach
+-- a transfer that is taken and an answered disposition put nothing for an attach
 pub taken_left : (u : List Entry) (c : ℕ) (i : Item) (own handle : ℕ) → attach_put u c i (Taken own handle) ≡ []
 taken_left u c (item.Frame sasl channel (perf.Attach x) payload) own handle = refl
 taken_left u c (item.Frame sasl channel _ payload) own handle = refl
@@ -92,7 +92,7 @@ settled_left u c (item.Frame sasl channel (perf.Attach x) payload) own = refl
 settled_left u c (item.Frame sasl channel _ payload) own = refl
 settled_left u c _ own = refl
 
--- what stands behind an item, by what was found of its connection
+-- the trace after an item, by what was found of its connection
 abbrev pub behind_item : List ℕ → List Entry → List Entry → ℕ → Item → Option Conn → List Entry
 behind_item id t after c i s = goes (item_row id t after c i s) (with_bound (item_bound t after c i s) after)
 

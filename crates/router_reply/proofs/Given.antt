@@ -1,4 +1,4 @@
--- What a transfer gives that is taken, over the link on which it came.
+-- What a transfer that is taken makes of its delivery, for the link on which it was received.
 use Rattle.std.proofs.Common.{◌≡◌, ℕ, Bool, true, false, refl, sym, ap, subst, List, Option, Some, None}
 use Rattle.std.specs.Prelude.{if◌then◌else◌, option_map, unwrap_or}
 use Rattle.amqp_link.specs.declared.part.Delivery.{Delivery as Told}
@@ -11,7 +11,7 @@ use Rattle.router_state.specs.declared.tables.State.{State}
 use Rattle.router_state.specs.Tables.{TablesFit}
 use Rattle.router_reply.specs.Replies.{claimed_id, from_link, fresh_bound, ignored_put, origin_of, unbound_put, whole_bound, whole_put}
 
--- a message of the link that stands on a handle
+-- a message of the link on a handle
 pub fresh_given : (s : State) (t : Trace) (c own handle : ℕ) (d : Told) (payload : List ℕ) (claimed : Option ℕ) (format : ℕ) (from : Attachment) (l : Option Link)
     → claimed ≡ claimed_id t c own handle d.id → format ≡ unwrap_or d.format 0 → Some from ≡ option_map (standing_at c own handle) l → l ≡ link t c own handle
     → TablesFit s (puts from.conn.0 (unbound_put from.channel claimed (consumer_of t (link_of t from))) (with_bound (passing t from (option_map (origin_of from) claimed) format payload) t))
@@ -34,7 +34,7 @@ fresh_given s t c own handle d payload claimed format from (Some k) id as_told s
     is : Some from ≡ Some (from_link c own handle k) → from ≡ from_link c own handle k
     is e = cc
 
--- one that is resumed binds nothing
+-- a resumed one binds nothing
 none_bound : (t : Trace) (c own handle : ℕ) (d : Told) (payload : List ℕ) (l : Option Link) → d.resume ≡ true → whole_bound t c own handle d payload l ≡ None
 none_bound t c own handle d payload None e = refl
 none_bound t c own handle d payload (Some l) e =

@@ -1,4 +1,4 @@
--- Items put one after the other.
+-- Items put one after another.
 use Rattle.std.proofs.Common.{◌≡◌, refl, List, [], ◌∷◌, ◌++◌}
 use Rattle.router_trace.specs.Trace.{Entry, Put, Out, goes}
 

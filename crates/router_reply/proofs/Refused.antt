@@ -1,4 +1,4 @@
--- What is put for an attach that is refused, where its answer fits in a frame of the peer's.
+-- What is put for an attach that is refused, if the answer fits in a frame of the peer's.
 use Rattle.std.proofs.Common.{◌≡◌, ℕ, Bool, true, false, ap, subst, List, [], ◌∷◌, Option, Some, None}
 use Rattle.std.specs.Prelude.{if◌then◌else◌, unwrap_or}
 use Rattle.amqp_frames.specs.declared.item.Item.{Item}
@@ -6,7 +6,7 @@ use Rattle.router_trace.specs.Trace.{Trace, puts}
 use Rattle.router_state.specs.declared.tables.State.{State}
 use Rattle.router_state.specs.Tables.{TablesFit}
 
--- the answer that fits stands in front of the detach
+-- an answer that fits comes before the detach
 pub answer_put : (s : State) (t : Trace) (c : ℕ) (b : Bool) (answer item detach : Item) → Some item ≡ (if b then Some answer else None)
     → TablesFit s (puts c (detach ∷ []) (puts c (item ∷ []) t)) → TablesFit s (puts c (if b then answer ∷ detach ∷ [] else detach ∷ []) t)
 answer_put s t c true answer item detach same fit = subst (λ (i : Item). TablesFit s (puts c (detach ∷ []) (puts c (i ∷ []) t))) (ap (λ o. unwrap_or o answer) same) fit

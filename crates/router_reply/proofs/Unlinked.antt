@@ -1,4 +1,4 @@
--- What has nothing put for a link.
+-- Answers that put nothing for a link.
 use Rattle.std.proofs.Common.{◌≡◌, refl, ℕ, List, []}
 use Rattle.amqp_perf.specs.declared.perf.Attach.{Attach as AnAttach}
 use Rattle.amqp_perf.specs.declared.perf.Perf.{Perf}

@@ -1,4 +1,4 @@
--- What stands behind an event in a trace.
+-- The trace after an event.
 use Rattle.std.specs.Prelude.{ℕ, Bool, true, false, nat_lt, if◌then◌else◌, List, [], ◌∷◌, ◌++◌, map, Option, Some, None, option_map, unwrap_or}
 use Rattle.amqp_perf.specs.declared.perf.Attach.{Attach as AnAttach}
 use Rattle.amqp_perf.specs.declared.perf.Perf.{Perf}
@@ -36,22 +36,22 @@ use Rattle.router_rows.specs.declared.answer.Answer.TheVariants.{Attach, Refuse,
 use Rattle.router_rows.specs.Rows.{said, item_reply, down_reply}
 use Rattle.router_rows.specs.Finding.{finds}
 
--- a connection is closed with an error: its open stands before the close where it isn't written yet
+-- a connection is closed with an error: its open comes before the close if it isn't written yet
 abbrev pub closing_of : List ℕ → Option Connection → Condition → List Item
 closing_of id None x = []
 closing_of id (Some v) x = closing id v.phase x
 
--- these connections are closed for their full outboxes, one after the other
+-- these connections are closed because their outboxes are full, one after another
 abbrev pub ends : List ℕ → List ℕ → Trace → Trace
 ends id [] t = t
 ends id (c ∷ cs) t = ends id cs (puts c (closing_of id (conn t c) ResourceLimitExceeded) t)
 
--- the event's entry, and behind it the ends for full outboxes
+-- the event's entry, and after it the closes because of full outboxes
 abbrev pub heard : List ℕ → Trace → Step → Trace
 heard id t s = ends id (due t s.event) (Did s ∷ t)
 
--- An attach that is taken: the older link of its key, if one is attached, is detached as stolen, and then the answer is put, on the
--- lowest handle that is free by then. Where the answer doesn't fit what the peer takes, a detach tells so in its place.
+-- An attach that is taken: the older link with its key, if one is attached, is detached as stolen; then the answer is put, on the
+-- lowest handle that is free by then. If the answer is longer than the peer's frames, a detach that says so is put instead.
 abbrev pub stolen_by : Option Attachment → List Put
 stolen_by None = []
 stolen_by (Some x) = record { conn = x.conn.0; item = detach_item x.channel x.handle false (Some Stolen) } ∷ []
@@ -69,13 +69,13 @@ taken_behind t c own a stolen = stolen ++ each_to c (attach_answer (largest_fram
 abbrev pub taken : Trace → ℕ → ℕ → AnAttach → List Put
 taken t c own a = taken_behind t c own a (stolen_by (holder t (key_at t c (answer_to a 0))))
 
--- An attach that is refused: an answer without a terminus at the router's side, and a detach; the detach alone where that doesn't fit.
+-- An attach that is refused: an answer without a terminus at the router's side, and a detach; the detach alone if the answer doesn't fit.
 abbrev pub refused : ℕ → ℕ → ℕ → Condition → AnAttach → List Item
 refused largest own handle x a =
     if fits largest (attach_item own (refusal_of a handle)) then attach_item own (refusal_of a handle) ∷ detach_item own handle true (Some x) ∷ []
     else detach_item own handle true (Some x) ∷ []
 
--- The deliveries that a disposition decides without settling them are answered, each settled, with its outcome as the router keeps it.
+-- The deliveries that a disposition decides without settling are answered, each settled, with the outcome as the router keeps it.
 abbrev pub settled_answers : ℕ → Option DeliveryState → List ℕ → List Item
 settled_answers own None ids = []
 settled_answers own (Some s) ids = map (λ id. outcome_item own Sender id s) ids
@@ -84,7 +84,7 @@ abbrev pub put_for_disposition : Trace → ℕ → ADisposition → Answer → L
 put_for_disposition t c x (Settle own) = each_to c (settled_answers own (terminal x.state) (open_ids t c own x.first (last_of x)))
 put_for_disposition t c x _ = []
 
--- the disposition that an item is, in its turn or not, and what answers the deliveries that it decides
+-- the disposition in an item, allowed or not, and the answers to the deliveries that it decides
 abbrev pub disposition_of : Perf → Option ADisposition
 disposition_of (perf.Disposition x) = Some x
 disposition_of _ = None
@@ -97,9 +97,9 @@ abbrev pub settled_put : Trace → ℕ → ℕ → Option ADisposition → List 
 settled_put t c own None = []
 settled_put t c own (Some x) = put_for_disposition t c x (Settle own)
 
--- A delivery that came whole, behind the event. Its producer hasn't settled it where its link still claims its id. One that is resumed is ignored, as the
--- router knows none of its; a link has at most 1,024 of these unsettled. Another is bound to a consumer of its address; where none is chosen it is
--- released, or dropped where it is settled.
+-- A whole delivery, after the event. Its producer hasn't settled it if its link still claims its id. A resumed one is ignored, as the
+-- router knows none of its deliveries; a link has at most 1,024 of these unsettled. Another is bound to a consumer of its address; if none is chosen,
+-- it is released, or dropped if it is settled.
 abbrev pub claimed_id : Trace → ℕ → ℕ → ℕ → Option ℕ → Option ℕ
 claimed_id after c own handle None = None
 claimed_id after c own handle (Some id) = if is_claimed_on after c own handle id then Some id else None
@@ -132,7 +132,7 @@ whole_put after c own handle d l =
     if d.resume then ignored_put after c own handle (claimed_id after c own handle d.id)
     else unbound_put own (claimed_id after c own handle d.id) (consumer_of after l)
 
--- what a transfer gives that is taken: a delivery that came whole, one that is too large, or nothing yet
+-- what is put for a transfer that is taken: for a whole delivery, one that is too large, or nothing yet
 abbrev pub part_put : Trace → ℕ → ℕ → ℕ → Option Part → List Item
 part_put after c own handle (Some (part.Whole d payload)) = whole_put after c own handle d (link after c own handle)
 part_put after c own handle (Some part.TooLarge) = detach_item own handle true (Some MessageSizeExceeded) ∷ []
@@ -142,7 +142,7 @@ abbrev pub whole_bound : Trace → ℕ → ℕ → ℕ → Told → List ℕ →
 whole_bound after c own handle d payload None = None
 whole_bound after c own handle d payload (Some l) = message_bound after c own (from_link c own handle l) d payload
 
--- the same of one that isn't resumed
+-- the binding of a delivery that isn't resumed
 abbrev pub fresh_bound : Trace → ℕ → ℕ → ℕ → Told → List ℕ → Option Link → Option Binding
 fresh_bound after c own handle d payload None = None
 fresh_bound after c own handle d payload (Some l) =
@@ -160,7 +160,7 @@ abbrev pub bound_for : Trace → Trace → ℕ → Item → Answer → Option Bi
 bound_for t after c i (Taken own handle) = part_bound after c own handle (part_of i (link_place t c own))
 bound_for t after c i _ = None
 
--- What an answer to an item puts in outboxes, behind the ends for full outboxes.
+-- What an answer to an item puts into outboxes, after the closes because of full outboxes.
 abbrev pub put_for_attach : Trace → ℕ → AnAttach → Answer → List Put
 put_for_attach t c a (Attach own) = taken t c own a
 put_for_attach t c a (Refuse own handle x) = each_to c (refused (largest_frame t c) own handle x a)
@@ -187,14 +187,14 @@ links_put t after c _ answer = []
 abbrev pub item_put : List ℕ → Trace → Trace → ℕ → Conn → Item → Answer → List Put
 item_put id t after c p i answer = each_to c (said id p answer) ++ links_put t (puts c (said id p answer) after) c i answer
 
--- what a transfer gives that is taken, bound and put behind its event; and all that an answer to an item does
+-- the trace after a transfer that is taken is handled, bound and answered; and all that an answer to an item does
 abbrev pub given_behind : Trace → ℕ → ℕ → ℕ → Option Part → Trace
 given_behind after c own handle part = puts c (part_put after c own handle part) (with_bound (part_bound after c own handle part) after)
 
 abbrev pub behind_answer : List ℕ → Trace → Trace → ℕ → Conn → Item → Answer → Trace
 behind_answer id t after c p i answer = goes (item_put id t after c p i answer) (with_bound (bound_for t after c i answer) after)
 
--- nothing where the connection isn't live
+-- nothing if the connection isn't live
 abbrev pub item_row : List ℕ → Trace → Trace → ℕ → Item → Option Conn → List Put
 item_row id t after c i None = []
 item_row id t after c i (Some p) = item_put id t after c p i (item_reply p (finds t c) i)
@@ -203,19 +203,19 @@ abbrev pub item_bound : Trace → Trace → ℕ → Item → Option Conn → Opt
 item_bound t after c i None = None
 item_bound t after c i (Some p) = bound_for t after c i (item_reply p (finds t c) i)
 
--- the message that an event binds, if it brings a whole one and a consumer is chosen for it
+-- the message that an event binds, if it completes one and a consumer is chosen for it
 abbrev pub bound_by : Trace → Trace → Event → Option Binding
 bound_by t after (event.Item c i) = item_bound t after c.0 i (standing (found t (event.Item c i) c.0))
 bound_by t after _ = None
 
--- what an event's own row puts in outboxes, by what the event finds, and behind the ends for full outboxes
+-- what an event's own row puts into outboxes, by what the event finds, after the closes because of full outboxes
 abbrev pub own_row : List ℕ → Trace → Trace → Event → List Put
 own_row id t after (event.Item c i) = item_row id t after c.0 i (standing (found t (event.Item c i) c.0))
 own_row id t after (event.Down c) = each_to c.0 down_reply
 own_row id t after (event.Tick ms) = beats t (event.Tick ms) ms
 own_row id t after _ = []
 
--- the event with what its rows do: the ends, then the message that it binds, then what its own row puts
+-- the event with the effect of its rows: the closes, then the message that it binds, then what its own row puts
 abbrev pub replied_behind : List ℕ → Trace → Trace → Event → Trace
 replied_behind id t after e = goes (own_row id t after e) (with_bound (bound_by t after e) after)
 

@@ -1,4 +1,4 @@
-//! Attaches, taken or refused.
+//! Attaches that are taken or refused.
 ghost use Rattle.std.specs.Prelude.{◌≡◌, ◌∷◌, [], List, ℕ, OnOk, IfOk, Some, None, if◌then◌else◌};
 ghost use Rattle.router_trace.specs.Trace.{Entry, goes, puts};
 ghost use Rattle.router_trace.specs.Links.{holder, key_at, free_handle};
@@ -16,7 +16,7 @@ use router_state::State;
 use router_trace::{Condition, RouterId, attach_item};
 use std::alloc::AllocError;
 
-/// Whether an item's frame is no longer than the peer takes, in bytes.
+/// Whether an item's frame is no longer than `largest` bytes.
 fn fits(id: &RouterId, largest: u32, item: &Item) -> Result<bool, AllocError>
     ensures { IfOk result (λ fit. fit ≡ fits largest item.now) }
 {
@@ -24,7 +24,7 @@ fn fits(id: &RouterId, largest: u32, item: &Item) -> Result<bool, AllocError>
     Ok(length as u64 <= u64::from(largest))
 }
 
-/// Detaches the link of this key, if one is attached, for another that takes its place (AMQP 1.0 part 2, section 2.6.1).
+/// Detaches the link with this key, if one is attached, because another takes its place (AMQP 1.0 part 2, section 2.6.1).
 fn steal(state: &mut State, id: &RouterId, key: &LinkKey) -> Result<(), AllocError>
     ensures { OnOk result ((t : List Entry) → TablesFit state.old t → TablesFit state.new (goes (stolen_by (holder t key.now)) t)) }
 {
@@ -36,7 +36,7 @@ fn steal(state: &mut State, id: &RouterId, key: &LinkKey) -> Result<(), AllocErr
     Ok(())
 }
 
-/// An item whose frame is no longer than the peer takes, in bytes.
+/// The item, if its frame is no longer than `largest` bytes.
 fn within(id: &RouterId, largest: u32, item: Item) -> Result<Option<Item>, AllocError>
     ensures { IfOk result (λ r. r ≡ (if fits largest item then Some item else None)) }
 {
@@ -53,7 +53,7 @@ fn within(id: &RouterId, largest: u32, item: Item) -> Result<Option<Item>, Alloc
     }
 }
 
-/// Puts the answer to an attach, or a detach in its place where it doesn't fit.
+/// Puts the answer to an attach, or a detach instead if it doesn't fit.
 fn put_answer(
     state: &mut State,
     id: &RouterId,
@@ -72,7 +72,7 @@ fn put_answer(
     Ok(())
 }
 
-/// Detaches the link of the answer's key, if one is attached, and gives the lowest handle that is free then.
+/// Detaches the link with the answer's key, if one is attached, and returns the lowest handle that is free then.
 fn make_way(
     state: &mut State,
     id: &RouterId,
@@ -88,7 +88,7 @@ fn make_way(
     Ok(state.free_handle(conn, own))
 }
 
-/// Answers an attach that is taken: the older link of its key is detached, and the answer put on the lowest handle that is free then.
+/// Answers an attach that is taken: detaches the older link with its key, and puts the answer on the lowest handle that is free then.
 fn take_link(
     state: &mut State,
     id: &RouterId,
@@ -114,7 +114,7 @@ fn take_link(
     Ok(())
 }
 
-/// Answers an attach that is refused: an answer without the terminus at the router's side, and a detach; the detach alone where that
+/// Answers an attach that is refused: an answer without the terminus at the router's side, and a detach; the detach alone if the answer
 /// doesn't fit (AMQP 1.0 part 2, section 2.6.3).
 fn refuse_link(
     state: &mut State,
@@ -139,7 +139,7 @@ fn refuse_link(
     Ok(())
 }
 
-/// Puts what an answer to an attach has put in outboxes.
+/// Puts the items of an answer to an attach into outboxes.
 fn answer_attach(
     state: &mut State,
     id: &RouterId,
@@ -159,7 +159,7 @@ fn answer_attach(
     Ok(())
 }
 
-/// Puts what an answer to a performative has put in outboxes beyond its own items.
+/// Puts the items of an answer to a performative into outboxes, beyond the answer's own items.
 fn answer_perf(
     state: &mut State,
     id: &RouterId,
@@ -176,7 +176,7 @@ fn answer_perf(
     Ok(())
 }
 
-/// Puts what an answer to an item has put in outboxes beyond its own items, where the item is an attach.
+/// Puts the items of an answer to an item into outboxes, beyond the answer's own items, if the item is an attach.
 pub fn answer_item(
     state: &mut State,
     id: &RouterId,

@@ -1,4 +1,4 @@
-//! The items that say an answer, and the ends for full outboxes.
+//! The items of an answer, and the closes because of full outboxes.
 ghost use Rattle.std.specs.Prelude.{◌∷◌, List, [], OnOk, Some, true};
 ghost use Rattle.router_trace.specs.Trace.{Entry, puts};
 ghost use Rattle.router_state.specs.Tables.{TablesFit};
@@ -13,7 +13,7 @@ use router_state::State;
 use router_trace::{Condition, RouterId, flow_item, header_item, link_flow_item};
 use std::alloc::AllocError;
 
-/// Closes a connection in this phase with an error; the router's open stands before the close where it isn't written
+/// Closes a connection in this phase with an error; the router's open comes before the close if it isn't written
 /// yet.
 pub fn close_with(
     state: &mut State,
@@ -42,7 +42,7 @@ pub fn write_open(state: &mut State, id: &RouterId, conn: u64) -> Result<(), All
     Ok(())
 }
 
-/// Writes the router's close, with an error or none.
+/// Writes the router's close, with or without an error.
 pub fn write_close(
     state: &mut State,
     id: &RouterId,
@@ -56,7 +56,7 @@ pub fn write_close(
     Ok(())
 }
 
-/// Writes a detach for good, with an error.
+/// Writes a detach that closes the link for good, with an error.
 pub fn write_detach(
     state: &mut State,
     id: &RouterId,
@@ -72,7 +72,7 @@ pub fn write_detach(
     Ok(())
 }
 
-/// Closes these connections for their full outboxes, one after the other. They are over already, so that nothing else is
+/// Closes these connections because their outboxes are full, one after another. They are over already, so nothing else is
 /// put out for them.
 pub fn close_all(state: &mut State, id: &RouterId, due: &[u64]) -> Result<(), AllocError>
     ensures { OnOk result ((t : List Entry) → TablesFit state.old t → TablesFit state.new (ends id.now due.now t)) }
@@ -85,7 +85,7 @@ pub fn close_all(state: &mut State, id: &RouterId, due: &[u64]) -> Result<(), Al
     Ok(())
 }
 
-/// Puts the items that say an answer, on a connection in this phase.
+/// Puts the items of an answer, on a connection in this phase.
 pub fn say(
     state: &mut State,
     id: &RouterId,

@@ -1,4 +1,4 @@
-//! An event with all that follows: the ends for full outboxes, then the event's own row.
+//! An event with all that follows: the closes because of full outboxes, then the event's own row.
 ghost use Rattle.std.specs.Prelude.{◌≡◌, ◌∷◌, ℕ, List, OnOk, IfOk, true, false};
 ghost use Rattle.router_trace.specs.Trace.{Entry, did, newest, step_of, goes};
 ghost use Rattle.router_trace.specs.Sessions.{theirs, maps};
@@ -23,7 +23,7 @@ use router_state::State;
 use router_trace::{ConnectionId, Event, Peer, RouterId};
 use std::alloc::AllocError;
 
-/// Hears an item: its event is noted, and the ends for full outboxes are put; what a transfer gives on its link.
+/// Handles an item: notes its event and puts the closes because of full outboxes. Returns what a transfer makes of its delivery.
 fn hear_item(
     state: &mut State,
     id: &RouterId,
@@ -40,7 +40,7 @@ fn hear_item(
     Ok(part)
 }
 
-/// A transfer that is taken: what it gives is passed on.
+/// A transfer that is taken: a whole delivery is passed on.
 fn on_taken(
     state: &mut State,
     id: &RouterId,
@@ -59,7 +59,7 @@ fn on_taken(
     Ok(())
 }
 
-/// A disposition whose deliveries are answered: those that it names are asked before it is heard.
+/// A disposition whose deliveries are answered: those that it names are looked up before it is handled.
 fn on_settle(
     state: &mut State,
     id: &RouterId,
@@ -81,7 +81,7 @@ fn on_settle(
     Ok(())
 }
 
-/// An item whose row gave this answer: it is heard, and the answer put, but for what an attach has put.
+/// An item whose row gave this answer: handles it and puts the answer, except what an attach puts.
 fn begin_item(
     state: &mut State,
     id: &RouterId,
@@ -112,7 +112,7 @@ fn begin_item(
     }
 }
 
-/// An item on a connection that isn't live as the event finds it: it is heard, and has no answer.
+/// An item on a connection that isn't live as the event finds it: it is handled, and has no answer.
 fn hear_late(
     state: &mut State,
     id: &RouterId,
@@ -126,7 +126,7 @@ fn hear_late(
     Ok(())
 }
 
-/// An item: its row decides over the tables as the event finds them, the event is heard, and then the answer is put.
+/// An item: its row decides on the tables as the event finds them, then the event is handled and the answer put.
 fn on_item(
     state: &mut State,
     id: &RouterId,
@@ -166,7 +166,7 @@ fn on_up(
     Ok(())
 }
 
-/// The down reply: a connection is lost, which has no answer.
+/// The down reply: a connection is lost; there is no answer.
 fn on_down(
     state: &mut State,
     id: &RouterId,
@@ -180,7 +180,7 @@ fn on_down(
     Ok(())
 }
 
-/// Hears a tick: its event is noted, and the ends for full outboxes are put.
+/// Handles a tick: notes its event and puts the closes because of full outboxes.
 fn hear_tick(state: &mut State, id: &RouterId, ends: &[u64], moment: u64) -> Result<(), AllocError>
     ensures { OnOk result ((t : List Entry) → TablesAt state.old t (event.Tick moment) ends.now → TablesFit state.new (heard id.now t (step_of (event.Tick moment)))) }
 {
@@ -189,7 +189,7 @@ fn hear_tick(state: &mut State, id: &RouterId, ends: &[u64], moment: u64) -> Res
     Ok(())
 }
 
-/// The tick reply: heartbeats for those live connections whose peers told an idle-time-out half of which has passed.
+/// The tick reply: a heartbeat for each live connection, once half of its peer's idle-time-out has passed.
 fn on_tick(state: &mut State, id: &RouterId, ends: &[u64], moment: u64) -> Result<(), AllocError>
     ensures { OnOk result ((t : List Entry) → TablesAt state.old t (event.Tick moment) ends.now → TablesFit state.new (replied id.now t (step_of (event.Tick moment)))) }
 {
@@ -199,7 +199,7 @@ fn on_tick(state: &mut State, id: &RouterId, ends: &[u64], moment: u64) -> Resul
     Ok(())
 }
 
-/// The silent reply to the start, which has no answer.
+/// The silent reply: the start has no answer.
 fn on_start(state: &mut State, id: &RouterId, ends: &[u64]) -> Result<(), AllocError>
     ensures { OnOk result ((t : List Entry) → TablesAt state.old t event.Start ends.now → TablesFit state.new (replied id.now t (step_of event.Start))) }
 {
@@ -208,12 +208,12 @@ fn on_start(state: &mut State, id: &RouterId, ends: &[u64]) -> Result<(), AllocE
     Ok(())
 }
 
-/// Replies to an event that is not refused, behind the turn that ended these connections for their full outboxes
+/// Replies to an event that is not refused, after the turn that ended these connections because their outboxes were full
 /// (`State::turn`).
 ///
 /// # Errors
 ///
-/// `AllocError` where memory was refused; nothing can be said of the tables then.
+/// `AllocError` if memory was refused; the tables' contents are unspecified then.
 pub fn reply(state: &mut State, id: &RouterId, ends: &[u64], event: Event) -> Result<(), AllocError>
     ensures { OnOk result ((t : List Entry) → TablesAt state.old t event ends.now → refuses t event ≡ false → TablesFit state.new (replied id.now t (step_of event))) }
 {

@@ -1,4 +1,4 @@
-//! Transfers that are taken for what they carry, and dispositions whose deliveries are answered.
+//! Transfers that are taken, and dispositions whose deliveries are answered.
 ghost use Rattle.std.specs.Prelude.{◌∷◌, [], List, ℕ, OnOk, Some, None, true, map, option_map, ◌≡◌};
 ghost use Rattle.amqp_perf.specs.declared.perf.Role.TheVariants.{Sender};
 ghost use Rattle.router_trace.specs.Trace.{Entry, puts};
@@ -20,10 +20,10 @@ use router_state::State;
 use router_trace::{Attachment, Condition, Origin, RouterId};
 use std::alloc::AllocError;
 
-/// How many unsettled deliveries of a link the router ignores, at most.
+/// The most unsettled deliveries of a link that the router ignores.
 pub const IGNORED: usize = 1024;
 
-/// The id of a delivery of a link that its producer hasn't settled.
+/// The delivery's id, if its producer hasn't settled it.
 fn claimed_id(state: &State, conn: u64, own: u16, handle: u32, id: Option<u32>) -> Option<u32>
     ensures { (t : List Entry) → TablesFit state.now t → result ≡ claimed_id t conn own handle id }
 {
@@ -35,7 +35,7 @@ fn claimed_id(state: &State, conn: u64, own: u16, handle: u32, id: Option<u32>) 
     }
 }
 
-/// Whom a delivery's outcome is told to.
+/// The producer's delivery, to which the outcome is reported.
 fn origin_of(from: Attachment, claimed: Option<u32>) -> Option<Origin>
     ensures { result ≡ option_map (origin_of from) claimed }
 {
@@ -45,7 +45,7 @@ fn origin_of(from: Attachment, claimed: Option<u32>) -> Option<Origin>
     }
 }
 
-/// Tells the outcome of one delivery, and settles it.
+/// Reports the outcome of one delivery, and settles it.
 fn put_outcome(
     state: &mut State,
     id: &RouterId,
@@ -79,7 +79,7 @@ fn release(
     Ok(())
 }
 
-/// Ignores a delivery that is resumed: where more of a link are unsettled than the router ignores, the link is detached.
+/// Ignores a resumed delivery; a link with more unsettled ones than the router ignores is detached.
 fn ignore(
     state: &mut State,
     id: &RouterId,
@@ -107,7 +107,7 @@ fn ignore(
     Ok(())
 }
 
-/// Binds a message of a link to a consumer of its address; where none is chosen the delivery is released.
+/// Binds a message of a link to a consumer of its address; if none is chosen, the delivery is released.
 fn bind(
     state: &mut State,
     id: &RouterId,
@@ -127,7 +127,7 @@ fn bind(
     Ok(())
 }
 
-/// A delivery that came whole and isn't resumed: it is bound where its link stands, or released.
+/// A whole delivery that isn't resumed: it is bound if its link is attached, else released.
 fn pass_fresh(
     state: &mut State,
     id: &RouterId,
@@ -156,7 +156,7 @@ fn pass_fresh(
     Ok(())
 }
 
-/// A delivery that came whole: one that is resumed is ignored.
+/// A whole delivery: a resumed one is ignored.
 fn pass_whole(
     state: &mut State,
     id: &RouterId,
@@ -178,8 +178,8 @@ fn pass_whole(
     Ok(())
 }
 
-/// What a transfer gives that is taken: a delivery that came whole is bound to a consumer of its address, or released, or ignored; one that
-/// is too large detaches its link (AMQP 1.0 part 2, sections 2.6.12, 2.7.3 and 2.7.5).
+/// Handles what a transfer that is taken makes of its delivery: a whole delivery is bound to a consumer of its address, or released, or ignored;
+/// one that is too large detaches its link (AMQP 1.0 part 2, sections 2.6.12, 2.7.3 and 2.7.5).
 pub fn take_part(
     state: &mut State,
     id: &RouterId,
@@ -206,7 +206,7 @@ pub fn take_part(
     Ok(())
 }
 
-/// The disposition that an item is.
+/// The disposition in an item.
 pub fn disposition_in(item: &Item) -> Option<&Disposition>
     ensures { option_map (λ x. x.now) result ≡ disposition_in item.now }
 {
@@ -216,7 +216,7 @@ pub fn disposition_in(item: &Item) -> Option<&Disposition>
     }
 }
 
-/// The disposition that a performative is.
+/// The disposition in a performative.
 fn disposition_of(perf: &Perf) -> Option<&Disposition>
     ensures { option_map (λ x. x.now) result ≡ disposition_of perf.now }
 {
@@ -233,7 +233,7 @@ pub fn last_of(disposition: &Disposition) -> u32
     disposition.last.unwrap_or(disposition.first)
 }
 
-/// The outcome that a state is.
+/// The state, if it is an outcome.
 fn terminal(state: &Option<DeliveryState>) -> Option<&DeliveryState>
     ensures { option_map (λ s. s.now) result ≡ terminal state.now }
 {

@@ -37,12 +37,12 @@ use Rattle.router_rows.specs.LinkRows.{is_multicast_link, refusal, attach_or, at
 use Rattle.router_rows.specs.LinkRows.{flow_on as link_flow_on}
 use Rattle.router_rows.specs.Finding.{finds}
 
--- where a transfer is taken, this stands for its session
+-- if a transfer is taken, this stands for its session
 abbrev pub IsHere : (ℕ → Bool) → Answer → Type 0
 IsHere here (Taken own handle) = here own ≡ true
 IsHere here _ = Unit {0}
 
--- what stands on a channel of the peer
+-- what is on a channel of the peer
 abbrev PlaceIsHere : (ℕ → Bool) → Place → Type 0
 PlaceIsHere here (on own h) = here own ≡ true
 PlaceIsHere here _ = Unit {0}

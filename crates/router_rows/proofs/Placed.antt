@@ -1,4 +1,4 @@
--- What was found on a channel of the peer, where it is a session.
+-- What is on a channel of the peer, if it is a session.
 use Rattle.std.proofs.Common.{◌≡◌, ℕ}
 use Rattle.amqp_session.specs.declared.window.Window.{Window}
 use Rattle.amqp_session.specs.Session.{Session}

@@ -1,4 +1,4 @@
--- The rows of the reply table that speak of links: what the router answers by what stands on the frame's channel and handle (AMQP 1.0
+-- The rows of the reply table for links: the router's answer, by what is on the frame's channel and handle (AMQP 1.0
 -- part 2, sections 2.6 and 2.7.3 to 2.7.7).
 use Rattle.std.specs.Prelude.{ℕ, ◌==◌, Bool, true, false, not, ◌&&◌, nat_lt, nat_le, nat_eq, if◌then◌else◌, List, [], ◌∷◌, length, Option, Some, None, is_none, is_some, option_map, bytes_eq}
 use Rattle.amqp_perf.specs.declared.perf.Attach.{Attach as AnAttach}
@@ -31,8 +31,8 @@ use Rattle.router_trace.specs.Settling.{middle_by}
 use Rattle.router_rows.specs.declared.answer.Answer.{Answer}
 use Rattle.router_rows.specs.declared.answer.Answer.TheVariants.{Nothing, CloseWith, End, Refuse, Attach, Detach, LinkFlow, Taken, Settle}
 
--- Why a link is refused, by its terminus at the router's side: there is none, or none of the kind that the router has, or it is to be
--- made; its address is no string; it is empty; it, or the link's name, is longer than 1,024 bytes. Terminus that are to outlive a
+-- Why a link is refused for its terminus at the router's side: there is none, or not of a kind that the router has, or it would have to be
+-- created; its address isn't a string; it is empty; it, or the link's name, is longer than 1,024 bytes. Termini that must outlive a
 -- connection aren't served yet.
 abbrev pub address_refusal : Option Address → List ℕ → Option Condition
 address_refusal (Some (address.Text [])) name = Some NotFound
@@ -59,7 +59,7 @@ abbrev pub side_refusal : Role → AnAttach → Option Condition
 side_refusal Sender a = target_refusal a.target a.name
 side_refusal Receiver a = source_refusal a.source a.name
 
--- Whether each message of the address at the router's side of a link goes to every consumer, where addresses are shared so.
+-- Whether the messages of the address at the router's side of a link go to every consumer, with this distribution of addresses.
 abbrev pub is_multicast_at : (List ℕ → Bool) → Option Address → Bool
 is_multicast_at multicast (Some (address.Text text)) = multicast text
 is_multicast_at multicast _ = false
@@ -76,7 +76,7 @@ abbrev pub is_multicast_link : (List ℕ → Bool) → Role → AnAttach → Boo
 is_multicast_link multicast Sender a = is_multicast_target multicast a.target
 is_multicast_link multicast Receiver a = is_multicast_source multicast a.source
 
--- An address whose messages go to every consumer isn't served yet; whatever else refuses a link goes before this.
+-- An address whose messages go to every consumer isn't served yet; any other reason to refuse a link comes first.
 abbrev pub unless_multicast : Bool → Option Condition → Option Condition
 unless_multicast multicast (Some x) = Some x
 unless_multicast multicast None = if multicast then Some NotImplemented else None
@@ -84,7 +84,7 @@ unless_multicast multicast None = if multicast then Some NotImplemented else Non
 abbrev pub refusal : Bool → AnAttach → Option Condition
 refusal multicast a = unless_multicast multicast (side_refusal a.role a)
 
--- an attach on a handle of the peer that stands for nothing: where no handle of the router is free that the peer takes, there is no room
+-- an attach on a handle of the peer that stands for nothing: if the router has no free handle that the peer accepts, there is no room
 abbrev pub attach_or : Option Condition → ℕ → ℕ → Answer
 attach_or (Some x) own handle = Refuse own handle x
 attach_or None own handle = Attach own
@@ -93,7 +93,7 @@ abbrev pub attach_fresh : ℕ → Option ℕ → Bool → AnAttach → Answer
 attach_fresh own None multicast a = End own (Some ResourceLimitExceeded)
 attach_fresh own (Some handle) multicast a = attach_or (refusal multicast a) own handle
 
--- an attach on a session: a handle above 63 is a framing error, and one that stands for a link ends the session; where the peer's
+-- an attach on a session: a handle above 63 is a framing error, and one that stands for a link ends the session; while the peer's
 -- detach is awaited it is dropped
 abbrev pub attach_at : ℕ → LinkPlace → Option ℕ → Bool → AnAttach → Answer
 attach_at own nowhere free multicast a = attach_fresh own free multicast a
@@ -103,14 +103,14 @@ attach_at own (on h l) free multicast a = End own (Some HandleInUse)
 abbrev pub session_attach_reply : ℕ → LinkPlace → Option ℕ → Bool → AnAttach → Answer
 session_attach_reply own at free multicast a = if nat_lt 63 a.handle then CloseWith FramingError else attach_at own at free multicast a
 
--- a detach: the router's, closed as the peer's is; none to the detach that the router's own awaits
+-- a detach: the router's, closed as the peer's is; none if it answers the router's own detach
 abbrev pub session_detach_reply : ℕ → LinkPlace → ADetach → Answer
 session_detach_reply own nowhere x = End own (Some UnattachedHandle)
 session_detach_reply own detaching x = Nothing
 session_detach_reply own (on h l) x = Detach own h x.closed None
 
--- A flow of a link: where one is wanted, the router's flow with the figures behind it, of the session and of the link. A count that is
--- behind the peer's own, or ahead of it by more than the credit that is unused, isn't allowed.
+-- A link's flow: if it asks for one, the router's flow with the state of the session and of the link after it. A delivery-count that
+-- is less than the peer's own, or ahead of it by more than the unused credit, isn't allowed.
 abbrev pub link_echo : Bool → ℕ → Session → ℕ → ℕ → ℕ → Answer
 link_echo wanted own h handle count left =
     if wanted then LinkFlow own (told_of h) (record { handle = handle; count = count; credit = left; drain = false }) else Nothing
@@ -141,9 +141,9 @@ link_flow_reply own h nowhere f = End own (Some UnattachedHandle)
 link_flow_reply own h detaching f = Nothing
 link_flow_reply own h (on handle l) f = flow_on own (TheirFlow (flow_state f) ∷ h) handle l.happened f
 
--- A transfer: on a handle that stands for nothing, beyond the session's window, or on a link on which the router sends, it ends the
--- session. A frame that starts a delivery without id or tag, or beyond the credit, detaches the link; under the id of a delivery that isn't
--- settled yet it ends the session. So does a later frame with another id or tag detach it. Any other is taken for what it carries.
+-- A transfer: on a handle that stands for nothing, beyond the session's window, or on a link on which the router is the sender, it ends the
+-- session. A frame that starts a delivery without id or tag, or beyond the credit, detaches the link; with the id of a delivery that isn't
+-- settled yet it ends the session. A later frame with another id or tag detaches the link too. Any other is taken with its payload.
 abbrev pub is_anonymous : ATransfer → Bool
 is_anonymous x = if is_none x.delivery_id then true else is_none x.delivery_tag
 
@@ -196,7 +196,7 @@ session_transfer_reply own h claimed at x =
     else if nat_eq (allowance h) 0 then End own (Some WindowViolation)
     else link_transfer_reply own claimed at x
 
--- A disposition: where the peer as a receiver decides deliveries without settling them, each is answered.
+-- A disposition: if the peer as a receiver decides deliveries without settling them, each is answered.
 abbrev pub asks : Role → Bool → Option DeliveryState → Bool
 asks Sender settled decided = false
 asks Receiver settled decided = not settled && is_some decided

@@ -1,5 +1,5 @@
--- The rows of the reply table: what the router answers to an item on a live connection, by what the item finds: the connection's
--- phase, what stands on the item's channel, and the lowest channel that is free for a session (AMQP 1.0 part 2, sections 2.2,
+-- The rows of the reply table: the router's answer to an item on a live connection, by what the item finds: the connection's
+-- phase, what is on the item's channel, and the lowest channel that is free for a session (AMQP 1.0 part 2, sections 2.2,
 -- 2.4, 2.5 and 2.7).
 use Rattle.std.specs.Prelude.{ℕ, Bool, nat_lt, if◌then◌else◌, List, [], ◌∷◌, length, Option, Some, None, Result, Ok, Err}
 use Rattle.amqp_perf.specs.declared.perf.Attach.{Attach as AnAttach}
@@ -30,7 +30,7 @@ use Rattle.router_rows.specs.LinkRows.{is_multicast_link, session_attach_reply, 
 use Rattle.router_rows.specs.declared.answer.Answer.{Answer}
 use Rattle.router_rows.specs.declared.answer.Answer.TheVariants.{Nothing, Header, Open, Close, CloseWith, Begin, End, Flow, Detach, LinkFlow}
 
--- the items that say an answer, on a connection in this phase
+-- the items of an answer, on a connection in this phase
 abbrev pub said : List ℕ → Conn → Answer → List Item
 said id p Nothing = []
 said id p Header = header_item ∷ []
@@ -52,7 +52,7 @@ header_by (Err f) = CloseWith FramingError
 abbrev pub header_reply : Conn → Answer
 header_reply p = header_by (after_header p)
 
--- what is no item: its body is at fault, or its frame
+-- a faulty frame: its body is faulty, or the frame itself
 abbrev pub condition_of : FrameFault → Condition
 condition_of (fault.Perf f) = DecodeError
 condition_of _ = FramingError
@@ -77,7 +77,7 @@ early_frame_reply = CloseWith NotAllowed
 abbrev pub channel_reply : Answer
 channel_reply = CloseWith FramingError
 
--- another performative than a begin on a channel without session
+-- a performative other than begin, on a channel without a session
 abbrev pub no_session_reply : Answer
 no_session_reply = CloseWith NotAllowed
 
@@ -85,7 +85,7 @@ no_session_reply = CloseWith NotAllowed
 abbrev pub close_reply : Answer
 close_reply = Close
 
--- what has no answer
+-- events without an answer
 abbrev pub silent_reply : Answer
 silent_reply = Nothing
 
@@ -97,7 +97,7 @@ down_reply = []
 abbrev pub beat_reply : ℕ → Answer
 beat_reply channel = if nat_lt 14 channel then channel_reply else silent_reply
 
--- a begin: on a channel in use, or one that answers a begin that the router never wrote, it isn't allowed; where no channel of
+-- a begin: on a channel in use, or if it answers a begin that the router never wrote, it isn't allowed; if no channel of
 -- the router is free there is no room; else the router's begin on its lowest free channel
 abbrev pub begin_on : ℕ → Option ℕ → Answer
 begin_on theirs None = CloseWith ResourceLimitExceeded
@@ -112,17 +112,17 @@ begin_reply nowhere free theirs b = begin_by theirs free b.remote_channel
 begin_reply ending free theirs b = silent_reply
 begin_reply (on own h) free theirs b = CloseWith NotAllowed
 
--- an end: the router's end, without an error; none to the end that the router's own awaits
+-- an end: the router's end, without an error; none if it answers the router's own end
 abbrev pub end_reply : Place → Answer
 end_reply nowhere = no_session_reply
 end_reply ending = silent_reply
 end_reply (on own h) = End own None
 
--- a flow without handle: the router's flow where one is wanted, with the figures behind it
+-- a flow without a handle: if it asks for one, the router's flow with the state after it
 abbrev pub echo : Bool → ℕ → Session → Answer
 echo wanted own h = if wanted then Flow own (told_of h) else silent_reply
 
--- a flow, an attach, a transfer and a detach, where the handles of a session stand for these links
+-- a flow, an attach, a transfer and a detach, if the handles of a session stand for these links
 abbrev pub Links : Type 0
 Links = ℕ → ℕ → LinkPlace
 
@@ -155,8 +155,8 @@ disposition_reply nowhere x = no_session_reply
 disposition_reply ending x = silent_reply
 disposition_reply (on own h) x = session_disposition_reply own x
 
--- What an item finds: what stands on the channels of the peer, the lowest free channel of the router, what the peer's handles stand for
--- on the sessions of the router's channels, the lowest free handle of the router on each, the delivery-ids of the peer that aren't settled, and the
+-- What an item finds: what is on the peer's channels, the router's lowest free channel, what the peer's handles stand for
+-- on the sessions of the router's channels, the router's lowest free handle on each, the peer's delivery-ids that aren't settled, and the
 -- addresses whose messages go to every consumer.
 pub record Finds : Type 0 where
   pub places : ℕ → Place
@@ -166,7 +166,7 @@ pub record Finds : Type 0 where
   pub claimed : ℕ → ℕ → Bool
   pub multicast : List ℕ → Bool
 
--- a performative other than open, in its turn and on a channel in range, or not
+-- a performative other than open, on an open connection and a channel in range, or not
 abbrev pub in_turn : Finds → ℕ → Perf → Answer
 in_turn k channel (perf.Begin b) = begin_reply (k.places channel) k.free_channel channel b
 in_turn k channel (perf.Attach a) = attach_reply (k.places channel) k.links k.free_handle k.multicast a

@@ -1,8 +1,8 @@
-//! What the rows of the reply table answer.
+//! The answers of the reply table's rows.
 use amqp_session::FlowState;
 use router_trace::{Condition, LinkState};
 
-/// What a row of the reply table answers to an item.
+/// A row's answer to an item.
 #[derive(Clone, Copy, Debug)]
 pub enum Answer {
     /// Nothing.
@@ -13,35 +13,35 @@ pub enum Answer {
     Open,
     /// The router's close, without an error.
     Close,
-    /// A close with an error, behind the router's open where that isn't written yet.
+    /// A close with an error; the router's open comes before it if it isn't written yet.
     CloseWith(Condition),
     /// The router's begin.
     Begin {
         /// The router's channel of the session.
         own: u16,
-        /// The peer's channel of it.
+        /// The peer's channel of the session.
         theirs: u16,
     },
-    /// The router's end, with an error or none.
+    /// The router's end, with or without an error.
     End {
         /// The router's channel of the session.
         own: u16,
         /// The error.
         error: Option<Condition>,
     },
-    /// A flow without handle.
+    /// A flow without a handle.
     Flow {
         /// The router's channel of the session.
         own: u16,
-        /// What it tells.
+        /// The session state that it carries.
         told: FlowState,
     },
-    /// The answer to an attach that is taken; an older link of its key is detached before.
+    /// The answer to an attach that is taken; an older link with its key is detached first.
     Attach {
         /// The router's channel of the session.
         own: u16,
     },
-    /// The answer to an attach that is refused, and the detach behind it.
+    /// The answer to an attach that is refused, then a detach.
     Refuse {
         /// The router's channel of the session.
         own: u16,
@@ -50,34 +50,34 @@ pub enum Answer {
         /// The error.
         error: Condition,
     },
-    /// The router's detach, with an error or none.
+    /// The router's detach, with or without an error.
     Detach {
         /// The router's channel of the session.
         own: u16,
         /// The router's handle of the link.
         handle: u32,
-        /// Whether the link is over for good.
+        /// Whether the link is closed for good.
         closed: bool,
         /// The error.
         error: Option<Condition>,
     },
-    /// A flow of a link.
+    /// A link's flow.
     LinkFlow {
         /// The router's channel of the session.
         own: u16,
-        /// What it tells of the session.
+        /// The session state that it carries.
         told: FlowState,
-        /// What it tells of the link.
+        /// The link state that it carries.
         at: LinkState,
     },
-    /// A transfer is taken for what it carries.
+    /// A transfer is taken, with its payload.
     Taken {
         /// The router's channel of the session.
         own: u16,
         /// The router's handle of the link.
         handle: u32,
     },
-    /// Deliveries that a disposition decides without settling them are answered, each settled.
+    /// Deliveries that a disposition decides without settling are answered, each settled.
     Settle {
         /// The router's channel of the session.
         own: u16,

@@ -1,4 +1,4 @@
-//! Which row answers an item.
+//! The choice of the row that answers an item.
 ghost use Rattle.std.specs.Prelude.{◌≡◌, ℕ, List};
 ghost use Rattle.amqp_conn.specs.Phase.{after_frame};
 ghost use Rattle.router_trace.specs.Trace.{Entry};
@@ -27,7 +27,7 @@ use amqp_perf::{Attach, Detach, Flow, Perf, Transfer};
 use router_sessions::Place;
 use router_state::State;
 
-/// An attach on what was found on its channel.
+/// The answer to an attach, by what is on its channel.
 fn attach_reply(state: &State, conn: u64, place: Place, attach: &Attach) -> Answer
     ensures { (t : List Entry) (e : E) (ends : List ℕ) (at : At) → TablesAt state.now t e ends → place ≡ found_of at
         → result ≡ attach_reply at (link_place t conn) (free_handle t conn) (multicast_of t) attach.now }
@@ -44,7 +44,7 @@ fn attach_reply(state: &State, conn: u64, place: Place, attach: &Attach) -> Answ
     }
 }
 
-/// A flow on what was found on its channel.
+/// The answer to a flow, by what is on its channel.
 fn flow_reply(state: &State, conn: u64, place: Place, flow: &Flow) -> Answer
     ensures { (t : List Entry) (e : E) (ends : List ℕ) (at : At) → TablesAt state.now t e ends → place ≡ found_of at
         → result ≡ flow_reply at (link_place t conn) flow.now }
@@ -62,7 +62,7 @@ fn flow_reply(state: &State, conn: u64, place: Place, flow: &Flow) -> Answer
     }
 }
 
-/// Whether a peer has not settled the delivery of an id of its own, where a transfer tells one.
+/// Whether a transfer has a delivery-id whose delivery the peer has not settled.
 fn is_among(state: &State, conn: u64, own: u16, id: Option<u32>) -> bool
     ensures { (t : List Entry) (e : E) (ends : List ℕ) → TablesAt state.now t e ends → result ≡ is_among (is_claimed t conn own) id }
 {
@@ -72,7 +72,7 @@ fn is_among(state: &State, conn: u64, own: u16, id: Option<u32>) -> bool
     }
 }
 
-/// A transfer on what was found on its channel.
+/// The answer to a transfer, by what is on its channel.
 fn transfer_reply(state: &State, conn: u64, place: Place, transfer: &Transfer) -> Answer
     ensures { (t : List Entry) (e : E) (ends : List ℕ) (at : At) → TablesAt state.now t e ends → place ≡ found_of at
         → result ≡ transfer_reply at (link_place t conn) (is_claimed t conn) transfer.now }
@@ -89,7 +89,7 @@ fn transfer_reply(state: &State, conn: u64, place: Place, transfer: &Transfer) -
     }
 }
 
-/// A detach on what was found on its channel.
+/// The answer to a detach, by what is on its channel.
 fn detach_reply(state: &State, conn: u64, place: Place, detach: &Detach) -> Answer
     ensures { (t : List Entry) (e : E) (ends : List ℕ) (at : At) → TablesAt state.now t e ends → place ≡ found_of at
         → result ≡ detach_reply at (link_place t conn) detach.now }
@@ -104,7 +104,7 @@ fn detach_reply(state: &State, conn: u64, place: Place, detach: &Detach) -> Answ
     }
 }
 
-/// A performative other than open in its turn.
+/// The answer to a performative other than open, on an open connection.
 fn in_turn(state: &State, conn: u64, channel: u16, perf: &Perf) -> Answer
     ensures { (t : List Entry) (e : E) (ends : List ℕ) → TablesAt state.now t e ends → result ≡ in_turn (finds t conn) channel perf.now }
 {
@@ -122,7 +122,7 @@ fn in_turn(state: &State, conn: u64, channel: u16, perf: &Perf) -> Answer
     }
 }
 
-/// A performative other than open, on this channel.
+/// The answer to a performative other than open, on this channel.
 fn turn_by(state: &State, conn: u64, phase: Conn, channel: u16, perf: &Perf) -> Answer
     ensures { (t : List Entry) (e : E) (ends : List ℕ) → TablesAt state.now t e ends
         → result ≡ turn_by (finds t conn) channel perf.now (after_frame channel phase) }
@@ -134,7 +134,7 @@ fn turn_by(state: &State, conn: u64, phase: Conn, channel: u16, perf: &Perf) -> 
     }
 }
 
-/// A performative in a frame that is no SASL frame.
+/// The answer to a performative in a frame that isn't a SASL frame.
 fn perf_reply(state: &State, conn: u64, phase: Conn, channel: u16, perf: &Perf) -> Answer
     ensures { (t : List Entry) (e : E) (ends : List ℕ) → TablesAt state.now t e ends → result ≡ perf_reply phase (finds t conn) channel perf.now }
 {
@@ -144,7 +144,7 @@ fn perf_reply(state: &State, conn: u64, phase: Conn, channel: u16, perf: &Perf) 
     }
 }
 
-/// What the router answers to an item on a live connection in this phase.
+/// The router's answer to an item on a live connection in this phase.
 pub fn item_reply(state: &State, conn: u64, phase: Conn, item: &Item) -> Answer
     ensures { (t : List Entry) (e : E) (ends : List ℕ) → TablesAt state.now t e ends → result ≡ item_reply phase (finds t conn) item.now }
 {

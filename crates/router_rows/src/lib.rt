@@ -1,4 +1,4 @@
-//! The rows of the reply table: what the router answers to an item, by what the item finds.
+//! The rows of the reply table: the router's answer to an item, by what the item finds.
 #![tactic(auto)]
 
 mod answer;

@@ -1,4 +1,4 @@
-//! The rows of the reply table that speak of links, a function each: what the router answers to a frame on a session, by what its
+//! The rows of the reply table for links, a function each: the router's answer to a frame on a session, by what its
 //! handle stands for.
 ghost use Rattle.std.specs.Prelude.{◌≡◌, ◌∷◌, ℕ, Bool, Some, true, option_map, is_some};
 ghost use Rattle.amqp_session.specs.Session.{Session, TheirFlow};
@@ -26,10 +26,10 @@ use amqp_session::{Serial, Window};
 use router_sessions::flow_state;
 use router_trace::{Condition, HANDLE_MAX, LinkAt, LinkState, SESSION_WINDOW};
 
-/// The longest name and address of a link that the router takes, in bytes.
+/// The longest name and the longest address of a link that the router accepts, in bytes.
 pub const LINK_TEXT: usize = 1024;
 
-/// The `durable` of a terminus whose unsettled deliveries are to outlive a connection.
+/// The `durable` of a terminus whose unsettled deliveries must outlive a connection.
 const UNSETTLED_STATE: u32 = 2;
 
 /// Why an address at the router's side is refused, if it is.
@@ -115,7 +115,7 @@ fn refusal(multicast: bool, attach: &Attach) -> Option<Condition>
     }
 }
 
-/// An attach on a handle of the peer that stands for nothing.
+/// The answer to an attach on a handle of the peer that stands for nothing.
 fn attach_fresh(own: u16, free: Option<u32>, multicast: bool, attach: &Attach) -> Answer
     ensures { result ≡ attach_fresh own free multicast attach.now }
 {
@@ -131,9 +131,9 @@ fn attach_fresh(own: u16, free: Option<u32>, multicast: bool, attach: &Attach) -
     }
 }
 
-/// An attach on a session: a handle above 63 closes with `amqp:connection:framing-error`; one that stands for a link ends the session with
-/// `amqp:session:handle-in-use`; where no handle of the router is free that the peer takes, it ends with `amqp:resource-limit-exceeded`. A
-/// link whose terminus at the router's side can't be had is refused, as is one of a multicast address; any other is taken. Where the peer's
+/// An attach on a session: a handle above 63 closes with `amqp:connection:framing-error`; a handle that stands for a link ends the session
+/// with `amqp:session:handle-in-use`; if the router has no free handle that the peer accepts, it ends with `amqp:resource-limit-exceeded`. A
+/// link whose terminus at the router's side isn't available is refused, as is one of a multicast address; any other is taken. While the peer's
 /// detach is awaited the attach is dropped (AMQP 1.0 part 2, sections 2.6.3 and 2.7.3).
 pub fn session_attach_reply(
     own: u16,
@@ -157,7 +157,7 @@ pub fn session_attach_reply(
     }
 }
 
-/// A detach on a session: the router's detach, closed as the peer's is; nothing to the detach that the router's own awaits (AMQP 1.0 part 2,
+/// A detach on a session: the router's detach, closed as the peer's is; nothing if it answers the router's own detach (AMQP 1.0 part 2,
 /// section 2.7.7).
 pub fn session_detach_reply(own: u16, at: LinkAt, detach: &Detach) -> Answer
     ensures { (link : LinkPlace) → at ≡ found_link link → result ≡ session_detach_reply own link detach.now }
@@ -184,7 +184,7 @@ fn end_unattached(own: u16) -> Answer
     }
 }
 
-/// The flow of a link, where one is wanted, with the figures behind the peer's.
+/// The link's flow, if the peer asks for one, with the state after the peer's flow.
 fn link_echo(
     own: u16,
     window: Window,
@@ -212,7 +212,7 @@ fn link_echo(
     }
 }
 
-/// A flow on a link on which the router sends.
+/// The answer to a flow on a link on which the router is the sender.
 fn sender_flow(own: u16, window: Window, handle: u32, end: SendEnd, flow: &Flow) -> Answer
     ensures { (h : Session) (list : SendList) → window ≡ window_of h → Sends end list → result ≡ flow_on own (TheirFlow (flow_state flow.now) ∷ h) handle (sends list) flow.now }
 {
@@ -223,7 +223,7 @@ fn sender_flow(own: u16, window: Window, handle: u32, end: SendEnd, flow: &Flow)
     link_echo(own, window, flow, handle, end.count(), end.left())
 }
 
-/// A flow on a link on which the peer sends.
+/// The answer to a flow on a link on which the peer is the sender.
 fn receiver_flow(
     own: u16,
     window: Window,
@@ -251,8 +251,8 @@ fn receiver_flow(
     link_echo(own, window, flow, handle, told, unused - ahead)
 }
 
-/// A flow of a link: where one is wanted, the router's flow with the figures behind it. A count of the peer that is behind its own, or ahead
-/// of it by more than the credit that is unused, detaches with `amqp:not-allowed` (AMQP 1.0 part 2, sections 2.6.7 and 2.7.4).
+/// A link's flow: if it asks for one, the router's flow with the state after it. A delivery-count that is less than the peer's own, or ahead
+/// of it by more than the unused credit, detaches with `amqp:not-allowed` (AMQP 1.0 part 2, sections 2.6.7 and 2.7.4).
 pub fn link_flow_reply(own: u16, window: Window, at: LinkAt, flow: &Flow) -> Answer
     ensures { (h : Session) (link : LinkPlace) → window ≡ window_of h → at ≡ found_link link → result ≡ link_flow_reply own h link flow.now }
 {
@@ -269,9 +269,9 @@ pub fn link_flow_reply(own: u16, window: Window, at: LinkAt, flow: &Flow) -> Ans
 }
 
 /// A transfer on a session: on a handle that stands for no link it ends the session with `amqp:session:unattached-handle`, beyond the
-/// session's window with `amqp:session:window-violation`, on a link on which the router sends with `amqp:not-allowed`. One that starts a
-/// delivery without id or tag detaches the link with `amqp:not-allowed`, one beyond the credit with `amqp:link:transfer-limit-exceeded`;
-/// under the id of a delivery that isn't settled yet it ends the session with `amqp:not-allowed`. A later one with another id or tag than
+/// session's window with `amqp:session:window-violation`, on a link on which the router is the sender with `amqp:not-allowed`. One that starts
+/// a delivery without id or tag detaches the link with `amqp:not-allowed`, one beyond the credit with `amqp:link:transfer-limit-exceeded`;
+/// with the id of a delivery that isn't settled yet it ends the session with `amqp:not-allowed`. A later one with another id or tag than
 /// the first detaches the link with `amqp:not-allowed`. Any other is taken (AMQP 1.0 part 2, sections 2.5.6, 2.6.7, 2.6.12 and 2.7.5).
 pub fn session_transfer_reply(
     own: u16,
@@ -309,7 +309,7 @@ fn end_not_allowed(own: u16) -> Answer
     }
 }
 
-/// A frame that is at fault detaches its link for good.
+/// A faulty frame detaches its link for good.
 fn detach_for(own: u16, handle: u32, error: Condition) -> Answer
     ensures { result ≡ answers.Detach own handle true (Some error) }
 {
@@ -321,7 +321,7 @@ fn detach_for(own: u16, handle: u32, error: Condition) -> Answer
     }
 }
 
-/// A transfer on a link on which the peer sends: it starts a delivery, or goes on with the one in the middle.
+/// The answer to a transfer on a link on which the peer is the sender: it starts a delivery, or continues the one in the middle.
 fn delivery_on(
     own: u16,
     handle: u32,
@@ -339,7 +339,7 @@ fn delivery_on(
     }
 }
 
-/// A transfer that starts a delivery.
+/// The answer to a transfer that starts a delivery.
 fn start_on(own: u16, handle: u32, unused: u32, claimed: bool, transfer: &Transfer) -> Answer
     ensures { (ids : ℕ → Bool) → claimed ≡ is_among ids transfer.now.delivery_id → result ≡ start_on own handle unused ids transfer.now }
 {
@@ -355,7 +355,7 @@ fn start_on(own: u16, handle: u32, unused: u32, claimed: bool, transfer: &Transf
     Answer::Taken { own, handle }
 }
 
-/// Whether a later transfer's id, if it tells one, is that of the first.
+/// Whether a later transfer has no id, or that of the first.
 fn is_same_id(id: Option<u32>, first: Option<u32>) -> bool
     ensures { result ≡ is_same_id id first }
 {
@@ -368,7 +368,7 @@ fn is_same_id(id: Option<u32>, first: Option<u32>) -> bool
     }
 }
 
-/// Whether a later transfer's tag, if it tells one, is that of the first.
+/// Whether a later transfer has no tag, or that of the first.
 fn is_same_tag(tag: &Option<DeliveryTag>, first: &Option<DeliveryTag>) -> bool
     ensures { result ≡ is_same_tag (option_map (λ tag. tag.items) tag.now) (option_map (λ tag. tag.items) first.now) }
 {
@@ -381,7 +381,7 @@ fn is_same_tag(tag: &Option<DeliveryTag>, first: &Option<DeliveryTag>) -> bool
     }
 }
 
-/// A transfer that goes on with a delivery.
+/// The answer to a transfer that continues a delivery.
 fn continue_on(own: u16, handle: u32, first: &Delivery, transfer: &Transfer) -> Answer
     ensures { result ≡ continue_on own handle first.now transfer.now }
 {
@@ -405,7 +405,7 @@ fn is_terminal(state: &Option<DeliveryState>) -> bool
     }
 }
 
-/// A disposition on a session: where the peer as a receiver decides deliveries without settling them, each is answered (AMQP 1.0 part 2,
+/// A disposition on a session: if the peer as a receiver decides deliveries without settling them, each is answered (AMQP 1.0 part 2,
 /// sections 2.6.12 and 2.7.6).
 pub fn session_disposition_reply(own: u16, disposition: &Disposition) -> Answer
     ensures { result ≡ session_disposition_reply own disposition.now }

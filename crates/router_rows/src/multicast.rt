@@ -1,4 +1,4 @@
-//! Whether a link is of an address whose messages go to every consumer.
+//! Whether the messages of a link's address go to every consumer.
 ghost use Rattle.std.specs.Prelude.{◌≡◌, ℕ, List};
 ghost use Rattle.router_trace.specs.Trace.{Entry};
 ghost use Rattle.router_trace.specs.declared.event.Event.{Event as E};

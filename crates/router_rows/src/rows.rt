@@ -1,4 +1,4 @@
-//! The rows of the reply table, a function each: what the router answers to an item on a live connection, by what the item
+//! The rows of the reply table, a function each: the router's answer to an item on a live connection, by what the item
 //! finds.
 ghost use Rattle.std.specs.Prelude.{◌≡◌, ◌∷◌};
 ghost use Rattle.router_trace.specs.Sessions.{Place as At};
@@ -18,7 +18,7 @@ use amqp_session::Window;
 use router_sessions::{Place, flow_state};
 use router_trace::{Condition, SESSION_WINDOW};
 
-/// The longest container-id that the router takes, in bytes.
+/// The longest container-id that the router accepts, in bytes.
 pub const CONTAINER_ID: usize = 1024;
 
 /// A header: the first is answered by the header, a later one closes with `amqp:connection:framing-error` (AMQP 1.0 part
@@ -33,7 +33,7 @@ pub fn header_reply(phase: Conn) -> Answer
     }
 }
 
-/// The condition that tells of what is no item.
+/// The error condition for a faulty frame.
 fn condition_of(fault: FrameFault) -> Condition
     ensures { result ≡ condition_of fault }
 {
@@ -43,7 +43,7 @@ fn condition_of(fault: FrameFault) -> Condition
     }
 }
 
-/// What is no item: a body at fault closes with `amqp:decode-error`, a frame with `amqp:connection:framing-error`.
+/// A faulty frame: a faulty body closes with `amqp:decode-error`, anything else with `amqp:connection:framing-error`.
 pub fn bad_frame_reply(fault: FrameFault) -> Answer
     ensures { result ≡ bad_frame_reply fault }
 {
@@ -83,7 +83,7 @@ pub fn channel_reply() -> Answer
     Answer::CloseWith(Condition::FramingError)
 }
 
-/// Another performative than a begin on a channel without session: a close with `amqp:not-allowed`.
+/// A performative other than begin, on a channel without a session: a close with `amqp:not-allowed`.
 pub fn no_session_reply() -> Answer
     ensures { result ≡ no_session_reply }
 {
@@ -97,7 +97,7 @@ pub fn close_reply() -> Answer
     Answer::Close
 }
 
-/// A heartbeat: nothing, or as any frame on a channel above 14.
+/// A heartbeat: no answer; on a channel above 14 the same answer as for any frame.
 pub fn beat_reply(channel: u16) -> Answer
     ensures { result ≡ beat_reply channel }
 {
@@ -108,8 +108,8 @@ pub fn beat_reply(channel: u16) -> Answer
     }
 }
 
-/// A begin: on a channel in use, or where it answers a begin that the router never wrote, a close with
-/// `amqp:not-allowed`; where no channel of the router is free, one with `amqp:resource-limit-exceeded`; else the router's
+/// A begin: on a channel in use, or if it answers a begin that the router never wrote, a close with
+/// `amqp:not-allowed`; if no channel of the router is free, one with `amqp:resource-limit-exceeded`; else the router's
 /// begin on its lowest free channel. On a channel whose session the router ended it is dropped (AMQP 1.0 part 2, sections
 /// 2.5.1 and 2.7.2).
 pub fn begin_reply(place: Place, free: Option<u16>, theirs: u16, begin: &Begin) -> Answer
@@ -122,7 +122,7 @@ pub fn begin_reply(place: Place, free: Option<u16>, theirs: u16, begin: &Begin) 
     }
 }
 
-/// A begin on a channel without session.
+/// The answer to a begin on a channel without a session.
 fn begin_by(theirs: u16, free: Option<u16>, answers: Option<u16>) -> Answer
     ensures { result ≡ begin_by theirs free answers }
 {
@@ -135,7 +135,7 @@ fn begin_by(theirs: u16, free: Option<u16>, answers: Option<u16>) -> Answer
     }
 }
 
-/// An end: the router's end, without an error; nothing to the end that the router's own awaits (AMQP 1.0 part 2, section
+/// An end: the router's end, without an error; nothing if it answers the router's own end (AMQP 1.0 part 2, section
 /// 2.7.8).
 pub fn end_reply(place: Place) -> Answer
     ensures { (at : At) → place ≡ found_of at → result ≡ end_reply at }
@@ -147,7 +147,7 @@ pub fn end_reply(place: Place) -> Answer
     }
 }
 
-/// A flow without handle: where one is wanted, the router's flow with the session's figures behind it (AMQP 1.0 part 2,
+/// A flow without a handle: if it asks for one, the router's flow with the session's state after it (AMQP 1.0 part 2,
 /// sections 2.5.6 and 2.7.4).
 pub fn session_flow_reply(own: u16, window: Window, flow: &Flow) -> Answer
     ensures { (h : Session) → window ≡ window_of h → result ≡ echo flow.now.echo own (TheirFlow (flow_state flow.now) ∷ h) }

@@ -1,9 +1,9 @@
--- Bytes that a writer got, in pieces.
+-- Bytes that were written, in pieces.
 use Rattle.std.proofs.Common.{◌≡◌, ◌∙◌, sym, ap, refl, ℕ, ◌+◌, ◌≤◌, List, [], ◌∷◌, ◌++◌, length, take, drop, Option, Some, None, append_assoc, subst, zero, suc, arith}
 use Rattle.std.proofs.Math.Seq.{take-add}
 use Rattle.std.specs.Io.KnownBytes.{Appends, Keeps}
 
--- bytes, and then more of them
+-- bytes, then more of them
 pub appends_on : (a b c : Option (List ℕ)) (xs ys : List ℕ) → Appends a b xs → Appends b c ys → Appends a c (xs ++ ys)
 appends_on None b c xs ys first rest = tt
 appends_on (Some a) None c xs ys first rest = elim first [ ]

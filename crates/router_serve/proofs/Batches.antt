@@ -1,4 +1,4 @@
--- Batches that are written one after the other.
+-- Batches that are written one after another.
 use Rattle.std.proofs.Common.{◌≡◌, ◌≢◌, ◌∙◌, sym, ap, refl, subst, ℕ, ◌+◌, ◌≤◌, List, [], ◌∷◌, ◌++◌, length, take, Option, Some, None, arith}
 use Rattle.std.proofs.Common.{append_assoc, append-nil, length-append}
 use Rattle.std.proofs.Math.Seq.{take-append-add}
@@ -17,7 +17,7 @@ abbrev pub IsFar : ConnectionId → ℕ → Option (List ℕ) → Option (List �
 IsFar c next before now old seat = (bs : List Batch) × Follow c 0 bs × (next ≡ items_in bs) × Appends before now (batches_spelled bs)
     × (seat ≡ with_batches (length bs) old)
 
--- one batch more
+-- one more batch
 follow_more : (c : ConnectionId) (n : ℕ) (bs : List Batch) (b : Batch) → Follow c n bs → b.conn ≡ c → b.first ≡ n + items_in bs → Follow c n (bs ++ b ∷ [])
 follow_more c n [] b follow whose first = (whose, let f : b.first ≡ n = omega (arith, first) in f, tt)
 follow_more c n (a ∷ bs) b follow whose first =
@@ -60,7 +60,7 @@ stops c next before now old seat new e far counted = let bs = far.0 in let xs = 
     take_whole [] = refl
     take_whole (y ∷ ys) = ap (λ (zs : List ℕ). y ∷ zs) (take_whole ys)
 
--- a writer that goes on
+-- a writer that continues
 pub goes : (c : ConnectionId) (next behind : ℕ) (before mid now : Option (List ℕ)) (old seat new : Counts) (b : Batch) → IsFar c next before mid old seat
     → b.conn ≡ c → b.first ≡ next → behind ≡ next + length b.items.items → Appends mid now (spelled b.items.items)
     → new ≡ with_batch seat → IsFar c behind before now old new
@@ -72,7 +72,7 @@ goes c next behind before mid now old seat new b far whose first is bytes counte
   counted ∙ (ap with_batch far.4 ∙ (counts_more (length bs) 1 old ∙ ap (λ (k : ℕ). with_batches k old) (sym (length_more bs b)))),
 )
 
--- a writer of which a write failed
+-- a writer whose write failed
 pub breaks : (c : ConnectionId) (next : ℕ) (before mid now : Option (List ℕ)) (old seat new : Counts) (b : Batch) (k : ℕ) → IsFar c next before mid old seat
     → b.conn ≡ c → b.first ≡ next → k ≤ length (spelled b.items.items) → Appends mid now (take k (spelled b.items.items))
     → new ≡ with_batch seat → Wrote c before now old new end.WriteFailed

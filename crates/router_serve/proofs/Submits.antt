@@ -1,10 +1,10 @@
--- What seats of readers count.
+-- What readers' seats count.
 use Rattle.std.proofs.Common.{◌≡◌, ◌∙◌, sym, ap, refl, subst, ℕ, ◌+◌, ◌≤◌, Bool, true, false, Result, Ok, Err, OnOk, OnErr, arith}
 use Rattle.router_core.specs.declared.counts.Counts.{Counts}
 use Rattle.router_serve.specs.declared.end.ReadEnd.{ReadEnd}
 use Rattle.router_serve.specs.Submitting.{with_items, with_downs, needs_down, Submitted}
 
--- items, and more of them
+-- items, then more of them
 abbrev pub HasItems : Counts → Counts → Type 0
 HasItems old new = (k : ℕ) × (new ≡ with_items k old)
 
@@ -17,7 +17,7 @@ items_joined a b c first more = (
 pub no_items : (n : Counts) → HasItems n n
 no_items n = (0, ap (λ (i : ℕ). record n { items = i }) (let same : n.items ≡ n.items + 0 = omega arith in same))
 
--- a loss that is told, or refused
+-- a loss that is reported, or refused
 no_downs : (n : Counts) → n ≡ with_downs 0 n
 no_downs n = ap (λ (i : ℕ). record n { downs = i }) (let same : n.downs ≡ n.downs + 0 = omega arith in same)
 

@@ -1,25 +1,25 @@
--- What a reader hands in.
+-- What a reader submits.
 use Rattle.std.specs.Prelude.{◌≡◌, ◌≤◌, ℕ, ◌+◌, Bool, true, false}
 use Rattle.router_core.specs.declared.counts.Counts.{Counts}
 use Rattle.router_core.specs.declared.fault.CoreFault.TheVariants.{Failed, NoConnection}
 use Rattle.router_serve.specs.declared.end.ReadEnd.{ReadEnd}
 use Rattle.router_serve.specs.declared.end.ReadEnd.TheVariants as end
 
--- so many more items
+-- this many more items
 abbrev pub with_items : ℕ → Counts → Counts
 with_items k n = record n { items = n.items + k }
 
--- so many more losses
+-- this many more losses
 abbrev pub with_downs : ℕ → Counts → Counts
 with_downs k n = record n { downs = n.downs + k }
 
--- the router is still to be told of the loss
+-- the router has yet to be told of the loss
 abbrev pub needs_down : ReadEnd → Bool
 needs_down (end.Core Failed) = false
 needs_down (end.Core NoConnection) = false
 needs_down _ = true
 
--- what the seat of a reader that ended so counted: items, and the loss of the connection once at most, and not where the router answered
+-- the counts of a reader's seat at this end: items, and the loss of the connection at most once, and not if the router answered
 -- Failed or NoConnection
 pub record Submitted (old new : Counts) (e : ReadEnd) : Type 0 where
   pub items : ℕ

@@ -9,27 +9,27 @@ use Rattle.router_core.specs.declared.counts.Counts.{Counts}
 use Rattle.router_serve.specs.declared.end.WriteEnd.{WriteEnd}
 use Rattle.router_serve.specs.declared.end.WriteEnd.TheVariants as end
 
--- the canonical spellings of items, one behind the other
+-- the canonical encodings of items, one after another
 abbrev pub spelled : List Item → List ℕ
 spelled [] = []
 spelled (i ∷ is) = item_spelling i ++ spelled is
 
--- of the items of batches
+-- those of the items of batches
 abbrev pub batches_spelled : List Batch → List ℕ
 batches_spelled [] = []
 batches_spelled (b ∷ bs) = spelled b.items.items ++ batches_spelled bs
 
--- how many items batches have
+-- how many items the batches have
 abbrev pub items_in : List Batch → ℕ
 items_in [] = 0
 items_in (b ∷ bs) = length b.items.items + items_in bs
 
--- batches of a connection, each with its first number behind those of the batches before, from a number on
+-- batches of a connection, from a number on, each with its first number after those of the batches before
 abbrev pub Follow : ConnectionId → ℕ → List Batch → Type 0
 Follow c next [] = Unit {0}
 Follow c next (b ∷ bs) = (b.conn ≡ c) × (b.first ≡ next) × Follow c (next + length b.items.items) bs
 
--- so many more batches
+-- this many more batches
 abbrev pub with_batches : ℕ → Counts → Counts
 with_batches k n = record n { batches = n.batches + k }
 
@@ -39,7 +39,7 @@ unwritten end.Memory = 1
 unwritten end.Gap = 1
 unwritten _ = 0
 
--- what a writer that ended so wrote behind what stood there: a beginning of the canonical bytes of all its batches in order, each of
+-- what a writer with this end appended to its output: a beginning of the canonical bytes of all its batches in order, each of
 -- its connection and numbered on from 0; all of them unless a write failed; and its seat counted each batch once
 pub record Wrote (c : ConnectionId) (before after : Option (List ℕ)) (old new : Counts) (e : WriteEnd) : Type 0 where
   pub batches : List Batch

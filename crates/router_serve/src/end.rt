@@ -1,23 +1,23 @@
-//! Why the threads of a connection end.
+//! Why a connection's threads end.
 ghost use Rattle.std.specs.Prelude.{◌≡◌};
 ghost use Rattle.router_serve.specs.Ends.{read_number, write_number};
 
 use router_core::CoreFault;
 
-/// Why a reader ended; `number` has its number.
+/// Why a reader ended; `number` returns its number.
 #[derive(Clone, Copy, Debug, PartialEq, Eq)]
 pub enum ReadEnd {
-    /// The input ended, or an item `Bad`, the last of a stream, was handed in.
+    /// The input ended, or an item `Bad`, the last of a stream, was submitted.
     End,
     /// A read failed, or the door was still waiting after 1,024 reads.
     ReadFailed,
     /// Memory was refused.
     Memory,
-    /// The router answered a fault.
+    /// The router answered with a fault.
     Core(CoreFault),
     /// The door ended the connection.
     Door,
-    /// What the door says could not be written.
+    /// An answer of the door could not be written.
     WriteFailed,
 }
 
@@ -37,7 +37,7 @@ impl ReadEnd {
     }
 }
 
-/// Why a writer ended; `number` has its number.
+/// Why a writer ended; `number` returns its number.
 #[derive(Clone, Copy, Debug, PartialEq, Eq)]
 pub enum WriteEnd {
     /// The router ended the connection, and all was written.
@@ -46,7 +46,7 @@ pub enum WriteEnd {
     WriteFailed,
     /// Memory was refused; the last batch was not written.
     Memory,
-    /// The router answered a fault.
+    /// The router answered with a fault.
     Core(CoreFault),
     /// A batch doesn't follow the one before; it was not written.
     Gap,

@@ -1,9 +1,9 @@
-//! What a reader and a writer tell of what they do.
+//! Observation points of readers and writers.
 use amqp_frames::Item;
 use router_core::ConnectionId;
 use std::sync::Wait;
 
-/// Which thread of a connection.
+/// One of the two threads of a connection.
 #[derive(Clone, Copy, Debug, PartialEq, Eq)]
 pub enum Side {
     /// The reader.
@@ -13,7 +13,7 @@ pub enum Side {
 }
 
 impl Side {
-    /// The side's number: 0 of the reader, 1 of the writer.
+    /// The side's number: 0 for the reader, 1 for the writer.
     pub fn number(self) -> u8 {
         match self {
             Side::Reader => 0,
@@ -22,16 +22,16 @@ impl Side {
     }
 }
 
-/// What a reader and a writer pass: it may hold them, and it sees what they carry.
+/// The gate that readers and writers pass: it may hold them, and it sees the items that they carry.
 pub trait Gate {
-    /// A reader is about to hand in its item of this number, or a writer to write its batch of this number, counted from 0.
+    /// A reader is about to submit its item with this number, or a writer to write its batch with this number, from 0.
     fn pass<R: Wait>(&self, rt: &R, conn: ConnectionId, side: Side, number: u64);
 
-    /// A reader is about to hand in this item, or a writer to write it.
+    /// A reader is about to submit this item, or a writer to write it.
     fn see<R: Wait>(&self, rt: &R, conn: ConnectionId, side: Side, item: &Item);
 }
 
-/// A gate that holds nobody.
+/// A gate that holds no thread.
 #[derive(Clone, Copy, Debug, Drop)]
 pub struct OpenGate {}
 

@@ -9,34 +9,34 @@ use router_core::{Door, DoorAnswer};
 use std::alloc::{AllocError, Global};
 use std::io::{Read, Write};
 
-/// So often is read before the door is passed.
+/// The most reads before the door is passed.
 pub const READS: usize = 1_024;
 
-/// So many bytes are read at once.
+/// The number of bytes read at once.
 const PIECE: usize = 4_096;
 
-/// How the door was passed.
+/// The result of the door.
 #[derive(Drop)]
 pub enum Greeted {
-    /// The connection is up, with this user; these items go on to the router, the first of them the one that passed.
+    /// The connection is up, with this user; these items go on to the router, beginning with the one that passed.
     Up(Text, Vec<Item>),
     /// The connection is over.
     Ended(ReadEnd),
 }
 
-/// What the door makes of some items.
+/// The door's answer to some items.
 #[derive(Drop)]
 enum Passing {
     /// The next item is awaited.
     Waits,
-    /// The connection is up, with this user; so many items stand before the one that passed.
+    /// The connection is up, with this user; this many items come before the one that passed.
     Up(Text, usize),
     /// The connection is over.
     Ended,
 }
 
-/// Runs the door of a connection over what its peer sends, and writes what it says, until it lets the peer in or ends the connection.
-/// After 1,024 reads the connection is over, as after a read that failed.
+/// Runs a connection's door on what its peer sends, and writes its answers, until it lets the peer in or ends the connection.
+/// After 1,024 reads the connection is over, as it is after a failed read.
 pub fn greet<I: Read, W: Write>(
     alloc: Global,
     input: &mut I,
@@ -61,7 +61,7 @@ pub fn greet<I: Read, W: Write>(
     Greeted::Ended(ReadEnd::ReadFailed)
 }
 
-/// Hands items to the door and writes what it says; none where it awaits another.
+/// Hands items to the door and writes its answers; none if it awaits another item.
 ///
 /// # Errors
 ///
@@ -95,7 +95,7 @@ fn answer<W: Write>(
     }
 }
 
-/// The items from a place on.
+/// The items from an index on.
 fn behind(items: Vec<Item>, at: usize) -> Result<Vec<Item>, AllocError> {
     let mut items = items;
     if at <= items.len() {
@@ -104,7 +104,7 @@ fn behind(items: Vec<Item>, at: usize) -> Result<Vec<Item>, AllocError> {
     Err(AllocError)
 }
 
-/// Hands items to the door until it lets the peer in or ends the connection, and gathers what it says behind what it said before.
+/// Hands items to the door until it lets the peer in or ends the connection, and appends its answers to those before.
 fn pass(
     alloc: Global,
     door: &mut Door,
@@ -126,7 +126,7 @@ fn pass(
     Ok(Passing::Waits)
 }
 
-/// Adds items behind others.
+/// Appends items.
 fn add(said: &mut Vec<Item>, more: Vec<Item>) -> Result<(), AllocError> {
     let mut more = more;
     said.append(&mut more)

@@ -1,4 +1,4 @@
-//! Threads round the shared router: a reader and a writer for each connection, and the greeting before them.
+//! Threads around the shared router: a reader and a writer for each connection, and the greeting before them.
 #![tactic(auto)]
 
 mod end;

@@ -1,4 +1,4 @@
-//! The thread that reads what a peer sends and hands it in.
+//! The thread that reads what a peer sends and submits it to the router.
 ghost use Rattle.std.specs.Prelude.{◌≡◌, ℕ};
 ghost use Rattle.router_serve.specs.Submitting.{with_items, needs_down, Submitted};
 
@@ -11,11 +11,11 @@ use std::alloc::Global;
 use std::io::{ErrorKind, Read};
 use std::sync::Wait;
 
-/// So many bytes are read at once.
+/// The number of bytes read at once.
 pub const PIECE: usize = 65_536;
 
-/// Hands in what a peer sends: the items left over from the door, then those that the input cuts into, and one loss of the
-/// connection at the end, unless the router answered `Failed` or `NoConnection`. It gives the seat back, what receipts there are, and
+/// Submits what a peer sends: the items left over from the door, then those of the input, and at the end one loss of the
+/// connection, unless the router answered `Failed` or `NoConnection`. It returns the seat, the receipts if any, and
 /// why it ended.
 pub fn serve_reader<L: Log, G: Ledgers, R: Wait, I: Read, P: Gate>(
     rt: &R,
@@ -40,7 +40,7 @@ pub fn serve_reader<L: Log, G: Ledgers, R: Wait, I: Read, P: Gate>(
     (seat, Vec::new(alloc), end)
 }
 
-/// Whether the router is still to be told that the connection is lost.
+/// Whether the router has yet to be told that the connection is lost.
 fn needs_down(end: ReadEnd) -> bool
     ensures { result ≡ needs_down end }
 {
@@ -50,7 +50,7 @@ fn needs_down(end: ReadEnd) -> bool
     }
 }
 
-/// Hands in the items left over and those of the input, until one of them is refused or the input ends.
+/// Submits the items left over and those of the input, until one of them is refused or the input ends.
 fn hand_in_all<L: Log, G: Ledgers, R: Wait, I: Read, P: Gate>(
     rt: &R,
     alloc: Global,
@@ -81,11 +81,11 @@ fn hand_in_all<L: Log, G: Ledgers, R: Wait, I: Read, P: Gate>(
     ReadEnd::ReadFailed
 }
 
-/// Hands in items, each behind the gate.
+/// Submits items, each after it passes the gate.
 ///
 /// # Errors
 ///
-/// Why the reader ends: the router's fault, or `End` behind an item `Bad`.
+/// Why the reader ends: the router's fault, or `End` after an item `Bad`.
 fn hand_in<L: Log, G: Ledgers, R: Wait, P: Gate>(
     rt: &R,
     shared: &Shared<L, G>,
@@ -121,7 +121,7 @@ fn is_bad(item: &Item) -> bool {
     }
 }
 
-/// Reads a piece, and gives the items that are whole with it. A read that is interrupted gives none.
+/// Reads a piece, and returns the items that are complete with it. An interrupted read returns none.
 ///
 /// # Errors
 ///

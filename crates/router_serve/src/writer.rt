@@ -1,4 +1,4 @@
-//! The thread that writes what the router puts out for a connection.
+//! The thread that writes a connection's outgoing items.
 ghost use Rattle.std.specs.Prelude.{◌≡◌, ◌≤◌, ◌++◌, true, length, take, ℕ, OnOk, OnErr, IfOk};
 ghost use Rattle.std.specs.Io.KnownBytes.{Appends};
 ghost use Rattle.router_serve.specs.Wrote.{spelled, Wrote};
@@ -13,8 +13,8 @@ use std::alloc::{AllocError, Global};
 use std::io::Write;
 use std::sync::Wait;
 
-/// Writes what the router puts out for a connection, batch by batch, each by one write where the output takes it whole, until
-/// the router ends the connection or something fails. It gives the seat back, and tells why it ended.
+/// Writes a connection's outgoing items, batch by batch, each in one write if the output takes it whole, until
+/// the router ends the connection or something fails. It returns the seat, and why it ended.
 pub fn serve_writer<L: Log, G: Ledgers, R: Wait, W: Write, P: Gate>(
     rt: &R,
     alloc: Global,
@@ -57,7 +57,7 @@ pub fn serve_writer<L: Log, G: Ledgers, R: Wait, W: Write, P: Gate>(
     (seat, WriteEnd::WriteFailed)
 }
 
-/// Writes a batch, and tells whether all of it was written. Where memory is refused nothing is.
+/// Writes a batch, and returns whether all of it was written. If memory is refused, nothing is written.
 fn write_batch<R: Wait, W: Write, P: Gate>(
     rt: &R,
     alloc: Global,
@@ -88,7 +88,7 @@ fn announce<R: Wait, P: Gate>(rt: &R, gate: &P, batch: &Batch, number: u64) {
     }
 }
 
-/// Spells items in a buffer, which is emptied first.
+/// Encodes items into a buffer, which is emptied first.
 pub(crate) fn spell(alloc: Global, items: &[Item], buffer: &mut Vec<u8>) -> Result<(), AllocError>
     ensures { OnOk result (buffer.new.items ≡ spelled items.now) }
 {

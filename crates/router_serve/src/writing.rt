@@ -1,10 +1,10 @@
-//! Writes bytes, and tells how far it came.
+//! Writes bytes, and returns how many.
 ghost use Rattle.std.specs.Prelude.{◌≡◌, ◌≤◌, true, length, take};
 ghost use Rattle.std.specs.Io.KnownBytes.{Appends};
 
 use std::io::{ErrorKind, Write};
 
-/// Writes these bytes, and tells how many were written and whether it was all. A write that fails ends it, unless it was only
+/// Writes these bytes, and returns how many were written and whether that was all. A failed write ends it, unless it was only
 /// interrupted.
 pub fn write_beginning<W: Write>(output: &mut W, bytes: &[u8]) -> (usize, bool)
     ensures bound { result.0 ≤ length bytes.now }

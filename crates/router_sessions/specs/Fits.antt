@@ -1,4 +1,4 @@
--- When the table of sessions is that which a trace gives.
+-- When the table of sessions agrees with a trace.
 use Rattle.std.specs.Prelude.{◌≡◌, ◌<◌, ◌==◌, ℕ, Bool, true, false, if◌then◌else◌, List, [], ◌∷◌, Option, Some, None, option_map}
 use Rattle.std.specs.Ordering.{nat_cmp}
 use Rattle.std.specs.BTreeMap.{get}
@@ -19,7 +19,7 @@ use Rattle.router_trace.specs.Trace.{Trace}
 use Rattle.router_sessions.specs.Windows.{is_narrow_window}
 use Rattle.router_trace.specs.Sessions.{Place, nowhere, ending, on, begin_state, flow_state, offered, answered_channel, theirs, session}
 
--- what a table of sessions knows of a connection, where it knows anything
+-- what a table of sessions knows of a connection, if it knows the connection
 abbrev pub offered_in : Option ConnectionSessions → Option BeginState
 offered_in None = None
 offered_in (Some s) = s.offered
@@ -46,7 +46,7 @@ heard_in_window (perf.Flow f) w = behind_their_flow (flow_state f) w
 heard_in_window (perf.Transfer x) w = behind_their_transfer w
 heard_in_window _ w = w
 
--- the marks behind the touch of a window
+-- the marks after a window was touched
 abbrev pub with_mark : ℕ → Bool → (ℕ → Bool) → ℕ → Bool
 with_mark conn narrow marked c = if conn == c then (if narrow then true else marked c) else marked c
 
@@ -62,19 +62,19 @@ begun_window (Some asked) ours = Some (begun (begin_state ours) asked)
 abbrev pub Marked : (ℕ → Option ConnectionSessions) → (ℕ → Bool) → Type 0
 Marked known marked = (c o : ℕ) → marked c ≡ false → o < 15 → is_narrow_window (window_in (known c) o) ≡ false
 
--- these rows are those of the trace
+-- these rows agree with the trace
 pub record RowsFit (known : ℕ → Option ConnectionSessions) (t : Trace) : Type 0 where
   pub offered : (c : ℕ) → offered_in (known c) ≡ offered t c
   pub answered : (c o : ℕ) → answered_in (known c) o ≡ answered_channel t c o
   pub theirs : (c p : ℕ) → theirs_in (known c) p ≡ theirs t c p
   pub windows : (c o : ℕ) → window_in (known c) o ≡ window_by (session t c o)
 
--- the table of sessions is that of the trace
+-- the table of sessions agrees with the trace
 pub record SessionsFit (s : Sessions) (t : Trace) : Type 0 where
   pub rows : RowsFit (get nat_cmp s.rows) t
   pub marks : Marked (get nat_cmp s.rows) (contains nat_cmp s.narrow)
 
--- a list of one, where there is one
+-- a list of one value, if there is one
 abbrev pub listed : {A : Type 0} → Option A → List A
 listed None = []
 listed (Some a) = a ∷ []

@@ -1,4 +1,4 @@
--- The flows that tell windows anew (AMQP 1.0 part 2, section 2.5.6).
+-- The flows that restore narrow windows (AMQP 1.0 part 2, section 2.5.6).
 use Rattle.std.specs.Prelude.{ℕ, zero, suc, Bool, false, nat_le, if◌then◌else◌, List, [], ◌∷◌, ◌++◌, Option, Some, None}
 use Rattle.amqp_session.specs.declared.window.Window.{Window}
 use Rattle.amqp_session.specs.Session.{Session, allowance}
@@ -9,7 +9,7 @@ use Rattle.router_trace.specs.Connection.{live}
 use Rattle.router_trace.specs.Sessions.{session}
 use Rattle.router_trace.specs.Frames.{flow_item, told_of}
 
--- the peer of a session may send so few transfers more that it is told anew: half of the window is used up
+-- the peer of a session may send so few transfers more that a flow is due: half of the window is used up
 abbrev pub is_narrow : Session → Bool
 is_narrow h = nat_le (allowance h) 1024
 

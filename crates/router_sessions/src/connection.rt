@@ -17,23 +17,23 @@ use router_trace::{ConnectionId, Outgoing, PeerChannel, SESSION_WINDOW, flow_ite
 use std::alloc::{AllocError, Global};
 use std::collections::BTreeMap;
 
-/// A window is narrow where its peer may send so many transfers or fewer: half of it is used up.
+/// The number of transfers at which a window is narrow: the peer may send this many or fewer, so half of it is used up.
 pub const NARROW: u32 = 1_024;
 
 /// The sessions of one connection.
 #[derive(Debug, Drop)]
 pub struct ConnectionSessions {
-    // what the peer's last begin told
+    // what the peer's last begin says
     offered: Option<BeginState>,
     // by the router's channel, the peer's channel whose begin it answered
     answered: BTreeMap<u16, u16>,
     // by the peer's channel, what it stands for
     theirs: BTreeMap<u16, PeerChannel>,
-    // by the router's channel, the windows of its session
+    // by the router's channel, its session's windows
     windows: BTreeMap<u16, Window>,
 }
 
-/// What a begin tells of its sender's end.
+/// What a begin says of its sender's end.
 fn begin_state(begin: &Begin) -> BeginState
     ensures { result ≡ begin_state begin.now }
 {
@@ -43,7 +43,7 @@ fn begin_state(begin: &Begin) -> BeginState
     }
 }
 
-/// What a flow tells of its sender's end.
+/// What a flow says of its sender's end.
 pub fn flow_state(flow: &Flow) -> FlowState
     ensures { result ≡ flow_state flow.now }
 {
@@ -64,7 +64,7 @@ fn mapped(theirs: &BTreeMap<u16, PeerChannel>, channel: u16) -> Option<u16>
     }
 }
 
-/// Takes a performative of the peer into the window of its session.
+/// Applies a performative of the peer to the window of its session.
 fn hear_in(windows: &mut BTreeMap<u16, Window>, own: Option<u16>, perf: &Perf)
     ensures { (o : ℕ) → get nat_cmp windows.new o ≡ heard_window perf.now (is_channel own o) (get nat_cmp windows.old o) }
 {
@@ -76,7 +76,7 @@ fn hear_in(windows: &mut BTreeMap<u16, Window>, own: Option<u16>, perf: &Perf)
     }
 }
 
-/// Takes a performative of the peer into the window of a session.
+/// Applies a performative of the peer to the window of a session.
 fn hear_one(window: &mut Window, perf: &Perf)
     ensures { window.new ≡ heard_in_window perf.now window.old }
 {
@@ -90,7 +90,7 @@ fn hear_one(window: &mut Window, perf: &Perf)
 }
 
 impl ConnectionSessions {
-    /// No session.
+    /// An empty table.
     pub fn new(alloc: Global) -> ConnectionSessions
         ensures offered { result.offered ≡ None }
         ensures answered { (o : ℕ) → get nat_cmp result.answered o ≡ None }
@@ -105,7 +105,7 @@ impl ConnectionSessions {
         }
     }
 
-    /// What stands on a channel of the peer.
+    /// What is on a channel of the peer.
     pub fn place(&self, channel: u16) -> Place
         ensures { (known : ℕ → Option Session) → ((o : ℕ) → get nat_cmp self.now.windows o ≡ window_by (known o))
             → result ≡ found_of (place_by (get nat_cmp self.now.theirs channel) known) }
@@ -137,7 +137,7 @@ impl ConnectionSessions {
         self.windows.get(&own).copied()
     }
 
-    /// Takes a performative of the peer on this channel of its own. Tells whether the window of its session is narrow now.
+    /// Handles a performative received on the peer's channel. Returns whether its session's window is narrow now.
     pub fn hear(&mut self, channel: u16, perf: &Perf) -> bool
         ensures narrow { result ≡ is_narrow_at (get nat_cmp self.old.theirs channel) (get nat_cmp self.new.windows) }
         ensures offered { self.new.offered ≡ offered_in perf.now self.old.offered }
@@ -170,7 +170,7 @@ impl ConnectionSessions {
         }
     }
 
-    /// The flow that is due on a session whose window is narrow.
+    /// The flow that is due on a session because its window is narrow.
     pub fn due(&self, conn: u64, own: u16) -> Option<Outgoing>
         ensures { (known : ℕ → Option Session) → ((o : ℕ) → get nat_cmp self.now.windows o ≡ window_by (known o))
             → flow_due conn own (known own) ≡ puts_of (listed result) }
@@ -185,7 +185,7 @@ impl ConnectionSessions {
         })
     }
 
-    /// The router begins a session on this channel of its own. Tells whether its window is narrow.
+    /// The router begins a session on its channel `own`. Returns whether its window is narrow.
     pub fn begin(&mut self, own: u16, begin: &Begin) -> Result<bool, AllocError>
         ensures narrow { IfOk result (λ narrow. narrow ≡ is_narrow_window (get nat_cmp self.new.windows own)) }
         ensures offered { self.new.offered ≡ self.old.offered }
@@ -205,7 +205,7 @@ impl ConnectionSessions {
         Ok(self.is_narrow(own))
     }
 
-    /// The router ends the session on this channel of its own.
+    /// The router ends the session on its channel `own`.
     pub fn end(&mut self, own: u16)
         ensures offered { self.new.offered ≡ self.old.offered }
         ensures answered { (o : ℕ) → get nat_cmp self.new.answered o ≡ (if own == o then None else get nat_cmp self.old.answered o) }
@@ -221,7 +221,7 @@ impl ConnectionSessions {
         }
     }
 
-    /// The router tells its window on this channel of its own. Tells whether it is narrow.
+    /// The router sends a flow with its window on its channel `own`. Returns whether the window is narrow.
     pub fn tell(&mut self, own: u16, flow: &Flow) -> bool
         ensures narrow { result ≡ is_narrow_window (get nat_cmp self.new.windows own) }
         ensures offered { self.new.offered ≡ self.old.offered }
@@ -235,7 +235,7 @@ impl ConnectionSessions {
         self.is_narrow(own)
     }
 
-    /// The router sends a transfer on this channel of its own.
+    /// The router sends a transfer on its channel `own`.
     pub fn send(&mut self, own: u16)
         ensures offered { self.new.offered ≡ self.old.offered }
         ensures answered { self.new.answered ≡ self.old.answered }
@@ -248,7 +248,7 @@ impl ConnectionSessions {
     }
 }
 
-/// Gives a key this value, or none.
+/// Gives a key this value, or removes it.
 fn set<V: Drop>(map: &mut BTreeMap<u16, V>, key: u16, value: Option<V>) -> Result<(), AllocError>
     ensures { OnOk result ((k : ℕ) → get nat_cmp map.new k ≡ (if key == k then value else get nat_cmp map.old k)) }
 {

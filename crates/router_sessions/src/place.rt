@@ -1,12 +1,12 @@
-//! What stands on a channel of a peer.
+//! What is on a peer's channel.
 use amqp_session::Window;
 
-/// What stands on a channel of a peer.
+/// What is on a peer's channel.
 #[derive(Clone, Copy, Debug, PartialEq, Eq)]
 pub enum Place {
     /// Nothing.
     Nowhere,
-    /// A session that the router ended; the peer's end is awaited.
+    /// The router has ended the session and is waiting for the peer's end.
     Ending,
     /// A session.
     On {

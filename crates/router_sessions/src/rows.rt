@@ -19,7 +19,7 @@ use router_trace::ConnectionId;
 use std::alloc::{AllocError, Global};
 use std::collections::BTreeMap;
 
-/// A performative came on a connection. Tells whether the window of its session is narrow.
+/// A performative was received on a connection. Returns whether its session's window is narrow.
 pub fn hear(
     rows: &mut BTreeMap<u64, ConnectionSessions>,
     conn: ConnectionId,
@@ -39,7 +39,7 @@ pub fn hear(
     }
 }
 
-/// The router begins a session. Tells whether its window is narrow.
+/// The router begins a session. Returns whether its window is narrow.
 pub fn begin(
     rows: &mut BTreeMap<u64, ConnectionSessions>,
     conn: u64,
@@ -58,7 +58,7 @@ pub fn begin(
     }
 }
 
-/// The router tells its window. Tells whether it is narrow.
+/// The router sends a flow with its window. Returns whether it is narrow.
 pub fn tell(rows: &mut BTreeMap<u64, ConnectionSessions>, conn: u64, own: u16, flow: &Flow) -> bool
     ensures fits { (t : List Entry) (sasl : Bool) (payload : List ℕ) → RowsFit (get nat_cmp rows.old) t
         → RowsFit (get nat_cmp rows.new) (Out conn (item.Frame sasl own (perf.Flow flow.now) payload) ∷ t) }
@@ -102,7 +102,7 @@ pub fn forget(rows: &mut BTreeMap<u64, ConnectionSessions>, conn: u64)
     let _ = rows.remove(&conn);
 }
 
-/// Gives a connection a row, where it has none.
+/// Gives a connection a row if it has none.
 pub fn know(
     alloc: Global,
     rows: &mut BTreeMap<u64, ConnectionSessions>,

@@ -26,10 +26,10 @@ use router_trace::{ConnectionId, Outgoing};
 use std::alloc::{AllocError, Global};
 use std::collections::{BTreeMap, BTreeSet};
 
-/// So many channels the router takes.
+/// The number of channels that the router accepts.
 const CHANNEL_COUNT: u16 = 15;
 
-/// The channels that the router takes.
+/// The channels that the router accepts.
 pub const CHANNELS: [u16; 15] = [0, 1, 2, 3, 4, 5, 6, 7, 8, 9, 10, 11, 12, 13, 14];
 
 /// The sessions of all connections.
@@ -42,7 +42,7 @@ pub struct Sessions {
 }
 
 impl Sessions {
-    /// No sessions.
+    /// An empty table.
     pub fn new(alloc: Global) -> Sessions
         ensures { (g : Routing) → SessionsFit result (configured g) }
     {
@@ -53,7 +53,7 @@ impl Sessions {
         }
     }
 
-    /// What stands on a channel of the peer.
+    /// What is on a channel of the peer.
     pub fn place(&self, conn: u64, channel: u16) -> Place
         ensures { (t : List Entry) → SessionsFit self.now t → result ≡ found_of (place t conn channel) }
     {
@@ -63,7 +63,7 @@ impl Sessions {
         }
     }
 
-    /// The router's channel that a channel of the peer stands for; none where no session stands on it.
+    /// The router's channel that a channel of the peer stands for; none if it has no session.
     pub fn own_channel(&self, conn: u64, channel: u16) -> Option<u16>
         ensures { (t : List Entry) → SessionsFit self.now t → (o : ℕ) → is_channel result o ≡ maps (theirs t conn channel) o }
     {
@@ -73,7 +73,7 @@ impl Sessions {
         }
     }
 
-    /// The lowest of the router's channels that the peer takes too and on which no session stands.
+    /// The router's lowest channel that the peer accepts too and that has no session.
     #[tactic(auto, unfolding(router_trace::specs::Sessions::free_channel))]
     pub fn free_channel(&self, conn: u64, channel_max: u16) -> Option<u16>
         ensures { (t : List Entry) → SessionsFit self.now t → result ≡ free_channel t conn channel_max }
@@ -81,7 +81,7 @@ impl Sessions {
         self.first_free(conn, channel_max, &CHANNELS)
     }
 
-    /// The first of these channels that the peer takes too and on which no session stands.
+    /// The first of these channels that the peer accepts too and that has no session.
     fn first_free(&self, conn: u64, channel_max: u16, channels: &[u16]) -> Option<u16>
         ensures { (t : List Entry) → SessionsFit self.now t → result ≡ find (is_free channel_max (session t conn)) channels.now }
     {
@@ -103,7 +103,7 @@ impl Sessions {
         }
     }
 
-    /// The flow that is due on a session whose window is narrow.
+    /// The flow that is due on a session because its window is narrow.
     fn due(&self, conn: u64, own: u16) -> Option<Outgoing>
         ensures { (t : List Entry) → SessionsFit self.now t → flow_due conn own (session t conn own) ≡ puts_of (listed result) }
     {
@@ -120,7 +120,7 @@ impl Sessions {
         Ok(())
     }
 
-    /// Adds the flows that are due on a connection, by the router's channel; none is due where the connection isn't marked.
+    /// Adds the flows that are due on a connection, by the router's channel; none is due if the connection isn't marked.
     pub fn due_on(&self, conn: u64, flows: &mut Vec<Outgoing>) -> Result<(), AllocError>
         ensures { OnOk result ((t : List Entry) → SessionsFit self.now t → puts_of flows.new.items ≡ puts_of flows.old.items ++ flows_below conn (session t conn) 15) }
     {
@@ -137,7 +137,7 @@ impl Sessions {
         self.narrow.is_empty()
     }
 
-    /// Unmarks a connection that has no narrow window any more.
+    /// Unmarks a connection that has no narrow window left.
     pub fn settle(&mut self, conn: u64)
         ensures { (t : List Entry) → SessionsFit self.old t → SessionsFit self.new t }
     {
@@ -168,7 +168,7 @@ impl Sessions {
         }
     }
 
-    /// An item came on a connection. Where memory is refused nothing can be said of the table.
+    /// An item was received on a connection. If memory is refused, the table's contents are unspecified.
     pub fn hear(&mut self, conn: ConnectionId, item: &Item) -> Result<(), AllocError>
         ensures { OnOk result ((t : List Entry) → SessionsFit self.old t → SessionsFit self.new (did (event.Item conn item.now) ∷ t)) }
     {
@@ -188,7 +188,7 @@ impl Sessions {
         Ok(())
     }
 
-    /// A performative came on a connection.
+    /// A performative was received on a connection.
     fn hear_perf(&mut self, conn: ConnectionId, channel: u16, perf: &Perf) -> Result<(), AllocError>
         ensures { OnOk result ((t : List Entry) (payload : List ℕ) → SessionsFit self.old t
             → SessionsFit self.new (did (event.Item conn (item.Frame false channel perf.now payload)) ∷ t)) }
@@ -208,7 +208,7 @@ impl Sessions {
         rows::forget(&mut self.rows, conn.0);
     }
 
-    /// An item is put in the outbox of a connection. Where memory is refused nothing can be said of the table.
+    /// An item is put into the outbox of a connection. If memory is refused, the table's contents are unspecified.
     pub fn put(&mut self, conn: u64, item: &Item) -> Result<(), AllocError>
         ensures { OnOk result ((t : List Entry) → SessionsFit self.old t → SessionsFit self.new (Out conn item.now ∷ t)) }
     {
@@ -219,7 +219,7 @@ impl Sessions {
         Ok(())
     }
 
-    /// A performative is put in the outbox of a connection.
+    /// A performative is put into the outbox of a connection.
     fn put_perf(&mut self, conn: u64, own: u16, perf: &Perf) -> Result<(), AllocError>
         ensures { OnOk result ((t : List Entry) (sasl : Bool) (payload : List ℕ) → SessionsFit self.old t
             → SessionsFit self.new (Out conn (item.Frame sasl own perf.now payload) ∷ t)) }
@@ -246,7 +246,7 @@ impl Sessions {
         Ok(())
     }
 
-    /// The router tells its window.
+    /// The router sends a flow with its window.
     fn put_flow(&mut self, conn: u64, own: u16, flow: &Flow) -> Result<(), AllocError>
         ensures { OnOk result ((t : List Entry) (sasl : Bool) (payload : List ℕ) → SessionsFit self.old t
             → SessionsFit self.new (Out conn (item.Frame sasl own (perf.Flow flow.now) payload) ∷ t)) }
@@ -270,7 +270,7 @@ fn mark(marks: &mut BTreeSet<u64>, conn: u64, narrow: bool) -> Result<(), AllocE
     }
 }
 
-/// Puts an item behind others, where there is one.
+/// Appends an item, if there is one.
 fn add(flows: &mut Vec<Outgoing>, due: Option<Outgoing>) -> Result<(), AllocError>
     ensures { OnOk result (puts_of flows.new.items ≡ puts_of flows.old.items ++ puts_of (listed due)) }
 {

@@ -1,4 +1,4 @@
--- One move more of a router.
+-- One more move of a router.
 use Rattle.std.proofs.Common.{◌≡◌, ◌∙◌, sym, ap, refl, subst, ℕ, Bool, true, false, List, [], ◌∷◌, ◌++◌, length, take, Option, Some, None, Result, Ok, Err, OnOk, IfOk, IfErr}
 use Rattle.router_core.specs.declared.router.Done.{Done}
 use Rattle.router_core.specs.declared.fault.CoreFault.{CoreFault}
@@ -20,13 +20,13 @@ use Rattle.router_core.specs.Handling.{Fits, is_failed, id_of, counts_of, IsBatc
 use Rattle.router_core.proofs.Moves.{goes_on}
 use Rattle.router_shared.specs.History.{tally, IsOpened, IsHistory, HasHistory}
 
--- the counts of moves, and of more of them
+-- the counts of moves, then of more moves
 tally_more : (ms ns : List Move) (n : Counts) → tally (ms ++ ns) n ≡ tally ns (tally ms n)
 tally_more [] ns n = refl
 tally_more (handles s ∷ ms) ns n = tally_more ms ns (with_event s.event n)
 tally_more (takes x ∷ ms) ns n = tally_more ms ns (with_batch n)
 
--- an event more
+-- one more event
 pub event_more : (old new : Core) (e : Event) → HasHistory old → is_failed old ≡ false
     → ((t : List Entry) → Fits old t → (u : List Entry) × Replies (id_of old) t (step_of e) u × Fits new u)
     → ((t : List Entry) → Fits old t → refuses t e ≡ false)
@@ -47,12 +47,12 @@ event_more old new e lived works fits taken counted named = λ _.
       },
     )
 
--- how many items a batch has
+-- the number of items in a batch
 batch_length : (o : Option Connection) (b : Batch) → IsBatchOf o 64 b → length b.items.items ≡ length (take 64 (waiting_of o))
 batch_length None b is = elim is [ ]
 batch_length (Some v) b is = ap length is.in_order
 
--- a take more
+-- one more take
 pub take_more : (old new : Core) (c : ConnectionId) (b : Batch) → HasHistory old → is_failed old ≡ false
     → ((t : List Entry) → Fits old t → Fits new (Took c.0 (length b.items.items) ∷ t))
     → ((t : List Entry) → Fits old t → IsBatchOf (conn t c.0) 64 b)
@@ -73,20 +73,20 @@ take_more old new c b lived works fits batch counted named = λ _.
       },
     )
 
--- nothing happened yet
+-- nothing has happened yet
 pub none_yet : (core : Core) → IsOpened core → counts_of core ≡ uncounted → HasHistory core
 none_yet core opened counts = λ _. (opened.0, [], configured opened.0, record { goes = refl; fits = opened.1; counted = counts })
 
--- a router that fails has none to tell
+-- nothing is claimed of a router that fails
 pub failed_now : (core : Core) → is_failed core ≡ true → HasHistory core
 failed_now core fails = λ works. absurd (let bad : true ≡ false = sym fails ∙ works in cc)
 
--- behind an answer Ok it hadn't failed before
+-- after an answer Ok it hadn't failed before
 worked : {A : Type 0} (a : A) (b : Bool) → (b ≡ true → Ok a ≡ Err Failed) → b ≡ false
 worked a true is = absurd (let bad = is refl in cc)
 worked a false is = refl
 
--- an event is handled, or refused, or memory is
+-- an event is handled, or refused, or memory is refused
 pub handled : (old new : Core) (e : Event) (r : Result Done CoreFault) → HasHistory old
     → OnOk r ((t : List Entry) → Fits old t → (u : List Entry) × Replies (id_of old) t (step_of e) u × Fits new u)
     → OnOk r ((t : List Entry) → Fits old t → refuses t e ≡ false)
@@ -102,7 +102,7 @@ handled old new e (Err Memory) lived fits taken counted named failed refused unc
 handled old new e (Err Failed) lived fits taken counted named failed refused unchanged memory disk = subst HasHistory (sym (unchanged refl).0) lived
 handled old new e (Err NoConnection) lived fits taken counted named failed refused unchanged memory disk = subst HasHistory (sym (refused refl).0) lived
 
--- items are taken, or nothing is known of the connection, or memory is refused
+-- items are taken, or the connection is unknown, or memory is refused
 pub taken : (old new : Core) (c : ConnectionId) (r : Result Batch CoreFault) → HasHistory old
     → IfOk r (λ b. (t : List Entry) → Fits old t → Fits new (Took c.0 (length b.items.items) ∷ t))
     → IfOk r (λ b. (t : List Entry) → Fits old t → IsBatchOf (conn t c.0) 64 b)

@@ -5,7 +5,7 @@ use Rattle.router_core.specs.Counting.{with_batch}
 use Rattle.router_shared.specs.declared.kind.Kind.{Kind}
 use Rattle.router_shared.specs.declared.kind.Kind.TheVariants as kind
 
--- an event more of this kind
+-- one more event of this kind
 abbrev pub with_kind : Kind → Counts → Counts
 with_kind kind.Up n = record n { ups = n.ups + 1 }
 with_kind kind.Item n = record n { items = n.items + 1 }
@@ -13,7 +13,7 @@ with_kind kind.Down n = record n { downs = n.downs + 1 }
 with_kind kind.Tick n = record n { ticks = n.ticks + 1 }
 with_kind kind.Start n = record n { starts = n.starts + 1 }
 
--- two counts, number by number
+-- the sum of two counts, number by number
 abbrev pub plus : Counts → Counts → Counts
 plus n m = record {
   ups = n.ups + m.ups;

@@ -1,9 +1,9 @@
-//! Which sleeping writers are to be woken.
+//! The sleeping writers that must be woken.
 ghost use Rattle.std.specs.Prelude.{◌<◌};
 
 use router_core::ConnectionId;
 
-/// So many bells hang beside the lock.
+/// The number of bells beside the lock.
 pub const BELLS: usize = 256;
 
 /// A bit for each bell.
@@ -12,7 +12,7 @@ pub struct Bells {
     words: [u64; 4],
 }
 
-/// The bell of a connection's writer. Connections whose numbers are 256 apart have one bell; who is woken in vain sleeps on.
+/// The bell of a connection's writer. Connections whose numbers are 256 apart share one; a writer that is woken in vain sleeps on.
 pub fn bell_of(conn: ConnectionId) -> usize
     ensures { result < 256 }
 {
@@ -44,14 +44,14 @@ impl Bells {
         self.words[bell / 64] >> (bell % 64) & 1 == 1
     }
 
-    /// One bell more.
+    /// Adds a bell.
     pub fn add(&mut self, bell: usize)
         requires { bell < 256 }
     {
         self.words[bell / 64] |= 1 << (bell % 64);
     }
 
-    /// Moves a bell to others, where it is one of these.
+    /// Moves a bell to `others`, if it is one of these.
     pub fn give(&mut self, others: &mut Bells, bell: usize)
         requires { bell < 256 }
     {

@@ -11,11 +11,11 @@ use router_core::Event;
 pub enum Kind {
     /// A connection came up.
     Up,
-    /// An item came.
+    /// An item was received.
     Item,
     /// A connection was lost.
     Down,
-    /// Time passed.
+    /// The clock moved.
     Tick,
     /// The router starts.
     Start,

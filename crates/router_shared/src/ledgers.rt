@@ -4,10 +4,10 @@ ghost use Rattle.std.specs.Prelude.{ℕ};
 use std::marker::{Brand, PhantomData};
 use std::sync::ledger::{Blank, Ledger};
 
-/// So many seats can be given out.
+/// The number of seats that can be given out.
 pub const SEATS: u64 = 1 << 62;
 
-/// A ledger and into how many parts it is cut, which fields beside its tokens can name.
+/// A ledger, and the number of parts it is cut into, which fields beside its tokens can name.
 pub trait Hall: Ledger {
     ghost seats: { ℕ };
 }
@@ -16,19 +16,19 @@ impl Hall for Brand {
     ghost seats = { 0 };
 }
 
-/// A ledger for each number that a router counts.
+/// One ledger for each number that a router counts.
 pub trait Ledgers {
-    /// Of connections that came up.
+    /// The ledger of connections that came up.
     type Ups: Hall;
-    /// Of items that came.
+    /// The ledger of items received.
     type Items: Hall;
-    /// Of connections that were lost.
+    /// The ledger of connections that were lost.
     type Downs: Hall;
-    /// Of ticks.
+    /// The ledger of ticks.
     type Ticks: Hall;
-    /// Of starts.
+    /// The ledger of starts.
     type Starts: Hall;
-    /// Of batches that were taken.
+    /// The ledger of batches that were taken.
     type Batches: Hall;
 }
 
@@ -54,16 +54,16 @@ impl<U: Hall, I: Hall, D: Hall, T: Hall, S: Hall, B: Hall> Ledgers for Six<U, I,
 /// The blanks of six ledgers.
 #[derive(Drop)]
 pub struct Blanks {
-    /// Of connections that came up.
+    /// The blank for connections that came up.
     pub ups: Blank,
-    /// Of items that came.
+    /// The blank for items received.
     pub items: Blank,
-    /// Of connections that were lost.
+    /// The blank for connections that were lost.
     pub downs: Blank,
-    /// Of ticks.
+    /// The blank for ticks.
     pub ticks: Blank,
-    /// Of starts.
+    /// The blank for starts.
     pub starts: Blank,
-    /// Of batches that were taken.
+    /// The blank for batches that were taken.
     pub batches: Blank,
 }

@@ -1,4 +1,4 @@
-//! The router under one lock, with its history, the seats of the threads beside it, and what they count.
+//! The router under one lock, with its history, the threads' seats beside it, and their counts.
 #![tactic(auto)]
 
 mod bells;

@@ -1,4 +1,4 @@
-//! What lies under the lock.
+//! The data under the lock.
 ghost use Rattle.std.specs.Prelude.{◌≡◌, ◌≤◌, [], true, length, OnOk, OnErr, IfOk, IfSome};
 ghost use Rattle.router_core.specs.Handling.{Fits, counts_of};
 ghost use Rattle.router_core.specs.Counting.{uncounted, with_event, with_batch};
@@ -13,7 +13,7 @@ use crate::seat::Seat;
 use crate::totals::Totals;
 use router_core::{Batch, ConnectionId, Core, CoreFault, Counts, Event};
 
-/// What a log keeps of the events and takes of a router.
+/// A log of a router's events and takes.
 pub trait Log: Drop {}
 
 /// A log that keeps nothing.
@@ -28,16 +28,16 @@ pub struct Receipt {
     batch: u64,
 }
 
-/// What is told at the end.
+/// The result of closing the router.
 #[derive(Drop)]
 pub struct Closed<L: Log> {
     /// Whether every seat came back.
     pub all: bool,
-    /// What the seats that came back counted, added up.
+    /// The sum of the counts of the seats that came back.
     pub counts: Counts,
     /// The number of the journal's last batch; 0 without a journal.
     pub appended: u64,
-    /// What that number was at the beginning.
+    /// That number when the router was opened.
     pub opened: u64,
     /// The router.
     pub core: Core,
@@ -45,7 +45,7 @@ pub struct Closed<L: Log> {
     pub log: L,
 }
 
-/// The router with its history, and the totals of what the seats counted, which are the router's own counts.
+/// The router with its history, and the totals of the seats' counts, which are the router's own counts.
 #[derive(Drop)]
 pub struct Locked<L: Log, G: Ledgers> {
     router: Router,
@@ -57,7 +57,7 @@ pub struct Locked<L: Log, G: Ledgers> {
 }
 
 impl<L: Log, G: Ledgers> Locked<L, G> {
-    /// A router to which nothing happened.
+    /// A new router.
     pub fn new(router: Router, totals: Totals<G>, log: L) -> Locked<L, G>
         requires router { counts_of router.core ≡ uncounted }
         requires totals { totals ≡ uncounted }
@@ -70,14 +70,14 @@ impl<L: Log, G: Ledgers> Locked<L, G> {
         }
     }
 
-    /// A seat that counted nothing; none where no part of a ledger is left.
+    /// A seat that has counted nothing; none if no part of a ledger is left.
     pub fn seat(&mut self) -> Option<Seat<G>>
         ensures { IfSome result (λ seat. seat ≡ uncounted) }
     {
         self.totals.seat()
     }
 
-    /// One event.
+    /// Handles one event.
     pub fn handle(&mut self, seat: &mut Seat<G>, event: Event) -> Result<Option<Receipt>, CoreFault>
         ensures counted { OnOk result (seat.new ≡ with_event event seat.old) }
         ensures uncounted { OnErr result (seat.new ≡ seat.old) }
@@ -88,7 +88,7 @@ impl<L: Log, G: Ledgers> Locked<L, G> {
         Ok(None)
     }
 
-    /// One take.
+    /// Handles one take.
     pub fn take(&mut self, seat: &mut Seat<G>, conn: ConnectionId) -> Result<Batch, CoreFault>
         ensures whose { IfOk result (λ b. b.conn ≡ conn) }
         ensures most { IfOk result (λ b. length b.items.items ≤ 64) }
@@ -110,7 +110,7 @@ impl<L: Log, G: Ledgers> Locked<L, G> {
         self.router.is_failed()
     }
 
-    /// Whether a writer has to wait; it is noted that it sleeps.
+    /// Whether a writer has to wait; if so, it is noted as asleep.
     pub fn sleeps(&mut self, conn: ConnectionId) -> bool {
         let waits = !self.router.is_ready(conn);
         if waits {
@@ -119,8 +119,8 @@ impl<L: Log, G: Ledgers> Locked<L, G> {
         waits
     }
 
-    /// The bells of the writers that sleep and needn't: where something can be taken, of a connection that is lost, and all of
-    /// them where the router failed.
+    /// The bells of the writers that sleep and needn't: of connections that are ready, of one that is lost, and all of
+    /// them if the router failed.
     pub fn wake(&mut self, lost: Option<ConnectionId>) -> Bells {
         let mut woken = Bells::none();
         if self.asleep.is_empty() {
@@ -151,7 +151,7 @@ impl<L: Log, G: Ledgers> Locked<L, G> {
         Bells::all()
     }
 
-    /// Puts the seats' counts beside the router's.
+    /// Adds up the seats' counts, beside the router's.
     pub fn close(self, seats: Vec<Seat<G>>, receipts: Vec<Receipt>) -> Closed<L>
         requires cut { (G.Ups.seats ≡ G.Ups.parts) × (G.Items.seats ≡ G.Items.parts) × (G.Downs.seats ≡ G.Downs.parts) × (G.Ticks.seats ≡ G.Ticks.parts) × (G.Starts.seats ≡ G.Starts.parts) × (G.Batches.seats ≡ G.Batches.parts) }
         ensures counts { result.counts ≡ sums seats.items }

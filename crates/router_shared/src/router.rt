@@ -1,4 +1,4 @@
-//! The router with its history: what lies under the lock.
+//! The router with its history: the data under the lock.
 ghost use Rattle.std.specs.Prelude.{◌≡◌, ◌≤◌, length, OnOk, OnErr, IfOk};
 ghost use Rattle.router_core.specs.Handling.{counts_of, is_failed};
 ghost use Rattle.router_core.specs.Counting.{uncounted, with_event, with_batch};
@@ -6,11 +6,11 @@ ghost use Rattle.router_shared.specs.History.{IsOpened, HasHistory};
 
 use router_core::{Batch, ConnectionId, Core, CoreFault, Counts, Event};
 
-/// So many items are taken at a time.
+/// The number of items taken at a time.
 pub const MOST: usize = 64;
 
-/// A router whose tables are those of one order of events and takes, of which its counts have each once; behind a fault of
-/// memory nothing is known of it, and it does nothing.
+/// A router whose tables agree with one order of events and takes, each of which its counts contain once. After a fault of
+/// memory its contents are unspecified, and it does nothing.
 #[derive(Drop)]
 pub struct Router {
     core: Core,
@@ -18,7 +18,7 @@ pub struct Router {
 }
 
 impl Router {
-    /// A router to which nothing happened.
+    /// A new router.
     pub fn new(core: Core) -> Router
         requires opened { IsOpened core }
         requires counts { counts_of core ≡ uncounted }
@@ -48,18 +48,18 @@ impl Router {
         self.core.take(conn, MOST)
     }
 
-    /// Whether `take` would answer with items, the end or a fault: something can be taken, nothing is known of the connection, or
+    /// Whether `take` would answer with items, the end or a fault: the connection is ready or unknown, or
     /// the router failed.
     pub fn is_ready(&self, conn: ConnectionId) -> bool {
         self.core.is_failed() || self.core.is_ready(conn) || !self.core.knows(conn)
     }
 
-    /// The lowest connection of which something can be taken.
+    /// The lowest ready connection: an item is waiting in its outbox, or the router ended it.
     pub fn ready(&self) -> Option<ConnectionId> {
         self.core.ready()
     }
 
-    /// The lowest such connection above another.
+    /// The lowest ready connection above another.
     pub fn ready_behind(&self, conn: ConnectionId) -> Option<ConnectionId> {
         self.core.ready_behind(conn)
     }
@@ -76,7 +76,7 @@ impl Router {
         self.core.is_failed()
     }
 
-    /// What it counted.
+    /// Its counts.
     pub fn counts(&self) -> Counts
         ensures { result ≡ counts_of self.now.core }
     {

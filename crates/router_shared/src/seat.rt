@@ -1,4 +1,4 @@
-//! What a thread counts.
+//! The counts of one thread.
 ghost use Rattle.std.specs.Prelude.{◌≡◌, IfSome};
 ghost use Rattle.router_core.specs.Counting.{uncounted};
 
@@ -7,8 +7,8 @@ use crate::tally::Part;
 use router_core::Counts;
 use std::marker::Model;
 
-/// A thread's seat at the router, which counts what the thread did there: the events that it handed in, by their kind, and the
-/// batches that it got. Contracts see it as these counts. A seat is moved and never copied.
+/// A thread's seat at the router. It counts what the thread did there: the events that it submitted, by kind, and the
+/// batches that it got. Contracts see a seat as these counts. A seat is moved and never copied.
 #[derive(Drop)]
 pub struct Seat<G: Ledgers> {
     pub(crate) ups: Part<G::Ups>,
@@ -35,7 +35,7 @@ impl<G: Ledgers> Model for Seat<G> {
 }
 
 impl<G: Ledgers> Seat<G> {
-    /// What it counted.
+    /// Its counts.
     pub fn counts(&self) -> Counts
         ensures { result ≡ self.now }
     {

@@ -15,8 +15,8 @@ use router_core::{Batch, ConnectionId, Core, CoreFault, Event};
 use std::alloc::{AllocError, Global};
 use std::sync::{Condvar, Mutex, Wait};
 
-/// The router under one lock, for threads that each have a seat. Whenever the lock is got, what lies under it is a router that
-/// failed, or one whose tables are those of one order of events and takes in which each submit and each batch of a seat stands
+/// The router under one lock, for threads that each have a seat. Whenever the lock is taken, the data under it is a router that
+/// failed, or one whose tables agree with one order of events and takes that contains each submit and each batch of a seat
 /// once. A writer that waits sleeps at the bell of its connection.
 #[derive(Drop)]
 pub struct Shared<L: Log, G: Ledgers> {
@@ -26,8 +26,8 @@ pub struct Shared<L: Log, G: Ledgers> {
 }
 
 impl<L: Log, G: Ledgers> Shared<L, G> {
-    /// Puts a router to which nothing happened under a lock, with a log, and the blanks of ledgers of so many parts, each of which
-    /// is a seat's. Fails where there is no memory for the bells.
+    /// Puts a new router under a lock, with a log, and the blanks of ledgers with this many parts, one for each
+    /// seat. Fails if there is no memory for the bells.
     pub fn new(
         alloc: Global,
         core: Core,
@@ -52,15 +52,15 @@ impl<L: Log, G: Ledgers> Shared<L, G> {
         })
     }
 
-    /// A seat that counted nothing; none where no part of a ledger is left.
+    /// A seat that has counted nothing; none if no part of a ledger is left.
     pub fn seat<R: Wait>(&self, rt: &R) -> Option<Seat<G>>
         ensures { IfSome result (λ seat. seat ≡ uncounted) }
     {
         self.state.lock(rt).seat()
     }
 
-    /// Hands the router one event, and wakes the writers that then have something to take. The seat counts it exactly where it
-    /// is answered Ok. There are no receipts yet.
+    /// Submits one event to the router, and wakes the writers that then have something to take. The seat counts the event exactly if
+    /// it is answered Ok. There are no receipts yet.
     pub fn submit<R: Wait>(
         &self,
         rt: &R,
@@ -79,12 +79,12 @@ impl<L: Log, G: Ledgers> Shared<L, G> {
         done
     }
 
-    /// Waits until something can be taken of a connection, and takes up to 64 items of it. The seat counts it exactly where a
-    /// batch is given.
+    /// Waits until a connection is ready, and takes up to 64 items from its outbox. The seat counts exactly the batches that it
+    /// gets.
     ///
     /// # Errors
     ///
-    /// `NoConnection` where nothing is known of the connection, `Failed` or `Memory` where the router fails.
+    /// `NoConnection` if the connection is unknown, `Failed` or `Memory` if the router fails.
     pub fn wait_batch<R: Wait>(
         &self,
         rt: &R,
@@ -111,7 +111,7 @@ impl<L: Log, G: Ledgers> Shared<L, G> {
         self.state.lock(rt).is_failed()
     }
 
-    /// Puts the counts of the seats that come back beside the router's: where all came back, they add up to these, number by number.
+    /// Adds up the counts of the seats that come back, beside the router's: if all seats came back, the sums equal these, number by number.
     pub fn close(self, seats: Vec<Seat<G>>, receipts: Vec<Receipt>) -> Closed<L>
         requires cut { (G.Ups.seats ≡ G.Ups.parts) × (G.Items.seats ≡ G.Items.parts) × (G.Downs.seats ≡ G.Downs.parts) × (G.Ticks.seats ≡ G.Ticks.parts) × (G.Starts.seats ≡ G.Starts.parts) × (G.Batches.seats ≡ G.Batches.parts) }
         ensures counts { result.counts ≡ sums seats.items }
@@ -135,7 +135,7 @@ impl<L: Log, G: Ledgers> Shared<L, G> {
     }
 }
 
-/// A bell for each place.
+/// One bell for each place.
 fn bells(alloc: Global) -> Result<Vec<Condvar>, AllocError>
     ensures { IfOk result (λ bells. vec_len bells ≡ 256) }
 {
@@ -146,7 +146,7 @@ fn bells(alloc: Global) -> Result<Vec<Condvar>, AllocError>
     Ok(bells)
 }
 
-/// The connection that an event says is lost.
+/// The connection whose loss an event reports.
 fn lost_by(event: &Event) -> Option<ConnectionId> {
     match event {
         Event::Down(conn) => Some(*conn),

@@ -1,10 +1,10 @@
-//! One number that threads count together: its total under the lock, and a part in each seat.
+//! A number that threads count together: its total under the lock, and a part in each seat.
 ghost use Rattle.std.specs.Prelude.{◌≡◌, ℕ, ◌+◌, ◌-◌, ◌^◌, ◌<◌, ◌≤◌, true, IfSome, IfNone};
 
 use crate::ledgers::Hall;
 use std::sync::ledger::{Blank, Book, Share};
 
-/// The total, and the parts that no seat has.
+/// The total, and the parts that are not given out.
 #[derive(Drop)]
 pub struct Total<H: Hall> {
     book: Book<H>,
@@ -19,7 +19,7 @@ pub struct Total<H: Hall> {
     ghost none: { rest.amount ≡ 0 },
 }
 
-/// What one seat counted.
+/// The count of one seat.
 #[derive(Drop)]
 pub struct Part<H: Hall> {
     count: u64,
@@ -28,7 +28,7 @@ pub struct Part<H: Hall> {
     ghost same: { count ≡ share.amount },
 }
 
-/// A total to which parts come back, and what these counted.
+/// A total to which parts come back, and the sum of their counts.
 #[derive(Drop)]
 pub struct Gathered<H: Hall> {
     book: Book<H>,
@@ -44,7 +44,7 @@ pub struct Gathered<H: Hall> {
 }
 
 impl<H: Hall> Part<H> {
-    /// What it counted.
+    /// Its count.
     pub fn count(&self) -> u64
         ensures { result ≡ self.now.count }
     {
@@ -53,7 +53,7 @@ impl<H: Hall> Part<H> {
 }
 
 impl<H: Hall> Total<H> {
-    /// A total of 0, of a ledger with so many parts.
+    /// A total of 0, of a ledger with this many parts.
     pub fn new(blank: Blank, seats: u64) -> Total<H>
         requires blank { (blank.name ≡ H.name) × (blank.parts ≡ H.parts) }
         requires seats { (seats ≡ H.seats) × (H.seats ≡ H.parts) }
@@ -69,7 +69,7 @@ impl<H: Hall> Total<H> {
         }
     }
 
-    /// A part that counted nothing; none where all were given.
+    /// A part that has counted nothing; none if all were given out.
     pub fn part(&mut self) -> Option<Part<H>>
         ensures total { self.new.total ≡ self.old.total }
         ensures count { IfSome result (λ p. p.count ≡ 0) }
@@ -83,7 +83,7 @@ impl<H: Hall> Total<H> {
         Some(Part { count: 0, share })
     }
 
-    /// Counts one more, with which the total is this.
+    /// Counts one more; the total becomes `total`.
     pub fn add(&mut self, part: &mut Part<H>, total: u64)
         requires { total ≡ self.old.total + 1 }
         ensures total { self.new.total ≡ total }
@@ -95,7 +95,7 @@ impl<H: Hall> Total<H> {
         self.total = total;
     }
 
-    /// To gather what the parts counted.
+    /// Starts to gather the counts of the parts.
     pub fn gather(self) -> Gathered<H>
         ensures total { result.total ≡ self.total }
         ensures count { result.count ≡ 0 }
@@ -119,14 +119,14 @@ impl<H: Hall> Total<H> {
 }
 
 impl<H: Hall> Gathered<H> {
-    /// What the parts that came back counted.
+    /// The sum of the counts of the parts that came back.
     pub fn count(&self) -> u64
         ensures { result ≡ self.now.count }
     {
         self.count
     }
 
-    /// A part comes back.
+    /// Takes back a part.
     pub fn take_back(&mut self, part: Part<H>)
         requires { H.seats ≡ H.parts }
         ensures total { self.new.total ≡ self.old.total }
@@ -139,7 +139,7 @@ impl<H: Hall> Gathered<H> {
         self.back += 1;
     }
 
-    /// Whether all parts came back; then they counted the total.
+    /// Whether all parts came back; then their counts add up to the total.
     pub fn is_whole(&mut self) -> bool
         requires { H.seats ≡ H.parts }
         ensures whole { result ≡ true → self.new.total ≡ self.new.count }

@@ -1,4 +1,4 @@
-//! All that threads count together.
+//! All totals that threads count together.
 ghost use Rattle.std.specs.Prelude.{◌≡◌, true, IfSome};
 ghost use Rattle.router_core.specs.Counting.{uncounted, with_batch};
 ghost use Rattle.router_shared.specs.Adding.{with_kind, plus};
@@ -36,7 +36,7 @@ impl<G: Ledgers> Model for Totals<G> {
     } };
 }
 
-/// The totals, and what the seats that came back counted. Contracts see it as both.
+/// The totals, and the counts of the seats that came back. Contracts see it as both.
 #[derive(Drop)]
 pub struct Gathering<G: Ledgers> {
     ups: Gathered<G::Ups>,
@@ -73,7 +73,7 @@ impl<G: Ledgers> Model for Gathering<G> {
 }
 
 impl<G: Ledgers> Totals<G> {
-    /// Nothing counted, on ledgers of so many parts each.
+    /// Totals of 0, on ledgers with this many parts each.
     pub fn new(blanks: Blanks, seats: u64) -> Totals<G>
         requires ups { (blanks.ups.name ≡ G.Ups.name) × (blanks.ups.parts ≡ G.Ups.parts) × (seats ≡ G.Ups.seats) × (G.Ups.seats ≡ G.Ups.parts) }
         requires items { (blanks.items.name ≡ G.Items.name) × (blanks.items.parts ≡ G.Items.parts) × (seats ≡ G.Items.seats) × (G.Items.seats ≡ G.Items.parts) }
@@ -93,7 +93,7 @@ impl<G: Ledgers> Totals<G> {
         }
     }
 
-    /// A seat that counted nothing; none where no part of a ledger is left.
+    /// A seat that has counted nothing; none if no part of a ledger is left.
     pub fn seat(&mut self) -> Option<Seat<G>>
         ensures same { self.new ≡ self.old }
         ensures none { IfSome result (λ seat. seat ≡ uncounted) }
@@ -114,7 +114,7 @@ impl<G: Ledgers> Totals<G> {
         })
     }
 
-    /// Counts an event of this kind, with which the counts are these.
+    /// Counts an event of this kind; the totals become `counts`.
     pub fn add(&mut self, seat: &mut Seat<G>, kind: Kind, counts: Counts)
         requires { counts ≡ with_kind kind self.old }
         ensures total { self.new ≡ counts }
@@ -129,7 +129,7 @@ impl<G: Ledgers> Totals<G> {
         }
     }
 
-    /// Counts a batch, with which the counts are these.
+    /// Counts a batch; the totals become `counts`.
     pub fn add_batch(&mut self, seat: &mut Seat<G>, counts: Counts)
         requires { counts ≡ with_batch self.old }
         ensures total { self.new ≡ counts }
@@ -138,7 +138,7 @@ impl<G: Ledgers> Totals<G> {
         self.batches.add(&mut seat.batches, counts.batches);
     }
 
-    /// To gather what the seats counted.
+    /// Starts to gather the seats' counts.
     pub fn gather(self) -> Gathering<G>
         ensures total { result.0 ≡ self }
         ensures none { result.1 ≡ uncounted }
@@ -163,7 +163,7 @@ impl<G: Ledgers> Totals<G> {
 }
 
 impl<G: Ledgers> Gathering<G> {
-    /// A seat comes back.
+    /// Takes back a seat.
     pub fn take_back(&mut self, seat: Seat<G>)
         requires cut { (G.Ups.seats ≡ G.Ups.parts) × (G.Items.seats ≡ G.Items.parts) × (G.Downs.seats ≡ G.Downs.parts) × (G.Ticks.seats ≡ G.Ticks.parts) × (G.Starts.seats ≡ G.Starts.parts) × (G.Batches.seats ≡ G.Batches.parts) }
         ensures total { self.new.0 ≡ self.old.0 }
@@ -185,7 +185,7 @@ impl<G: Ledgers> Gathering<G> {
         self.batches.take_back(batches);
     }
 
-    /// What the seats that came back counted.
+    /// The sum of the counts of the seats that came back.
     pub fn counts(&self) -> Counts
         ensures { result ≡ self.now.1 }
     {
@@ -199,7 +199,7 @@ impl<G: Ledgers> Gathering<G> {
         }
     }
 
-    /// Whether all seats came back; then they counted the totals.
+    /// Whether all seats came back; then their counts add up to the totals.
     pub fn is_whole(&mut self) -> bool
         requires cut { (G.Ups.seats ≡ G.Ups.parts) × (G.Items.seats ≡ G.Items.parts) × (G.Downs.seats ≡ G.Downs.parts) × (G.Ticks.seats ≡ G.Ticks.parts) × (G.Starts.seats ≡ G.Starts.parts) × (G.Batches.seats ≡ G.Batches.parts) }
         ensures whole { result ≡ true → self.new.0 ≡ self.new.1 }

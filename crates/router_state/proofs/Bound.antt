@@ -1,4 +1,4 @@
--- A binding changes the table of what passes alone, and a take of an outbox doesn't change that.
+-- A binding changes only the table `passing`, and a take from an outbox doesn't change that.
 use Rattle.std.proofs.Common.{◌≡◌, ◌∙◌, ℕ, Bool, true, false, ap, Option, Some, None, ◌∷◌}
 use Rattle.std.specs.Prelude.{◌==◌}
 use Rattle.std.proofs.lemmas.Bool.{eqb-true}
@@ -41,7 +41,7 @@ bound_fits s new t (Some b) fit p = record {
   passing = p;
 }
 
--- what a transfer gives on the session of this channel
+-- what a transfer makes of its delivery, on the session of this channel
 pub part_on_session : (t : Trace) (c : ℕ) (own : Option ℕ) (i : Item) (o : ℕ) → is_channel own o ≡ true → part_at t c own i ≡ part_of i (link_place t c o)
 part_on_session t c None i o e = absurd cc
 part_on_session t c (Some k) i o e = ap (λ q. part_of i (link_place t c q)) (eqb-true k o e)

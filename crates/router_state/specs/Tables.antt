@@ -1,4 +1,4 @@
--- When all of the router's tables are those that a trace gives.
+-- When all of the router's tables agree with a trace.
 use Rattle.std.specs.Prelude.{◌≡◌, ℕ, Bool, if◌then◌else◌, List, [], ◌∷◌, ◌++◌}
 use Rattle.std.specs.Ordering.{nat_cmp}
 use Rattle.std.specs.BTreeSet.{contains}
@@ -14,7 +14,7 @@ use Rattle.router_conns.specs.Timing.{ClocksFit}
 use Rattle.router_passing.specs.Fits.{PassingFit}
 use Rattle.router_sessions.specs.Fits.{SessionsFit}
 
--- all tables are those of the trace
+-- all tables agree with the trace
 pub record TablesFit (s : State) (t : Trace) : Type 0 where
   pub connections : ConnectionsFit s.connections t
   pub ready : (c : ℕ) → contains nat_cmp s.ready.set c ≡ is_ready (conn t c)
@@ -23,7 +23,7 @@ pub record TablesFit (s : State) (t : Trace) : Type 0 where
   pub sessions : SessionsFit s.sessions t
   pub passing : PassingFit s.passing t
 
--- all tables are what an event finds behind the trace, which ends these connections first
+-- all tables are what an event finds after the trace; it ends these connections first
 pub record TablesAt (s : State) (t : Trace) (e : Event) (ends : List ℕ) : Type 0 where
   pub connections : ConnectionsAt s.connections t e
   pub ready : (c : ℕ) → contains nat_cmp s.ready.set c ≡ is_ready (found t e c)

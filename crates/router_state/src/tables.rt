@@ -51,7 +51,7 @@ use router_trace::{
 };
 use std::alloc::{AllocError, Global};
 
-/// The router's tables. Behind a refused growth nothing can be said of them.
+/// The router's tables. If an operation fails to allocate, their contents are unspecified.
 #[derive(Drop)]
 pub struct State {
     alloc: Global,
@@ -64,7 +64,7 @@ pub struct State {
 }
 
 impl State {
-    /// The tables of a router to which nothing happened, where addresses are shared as this table says.
+    /// The tables of a new router; addresses are shared as this table says.
     pub fn new(alloc: Global, table: Table) -> State
         ensures { (g : Routing) → FindsAs table g → TablesFit result (configured g) }
     {
@@ -79,7 +79,7 @@ impl State {
         }
     }
 
-    /// Where the tables take their memory.
+    /// The allocator of the tables.
     pub fn alloc(&self) -> Global {
         self.alloc
     }
@@ -91,7 +91,7 @@ impl State {
         self.connections.refuses(event)
     }
 
-    /// The phase of a connection as an event finds it; none where it isn't live.
+    /// The phase of a connection as an event finds it; none if it isn't live.
     pub fn standing(&self, conn: u64) -> Option<Conn>
         ensures now { (t : List Entry) → TablesFit self.now t → result ≡ standing (known t conn) }
         ensures at { (t : List Entry) (e : E) (ends : List ℕ) → TablesAt self.now t e ends → result ≡ standing (found t e conn) }
@@ -99,21 +99,21 @@ impl State {
         self.connections.standing(conn)
     }
 
-    /// The phase of a connection, whether live or over; none where nothing is known of it.
+    /// The phase of a connection, whether live or over; none if the connection is unknown.
     pub fn phase(&self, conn: u64) -> Option<Conn>
         ensures { (t : List Entry) → TablesFit self.now t → result ≡ option_map (λ v. v.phase) (known t conn) }
     {
         self.connections.phase(conn)
     }
 
-    /// What stands on a channel of the peer as an event finds it.
+    /// What is on a channel of the peer as an event finds it.
     pub fn place(&self, conn: u64, channel: u16) -> Place
         ensures { (t : List Entry) (e : E) (ends : List ℕ) → TablesAt self.now t e ends → result ≡ found_of (place t conn channel) }
     {
         self.sessions.place(conn, channel)
     }
 
-    /// The lowest channel of the router, as an event finds it, that the peer takes too and on which no session stands.
+    /// The router's lowest channel, as an event finds it, that the peer accepts too and that has no session.
     pub fn free_channel(&self, conn: u64) -> Option<u16>
         ensures { (t : List Entry) (e : E) (ends : List ℕ) → TablesAt self.now t e ends → result ≡ free_channel t conn (channel_max_of (terms t conn)) }
     {
@@ -121,14 +121,14 @@ impl State {
             .free_channel(conn, self.clocks.channel_max(conn))
     }
 
-    /// What stands on a handle of the peer, as an event finds it, on the session on a channel of the router.
+    /// What is on a handle of the peer, as an event finds it, on the session with the router's channel `own`.
     pub fn link_place(&self, conn: u64, own: u16, handle: u32) -> LinkAt
         ensures { (t : List Entry) (e : E) (ends : List ℕ) → TablesAt self.now t e ends → result ≡ found_link (link_place t conn own handle) }
     {
         self.passing.links().place(conn, own, handle)
     }
 
-    /// The lowest handle of the router, of 64, that the peer of a session takes too and on which nothing is attached.
+    /// The router's lowest handle, of 64, that the session's peer accepts too and on which nothing is attached.
     pub fn free_handle(&self, conn: u64, own: u16) -> Option<u32>
         ensures now { (t : List Entry) → TablesFit self.now t → result ≡ free_handle t conn own }
         ensures at { (t : List Entry) (e : E) (ends : List ℕ) → TablesAt self.now t e ends → result ≡ free_handle t conn own }
@@ -144,7 +144,7 @@ impl State {
         self.passing.is_multicast(address)
     }
 
-    /// The attachment that has a key.
+    /// The attachment with a key.
     pub fn holder(&self, key: &LinkKey) -> Option<Attachment>
         ensures now { (t : List Entry) → TablesFit self.now t → result ≡ holder t key.now }
         ensures at { (t : List Entry) (e : E) (ends : List ℕ) → TablesAt self.now t e ends → result ≡ holder t key.now }
@@ -152,7 +152,7 @@ impl State {
         self.passing.links().holder(key)
     }
 
-    /// The key of the link that an attach names on a connection. Fails where memory is refused.
+    /// The key of the link that an attach names on a connection. Fails if memory is refused.
     pub fn key_of(&self, conn: u64, attach: &Attach) -> Result<LinkKey, AllocError>
         ensures now { IfOk result (λ key. (t : List Entry) → TablesFit self.now t → key ≡ key_of (user t conn) (container t conn) attach.now) }
         ensures at { IfOk result (λ key. (t : List Entry) (e : E) (ends : List ℕ) → TablesAt self.now t e ends → key ≡ key_of (user t conn) (container t conn) attach.now) }
@@ -160,7 +160,7 @@ impl State {
         self.peers.key_of(conn, attach)
     }
 
-    /// The largest frame that a peer takes, in bytes; 4,294,967,295 where it tells nothing.
+    /// The largest frame that a peer accepts, in bytes; 4,294,967,295 if it states none.
     pub fn largest_frame(&self, conn: u64) -> u32
         ensures now { (t : List Entry) → TablesFit self.now t → result ≡ largest_frame t conn }
         ensures at { (t : List Entry) (e : E) (ends : List ℕ) → TablesAt self.now t e ends → result ≡ largest_frame t conn }
@@ -168,7 +168,7 @@ impl State {
         self.peers.largest_frame(conn)
     }
 
-    /// The heartbeats that are due at a moment on the connections that are live as an event finds them, by number.
+    /// The heartbeats that are due at a moment on the connections that are live as an event finds them, by connection number.
     pub fn beats(&self, now: u64) -> Result<Vec<Outgoing>, AllocError>
         ensures { IfOk result (λ due. (t : List Entry) (e : E) (ends : List ℕ) → TablesAt self.now t e ends → puts_of due.items ≡ beats t e now) }
     {
@@ -182,7 +182,7 @@ impl State {
         self.sessions.is_calm()
     }
 
-    /// The flows that tell windows anew, by connection and by the router's channel.
+    /// The flows that restore narrow windows, by connection and by the router's channel.
     pub fn windows(&self) -> Result<Vec<Outgoing>, AllocError>
         ensures { IfOk result (λ flows. (t : List Entry) → TablesFit self.now t → puts_of flows.items ≡ windows t) }
     {
@@ -193,22 +193,22 @@ impl State {
         Ok(flows)
     }
 
-    /// Forgets which windows were narrow, where they aren't any more.
+    /// Unmarks the connections that have no narrow window any more.
     pub fn settle(&mut self)
         ensures { (t : List Entry) → TablesFit self.old t → TablesFit self.new t }
     {
         settle_all(&mut self.sessions, self.connections.live());
     }
 
-    /// Forgets which links owed a drain, where they don't any more.
+    /// Unmarks the connections on which no link owes a drain any more.
     pub fn settle_drains(&mut self)
         ensures { (t : List Entry) → TablesFit self.old t → TablesFit self.new t }
     {
         self.passing.settle_owed();
     }
 
-    /// Ends the connections that an event ends for their full outboxes, and gives them by number. Their closes are the
-    /// caller's to put.
+    /// Ends the connections that an event ends because their outboxes are full, and returns them by number. The caller has to put
+    /// out their closes.
     pub fn turn(&mut self, event: &Event) -> Result<Vec<u64>, AllocError>
         ensures { IfOk result (λ ends. (t : List Entry) → TablesFit self.old t → TablesAt self.new t event.now ends.items) }
     {
@@ -227,7 +227,7 @@ impl State {
         Ok(())
     }
 
-    /// An item came on a connection: what a transfer gives on the link that it finds.
+    /// An item was received on a connection. Returns what a transfer makes of its delivery.
     pub fn hear(&mut self, conn: ConnectionId, item: &Item) -> Result<Option<Part>, AllocError>
         ensures part { IfOk result (λ part. (t : List Entry) (ends : List ℕ) (own : ℕ) → TablesAt self.old t (event.Item conn item.now) ends → maps (theirs t conn.0 (channel_of item.now)) own ≡ true → part ≡ part_of item.now (link_place t conn.0 own)) }
         ensures fits { OnOk result ((t : List Entry) (ends : List ℕ) → TablesAt self.old t (event.Item conn item.now) ends → TablesFit self.new (did (event.Item conn item.now) ∷ t)) }
@@ -240,14 +240,14 @@ impl State {
         Ok(part)
     }
 
-    /// Time passes.
+    /// The clock moves to this moment.
     pub fn tick(&mut self, moment: u64)
         ensures { (t : List Entry) (ends : List ℕ) → TablesAt self.old t (event.Tick moment) ends → TablesFit self.new (did (event.Tick moment) ∷ t) }
     {
         self.clocks.tick(moment);
     }
 
-    /// The router starts on its journal, which changes no table.
+    /// The router starts with its journal, which changes no table.
     pub fn start(&mut self)
         ensures { (t : List Entry) (ends : List ℕ) → TablesAt self.old t event.Start ends → TablesFit self.new (did event.Start ∷ t) }
     {}
@@ -264,7 +264,7 @@ impl State {
         note(&mut self.ready, &self.connections, conn.0)
     }
 
-    /// Puts an item in the outbox of a connection.
+    /// Puts an item into the outbox of a connection.
     pub fn put(&mut self, conn: u64, item: Item) -> Result<(), AllocError>
         ensures { OnOk result ((t : List Entry) → TablesFit self.old t → TablesFit self.new (Out conn item ∷ t)) }
     {
@@ -286,7 +286,7 @@ impl State {
         Ok(())
     }
 
-    /// Puts items in the outboxes of their connections, the first of them first.
+    /// Puts items into the outboxes of their connections, in order.
     pub fn put_all(&mut self, items: Vec<Outgoing>) -> Result<(), AllocError>
         ensures { OnOk result ((t : List Entry) → TablesFit self.old t → TablesFit self.new (goes (puts_of items.items) t)) }
     {
@@ -296,7 +296,7 @@ impl State {
         Ok(())
     }
 
-    /// Takes up to `most` items out of an outbox; none where nothing is known of the connection.
+    /// Takes up to `most` items out of an outbox; none if the connection is unknown.
     #[tactic(auto, using(crate::proofs::Bound::passing_taken))]
     pub fn take(&mut self, conn: u64, most: usize) -> Result<Option<Taken>, AllocError>
         ensures batched { IfOk result (λ taken. (t : List Entry) → TablesFit self.old t → IsBatch most (known t conn) taken) }
@@ -308,35 +308,35 @@ impl State {
         Ok(taken)
     }
 
-    /// Whether something can be taken of a connection: an item waits, or it is over.
+    /// Whether a connection is ready: an item is waiting in its outbox, or it is over.
     pub fn is_ready(&self, conn: u64) -> bool
         ensures { (t : List Entry) → TablesFit self.now t → result ≡ is_ready (known t conn) }
     {
         self.ready.has(conn)
     }
 
-    /// The lowest connection above a number of which something can be taken.
+    /// The lowest ready connection above a number.
     pub fn ready_behind(&self, conn: u64) -> Option<u64>
         ensures { (t : List Entry) → TablesFit self.now t → IsLeast (λ c. nat_lt conn c && is_ready (known t c)) result }
     {
         self.ready.behind(conn)
     }
 
-    /// The lowest connection of which something can be taken: an item waits, or it is over.
+    /// The lowest ready connection: an item is waiting in its outbox, or it is over.
     pub fn ready(&self) -> Option<u64>
         ensures { (t : List Entry) → TablesFit self.now t → IsLeast (λ c. is_ready (known t c)) result }
     {
         self.ready.first()
     }
 
-    /// What the delivery in the middle of a link of the peer was told to be, as an event finds it.
+    /// The delivery in the middle of a link of the peer, as an event finds it.
     pub fn middle(&self, conn: u64, own: u16, handle: u32) -> Option<&Delivery>
         ensures { (t : List Entry) (e : E) (ends : List ℕ) → TablesAt self.now t e ends → option_map (λ d. d.now) result ≡ middle_on (link_place t conn own handle) }
     {
         self.passing.links().middle(conn, own, handle)
     }
 
-    /// Whether a peer has not settled the delivery of an id of its own.
+    /// Whether a peer has not settled the delivery with this id of its own.
     pub fn is_claimed(&self, conn: u64, own: u16, id: u32) -> bool
         ensures now { (t : List Entry) → TablesFit self.now t → result ≡ is_claimed t conn own id }
         ensures at { (t : List Entry) (e : E) (ends : List ℕ) → TablesAt self.now t e ends → result ≡ is_claimed t conn own id }
@@ -344,14 +344,14 @@ impl State {
         self.passing.claims().is_claimed(conn, own, id)
     }
 
-    /// Whether a peer has not settled the delivery of an id of its own, of the link on a handle of the router's.
+    /// Whether a peer has not settled the delivery with this id of its own, on the link at a handle of the router.
     pub fn is_claimed_on(&self, conn: u64, own: u16, handle: u32, id: u32) -> bool
         ensures { (t : List Entry) → TablesFit self.now t → result ≡ is_claimed_on t conn own handle id }
     {
         self.passing.claims().is_claimed_on(conn, own, handle, id)
     }
 
-    /// The ids of a range that name undecided deliveries of a session, in order, as an event finds them.
+    /// The ids in a range that name undecided deliveries of a session, in order, as an event finds them.
     pub fn open_ids(
         &self,
         conn: u64,
@@ -364,21 +364,21 @@ impl State {
         self.passing.deliveries().open_ids(conn, own, first, last)
     }
 
-    /// How many deliveries of a link are unsettled that the router ignored.
+    /// How many unsettled deliveries of a link the router ignored.
     pub fn ignored(&self, conn: u64, own: u16, handle: u32) -> usize
         ensures { (t : List Entry) → TablesFit self.now t → result ≡ ignored t conn own handle }
     {
         self.passing.claims().ignored(conn, own, handle)
     }
 
-    /// The attachment that stands on a handle of the router.
+    /// The attachment on a handle of the router.
     pub fn attachment(&self, conn: u64, own: u16, handle: u32) -> Option<Attachment>
         ensures { (t : List Entry) → TablesFit self.now t → result ≡ attachment_at t conn own handle }
     {
         self.passing.links().attachment(conn, own, handle)
     }
 
-    /// Binds a message of a producer's link to the consumer of its address that is chosen; whether one was.
+    /// Binds a message of a producer's link to the chosen consumer of its address; returns whether there is one.
     pub fn pass(
         &mut self,
         from: Attachment,
@@ -393,7 +393,7 @@ impl State {
         Ok(chosen)
     }
 
-    /// The lowest number above another of a delivery that is decided and whose producer isn't told.
+    /// The lowest number, above another, of a delivery that is decided and whose outcome must be reported to its producer.
     pub fn to_tell_behind(&self, number: Option<u64>) -> Option<u64>
         ensures { (t : List Entry) → TablesFit self.now t → IsFirst (λ n. is_above number n && is_to_tell (delivery t n)) result }
     {
@@ -407,35 +407,35 @@ impl State {
         self.passing.is_attached(at)
     }
 
-    /// A delivery.
+    /// The delivery with a number.
     pub fn delivery(&self, number: u64) -> Option<&Bound>
         ensures { (t : List Entry) → TablesFit self.now t → option_map (λ d. d.now) result ≡ delivery t number }
     {
         self.passing.deliveries().delivery(number)
     }
 
-    /// The lowest number of a link above another on which frames of deliveries are still to go.
+    /// The lowest number, above another, of a link on which frames of deliveries remain to be sent.
     pub fn unsent_link_behind(&self, link: Option<u64>) -> Option<u64>
         ensures { (t : List Entry) → TablesFit self.now t → IsFirst (λ k. is_above link k && has_unsent t k) result }
     {
         self.passing.deliveries().unsent_link_behind(link)
     }
 
-    /// The lowest number of a delivery of a link above another of which frames are still to go.
+    /// The lowest number, above another, of a link's delivery of which frames remain to be sent.
     pub fn unsent_behind(&self, link: u64, number: Option<u64>) -> Option<u64>
         ensures { (t : List Entry) → TablesFit self.now t → IsFirst (λ n. is_above number n && is_unsent_on link (delivery t n)) result }
     {
         self.passing.deliveries().unsent_behind(link, number)
     }
 
-    /// Whether frames of deliveries are still to go on a link.
+    /// Whether frames of deliveries remain to be sent on a link.
     pub fn has_unsent(&self, link: u64) -> bool
         ensures { (t : List Entry) → TablesFit self.now t → result ≡ has_unsent t link }
     {
         self.passing.deliveries().has_unsent(link)
     }
 
-    /// Where an attachment stands, while it is attached.
+    /// The place of an attachment, while it is attached.
     pub fn place_of(&self, number: u64) -> Option<Attachment>
         ensures { (t : List Entry) → TablesFit self.now t → result ≡ place_of t number }
     {
@@ -449,63 +449,63 @@ impl State {
         can_send(self.sessions.window(conn, own))
     }
 
-    /// What a flow of the router tells of a session.
+    /// The session state that a flow of the router has.
     pub fn told(&self, conn: u64, own: u16) -> Option<FlowState>
         ensures { (t : List Entry) → TablesFit self.now t → result ≡ option_map told_of (session t conn own) }
     {
         told_by(self.sessions.window(conn, own))
     }
 
-    /// The number of the delivery of which more frames are to go on a handle of the router.
+    /// The number of the delivery of which more frames remain to be sent on a handle of the router.
     pub fn sending(&self, conn: u64, own: u16, handle: u32) -> Option<u64>
         ensures { (t : List Entry) → TablesFit self.now t → result ≡ sending t conn own handle }
     {
         self.passing.deliveries().sending(conn, own, handle)
     }
 
-    /// Whether a delivery has begun on a session of which more frames are to go.
+    /// Whether a delivery has begun on a session of which more frames remain to be sent.
     pub fn is_busy(&self, conn: u64, own: u16) -> Result<bool, AllocError>
         ensures { IfOk result (λ busy. (t : List Entry) → TablesFit self.now t → busy ≡ is_busy t conn own) }
     {
         self.passing.is_busy(conn, own)
     }
 
-    /// Whether an id of the router's names an undecided delivery of a session.
+    /// Whether an id that the router gave on a session names an undecided delivery.
     pub fn is_used(&self, conn: u64, own: u16, id: u32) -> bool
         ensures { (t : List Entry) → TablesFit self.now t → result ≡ is_used t (named t conn own id) }
     {
         self.passing.deliveries().is_used(conn, own, id)
     }
 
-    /// The delivery-id that the router gives next on a session.
+    /// The next delivery-id that the router gives on a session.
     pub fn next_id(&self, conn: u64, own: u16) -> u32
         ensures { (t : List Entry) → TablesFit self.now t → result ≡ next_id t conn own }
     {
         self.passing.deliveries().next_id(conn, own)
     }
 
-    /// Whether an attachment's link has credit left and no delivery that has begun.
+    /// Whether an attachment's link has credit left and no delivery in progress.
     pub fn takes_more(&self, at: Attachment) -> bool
         ensures { (t : List Entry) → TablesFit self.now t → result ≡ takes_more (link_of t at) at.number }
     {
         self.passing.takes_more(at)
     }
 
-    /// Whether the router has begun a delivery on an attachment's link, of which more frames are to go.
+    /// Whether the router has begun a delivery on an attachment's link of which more frames remain to be sent.
     pub fn goes_on(&self, at: Attachment) -> bool
         ensures { (t : List Entry) → TablesFit self.now t → result ≡ goes_on (link_of t at) at.number }
     {
         self.passing.goes_on(at)
     }
 
-    /// The lowest number above another of an attachment whose link owes a drain.
+    /// The lowest number, above another, of an attachment whose link owes a drain.
     pub fn owing_behind(&self, number: Option<u64>) -> Result<Option<u64>, AllocError>
         ensures { IfOk result (λ owing. (t : List Entry) → TablesFit self.now t → IsFirst (λ n. is_above number n && owes_drain t n) owing) }
     {
         self.passing.owing_behind(number)
     }
 
-    /// What tells the drain of an attachment's link.
+    /// The link state of the flow that answers the drain of an attachment's link.
     pub fn drained(&self, at: Attachment) -> Option<LinkState>
         ensures { (t : List Entry) → TablesFit self.now t → result ≡ drained_state at.handle (link_of t at) }
     {
@@ -525,7 +525,7 @@ impl State {
         Ok(flows)
     }
 
-    /// Adds the flow that tells a grant.
+    /// Adds the flow that carries a grant.
     fn add_grant(&self, flows: &mut Vec<Outgoing>, grant: LinkGrant) -> Result<(), AllocError>
         ensures { OnOk result ((t : List Entry) → TablesFit self.now t → puts_of flows.new.items ≡ puts_of flows.old.items ++ grant_flow grant (session t grant.at.conn.0 grant.at.channel)) }
     {
@@ -546,13 +546,13 @@ impl State {
     }
 }
 
-/// Lets go of an item for which memory was refused.
+/// Drops an item after memory was refused.
 fn let_go(item: Item) -> AllocError {
     drop(item);
     AllocError
 }
 
-/// Whether a session's window is open, where there is a session.
+/// Whether a session's window is open, if there is a session.
 fn can_send(window: Option<Window>) -> bool
     ensures { (session : Option Session) → window ≡ window_by session → result ≡ is_wide session }
 {
@@ -562,7 +562,7 @@ fn can_send(window: Option<Window>) -> bool
     }
 }
 
-/// What a flow of the router tells of a session, where there is one.
+/// The session state that a flow of the router has, if there is a session.
 fn told_by(window: Option<Window>) -> Option<FlowState>
     ensures { (session : Option Session) → window ≡ window_by session → result ≡ option_map told_of session }
 {
@@ -570,7 +570,7 @@ fn told_by(window: Option<Window>) -> Option<FlowState>
     Some(window.flow_state(SESSION_WINDOW))
 }
 
-/// The channel of an item; 0 where it has none.
+/// The channel of an item; 0 if it has none.
 fn channel_of(item: &Item) -> u16
     ensures { result ≡ channel_of item.now }
 {
@@ -580,7 +580,7 @@ fn channel_of(item: &Item) -> u16
     }
 }
 
-/// The key that the table of links asks for an item that is put out: that of an attach.
+/// The key that the table of links needs for an outgoing item: that of an attach.
 fn key_by(peers: &Peers, conn: u64, item: &Item) -> Result<Option<LinkKey>, AllocError>
     ensures { IfOk result (λ key. (t : List Entry) → PeersFit peers.now t → key ≡ key_by t conn item.now) }
 {
@@ -590,7 +590,7 @@ fn key_by(peers: &Peers, conn: u64, item: &Item) -> Result<Option<LinkKey>, Allo
     }
 }
 
-/// The key that the table of links asks for a performative.
+/// The key that the table of links needs for a performative.
 fn key_in(peers: &Peers, conn: u64, perf: &Perf) -> Result<Option<LinkKey>, AllocError>
     ensures { IfOk result (λ key. (t : List Entry) → PeersFit peers.now t → key ≡ key_in t conn perf.now) }
 {
@@ -600,7 +600,7 @@ fn key_in(peers: &Peers, conn: u64, perf: &Perf) -> Result<Option<LinkKey>, Allo
     }
 }
 
-/// The heartbeats that are due at a moment on these connections, by number.
+/// The heartbeats that are due at a moment on these connections, by connection number.
 fn beats_over(
     alloc: Global,
     clocks: &Clocks,
@@ -616,7 +616,7 @@ fn beats_over(
     Ok(due)
 }
 
-/// Adds a heartbeat for a connection, where one is needed.
+/// Adds a heartbeat for a connection, if one is needed.
 fn add_beat(due: &mut Vec<Outgoing>, conn: u64, needed: bool) -> Result<(), AllocError>
     ensures { OnOk result (puts_of due.new.items ≡ puts_of due.old.items ++ beat_if needed conn) }
 {
@@ -636,7 +636,7 @@ fn add_beat(due: &mut Vec<Outgoing>, conn: u64, needed: bool) -> Result<(), Allo
     }
 }
 
-/// Forgets which windows of these connections were narrow, where they aren't any more.
+/// Unmarks those of these connections that have no narrow window any more.
 fn settle_all(sessions: &mut Sessions, conns: &[u64])
     ensures { (t : List Entry) → SessionsFit sessions.old t → SessionsFit sessions.new t }
 {
@@ -645,14 +645,14 @@ fn settle_all(sessions: &mut Sessions, conns: &[u64])
     }
 }
 
-/// Notes whether something can be taken of a connection.
+/// Notes whether a connection is ready.
 fn note(ready: &mut Ready, connections: &Connections, conn: u64) -> Result<(), AllocError>
     ensures { OnOk result ((c : ℕ) → contains nat_cmp ready.new.set c ≡ (if conn == c then is_ready (get nat_cmp connections.now.rows c) else contains nat_cmp ready.old.set c)) }
 {
     ready.note(conn, connections.is_ready(conn))
 }
 
-/// Notes of each of these connections whether something can be taken of it.
+/// Notes whether each of these connections is ready.
 fn note_all(ready: &mut Ready, connections: &Connections, ends: &[u64]) -> Result<(), AllocError>
     ensures { OnOk result ((c : ℕ) → contains nat_cmp ready.new.set c ≡ (if has c ends.now then is_ready (get nat_cmp connections.now.rows c) else contains nat_cmp ready.old.set c)) }
 {

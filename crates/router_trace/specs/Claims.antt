@@ -1,4 +1,4 @@
--- What a trace says of the deliveries that a peer has not settled, by the delivery-ids that it gave them (AMQP 1.0 part 2, section 2.6.12).
+-- A peer's unsettled deliveries in a trace, by the delivery-ids that the peer gave them (AMQP 1.0 part 2, section 2.6.12).
 use Rattle.std.specs.Prelude.{ℕ, Bool, true, false, not, ◌&&◌, ◌==◌, if◌then◌else◌, List, ◌∷◌, [], Option, Some, None, option_map}
 use Rattle.amqp_perf.specs.declared.perf.Disposition.{Disposition}
 use Rattle.amqp_perf.specs.declared.perf.Perf.{Perf}
@@ -21,14 +21,14 @@ use Rattle.router_trace.specs.Links.{Link, Happened, sends, receives, link, thei
 use Rattle.router_trace.specs.Sessions.{maps, theirs}
 use Rattle.router_trace.specs.Deliveries.{last_of}
 
--- An unsettled delivery of a peer: the router's handle of its link, and whether it was ignored (a resumed one that the router doesn't know).
+-- A peer's unsettled delivery: the router's handle of its link, and whether it was ignored (resumed, but unknown to the router).
 pub record Claim : Type 0 where
   pub handle : ℕ
   pub ignored : Bool
 
--- A transfer that begins a delivery claims its id, unless it is settled or has no credit; a later one lets it go where it settles or
--- aborts the delivery, and one that completes a resumed delivery leaves it ignored. Once a delivery is settled its id is free, even
--- while more of its frames come: another link of the session may claim it then, and keeps it.
+-- A transfer that begins a delivery claims its id, unless it is settled or has no credit. A later transfer frees the id if it settles or
+-- aborts the delivery; one that completes a resumed delivery leaves it ignored. Once a delivery is settled its id is free, even
+-- while more of its frames come: another link of the session may then claim it, and keeps it.
 abbrev pub ends_well : Transfer → Bool
 ends_well x = if x.settled then false else not x.aborted
 
@@ -66,7 +66,7 @@ abbrev pub claimed : Transfer → Option PeerHandle → (ℕ → Option Link) �
 claimed x (Some (Mapped h)) known id v = claimed_on h x (known h) id v
 claimed x _ known id v = v
 
--- dispositions that settle: the peer's as a sender, and the router's as a receiver
+-- dispositions that settle: the peer's as a sender, the router's as a receiver
 abbrev pub settled_by : Role → Disposition → ℕ → Option Claim → Option Claim
 settled_by Sender x id v = if x.settled && in_range x.first (last_of x) id then None else v
 settled_by Receiver x id v = v
@@ -90,7 +90,7 @@ claim_at (event.Item d i) c o channels handles known id v = if d.0 == c then cla
 claim_at (event.Down d) c o channels handles known id v = if d.0 == c then None else v
 claim_at _ c o channels handles known id v = v
 
--- what the router puts out: its outcomes, and the ends of links
+-- items that the router puts out: outcomes, and the ends of links
 abbrev pub unless_ended : Perf → ℕ → ℕ → Option Claim → Option Claim
 unless_ended body own o None = None
 unless_ended body own o (Some v) = if ends_handle_in body own o v.handle then None else Some v
@@ -103,7 +103,7 @@ abbrev pub claim_behind : Item → ℕ → ℕ → Option Claim → Option Claim
 claim_behind (item.Frame sasl own body payload) o id v = claim_behind_in body own o id v
 claim_behind _ o id v = v
 
--- the claim of a peer to a delivery-id, on the session of a channel of the router
+-- a peer's claim to a delivery-id, on the session with this router's channel
 abbrev pub claims : Trace → ℕ → ℕ → ℕ → Option Claim
 claims [] c o id = None
 claims (Did s ∷ t) c o id = claim_at s.event c o (theirs t c) (their_handle t c o) (link t c o) id (claims t c o id)

@@ -1,5 +1,5 @@
--- What a trace says of time (AMQP 1.0 part 2, section 2.4.5): the moment, what a peer's open tells, and when an item was put out
--- last.
+-- Time in a trace (AMQP 1.0 part 2, section 2.4.5): the current moment, what a peer's open says, and when an item was last put
+-- out.
 use Rattle.std.specs.Prelude.{ℕ, Bool, false, ◌==◌, if◌then◌else◌, [], ◌∷◌, Option, Some, None}
 use Rattle.amqp_perf.specs.declared.perf.Open.{Open}
 use Rattle.amqp_perf.specs.declared.perf.Perf.{Perf}
@@ -13,7 +13,7 @@ use Rattle.router_trace.specs.declared.terms.Terms.{Terms}
 use Rattle.router_trace.specs.Trace.{Did, Out, Took, Bound, Configured, Trace}
 use Rattle.router_trace.specs.Sessions.{unless_close}
 
--- the moment: that of the last tick, 0 before any
+-- the current moment: that of the last tick, 0 before any
 abbrev pub moment_at : Event → ℕ → ℕ
 moment_at (event.Tick ms) now = ms
 moment_at _ now = now
@@ -26,7 +26,7 @@ moment (Took c n ∷ t) = moment t
 moment (Bound b ∷ t) = moment t
 moment (Configured g ∷ t) = moment t
 
--- what the peer's first open tells; none where the connection is closed or lost
+-- what the peer's first open says; none if the connection is closed or lost
 abbrev pub terms_of : Open → Terms
 terms_of o = record { channel_max = o.channel_max; idle_time_out = o.idle_time_out }
 
@@ -55,7 +55,7 @@ terms (Took d n ∷ t) c = terms t c
 terms (Bound b ∷ t) c = terms t c
 terms (Configured g ∷ t) c = terms t c
 
--- the moment at which an item was put out last; none before any, and where the connection is closed or lost
+-- the moment at which an item was last put out; none before any, and if the connection is closed or lost
 abbrev pub written_at : Event → ℕ → Option ℕ → Option ℕ
 written_at (event.Down d) c last = if d.0 == c then None else last
 written_at _ c last = last
@@ -74,7 +74,7 @@ needs_beat None last now = false
 needs_beat (Some told) None now = false
 needs_beat (Some told) (Some last) now = is_beat_due told.idle_time_out last now
 
--- the highest channel that the peer takes
+-- the highest channel that the peer accepts
 abbrev pub channel_max_of : Option Terms → ℕ
 channel_max_of None = 65535
 channel_max_of (Some told) = told.channel_max

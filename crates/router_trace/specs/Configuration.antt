@@ -1,11 +1,11 @@
--- What a trace says of the configuration: how the links of an address share its messages.
+-- The configuration in a trace: how the links of an address share its messages.
 use Rattle.std.specs.Prelude.{ℕ, Bool, true, false, List, [], ◌∷◌}
 use Rattle.route_table.specs.declared.sections.Distribution.{Distribution}
 use Rattle.route_table.specs.declared.sections.Distribution.TheVariants.{Balanced, Closest, Multicast}
 use Rattle.route_table.specs.Places.{Routing, distribution_of}
 use Rattle.router_trace.specs.Trace.{Did, Out, Took, Bound, Configured, Trace}
 
--- what happened before the first event: the router was opened with this configuration
+-- the trace before the first event: the router was opened with this configuration
 abbrev pub configured : Routing → Trace
 configured g = Configured g ∷ []
 

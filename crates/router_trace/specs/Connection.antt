@@ -1,4 +1,4 @@
--- What a trace says of a connection (AMQP 1.0 part 2, section 2.4): its phase, and its outbox.
+-- A connection in a trace (AMQP 1.0 part 2, section 2.4): its phase and its outbox.
 use Rattle.std.specs.Prelude.{◌≡◌, ℕ, ◌+◌, Bool, true, false, not, if◌then◌else◌, ◌==◌, nat_eq, nat_lt, nat_le, is_some, is_none, List, [], ◌∷◌, ◌++◌, length, take, drop, filter, Option, Some, None, option_map, option_and_then}
 use Rattle.std.specs.List.{list_any}
 use Rattle.amqp_perf.specs.declared.perf.Perf.{Perf}
@@ -10,14 +10,14 @@ use Rattle.router_trace.specs.declared.event.Event.{Event}
 use Rattle.router_trace.specs.declared.event.Event.TheVariants as event
 use Rattle.router_trace.specs.Trace.{Did, Out, Took, Bound, Configured, Trace, ups}
 
--- a connection: whether its header and open are written and whether it is over, the items that wait in its outbox, and
--- how many left it
+-- a connection: whether its header and open are written and whether it is over, the items waiting in its outbox, and
+-- how many have left it
 pub record Connection : Type 0 where
   pub phase : Conn
   pub waiting : List Item
   pub taken : ℕ
 
--- the phase behind a performative, and behind an item, that the router wrote
+-- the phase after a performative, and after an item, that the router wrote
 abbrev pub behind_perf : Perf → Conn → Conn
 behind_perf (perf.Open o) p = record p { opened = true }
 behind_perf (perf.Close c) p = record p { closed = true }
@@ -28,19 +28,19 @@ behind (item.Header id major minor revision) p = record p { header = true }
 behind (item.Frame sasl channel body payload) p = behind_perf body p
 behind _ p = p
 
--- an item more in the outbox
+-- one more item in the outbox
 abbrev pub with_item : Item → Connection → Connection
 with_item i v = record { phase = behind i v.phase; waiting = v.waiting ++ i ∷ []; taken = v.taken }
 
--- the connection is over, with what waits in its outbox
+-- the connection is over; the items in its outbox stay
 abbrev pub ended : Connection → Connection
 ended v = record { phase = record v.phase { closed = true }; waiting = v.waiting; taken = v.taken }
 
--- so many items left the outbox
+-- this many items have left the outbox
 abbrev pub drained : ℕ → Connection → Connection
 drained n v = record { phase = v.phase; waiting = drop n v.waiting; taken = v.taken + n }
 
--- a connection that is over goes with the last item of its outbox
+-- a connection that is over is removed with the last item of its outbox
 abbrev pub unless_empty : Connection → List Item → Option Connection
 unless_empty v [] = None
 unless_empty v (i ∷ is) = Some v
@@ -51,18 +51,18 @@ unless_gone v = if v.phase.closed then unless_empty v v.waiting else Some v
 abbrev pub took : ℕ → Connection → Option Connection
 took n v = unless_gone (drained n v)
 
--- what is taken of an outbox: its first items up to so many, numbered on from those that left before; and whether the
--- connection goes with them
+-- a batch taken from an outbox: at most `most` of its first items, numbered on from those that left before; and whether the
+-- connection is removed with them
 pub record Batched (v : Connection) (most first : ℕ) (items : List Item) (ended : Bool) : Type 0 where
   pub numbered : first ≡ v.taken
   pub in_order : items ≡ take most v.waiting
   pub gone : ended ≡ is_none (took (length items) v)
 
--- a connection that comes up while so many others are live: beyond 64 it is over at once
+-- a connection that comes up while this many others are live: beyond 64 it is over at once
 abbrev pub fresh : ℕ → Connection
 fresh live = record { phase = record { header = false; opened = false; closed = not (nat_lt live 64) }; waiting = []; taken = 0 }
 
--- the phase of a connection that is live
+-- the phase of a live connection
 abbrev pub standing : Option Connection → Option Conn
 standing None = None
 standing (Some v) = if v.phase.closed then None else Some v.phase
@@ -75,7 +75,7 @@ abbrev pub is_full : Option Connection → Bool
 is_full None = false
 is_full (Some v) = if v.phase.closed then false else nat_le 4096 (length v.waiting)
 
--- something can be taken of it: an item waits, or it is over
+-- the connection is ready: an item is waiting, or it is over
 abbrev pub is_item : List Item → Bool
 is_item [] = false
 is_item (i ∷ is) = true
@@ -84,7 +84,7 @@ abbrev pub is_ready : Option Connection → Bool
 is_ready None = false
 is_ready (Some v) = if v.phase.closed then true else is_item v.waiting
 
--- an event ends this connection for its full outbox; not the one that it says is lost
+-- an event ends this connection because its outbox is full; not the connection whose loss it reports
 abbrev pub is_due : Event → ℕ → Option Connection → Bool
 is_due (event.Down d) c v = if d.0 == c then false else is_full v
 is_due _ c v = is_full v
@@ -92,7 +92,7 @@ is_due _ c v = is_full v
 abbrev pub has : ℕ → List ℕ → Bool
 has c ks = list_any (λ k. nat_eq k c) ks
 
--- of the connections that came up, with what is known of each: those that the event ends first, the others as the event
+-- of the connections that came up, with the state of each: those that the event ends first, the others as the event
 -- finds them, and those that are live
 abbrev pub due_of : Event → List ℕ → (ℕ → Option Connection) → List ℕ
 due_of e ks known = filter (λ k. is_due e k (known k)) ks
@@ -103,13 +103,13 @@ unless_due due known c = if has c due then option_map ended (known c) else known
 abbrev pub live_of : List ℕ → (ℕ → Option Connection) → List ℕ
 live_of ks known = filter (λ k. is_live (known k)) ks
 
--- what an event itself does to a connection, so many being live
+-- what an event itself does to a connection, while this many are live
 abbrev pub at_event : Event → ℕ → ℕ → Option Connection → Option Connection
 at_event (event.Up d p) c live v = if d.0 == c then Some (fresh live) else v
 at_event (event.Down d) c live v = if d.0 == c then None else v
 at_event _ c live v = v
 
--- what is known of a connection; none before it comes up, behind its loss, and once it is over and its last item left
+-- the state of a connection; none before it comes up, after its loss, and once it is over and its last item has left
 abbrev pub conn : Trace → ℕ → Option Connection
 conn [] c = None
 conn (Did s ∷ t) c =
@@ -120,7 +120,7 @@ conn (Took d n ∷ t) c = if d == c then option_and_then (took n) (conn t c) els
 conn (Bound b ∷ t) c = conn t c
 conn (Configured g ∷ t) c = conn t c
 
--- the connections that an event ends for their full outboxes, by number
+-- the connections that an event ends because their outboxes are full, by number
 abbrev pub due : Trace → Event → List ℕ
 due t e = due_of e (ups t) (conn t)
 

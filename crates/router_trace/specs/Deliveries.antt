@@ -1,5 +1,5 @@
--- What a trace says of deliveries that the router passes on (AMQP 1.0 part 2, sections 2.6.12, 2.6.14, 2.7.5 and 2.7.6): each is a
--- message bound to one link of a consumer. Bindings are numbered from 1, in their order, and the delivery has its binding's number.
+-- The deliveries that the router passes on, in a trace (AMQP 1.0 part 2, sections 2.6.12, 2.6.14, 2.7.5 and 2.7.6). Each is a message
+-- bound to one consumer link. Bindings are numbered from 1 in their order, and a delivery has its binding's number.
 use Rattle.std.specs.Prelude.{ℕ, ◌+◌, ◌*◌, ◌/◌, ◌%◌, ◌^◌, Bool, true, false, not, ◌&&◌, ◌||◌, ◌==◌, nat_eq, nat_lt, nat_le, if◌then◌else◌, is_none, is_some, List, ◌∷◌, [], length, Option, Some, None, option_map, option_and_then, unwrap_or}
 use Rattle.amqp_perf.specs.declared.perf.Disposition.{Disposition}
 use Rattle.amqp_perf.specs.declared.perf.Perf.{Perf}
@@ -31,7 +31,7 @@ bindings (Took d n ∷ t) = bindings t
 bindings (Bound b ∷ t) = bindings t + 1
 bindings (Configured g ∷ t) = bindings t
 
--- A delivery: where it goes, whom its outcome is told to, and how far it is.
+-- A delivery: its consumer's link, the producer's delivery to which its outcome is reported, and its progress.
 pub record Delivery : Type 0 where
   pub link : Attachment
   pub origin : Option Origin
@@ -39,12 +39,12 @@ pub record Delivery : Type 0 where
   pub presettled : Bool
   pub format : ℕ
   pub payload : List ℕ
-  -- its id on the consumer's session, once it has started, and how many bytes of it have gone
+  -- its id on the consumer's session, once it has started, and how many bytes of it were sent
   pub id : Option ℕ
   pub sent : ℕ
-  -- frames of it are still to go
+  -- frames of it remain to be sent
   pub going_on : Bool
-  -- what was decided of it
+  -- its outcome, once decided
   pub outcome : Option DeliveryState
 
 abbrev pub bound : Binding → Delivery
@@ -60,14 +60,14 @@ bound b = record {
   outcome = None;
 }
 
--- It is over once it is decided, nobody is to be told, and no frame is to go.
+-- A delivery is over once it is decided, its outcome needs no reporting, and no frame of it remains to be sent.
 abbrev pub is_over : Delivery → Bool
 is_over d = not d.going_on && (is_some d.outcome && is_none d.origin)
 
 abbrev pub unless_over : Delivery → Option Delivery
 unless_over d = if is_over d then None else Some d
 
--- The tag that the router gives a delivery: 76 and its number in 8 bytes.
+-- The tag that the router gives a delivery: the byte 76 (hexadecimal) and its number in 8 bytes.
 abbrev pub byte_of : ℕ → ℕ → ℕ
 byte_of n place = (n / 256 ^ place) % 256
 
@@ -82,8 +82,8 @@ abbrev pub tagged : List ℕ → Option ℕ
 tagged [] = None
 tagged (b ∷ bs) = if (b == 118) && (length bs == 8) then Some (number_in bs 0) else None
 
--- The number of the delivery that a transfer of the router carries: a first frame has its tag, and a later one none, so it is that of
--- the frame before it on its link while that has more.
+-- The number of the delivery that a transfer of the router carries. A first frame has its tag; a later frame has none, so its delivery is
+-- that of the frame before it on its link, if that has more.
 abbrev pub carried : Option (List ℕ) → Option ℕ → Option ℕ
 carried (Some tag) before = tagged tag
 carried None before = before
@@ -111,7 +111,7 @@ abbrev pub is_id : Option ℕ → ℕ → Bool
 is_id None id = false
 is_id (Some k) id = k == id
 
--- The number of the delivery that an id names on a session of the router's: that of the last transfer that began one under it (2.6.12).
+-- The number of the delivery that an id names on a session, on the router's side: the last one that a transfer began under it (2.6.12).
 abbrev pub begins_under : Transfer → ℕ → Option ℕ → Option ℕ
 begins_under x id v = if is_id x.delivery_id id then option_and_then tagged (tag_in x) else v
 
@@ -133,7 +133,7 @@ named (Took d n ∷ t) c o id = named t c o id
 named (Bound b ∷ t) c o id = named t c o id
 named (Configured g ∷ t) c o id = named t c o id
 
--- A transfer that carries it: its id is that of the first frame, and one that was settled before is decided with its last frame.
+-- A transfer that carries the delivery: the id is that of its first frame; a delivery that was settled before is decided with its last frame.
 abbrev pub behind_frame : Transfer → ℕ → Delivery → Delivery
 behind_frame x count d = record d {
   id = (if is_none d.id then x.delivery_id else d.id);
@@ -145,8 +145,8 @@ behind_frame x count d = record d {
 abbrev pub stands_on : Attachment → ℕ → ℕ → Bool
 stands_on a c o = (a.conn.0 == c) && (a.channel == o)
 
--- A delivery is decided by its consumer: its disposition has a terminal state, or settles without one, which is modified with
--- delivery-failed. So is one that is undecided when its link ends.
+-- The consumer decides a delivery: its disposition has a terminal state, or settles without one, which means modified with
+-- delivery-failed. An undecided delivery is decided likewise when its link ends.
 abbrev pub failed : DeliveryState
 failed = state.Modified (record { delivery_failed = true; undeliverable_here = false; message_annotations = None })
 
@@ -173,7 +173,7 @@ abbrev pub is_number : Option ℕ → ℕ → Bool
 is_number None n = false
 is_number (Some k) n = k == n
 
--- the delivery of this number, of those that the ids of a session name
+-- the delivery has this number, and an id of a session names it
 abbrev pub is_named : Option ℕ → (ℕ → Option ℕ) → ℕ → Bool
 is_named None names n = false
 is_named (Some id) names n = is_number (names id) n
@@ -181,7 +181,7 @@ is_named (Some id) names n = is_number (names id) n
 abbrev pub decided : Disposition → (ℕ → Option ℕ) → ℕ → Delivery → Delivery
 decided x names n d = if is_undecided d && is_meant x d.id && is_named d.id names n then record d { outcome = decision x.settled (terminal x.state) } else d
 
--- Nobody is told of it any more: its outcome was told by a disposition of the router as a receiver, or its producer settled it or went.
+-- The outcome needs no more reporting: a disposition of the router as a receiver reported it, or the producer settled or is gone.
 abbrev pub origin_id : Option Origin → ℕ → ℕ → Option ℕ
 origin_id None c o = None
 origin_id (Some p) c o = if stands_on p.link c o then Some p.id else None
@@ -193,7 +193,7 @@ abbrev pub told : Role → Disposition → ℕ → ℕ → Delivery → Delivery
 told Receiver x c o d = if x.settled && is_meant x (origin_id d.origin c o) then untold d else d
 told Sender x c o d = d
 
--- Links that end: the consumer's, and the producer's.
+-- The end of a link: the consumer's, and the producer's.
 abbrev pub ended : Delivery → Delivery
 ended d = record d { going_on = false; outcome = (if is_none d.outcome then Some failed else d.outcome) }
 
@@ -221,7 +221,7 @@ behind_put (item.Frame sasl own body payload) c n sent d =
     behind_ends (ended_by (item.Frame sasl own body payload) c) (put_in body c own n sent (length payload) d)
 behind_put i c n sent d = d
 
--- what an item that comes on a connection does, where its channel stands for this
+-- what an item received on a connection does to a delivery, given what its channel stands for
 abbrev pub is_on : Attachment → ℕ → Option PeerChannel → Bool
 is_on a c v = (a.conn.0 == c) && maps v a.channel
 
@@ -249,7 +249,7 @@ behind_event (event.Item c i) known names n d = heard i c.0 (known c.0) (names c
 behind_event (event.Down c) known names n d = behind_ends (lost_with c.0) d
 behind_event _ known names n d = d
 
--- The delivery of a number; none before it is bound, and once it is over.
+-- The delivery with a number; none before it is bound, and once it is over.
 abbrev pub delivery : Trace → ℕ → Option Delivery
 delivery [] n = None
 delivery (Did s ∷ t) n = option_and_then (λ d. unless_over (behind_event s.event (theirs t) (named t) n d)) (delivery t n)
@@ -258,7 +258,7 @@ delivery (Took c k ∷ t) n = delivery t n
 delivery (Bound b ∷ t) n = if bindings t + 1 == n then Some (bound b) else delivery t n
 delivery (Configured g ∷ t) n = delivery t n
 
--- What is asked of it: whether it waits to start on a link, whether it is undecided there, and whether its producer is to be told.
+-- Tests of a delivery: it waits to start on a link, it is undecided there, its outcome must be reported to its producer.
 abbrev pub waits_on : ℕ → Option Delivery → Bool
 waits_on number None = false
 waits_on number (Some d) = (d.link.number == number) && is_none d.id && d.going_on
@@ -279,7 +279,7 @@ abbrev pub is_to_tell : Option Delivery → Bool
 is_to_tell None = false
 is_to_tell (Some d) = is_some d.outcome && is_some d.origin
 
--- The delivery-id that the router gives next on a session of its own: 0 behind its begin, one more behind each that it gave.
+-- The next delivery-id that the router gives on a session: 0 after its begin, then one more than the last that it gave.
 abbrev pub after_id : Option ℕ → ℕ → ℕ
 after_id None next = next
 after_id (Some id) next = (id + 1) % 2 ^ 32

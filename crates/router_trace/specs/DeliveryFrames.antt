@@ -1,4 +1,4 @@
--- The frames of deliveries that the router writes (AMQP 1.0 part 2, sections 2.7.5 and 2.7.6), and outcomes as it keeps them.
+-- The delivery frames that the router writes (AMQP 1.0 part 2, sections 2.7.5 and 2.7.6), and outcomes as it keeps them.
 use Rattle.std.specs.Prelude.{ℕ, ◌-◌, Bool, true, false, nat_lt, nat_le, if◌then◌else◌, List, [], ◌∷◌, length, take, drop, min, codes, Option, Some, None, option_map}
 use Rattle.amqp_perf.specs.Spelling.{state_spelling}
 use Rattle.amqp_perf.specs.declared.perf.Disposition.{Disposition}
@@ -18,8 +18,8 @@ use Rattle.router_trace.specs.Frames.{frame_on}
 use Rattle.router_trace.specs.LinkFrames.{fits}
 use Rattle.router_trace.specs.Numbers.{most_of}
 
--- An outcome as the router keeps it: an error has no description, and a condition of more than 128 bytes becomes that of an internal
--- error; where the outcome is still longer than 400 bytes, its info or its annotations go.
+-- An outcome as the router keeps it: an error has no description, and a condition of more than 128 bytes becomes internal-error;
+-- if the outcome is still longer than 400 bytes, its info or its annotations are dropped.
 abbrev pub kept_condition : List ℕ → List ℕ
 kept_condition text = if nat_lt 128 (length text) then codes "amqp:internal-error" else text
 
@@ -44,12 +44,12 @@ unless_long s = if nat_lt 400 (length (state_spelling s)) then bare s else s
 abbrev pub kept_outcome : DeliveryState → DeliveryState
 kept_outcome s = unless_long (undescribed s)
 
--- A disposition of the router, of one delivery, which settles it.
+-- The router's disposition of one delivery, which settles it.
 abbrev pub outcome_item : ℕ → Role → ℕ → DeliveryState → Item
 outcome_item own role id s =
     frame_on own (perf.Disposition (record { role = role; first = id; last = None; settled = true; state = Some (kept_outcome s); batchable = false }))
 
--- A transfer of the router: the first of a delivery has its id, tag and format, a later one none of them; each says whether the
+-- A transfer of the router: the first of a delivery has its id, tag and format, a later one none of them. Each says whether the
 -- delivery was settled before.
 abbrev pub first_transfer : ℕ → ℕ → ℕ → Delivery → Transfer
 first_transfer handle id n d = record {
@@ -81,7 +81,7 @@ later_transfer handle d = record {
   batchable = false;
 }
 
--- A frame has all of the rest of a message where that fits; else as many bytes of it as fit, and says that more are to come.
+-- A frame has the whole rest of a message if that fits; else as many bytes of it as fit, and `more` is set.
 abbrev pub largest_out : ℕ → ℕ
 largest_out theirs = min theirs 16384
 
@@ -98,6 +98,6 @@ abbrev pub next_frame : ℕ → ℕ → Transfer → List ℕ → Item
 next_frame largest own x rest =
     if fits largest (transfer_frame own x rest) then transfer_frame own x rest else part_frame own x rest (filled largest own x rest)
 
--- what is still to go of a delivery
+-- the bytes of a delivery that remain to be sent
 abbrev pub rest_of : Delivery → List ℕ
 rest_of d = drop d.sent d.payload

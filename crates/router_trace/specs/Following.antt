@@ -1,5 +1,5 @@
--- What follows the rows of an event, of a trace: producers are told outcomes, deliveries are sent, drains are told. Each definition gives the
--- frame that is due first; the frames go out one after the other, as long as one is due.
+-- What follows the rows of an event, in a trace: outcomes are sent to producers, deliveries to consumers, drains are answered. Each definition gives
+-- the frame that is due first; frames go out one after another as long as one is due.
 use Rattle.std.specs.Prelude.{ℕ, zero, suc, ◌+◌, ◌%◌, ◌^◌, Bool, true, false, not, ◌&&◌, ◌||◌, ◌==◌, nat_eq, nat_lt, if◌then◌else◌, is_none, is_some, List, [], ◌∷◌, Option, Some, None, option_and_then}
 use Rattle.amqp_perf.specs.declared.perf.Role.TheVariants.{Sender, Receiver}
 use Rattle.amqp_perf.specs.declared.state.DeliveryState.{DeliveryState}
@@ -20,12 +20,12 @@ use Rattle.router_trace.specs.Deliveries.{Delivery, bindings, delivery, sending,
 use Rattle.router_trace.specs.DeliveryFrames.{outcome_item, first_transfer, later_transfer, next_frame, largest_out, rest_of}
 use Rattle.router_trace.specs.Numbers.{first_below, first_placed, Placed}
 
--- So many times what is due goes out. Where nothing is due any more, nothing changes.
+-- What is due goes out this many times. Once nothing is due, nothing changes.
 unfoldable pub repeated : (Trace → List Put) → ℕ → Trace → Trace
 repeated next zero t = t
 repeated next (suc n) t = repeated next n (goes (next t) t)
 
--- as long as something is due: nobody sends as many frames as this
+-- enough turns to send all that is due: no event sends as many frames as this
 unfoldable pub turns : ℕ
 turns = 2 ^ 64
 
@@ -36,11 +36,11 @@ as_long_as_due next t = repeated next turns t
 abbrev pub first_delivery : Trace → (Option Delivery → Bool) → Option ℕ
 first_delivery t passes = first_below (bindings t + 1) (λ n. passes (delivery t n))
 
--- the link on the handle of an attachment; whether it is that attachment's its number says
+-- the link on an attachment's handle; its number says whether it is the attachment's
 abbrev pub link_of : Trace → Attachment → Option Link
 link_of t a = link t a.conn.0 a.channel a.handle
 
--- Producers told: of the deliveries that are decided, while their producer's link is attached and isn't told, the one that was bound first.
+-- Outcomes for producers: the first bound of the deliveries that are decided and whose producer, still attached, has not been sent the outcome.
 abbrev pub is_still_attached : Trace → Option Origin → Bool
 is_still_attached t None = false
 is_still_attached t (Some p) = is_attached t p.link
@@ -72,8 +72,8 @@ goes_on_at (Some l) number sent n = (l.number == number) && (l.going_on && is_nu
 abbrev pub is_going : Trace → ℕ → Delivery → Bool
 is_going t n d = (is_some d.id && d.going_on) && goes_on_at (link_of t d.link) d.link.number (sending t d.link.conn.0 d.link.channel d.link.handle) n
 
--- One that waits starts where its link has credit left, none on its session has begun and has more to come, and the id that it would have names
--- none that is undecided.
+-- A waiting delivery starts if its link has credit left, no delivery on its session has begun and has more to come, and the id that it would get
+-- names no undecided one.
 abbrev pub has_credit : Happened → Bool
 has_credit (sends list) = nat_lt 0 (credit.credit list)
 has_credit (receives list) = false
@@ -104,12 +104,12 @@ can_start t d =
     && (not (is_busy t d.link.conn.0 d.link.channel)
     && not (is_used t (named t d.link.conn.0 d.link.channel (next_id t d.link.conn.0 d.link.channel)))))
 
--- nothing goes where the session's window is closed
+-- nothing is sent while the session's window is closed
 abbrev pub is_wide : Option Session → Bool
 is_wide None = false
 is_wide (Some h) = not (nat_eq (remote_window h) 0)
 
--- its link is the one of its number
+-- the attachment's link is still attached: it has the attachment's number
 abbrev pub is_there : Option Attachment → Attachment → Bool
 is_there None a = false
 is_there (Some b) a = (b.conn.0 == a.conn.0) && ((b.channel == a.channel) && (b.handle == a.handle))
@@ -121,7 +121,7 @@ abbrev pub place_to_go : Trace → ℕ → Option Delivery → Option Attachment
 place_to_go t n None = None
 place_to_go t n (Some d) = if can_go t n d then Some d.link else None
 
--- its frame
+-- the transfer that is due for a delivery
 abbrev pub transfer_of : Trace → ℕ → Delivery → Transfer
 transfer_of t n d =
     if is_none d.id then first_transfer d.link.handle (next_id t d.link.conn.0 d.link.channel) n d else later_transfer d.link.handle d
@@ -135,12 +135,12 @@ abbrev pub send_of : Trace → Option Placed → List Put
 send_of t None = []
 send_of t (Some p) = send t p.number (delivery t p.number)
 
--- by connection and by the router's channel, and there in order of binding
+-- ordered by connection, by the router's channel, then by binding
 abbrev pub sends_due : Trace → List Put
 sends_due t = send_of t (first_placed (bindings t + 1) (λ n. place_to_go t n (delivery t n)))
 
--- Drains told (2.6.7): on a link on which the router sends, whose peer's last flow asks for one that wasn't told yet, once every delivery that is
--- bound to it has gone. The count moves ahead by the credit left.
+-- Answers to drains (2.6.7): on a link on which the router sends, if the peer's last flow asks for a drain that is not yet answered and every
+-- delivery bound to the link was sent. The delivery-count advances by the credit left.
 abbrev pub is_unsent_on : ℕ → Option Delivery → Bool
 is_unsent_on number None = false
 is_unsent_on number (Some d) = (d.link.number == number) && d.going_on
@@ -173,6 +173,6 @@ abbrev pub drain_by : Trace → Option Placed → List Put
 drain_by t None = []
 drain_by t (Some p) = drain_on p.place (session t p.place.conn.0 p.place.channel) (link_of t p.place)
 
--- by connection, by the router's channel, and by attach
+-- ordered by connection, by the router's channel, then by attach
 abbrev pub drains_due : Trace → List Put
 drains_due t = drain_by t (first_placed (attachments t + 1) (λ n. place_drained t n (numbered t n)))

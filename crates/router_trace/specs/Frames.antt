@@ -45,7 +45,7 @@ frame_of p = frame_on 0 p
 abbrev pub beat_item : Item
 beat_item = item.Beat 0
 
--- the router's open: its id, frames of at most 16,384 bytes, channels to 14
+-- the router's open: its container-id, frames of at most 16,384 bytes, channels up to 14
 abbrev pub router_open : List ℕ → Open
 router_open id = record {
   container_id = id;
@@ -63,20 +63,20 @@ router_open id = record {
 abbrev pub open_item : List ℕ → Item
 open_item id = frame_of (perf.Open (router_open id))
 
--- an error has its condition alone
+-- an error with nothing but its condition
 abbrev pub error_of : Condition → Fault
 error_of x = record { condition = text_of x; description = None; info = None }
 
--- the router's close, with an error or none
+-- the router's close, with or without an error
 abbrev pub close_item : Option Condition → Item
 close_item x = frame_of (perf.Close (record { error = option_map error_of x }))
 
--- a close with an error; the router's open stands before it where it isn't written yet
+-- a close with an error; the router's open comes before it if it isn't written yet
 abbrev pub closing : List ℕ → Conn → Condition → List Item
 closing id p x = if p.opened then close_item (Some x) ∷ [] else open_item id ∷ close_item (Some x) ∷ []
 
--- the router's begin, on this channel of its own, which answers the peer's on this one: its first transfer has the id 0, it
--- takes 2,048 transfers, and handles to 63
+-- the router's begin on its own channel, which answers the peer's begin: its first transfer has the id 0, it accepts 2,048
+-- transfers, and handles up to 63
 abbrev pub router_begin : ℕ → Begin
 router_begin theirs = record {
   remote_channel = Some theirs;
@@ -92,15 +92,15 @@ router_begin theirs = record {
 abbrev pub begin_item : ℕ → ℕ → Item
 begin_item own theirs = frame_on own (perf.Begin (router_begin theirs))
 
--- the router's end, with an error or none
+-- the router's end, with or without an error
 abbrev pub end_item : ℕ → Option Condition → Item
 end_item own x = frame_on own (perf.End (record { error = option_map error_of x }))
 
--- what a flow of the router tells of a session: the figures of what happened on it, and that 2,048 transfers can come
+-- what a flow of the router says of a session: the session's counts, and an incoming-window of 2,048 transfers
 abbrev pub told_of : Session → FlowState
 told_of h = record { next_incoming = Some (next_incoming h); incoming_window = 2048; next_outgoing = next_outgoing h }
 
--- a flow without handle
+-- a flow without a handle
 abbrev pub session_flow : FlowState → Flow
 session_flow told = record {
   next_incoming_id = told.next_incoming;

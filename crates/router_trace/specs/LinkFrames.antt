@@ -1,4 +1,4 @@
--- The frames of links that the router writes (AMQP 1.0 part 2, sections 2.7.3, 2.7.4 and 2.7.7).
+-- The link frames that the router writes (AMQP 1.0 part 2, sections 2.7.3, 2.7.4 and 2.7.7).
 use Rattle.std.specs.Prelude.{ℕ, Bool, true, false, ◌==◌, nat_le, if◌then◌else◌, List, [], ◌∷◌, length, Option, Some, None, option_map}
 use Rattle.amqp_perf.specs.declared.perf.Attach.{Attach}
 use Rattle.amqp_perf.specs.declared.perf.Detach.{Detach}
@@ -24,8 +24,8 @@ use Rattle.router_trace.specs.Frames.{frame_on, error_of, session_flow}
 abbrev pub detach_item : ℕ → ℕ → Bool → Option Condition → Item
 detach_item own handle closed x = frame_on own (perf.Detach (record { handle = handle; closed = closed; error = option_map error_of x }))
 
--- The answer to an attach: the name, the other role, both termini as they came, but that no filter is in place and that the
--- router keeps no configuration of a terminus (durable 1 becomes 0).
+-- The answer to an attach: the same name, the opposite role, and both termini as received, except that no filter is in place and
+-- that the router keeps no configuration of a terminus (durable 1 becomes 0).
 abbrev pub other : Role → Role
 other Sender = Receiver
 other Receiver = Sender
@@ -41,8 +41,8 @@ abbrev pub target_answer : Option TargetTerminus → Option TargetTerminus
 target_answer (Some (target.Target x)) = Some (target.Target (record x { durable = kept x.durable }))
 target_answer x = x
 
--- As it sends, it begins at the delivery-count 0 and leaves it open whether it settles; as it receives, the first to settle is the
--- peer, and a message has at most 65,536 bytes.
+-- As a sender, the router starts at the delivery-count 0 and leaves it open whether it settles. As a receiver, it lets the peer settle
+-- first and accepts messages of at most 65,536 bytes.
 abbrev pub sender_mode : Role → ℕ → ℕ
 sender_mode Sender mode = mode
 sender_mode Receiver mode = 2
@@ -77,7 +77,7 @@ answer_to a handle = record {
   properties = None;
 }
 
--- the same without the terminus at the router's side: the link is refused
+-- the answer that refuses a link: the same, without the terminus at the router's side
 abbrev pub refused_source : Role → Option SourceTerminus → Option SourceTerminus
 refused_source Sender s = s
 refused_source Receiver s = None
@@ -92,11 +92,11 @@ refusal_of a handle = record (answer_to a handle) { source = refused_source a.ro
 abbrev pub attach_item : ℕ → Attach → Item
 attach_item own a = frame_on own (perf.Attach a)
 
--- an item's frame is no longer than the peer takes
+-- an item's frame is no longer than the peer accepts
 abbrev pub fits : ℕ → Item → Bool
 fits largest i = nat_le (length (item_spelling i)) largest
 
--- a flow of a link: the session's figures, and the link's
+-- a link's flow: the session's counts, and the link's
 abbrev pub link_flow : FlowState → LinkState → Flow
 link_flow told at = record (session_flow told) { handle = Some at.handle; delivery_count = Some at.count; link_credit = Some at.credit; drain = at.drain }
 

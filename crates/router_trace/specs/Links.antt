@@ -1,4 +1,4 @@
--- What a trace says of links (AMQP 1.0 part 2, section 2.6): the peer's attach and the router's answer make one, on a handle of the
+-- Links in a trace (AMQP 1.0 part 2, section 2.6): the peer's attach and the router's answer make a link, on a handle of the
 -- router and one of the peer. A link that the router takes has an address at the router's own terminus; one that it refuses has none.
 use Rattle.std.specs.Prelude.{ℕ, zero, suc, ◌+◌, Bool, true, false, not, ◌&&◌, ◌==◌, nat_eq, nat_le, if◌then◌else◌, is_none, is_some, List, ◌∷◌, [], Option, Some, None, option_map, unwrap_or}
 use Rattle.std.specs.BTreeMap.{is_at}
@@ -42,7 +42,7 @@ use Rattle.router_trace.specs.Trace.{Did, Out, Took, Bound, Configured, Trace}
 use Rattle.router_trace.specs.Sessions.{maps, unless_close, theirs}
 use Rattle.router_trace.specs.Peers.{user, container, container_id, Container}
 
--- What the attach that came last on a connection asks; none where the connection is closed or lost.
+-- What the last attach received on a connection asks for; none if the connection is closed or lost.
 abbrev pub asked_of : Attach → Asked
 asked_of a = record { handle = a.handle; initial = unwrap_or a.initial_delivery_count 0 }
 
@@ -82,7 +82,7 @@ abbrev pub is_lost : Event → ℕ → Bool
 is_lost (event.Down d) c = d.0 == c
 is_lost _ c = false
 
--- The handle of the peer whose attach the router's attach on a handle of its own answers.
+-- The peer's handle whose attach is answered by the router's attach on this handle.
 abbrev pub handle_asked : Option Asked → Option ℕ
 handle_asked None = None
 handle_asked (Some a) = Some a.handle
@@ -103,9 +103,9 @@ answered_handle (Took d n ∷ t) c o h = answered_handle t c o h
 answered_handle (Bound b ∷ t) c o h = answered_handle t c o h
 answered_handle (Configured g ∷ t) c o h = answered_handle t c o h
 
--- What a handle of the peer stands for, on the session of a channel of the router: a link, on a handle of the router; one that the
--- router detached, until the peer's detach; or nothing. A detach on a handle on which nothing was attached answers the attach that
--- came last.
+-- What a peer's handle stands for, on the session with this router's channel: a link, on a handle of the router; one that the
+-- router detached, until the peer's detach; or nothing. A detach on a handle on which nothing was attached answers the last attach
+-- received.
 abbrev pub is_handle : Option ℕ → ℕ → Bool
 is_handle None p = false
 is_handle (Some handle) p = handle == p
@@ -148,7 +148,7 @@ their_handle (Took d n ∷ t) c o p = their_handle t c o p
 their_handle (Bound b ∷ t) c o p = their_handle t c o p
 their_handle (Configured g ∷ t) c o p = their_handle t c o p
 
--- The address at the router's own terminus of its attach: of a sender its source's, of a receiver its target's.
+-- The address at the router's own terminus of its attach: the source's if it is the sender, the target's if it is the receiver.
 abbrev pub text_of : Option Address → Option (List ℕ)
 text_of (Some (address.Text a)) = Some a
 text_of _ = None
@@ -165,7 +165,7 @@ abbrev pub address_by : Role → Attach → Option (List ℕ)
 address_by Sender a = source_address a.source
 address_by Receiver a = target_address a.target
 
--- Attachments are numbered by the router's attaches that have an address: its number is one more than that of those before it.
+-- Attachments are numbered by the router's attaches that have an address: each number is one more than the last.
 abbrev pub is_taken_in : Perf → Bool
 is_taken_in (perf.Attach a) = is_some (address_by a.role a)
 is_taken_in _ = false
@@ -182,7 +182,7 @@ attachments (Took d n ∷ t) = attachments t
 attachments (Bound b ∷ t) = attachments t
 attachments (Configured g ∷ t) = attachments t
 
--- A link is known by its user, container and name, and by the way in which deliveries go on it.
+-- A link is identified by its user, container and name, and by the direction of its deliveries.
 abbrev pub way_of : Role → LinkRole
 way_of Sender = Consumer
 way_of Receiver = Producer
@@ -190,7 +190,7 @@ way_of Receiver = Producer
 abbrev pub key_of : Option (List ℕ) → Option Container → Attach → LinkKey
 key_of user told a = record { role = way_of a.role; user = unwrap_or user []; container = container_id told; name = a.name }
 
--- What happened on a link, newest first, as the router sends on it or as the peer does.
+-- What happened on a link, newest first: the router is the sender, or the peer is.
 pub data Happened : Type 0 where
   sends : (list : credit.Link) → Happened
   receives : (list : Received) → Happened
@@ -200,13 +200,13 @@ pub record Link : Type 0 where
   pub key : LinkKey
   pub address : List ℕ
   pub happened : Happened
-  -- the router has begun a delivery on it, of which more frames are to go
+  -- the router has begun a delivery on it, of which more frames remain to be sent
   pub going_on : Bool
-  -- the peer's last flow asks for a drain, which was not told yet
+  -- the peer's last flow asks for a drain; it is not yet answered
   pub drains : Bool
   pub owes_drain : Bool
 
--- what an attach begins
+-- the start of a link, by its attach
 abbrev pub begins : Role → Option ℕ → ℕ → Happened
 begins Sender initial theirs = sends (credit.Attached (unwrap_or initial 0) ∷ [])
 begins Receiver initial theirs = receives (receiving.TheirAttach theirs ∷ [])
@@ -226,8 +226,8 @@ begun_link number key a last address = record {
   owes_drain = false;
 }
 
--- A flow of the peer: on a link on which the router sends, what it grants; on another the count that it tells, unless that is
--- behind the peer's own or further ahead than the credit that is unused.
+-- A flow of the peer: on a link on which the router sends, the credit that it grants; on another the delivery-count that it has, unless
+-- that is less than the peer's own or ahead of it by more than the unused credit.
 abbrev pub with_grant : Flow → Option ℕ → credit.Link → credit.Link
 with_grant f None h = h
 with_grant f (Some k) h = credit.Granted f.delivery_count k ∷ h
@@ -243,7 +243,7 @@ flowed_to f (receives h) = receives (with_count f.delivery_count h)
 abbrev pub behind_their_flow : Flow → Link → Link
 behind_their_flow f l = record l { happened = flowed_to f l.happened; drains = f.drain; owes_drain = f.drain }
 
--- a transfer of the peer, with what it carries
+-- a transfer of the peer, with its payload
 abbrev pub came_to : Transfer → List ℕ → Happened → Happened
 came_to x payload (sends h) = sends h
 came_to x payload (receives h) = receives (receiving.behind (frame x payload) h)
@@ -251,7 +251,7 @@ came_to x payload (receives h) = receives (receiving.behind (frame x payload) h)
 abbrev pub behind_their_transfer : Transfer → List ℕ → Link → Link
 behind_their_transfer x payload l = record l { happened = came_to x payload l.happened }
 
--- a flow of the router: where it sends, the count that it tells; where the peer does, what it grants
+-- a flow of the router: as a sender its delivery-count, as a receiver the credit that it grants
 abbrev pub with_our_count : Option ℕ → credit.Link → credit.Link
 with_our_count None h = h
 with_our_count (Some n) h = credit.Counted n ∷ h
@@ -267,7 +267,7 @@ flowed_from f (receives h) = receives (with_our_grant f.delivery_count f.link_cr
 abbrev pub behind_our_flow : Flow → Link → Link
 behind_our_flow f l = record l { happened = flowed_from f l.happened; owes_drain = l.owes_drain && not f.drain }
 
--- a transfer of the router, which starts a delivery where none goes on
+-- a transfer of the router; it starts a delivery unless one is going on
 abbrev pub started : Bool → Happened → Happened
 started going_on (sends h) = sends (if going_on then h else credit.Started ∷ h)
 started going_on (receives h) = receives h
@@ -275,7 +275,7 @@ started going_on (receives h) = receives h
 abbrev pub behind_our_transfer : Transfer → Link → Link
 behind_our_transfer x l = record l { happened = started l.going_on l.happened; going_on = x.more && not x.aborted }
 
--- The link on a handle of the router, of the session on a channel of the router; none where none is attached.
+-- The link on a router's handle, of the session with this router's channel; none if none is attached.
 abbrev pub attached : ℕ → LinkKey → Attach → Option Asked → Option (List ℕ) → Option Link
 attached number key a last None = None
 attached number key a last (Some address) = Some (begun_link number key a last address)
@@ -315,7 +315,7 @@ link_at (event.Item d i) c o h channels handles v = if d.0 == c then link_by i o
 link_at (event.Down d) c o h channels handles v = if d.0 == c then None else v
 link_at _ c o h channels handles v = v
 
--- the key of an attach of the router on a connection
+-- the link key of the router's attach on a connection
 abbrev pub key_at : Trace → ℕ → Attach → LinkKey
 key_at t c a = key_of (user t c) (container t c) a
 
@@ -340,7 +340,7 @@ abbrev pub if_attached : Trace → Option Attachment → Option Attachment
 if_attached t None = None
 if_attached t (Some a) = if is_attached t a then Some a else None
 
--- the attachment of a key that came last, and the one of a number
+-- the last attachment with a key, and the attachment with a number
 abbrev pub same_key : LinkKey → LinkKey → Bool
 same_key k l = is_at (key_cmp k) l
 
@@ -369,14 +369,14 @@ numbered (Took d k ∷ t) n = numbered t n
 numbered (Bound b ∷ t) n = numbered t n
 numbered (Configured g ∷ t) n = numbered t n
 
--- the link that has a key, and the one of a number, while they are attached
+-- the link with a key, and the link with a number, while they are attached
 abbrev pub holder : Trace → LinkKey → Option Attachment
 holder t k = if_attached t (last_of_key t k)
 
 abbrev pub place_of : Trace → ℕ → Option Attachment
 place_of t n = if_attached t (numbered t n)
 
--- What a handle of the peer stands for: nothing, a link that the router detached, or a link on a handle of the router.
+-- What a peer's handle stands for: nothing, a link that the router detached, or a link on a handle of the router.
 pub data LinkPlace : Type 0 where
   nowhere : LinkPlace
   detaching : LinkPlace
@@ -394,7 +394,7 @@ link_place_by (Some (Mapped h)) known = on_link h (known h)
 abbrev pub link_place : Trace → ℕ → ℕ → ℕ → LinkPlace
 link_place t c o p = link_place_by (their_handle t c o p) (link t c o)
 
--- the same with the figures of the link alone
+-- the same with the link's credit state alone
 abbrev pub found_on : ℕ → Happened → LinkAt
 found_on h (sends list) = found.Sends h (record { initial = credit.initial list; count = credit.count list; granted = credit.granted list })
 found_on h (receives list) = found.Receives h (receiving.delivery_count list) (receiving.unused list)
@@ -404,7 +404,7 @@ found_link nowhere = found.Nowhere
 found_link detaching = found.Detaching
 found_link (on h l) = found_on h l.happened
 
--- The highest handle that the peer takes on the session of a channel of the router: that of its begin (2.7.2).
+-- The highest handle that the peer accepts on the session with this router's channel: the handle-max of its begin (2.7.2).
 abbrev pub handle_max_in : Perf → Option ℕ → Option ℕ
 handle_max_in (perf.Begin b) last = Some b.handle_max
 handle_max_in _ last = last
@@ -444,7 +444,7 @@ highest_handle (Took d n ∷ t) c o = highest_handle t c o
 highest_handle (Bound b ∷ t) c o = highest_handle t c o
 highest_handle (Configured g ∷ t) c o = highest_handle t c o
 
--- The lowest handle of the router's on which nothing is attached, of 64 and up to the highest that the peer takes.
+-- The router's lowest handle on which nothing is attached, of 64 and up to the highest that the peer accepts.
 abbrev pub is_free_handle : ℕ → (ℕ → Option ℕ) → ℕ → Bool
 is_free_handle most known h = if nat_le h most then is_none (known h) else false
 

@@ -2,7 +2,7 @@
 use Rattle.std.specs.Prelude.{ℕ, zero, suc, ◌+◌, Bool, true, false, nat_lt, ◌==◌, ◌&&◌, ◌||◌, if◌then◌else◌, Option, Some, None}
 use Rattle.router_trace.specs.declared.handle.Attachment.{Attachment}
 
--- the one that there is, or another
+-- the first number if there is one, else the second
 abbrev pub or_other : Option ℕ → Option ℕ → Option ℕ
 or_other None other = other
 or_other (Some n) other = Some n
@@ -10,7 +10,7 @@ or_other (Some n) other = Some n
 abbrev pub if_passes : Bool → ℕ → Option ℕ
 if_passes passes n = if passes then Some n else None
 
--- the lowest number, of so many from 0 on, that passes
+-- the lowest number, below this one, that passes
 unfoldable pub first_below : ℕ → (ℕ → Bool) → Option ℕ
 first_below zero passes = None
 first_below (suc n) passes = or_other (first_below n passes) (if_passes (passes n) n)
@@ -20,16 +20,16 @@ unfoldable pub count_below : ℕ → (ℕ → Bool) → ℕ
 count_below zero passes = 0
 count_below (suc n) passes = count_below n passes + (if passes n then 1 else 0)
 
--- the greatest number up to this one that passes; 0 where none does
+-- the greatest number up to this one that passes; 0 if none does
 unfoldable pub most_of : ℕ → (ℕ → Bool) → ℕ
 most_of zero passes = 0
 most_of (suc n) passes = if passes (suc n) then suc n else most_of n passes
 
--- A place stands before another: on a connection of a lower number, or on a lower channel of the same.
+-- The order of places: by connection number, then by channel.
 abbrev pub is_before : Attachment → Attachment → Bool
 is_before a b = nat_lt a.conn.0 b.conn.0 || ((a.conn.0 == b.conn.0) && nat_lt a.channel b.channel)
 
--- Of the numbers, of so many from 0 on, that have a place, the one whose place is first, by connection and by the router's channel; of several there
+-- Of the numbers below this one that have a place, the one with the first place, by connection and by the router's channel; among equal places
 -- the lowest.
 pub record Placed : Type 0 where
   pub number : ℕ

@@ -1,4 +1,4 @@
--- In which order items are written on a connection (AMQP 1.0 part 2, sections 2.2, 2.4 and 2.5).
+-- The order in which items are written on a connection (AMQP 1.0 part 2, sections 2.2, 2.4 and 2.5).
 use Rattle.std.specs.Prelude.{ℕ, Bool, true, false, not, ◌==◌, if◌then◌else◌, List, [], ◌∷◌}
 use Rattle.amqp_perf.specs.declared.perf.Perf.{Perf}
 use Rattle.amqp_perf.specs.declared.perf.Perf.TheVariants as perf
@@ -7,7 +7,7 @@ use Rattle.amqp_frames.specs.declared.item.Item.TheVariants as item
 use Rattle.amqp_conn.specs.declared.conn.Conn.{Conn}
 use Rattle.router_trace.specs.Connection.{behind}
 
--- what was written on a connection: its phase, and the channels on which a session is begun and not ended
+-- what was written on a connection: its phase, and the channels with a session that is begun and not ended
 pub record Written : Type 0 where
   pub phase : Conn
   pub begun : ℕ → Bool
@@ -16,7 +16,7 @@ pub record Written : Type 0 where
 abbrev pub unwritten : Written
 unwritten = record { phase = record { header = false; opened = false; closed = false }; begun = λ o. false }
 
--- what was written, and an item behind it
+-- what was written, with one more item after it
 abbrev pub begun_behind_perf : Perf → ℕ → (ℕ → Bool) → ℕ → Bool
 begun_behind_perf (perf.Begin b) own begun o = if own == o then true else begun o
 begun_behind_perf (perf.End x) own begun o = if own == o then false else begun o
@@ -29,12 +29,12 @@ begun_behind _ begun o = begun o
 abbrev pub written_behind : Item → Written → Written
 written_behind i w = record { phase = behind i w.phase; begun = begun_behind i w.begun }
 
--- the connection is open: its open stands, and no close
+-- the connection is open: its open is written, its close is not
 abbrev pub is_open : Conn → Bool
 is_open p = if p.opened then not p.closed else false
 
--- An item has its turn behind what was written: a header and an open once, a close only behind an open, and nothing behind a
--- close; a heartbeat, and all frames of sessions, between open and close; a begin on a channel without session, and every other
+-- An item may be written next: a header and an open once, a close only after an open, and nothing after a
+-- close; a heartbeat, and all frames of sessions, between open and close; a begin on a channel without a session, and every other
 -- frame of a session on a channel that has one (2.2, 2.4.1, 2.4.3, 2.4.5, 2.5.1 and 2.5.4).
 abbrev pub of_session : Written → ℕ → Bool
 of_session w own = if is_open w.phase then w.begun own else false
@@ -57,7 +57,7 @@ has_turn w (item.Frame sasl own body payload) = perf_has_turn w own body
 has_turn w (item.Beat channel) = is_open w.phase
 has_turn w (item.Bad f) = false
 
--- all of these items have their turn, one behind the other
+-- all of these items may be written, one after another
 abbrev pub have_turns : Written → List Item → Bool
 have_turns w [] = true
 have_turns w (i ∷ is) = if has_turn w i then have_turns (written_behind i w) is else false

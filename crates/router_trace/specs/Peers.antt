@@ -1,4 +1,4 @@
--- What a trace says of a peer (AMQP 1.0 part 2, section 2.7.1): the user that it logged in as, and what its first open tells of it.
+-- A peer in a trace (AMQP 1.0 part 2, section 2.7.1): the user that it logged in as, and what its first open says of it.
 use Rattle.std.specs.Prelude.{ℕ, ◌==◌, if◌then◌else◌, List, [], ◌∷◌, Option, Some, None, unwrap_or, option_map}
 use Rattle.amqp_perf.specs.declared.perf.Open.{Open}
 use Rattle.amqp_perf.specs.declared.perf.Perf.{Perf}
@@ -10,7 +10,7 @@ use Rattle.router_trace.specs.declared.event.Event.TheVariants as event
 use Rattle.router_trace.specs.Trace.{Did, Out, Took, Bound, Configured, Trace}
 use Rattle.router_trace.specs.Sessions.{unless_close}
 
--- the user of a connection; none where the connection is closed or lost
+-- the user of a connection; none if the connection is closed or lost
 abbrev pub user_at : Event → ℕ → Option (List ℕ) → Option (List ℕ)
 user_at (event.Up d p) c user = if d.0 == c then Some p.user else user
 user_at (event.Down d) c user = if d.0 == c then None else user
@@ -24,7 +24,7 @@ user (Took d n ∷ t) c = user t c
 user (Bound b ∷ t) c = user t c
 user (Configured g ∷ t) c = user t c
 
--- what the peer's first open tells that a link needs: its container, and the largest frame that it takes
+-- what links need of the peer's first open: its container-id, and the largest frame that it accepts
 pub record Container : Type 0 where
   pub id : List ℕ
   pub largest : ℕ
@@ -57,7 +57,7 @@ container (Took d n ∷ t) c = container t c
 container (Bound b ∷ t) c = container t c
 container (Configured g ∷ t) c = container t c
 
--- the largest frame that the peer takes, in bytes; 4,294,967,295 where it tells nothing
+-- the largest frame that the peer accepts, in bytes; 4,294,967,295 if it states none
 abbrev pub largest_frame : Trace → ℕ → ℕ
 largest_frame t c = unwrap_or (option_map (λ told. told.largest) (container t c)) 4294967295
 

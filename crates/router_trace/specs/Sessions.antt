@@ -1,4 +1,4 @@
--- What a trace says of the sessions of a connection (AMQP 1.0 part 2, section 2.5): the router's begin and the begin that it
+-- The sessions of a connection in a trace (AMQP 1.0 part 2, section 2.5): the router's begin and the begin that it
 -- answers make one, on a channel of the router and one of the peer.
 use Rattle.std.specs.Prelude.{ℕ, Bool, false, ◌==◌, nat_eq, nat_le, if◌then◌else◌, is_none, List, ◌∷◌, [], Option, Some, None, option_map}
 use Rattle.std.specs.List.{find}
@@ -17,14 +17,14 @@ use Rattle.router_trace.specs.declared.channel.PeerChannel.{PeerChannel}
 use Rattle.router_trace.specs.declared.channel.PeerChannel.TheVariants.{Mapped, Ending}
 use Rattle.router_trace.specs.Trace.{Did, Out, Took, Bound, Configured, Trace}
 
--- what a begin and a flow tell of their sender's end
+-- what a begin and a flow say of their sender's end
 abbrev pub begin_state : Begin → BeginState
 begin_state b = record { next_outgoing = b.next_outgoing_id; incoming_window = b.incoming_window }
 
 abbrev pub flow_state : Flow → FlowState
 flow_state f = record { next_incoming = f.next_incoming_id; incoming_window = f.incoming_window; next_outgoing = f.next_outgoing_id }
 
--- The begin that came last on a connection; none where the connection is closed or lost.
+-- The last begin received on a connection; none if the connection is closed or lost.
 abbrev pub offered_in : Perf → Option BeginState → Option BeginState
 offered_in (perf.Begin b) last = Some (begin_state b)
 offered_in _ last = last
@@ -38,7 +38,7 @@ offered_at (event.Item d i) c last = if d.0 == c then offered_by i last else las
 offered_at (event.Down d) c last = if d.0 == c then None else last
 offered_at _ c last = last
 
--- what a close takes away
+-- what a close removes
 abbrev pub unless_close_in : {A : Type 0} → Perf → Option A → Option A
 unless_close_in (perf.Close x) v = None
 unless_close_in _ v = v
@@ -55,7 +55,7 @@ offered (Took d n ∷ t) c = offered t c
 offered (Bound b ∷ t) c = offered t c
 offered (Configured g ∷ t) c = offered t c
 
--- What a channel of the peer stands for: a session, on a channel of the router; one that the router ended, until the peer's
+-- What a peer's channel stands for: a session, on a channel of the router; one that the router ended, until the peer's
 -- end; or nothing.
 abbrev pub behind_their_end : Perf → ℕ → ℕ → Option PeerChannel → Option PeerChannel
 behind_their_end (perf.End x) channel p v = if channel == p then None else v
@@ -70,7 +70,7 @@ theirs_at (event.Item d i) c p v = if d.0 == c then theirs_by i p v else v
 theirs_at (event.Down d) c p v = if d.0 == c then None else v
 theirs_at _ c p v = v
 
--- The channel of the peer whose begin the router's begin on a channel of its own answers.
+-- The peer's channel whose begin is answered by the router's begin on this channel.
 abbrev pub answered_by_perf : Perf → ℕ → ℕ → Option ℕ → Option ℕ
 answered_by_perf (perf.Begin b) own o p = if own == o then b.remote_channel else p
 answered_by_perf (perf.End x) own o p = if own == o then None else p
@@ -120,8 +120,8 @@ theirs (Took d n ∷ t) c p = theirs t c p
 theirs (Bound b ∷ t) c p = theirs t c p
 theirs (Configured g ∷ t) c p = theirs t c p
 
--- What happened on the session of a channel of the router, from its begins on; none where no session stands on it. A transfer
--- beyond what the peer was told that it may send is none of the session's.
+-- What happened on the session of a router's channel, from its begins on; none if no session is on it. A transfer
+-- beyond the incoming window that the peer was granted is not counted.
 abbrev pub with_transfer : Session → Session
 with_transfer h = if nat_eq (allowance h) 0 then h else TheirTransfer ∷ h
 
@@ -164,7 +164,7 @@ session (Took d n ∷ t) c o = session t c o
 session (Bound b ∷ t) c o = session t c o
 session (Configured g ∷ t) c o = session t c o
 
--- What stands on a channel of the peer: nothing, a session that the router ended, or a session, on a channel of the router.
+-- What is on a peer's channel: nothing, a session that the router ended, or a session, on a channel of the router.
 pub data Place : Type 0 where
   nowhere : Place
   ending : Place
@@ -182,7 +182,7 @@ place_by (Some (Mapped own)) known = on_session own (known own)
 abbrev pub place : Trace → ℕ → ℕ → Place
 place t c p = place_by (theirs t c p) (session t c)
 
--- The channels that the router takes, and the lowest of them that the peer takes too and on which no session stands.
+-- The channels that the router accepts, and the lowest of them that the peer accepts too and that has no session.
 abbrev pub channels : List ℕ
 channels = 0 ∷ 1 ∷ 2 ∷ 3 ∷ 4 ∷ 5 ∷ 6 ∷ 7 ∷ 8 ∷ 9 ∷ 10 ∷ 11 ∷ 12 ∷ 13 ∷ 14 ∷ []
 

@@ -1,4 +1,4 @@
--- What dispositions and transfers of a peer find: the deliveries that a range of ids names, in order, and what a transfer gives on its link (AMQP
+-- What a peer's dispositions and transfers refer to: the deliveries that a range of ids names, in order, and what a transfer makes of its delivery (AMQP
 -- 1.0 part 2, sections 2.6.12, 2.6.14, 2.7.5 and 2.7.6).
 use Rattle.std.specs.Prelude.{ℕ, zero, suc, ◌+◌, ◌%◌, ◌^◌, Bool, true, false, ◌&&◌, ◌==◌, nat_lt, nat_eq, if◌then◌else◌, is_some, List, [], ◌∷◌, ◌++◌, filter, Option, Some, None}
 use Rattle.amqp_perf.specs.declared.perf.Perf.{Perf}
@@ -17,12 +17,12 @@ use Rattle.router_trace.specs.Deliveries.{Delivery, delivery, named, stands_on, 
 use Rattle.router_trace.specs.Claims.{Claim, claims}
 use Rattle.router_trace.specs.Numbers.{count_below}
 
--- so many ids, from the first on
+-- this many ids, from the first on
 unfoldable pub ids_from : ℕ → ℕ → List ℕ
 ids_from first zero = []
 ids_from first (suc n) = ids_from first n ++ (first + n) % 2 ^ 32 ∷ []
 
--- the ids of a range, in order; none where the last stands behind the first
+-- the ids of a range, in order; none if the last is before the first
 abbrev pub ids_between : ℕ → ℕ → List ℕ
 ids_between first last = if nat_lt (distance first last) (2 ^ 31) then ids_from first (distance first last + 1) else []
 
@@ -38,7 +38,7 @@ names_open t c o id (Some n) = is_open_as c o id (delivery t n)
 abbrev pub is_open_id : Trace → ℕ → ℕ → ℕ → Bool
 is_open_id t c o id = names_open t c o id (named t c o id)
 
--- those of a range, in order
+-- the ids of a range that do, in order
 abbrev pub open_ids : Trace → ℕ → ℕ → ℕ → ℕ → List ℕ
 open_ids t c o first last = filter (is_open_id t c o) (ids_between first last)
 
@@ -54,7 +54,7 @@ is_of_link h (Some v) = v.handle == h
 abbrev pub is_claimed_on : Trace → ℕ → ℕ → ℕ → ℕ → Bool
 is_claimed_on t c o h id = is_of_link h (claims t c o id)
 
--- how many deliveries of a link are unsettled that the router ignored
+-- how many unsettled deliveries of a link the router ignored
 abbrev pub is_ignored_on : ℕ → Option Claim → Bool
 is_ignored_on h None = false
 is_ignored_on h (Some v) = if v.ignored then nat_eq v.handle h else false
@@ -62,7 +62,7 @@ is_ignored_on h (Some v) = if v.ignored then nat_eq v.handle h else false
 abbrev pub ignored : Trace → ℕ → ℕ → ℕ → ℕ
 ignored t c o h = count_below (2 ^ 32) (λ id. is_ignored_on h (claims t c o id))
 
--- what the delivery in the middle of a link was told to be
+-- the delivery in the middle of a link, as its first frame describes it
 abbrev pub told_first : List Frame → Option Told
 told_first [] = None
 told_first (f ∷ fs) = Some (told_of f fs)
@@ -75,7 +75,7 @@ abbrev pub middle_on : LinkPlace → Option Told
 middle_on (on h l) = middle_by l.happened
 middle_on _ = None
 
--- what a transfer gives on the link that it finds
+-- what a transfer makes of its delivery, on the link that it names
 abbrev pub part_by : Transfer → List ℕ → Happened → Option Part
 part_by x payload (sends list) = None
 part_by x payload (receives list) = Some (given (frame x payload) list)
@@ -92,7 +92,7 @@ abbrev pub part_of : Item → (ℕ → LinkPlace) → Option Part
 part_of (item.Frame sasl channel body payload) places = if sasl then None else part_in body payload places
 part_of _ places = None
 
--- on the session of a channel of the router, if one stands on the item's channel
+-- on the session of the router's channel, if the item's channel stands for one
 abbrev pub part_at : Trace → ℕ → Option ℕ → Item → Option Part
 part_at t c None i = None
 part_at t c (Some o) i = part_of i (link_place t c o)

@@ -1,4 +1,4 @@
--- What happened, as a list of entries, the newest first. All definitions search it; the router keeps none of it.
+-- A trace: what happened, as a list of entries, the newest first. All definitions search it; the router keeps none of it.
 use Rattle.std.specs.Prelude.{ℕ, List, [], ◌∷◌, ◌++◌, map, Option, Some, None}
 use Rattle.amqp_frames.specs.declared.item.Item.{Item}
 use Rattle.route_table.specs.Places.{Routing}
@@ -23,11 +23,11 @@ pub record Put : Type 0 where
 pub data Entry : Type 0 where
   -- an event was handled
   Did : (step : Step) → Entry
-  -- an item was put in the outbox of a connection
+  -- an item was put into the outbox of a connection
   Out : (conn : ℕ) (item : Item) → Entry
-  -- so many items left the outbox of a connection
+  -- `count` items left the outbox of a connection
   Took : (conn : ℕ) (count : ℕ) → Entry
-  -- a message was bound to the link of a consumer; no item says so
+  -- a message was bound to a consumer's link; no item says so
   Bound : (binding : Binding) → Entry
   -- the configuration that the router was opened with
   Configured : (routing : Routing) → Entry
@@ -39,12 +39,12 @@ Trace = List Entry
 abbrev pub did : Event → Entry
 did e = Did (step_of e)
 
--- these items put in outboxes, the first of them first
+-- these items put into outboxes, in this order
 abbrev pub goes : List Put → Trace → Trace
 goes [] t = t
 goes (p ∷ ps) t = goes ps (Out p.conn p.item ∷ t)
 
--- items on their way out
+-- an outgoing item
 abbrev pub put_of : Outgoing → Put
 put_of x = record { conn = x.conn.0; item = x.item }
 
@@ -72,7 +72,7 @@ ups (Took c n ∷ t) = ups t
 ups (Bound b ∷ t) = ups t
 ups (Configured g ∷ t) = ups t
 
--- the number of the connection that came up last
+-- the number of the last connection that came up
 abbrev pub newer : Event → Option ℕ → Option ℕ
 newer (event.Up c p) last = Some c.0
 newer _ last = last

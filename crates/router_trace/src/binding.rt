@@ -1,24 +1,24 @@
-//! Messages bound to the links of consumers.
+//! Messages bound to consumer links.
 use crate::handle::Attachment;
 use bytes::Bytes;
 
-/// Where a delivery came from: whom its outcome is told to.
+/// The producer's delivery, to which the outcome is reported.
 #[derive(Clone, Copy, Debug, PartialEq, Eq)]
 pub struct Origin {
-    /// The link of the producer.
+    /// The producer's link.
     pub link: Attachment,
     /// The delivery-id that the producer gave it.
     pub id: u32,
 }
 
-/// A message bound to the link of a consumer.
+/// A message bound to a consumer's link.
 #[derive(Debug, Drop)]
 pub struct Binding {
-    /// The link of the consumer.
+    /// The consumer's link.
     pub consumer: Attachment,
-    /// Where it came from; none where its producer had settled it.
+    /// The producer's delivery; none if the producer had settled it.
     pub origin: Option<Origin>,
-    /// The format of the message.
+    /// The message format.
     pub format: u32,
     /// The message.
     pub payload: Bytes,

@@ -1,10 +1,10 @@
-//! What a channel of a peer stands for.
+//! The state of a peer's channel.
 
-/// What a channel of a peer stands for (AMQP 1.0 part 2, section 2.5).
+/// What a peer's channel stands for (AMQP 1.0 part 2, section 2.5).
 #[derive(Clone, Copy, Debug, PartialEq, Eq)]
 pub enum PeerChannel {
-    /// The session on this channel of the router.
+    /// A session; this is the router's channel of it.
     Mapped(u16),
-    /// A session that the router ended; the peer's end is awaited.
+    /// The router has ended the session and is waiting for the peer's end.
     Ending,
 }

@@ -1,35 +1,35 @@
-//! The error conditions that the router tells.
+//! The error conditions that the router sends.
 ghost use Rattle.std.specs.Prelude.{◌≡◌};
 ghost use Rattle.router_trace.specs.Frames.{text_of};
 
 /// An error condition (AMQP 1.0 part 2, sections 2.8.15 to 2.8.18).
 #[derive(Clone, Copy, Debug, PartialEq, Eq)]
 pub enum Condition {
-    /// The peer did what it may not do.
+    /// The peer did something that it may not do.
     NotAllowed,
-    /// What came is no frame.
+    /// The bytes received are not a frame.
     FramingError,
-    /// A frame's body can't be read.
+    /// A frame's body can't be decoded.
     DecodeError,
     /// The peer asks for more than a limit allows.
     ResourceLimitExceeded,
-    /// The peer asks for what the router doesn't do.
+    /// The peer asks for something that the router doesn't implement.
     NotImplemented,
     /// A frame names a handle on which no link is attached.
     UnattachedHandle,
-    /// An attach names a handle on which a link is attached.
+    /// An attach names a handle on which a link is already attached.
     HandleInUse,
-    /// A transfer came that the session's window doesn't allow.
+    /// A transfer was received that the session's incoming window doesn't allow.
     WindowViolation,
-    /// There is no such node.
+    /// The node doesn't exist.
     NotFound,
-    /// A frame doesn't fit what the peer takes.
+    /// A frame is larger than the peer accepts.
     FrameSizeTooSmall,
-    /// Another link of the same key was attached.
+    /// Another link with the same key was attached.
     Stolen,
-    /// A delivery was started without credit.
+    /// A delivery was started without link credit.
     TransferLimitExceeded,
-    /// A message is larger than the router takes.
+    /// A message is larger than the router accepts.
     MessageSizeExceeded,
 }
 

@@ -1,12 +1,12 @@
-//! What the router is told.
+//! The router's input events.
 use amqp_frames::Item;
 use amqp_perf::Text;
 
-/// The number of a connection. The numbers of connections that come up rise.
+/// The number of a connection. Each connection that comes up has a higher number than those before it.
 #[derive(Clone, Copy, Debug, PartialEq, Eq)]
 pub struct ConnectionId(pub u64);
 
-/// What a peer is to the router, as its listener says.
+/// The role of a peer, which its listener determines.
 #[derive(Clone, Copy, Debug, PartialEq, Eq)]
 pub enum PeerRole {
     /// A client.
@@ -15,26 +15,26 @@ pub enum PeerRole {
     RouteContainer,
 }
 
-/// Who is at the other side of a connection.
+/// The peer at the other end of a connection.
 #[derive(Debug, Drop)]
 pub struct Peer {
-    /// The user that the peer logged in as; `anonymous` where it did not.
+    /// The user that the peer logged in as; `anonymous` if it didn't log in.
     pub user: Text,
-    /// What it is to the router.
+    /// Its role.
     pub role: PeerRole,
 }
 
-/// What the router is told, one at a time.
+/// An input event. The router handles one at a time.
 #[derive(Debug, Drop)]
 pub enum Event {
     /// A connection came up.
     Up(ConnectionId, Peer),
-    /// An item came on a connection.
+    /// An item was received on a connection.
     Item(ConnectionId, Item),
     /// A connection was lost.
     Down(ConnectionId),
-    /// So many milliseconds have passed since a moment of the caller's choice.
+    /// The time: milliseconds since a moment that the caller chose.
     Tick(u64),
-    /// The router starts on its journal.
+    /// The router starts with what its journal holds.
     Start,
 }

@@ -1,4 +1,4 @@
-//! The frames of links that the router writes.
+//! The link frames that the router writes.
 ghost use Rattle.std.specs.Prelude.{◌≡◌, IfOk};
 ghost use Rattle.router_trace.specs.LinkFrames.{detach_item, kept, source_answer, target_answer, other, sender_mode, receiver_mode, first_count, largest_message, answer_to, refusal_of, attach_item, link_flow_item};
 
@@ -9,23 +9,23 @@ use amqp_perf::{Attach, Detach, Flow, Perf, Role, SourceTerminus, Symbols, Targe
 use amqp_session::{FlowState, Serial};
 use std::alloc::AllocError;
 
-/// The largest message that the router takes, in bytes.
+/// The largest message that the router accepts, in bytes.
 pub const MAX_MESSAGE_SIZE: u64 = 65_536;
 
-/// What a flow tells of a link (AMQP 1.0 part 2, section 2.7.4).
+/// The link's fields of a flow (AMQP 1.0 part 2, section 2.7.4).
 #[derive(Clone, Copy, Debug, PartialEq, Eq)]
 pub struct LinkState {
-    /// The router's handle of it.
+    /// The router's handle of the link.
     pub handle: u32,
     /// The sender's delivery-count.
     pub count: Serial,
-    /// The credit of the link from there on.
+    /// The link credit, counted from that delivery-count.
     pub credit: u32,
-    /// Whether the sender has used up, without deliveries, what credit it had.
+    /// The drain flag: the sender has used up its credit without deliveries.
     pub drain: bool,
 }
 
-/// A flow of a link, on this channel of the router.
+/// A link's flow on the router's channel `own`.
 pub fn link_flow_item(own: u16, told: FlowState, at: LinkState) -> Item
     ensures { result ≡ link_flow_item own told at }
 {
@@ -47,7 +47,7 @@ pub fn link_flow_item(own: u16, told: FlowState, at: LinkState) -> Item
     )
 }
 
-/// An attach of the router, on this channel of its own.
+/// The router's attach on its channel `own`.
 pub fn attach_item(own: u16, attach: Attach) -> Item
     ensures { result ≡ attach_item own attach }
 {
@@ -55,7 +55,7 @@ pub fn attach_item(own: u16, attach: Attach) -> Item
 }
 
 impl RouterId {
-    /// A detach of the router on this channel and handle of its own, with an error or none (AMQP 1.0 part 2, section 2.7.7).
+    /// The router's detach on its channel and handle, with or without an error (AMQP 1.0 part 2, section 2.7.7).
     pub fn detach_item(
         &self,
         own: u16,
@@ -80,14 +80,14 @@ impl RouterId {
     }
 }
 
-/// What the router keeps of a terminus: of a configuration nothing.
+/// The terminus durability that the router answers with: it keeps no configuration.
 fn kept(durable: u32) -> u32
     ensures { result ≡ kept durable }
 {
     if durable == 1 { 0 } else { durable }
 }
 
-/// The source of an answer: as it came, without a filter.
+/// The source of an answer: as received, without a filter.
 fn source_answer(source: Option<SourceTerminus>) -> Option<SourceTerminus>
     ensures { result ≡ source_answer source }
 {
@@ -101,7 +101,7 @@ fn source_answer(source: Option<SourceTerminus>) -> Option<SourceTerminus>
     }
 }
 
-/// The target of an answer: as it came.
+/// The target of an answer: as received.
 fn target_answer(target: Option<TargetTerminus>) -> Option<TargetTerminus>
     ensures { result ≡ target_answer target }
 {
@@ -114,7 +114,7 @@ fn target_answer(target: Option<TargetTerminus>) -> Option<TargetTerminus>
     }
 }
 
-/// The other role.
+/// The opposite role.
 fn other(role: Role) -> Role
     ensures { result ≡ other role }
 {
@@ -125,8 +125,8 @@ fn other(role: Role) -> Role
 }
 
 impl RouterId {
-    /// The router's answer to an attach, on this handle of its own (AMQP 1.0 part 2, section 2.7.3): the name, the other role, both
-    /// termini as they came, but that no filter is in place and no configuration of a terminus is kept.
+    /// The router's answer to an attach, on the router's handle (AMQP 1.0 part 2, section 2.7.3). It has the same name, the opposite role and
+    /// both termini as received, except that no filter is in place and no terminus configuration is kept.
     pub fn answer_to(&self, attach: Attach, handle: u32) -> Attach
         ensures { result ≡ answer_to attach handle }
     {
@@ -153,7 +153,7 @@ impl RouterId {
         }
     }
 
-    /// The same of a link that is refused: without the terminus at the router's side.
+    /// The answer that refuses a link: the same, but without the terminus at the router's side.
     pub fn refusal_of(&self, attach: Attach, handle: u32) -> Attach
         ensures { result ≡ refusal_of attach handle }
     {

@@ -1,4 +1,4 @@
-//! What a handle of a peer stands for, and what its attach asks.
+//! The state of a peer's handle, and what a peer's attach asks for.
 ghost use Rattle.std.specs.Prelude.{◌≡◌};
 ghost use Rattle.router_trace.specs.Links.{asked_of};
 
@@ -7,53 +7,53 @@ use amqp_link::SendEnd;
 use amqp_perf::Attach;
 use amqp_session::Serial;
 
-/// What a handle of a peer stands for (AMQP 1.0 part 2, section 2.6.2).
+/// What a peer's handle stands for (AMQP 1.0 part 2, section 2.6.2).
 #[derive(Clone, Copy, Debug, PartialEq, Eq)]
 pub enum PeerHandle {
-    /// The link on this handle of the router.
+    /// A link; this is the router's handle of it.
     Mapped(u32),
-    /// A link that the router detached; the peer's detach is awaited, and other frames of the handle are dropped.
+    /// The router has detached the link and is waiting for the peer's detach; other frames on the handle are dropped.
     Detaching,
 }
 
-/// What a peer's attach asks of its answer (AMQP 1.0 part 2, section 2.7.3).
+/// The fields of a peer's attach that the router's answer depends on (AMQP 1.0 part 2, section 2.7.3).
 #[derive(Clone, Copy, Debug, PartialEq, Eq)]
 pub struct Asked {
     /// The peer's handle.
     pub handle: u32,
-    /// The delivery-count at which the peer begins to send; 0 where it tells none.
+    /// The peer's initial delivery-count; 0 if it has none.
     pub initial: u32,
 }
 
-/// What a handle of a peer is found to stand for, with the figures of its link.
+/// What a peer's handle stands for, with the link's credit state.
 #[derive(Clone, Copy, Debug, PartialEq, Eq)]
 pub enum LinkAt {
     /// Nothing.
     Nowhere,
-    /// A link that the router detached; the peer's detach is awaited.
+    /// The router has detached the link and is waiting for the peer's detach.
     Detaching,
-    /// A link on which the router sends, on this handle of the router.
+    /// A link on which the router is the sender.
     Sends {
         /// The router's handle.
         handle: u32,
-        /// The router's end of it.
+        /// The router's sending end of it.
         end: SendEnd,
     },
-    /// A link on which the peer sends, on this handle of the router.
+    /// A link on which the peer is the sender.
     Receives {
         /// The router's handle.
         handle: u32,
         /// The peer's delivery-count.
         count: Serial,
-        /// The credit that the peer was granted and hasn't used.
+        /// The link credit that was granted to the peer and that it hasn't used.
         unused: u32,
     },
 }
 
-/// Where an attachment stands: the router's attach of a link that it took.
+/// An attachment: a link that the router took, from its attach on.
 #[derive(Clone, Copy, Debug, PartialEq, Eq)]
 pub struct Attachment {
-    /// Its number: one more than that of the attachments before it, over all connections. It never comes again.
+    /// Its number: one more than that of the attachment before it, over all connections. It is never reused.
     pub number: u64,
     /// The connection.
     pub conn: ConnectionId,
@@ -64,7 +64,7 @@ pub struct Attachment {
 }
 
 impl Asked {
-    /// What an attach asks.
+    /// The fields of an attach.
     pub fn of(attach: &Attach) -> Asked
         ensures { result ≡ asked_of attach.now }
     {

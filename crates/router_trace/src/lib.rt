@@ -1,4 +1,4 @@
-//! What the router is told and what it writes: events, and the items of its own.
+//! The router's input and output: events, and the items that it writes.
 #![tactic(auto)]
 
 mod binding;

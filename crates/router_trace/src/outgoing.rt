@@ -1,8 +1,8 @@
-//! Items on their way out.
+//! Outgoing items.
 use crate::event::ConnectionId;
 use amqp_frames::Item;
 
-/// An item for the outbox of a connection.
+/// An item to put into a connection's outbox.
 #[derive(Debug, Drop)]
 pub struct Outgoing {
     /// The connection.

@@ -10,16 +10,16 @@ use bytes::Bytes;
 use std::alloc::{AllocError, Global};
 use std::marker::Model;
 
-/// The largest frame that the router takes, as its open tells, in bytes.
+/// The largest frame that the router accepts, in bytes: the max-frame-size of its open.
 pub const MAX_FRAME_SIZE: u32 = 16_384;
 
-/// How many transfers a session takes at once, as the router's begins and flows tell; and how many it tells to send.
+/// The session window, in transfers: the incoming-window and the outgoing-window of the router's begins and flows.
 pub const SESSION_WINDOW: u32 = 2_048;
 
-/// The highest handle that the router takes, as its begin tells.
+/// The highest handle that the router accepts: the handle-max of its begin.
 pub const HANDLE_MAX: u32 = 63;
 
-/// The router's id, which its open tells.
+/// The router's container-id, which its open has.
 #[derive(Debug, Drop)]
 pub struct RouterId {
     alloc: Global,
@@ -53,7 +53,7 @@ pub fn beat_item() -> Item
     Item::Beat { channel: 0 }
 }
 
-/// A flow without handle, on this channel of the router (AMQP 1.0 part 2, section 2.7.4).
+/// A session's flow (without a handle), on the router's channel `own` (AMQP 1.0 part 2, section 2.7.4).
 pub fn flow_item(own: u16, told: FlowState) -> Item
     ensures { result ≡ flow_item own told }
 {
@@ -75,7 +75,7 @@ pub fn flow_item(own: u16, told: FlowState) -> Item
     )
 }
 
-/// A frame on a channel.
+/// A frame with a performative, on a channel.
 pub(crate) fn frame_on(channel: u16, perf: Perf) -> Item
     ensures { result ≡ frame_on channel perf }
 {
@@ -87,7 +87,7 @@ pub(crate) fn frame_on(channel: u16, perf: Perf) -> Item
     }
 }
 
-/// A frame on channel 0.
+/// A frame with a performative, on channel 0.
 fn frame_of(perf: Perf) -> Item
     ensures { result ≡ frame_of perf }
 {
@@ -95,7 +95,7 @@ fn frame_of(perf: Perf) -> Item
 }
 
 impl RouterId {
-    /// The id of these characters.
+    /// The container-id with these characters.
     pub fn new(alloc: Global, id: &str) -> Result<RouterId, AllocError>
         ensures { IfOk result (λ r. r ≡ id.now) }
     {
@@ -105,7 +105,7 @@ impl RouterId {
         })
     }
 
-    /// Where what the router writes is allocated.
+    /// The allocator for the items that the router writes.
     pub fn alloc(&self) -> Global {
         self.alloc
     }
@@ -129,7 +129,7 @@ impl RouterId {
         })))
     }
 
-    /// The router's close (AMQP 1.0 part 2, section 2.7.9), with an error or none.
+    /// The router's close (AMQP 1.0 part 2, section 2.7.9), with or without an error.
     pub fn close_item(&self, condition: Option<Condition>) -> Result<Item, AllocError>
         ensures { IfOk result (λ item. item ≡ close_item condition) }
     {
@@ -140,7 +140,7 @@ impl RouterId {
         Ok(frame_of(Perf::Close(Close { error })))
     }
 
-    /// The router's begin on a channel of its own, which answers the peer's on this one (AMQP 1.0 part 2, section 2.7.2).
+    /// The router's begin on its channel `own`; it answers the peer's begin on the channel `theirs` (AMQP 1.0 part 2, section 2.7.2).
     pub fn begin_item(&self, own: u16, theirs: u16) -> Item
         ensures { result ≡ begin_item own theirs }
     {
@@ -159,7 +159,7 @@ impl RouterId {
         )
     }
 
-    /// The router's end on a channel of its own, with an error or none (AMQP 1.0 part 2, section 2.7.8).
+    /// The router's end on its channel `own`, with or without an error (AMQP 1.0 part 2, section 2.7.8).
     pub fn end_item(&self, own: u16, condition: Option<Condition>) -> Result<Item, AllocError>
         ensures { IfOk result (λ item. item ≡ end_item own condition) }
     {
@@ -170,7 +170,7 @@ impl RouterId {
         Ok(frame_on(own, Perf::End(End { error })))
     }
 
-    /// An error that has its condition alone.
+    /// An error with nothing but its condition.
     pub(crate) fn error_of(&self, condition: Condition) -> Result<Fault, AllocError>
         ensures { IfOk result (λ error. error ≡ error_of condition) }
     {

@@ -1,20 +1,20 @@
-//! What a peer's open tells.
+//! What a peer's open says of its end of the connection.
 ghost use Rattle.std.specs.Prelude.{◌≡◌};
 ghost use Rattle.router_trace.specs.Clocks.{terms_of};
 
 use amqp_perf::Open;
 
-/// What a peer's open tells of its end (AMQP 1.0 part 2, section 2.7.1).
+/// What a peer's open says of its end of the connection (AMQP 1.0 part 2, section 2.7.1).
 #[derive(Clone, Copy, Debug, PartialEq, Eq)]
 pub struct Terms {
-    /// The highest channel that the peer takes.
+    /// The highest channel that the peer accepts.
     pub channel_max: u16,
-    /// How long the peer waits for a frame, in milliseconds; none where it tells nothing.
+    /// The peer's idle time-out in milliseconds; none if it has none.
     pub idle_time_out: Option<u32>,
 }
 
 impl Terms {
-    /// What an open tells.
+    /// What an open says.
     pub fn of(open: &Open) -> Terms
         ensures { result ≡ terms_of «open».now }
     {

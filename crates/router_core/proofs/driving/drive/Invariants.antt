@@ -6,7 +6,7 @@ use Rattle.router_core.specs.Handling.{Fits, id_of, is_failed}
 use Rattle.router_core.specs.Runs.{Run}
 use Rattle.router_core.proofs.driving.drive.Given as goal
 
--- those before what is left were run
+-- the events before the remaining ones were run
 abbrev pub invariant-loop-event : goal.invariant-loop-event
 invariant-loop-event l = record {
   past : (t : List Entry) → Fits l.fn.core t → (first : List Event) × (m : List Entry) × (l.fn.events.items ≡ first ++ into_iter_items l.event-iterator)

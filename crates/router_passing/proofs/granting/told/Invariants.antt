@@ -5,6 +5,6 @@ use Rattle.router_links.specs.Fits.{LinksFit}
 use Rattle.router_passing.specs.Passing.{grants_on}
 use Rattle.router_passing.proofs.granting.told.Given as goal
 
--- what was told, and what is still to be told, is all
+-- the grants added and those still to come are all
 abbrev pub invariant-loop-sum : goal.invariant-loop-sum
 invariant-loop-sum l = (t : List Entry) → LinksFit l.links t → l.told.items ++ grants_on t (by_id (drop l.sum-index l.sums)) ≡ grants_on t (by_id l.fn.sums)

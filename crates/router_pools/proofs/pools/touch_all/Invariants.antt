@@ -5,6 +5,6 @@ use Rattle.route_credit.specs.Links.{link_at}
 use Rattle.route_credit.specs.Pool.{by_id}
 use Rattle.router_pools.proofs.pools.touch_all.Given as goal
 
--- who is touched, or is among those that are left
+-- the links that are touched, or among those left
 abbrev pub invariant-loop-sum : goal.invariant-loop-sum
 invariant-loop-sum l = (n : ℕ) → (contains nat_cmp l.touched n || is_some (link_at (by_id (drop l.sum-index l.sums)) n)) ≡ (contains nat_cmp l.fn.touched n || is_some (link_at (by_id l.fn.sums) n))

@@ -6,7 +6,7 @@ use Rattle.router_trace.specs.DeliveryFrames.{outcome_item}
 use Rattle.router_state.specs.Tables.{TablesFit}
 use Rattle.router_reply.proofs.passing.settle_each.Given as goal
 
--- with the rest answered too, all are
+-- once the rest is answered too, all are
 abbrev pub invariant-loop-delivery : goal.invariant-loop-delivery
 invariant-loop-delivery l = (t : List Entry) → TablesFit l.fn.state t → (u : List Entry) × TablesFit l.state u
     × (puts l.conn (map (λ n. outcome_item l.own Sender n l.outcome) (drop l.delivery-index l.ids)) u ≡ puts l.conn (map (λ n. outcome_item l.own Sender n l.outcome) l.ids) t)

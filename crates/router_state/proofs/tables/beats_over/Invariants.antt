@@ -4,7 +4,7 @@ use Rattle.router_conns.specs.Timing.{ClocksFit}
 use Rattle.router_state.specs.Tables.{beats_over}
 use Rattle.router_state.proofs.tables.beats_over.Given as goal
 
--- those of the rest behind those found are all
+-- the heartbeats found so far, then those of the rest, are all
 abbrev pub invariant-loop-conn : goal.invariant-loop-conn
 invariant-loop-conn l = (t : List Entry) → ClocksFit l.clocks t
     → puts_of l.due.items ++ beats_over t l.now (drop l.conn-index l.conns) ≡ beats_over t l.now l.conns

@@ -6,7 +6,7 @@ use Rattle.std.specs.BTreeSet.{contains}
 use Rattle.router_trace.specs.Connection.{is_ready, has}
 use Rattle.router_state.proofs.tables.note_all.Given as goal
 
--- with the rest noted too, all are
+-- once the rest is noted too, all are
 abbrev pub invariant-loop-conn : goal.invariant-loop-conn
 invariant-loop-conn l = (c : ℕ) → (if has c (drop l.conn-index l.ends) then is_ready (get nat_cmp l.connections.rows c) else contains nat_cmp l.ready.set c)
     ≡ (if has c l.fn.ends then is_ready (get nat_cmp l.fn.connections.rows c) else contains nat_cmp l.fn.ready.set c)

@@ -4,7 +4,7 @@ use Rattle.std.specs.BTreeMap.{get}
 use Rattle.router_trace.specs.Connection.{unless_due}
 use Rattle.router_conns.proofs.connections.Connections.end_all.Given as goal
 
--- the rest ended too, all are
+-- once the rest is ended too, all are
 abbrev pub invariant-loop-conn : goal.invariant-loop-conn
 invariant-loop-conn l = record {
   rows : (c : ℕ) → unless_due (drop l.conn-index l.ends) (get nat_cmp l.self.rows) c ≡ unless_due l.fn.ends (get nat_cmp l.fn.self.rows) c;

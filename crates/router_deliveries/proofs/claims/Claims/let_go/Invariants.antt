@@ -5,7 +5,7 @@ use Rattle.router_deliveries.specs.Claiming.{AreSmall, AreMarked, let_go_at}
 use Rattle.router_deliveries.specs.Places.{at_id}
 use Rattle.router_deliveries.proofs.claims.Claims.let_go.Given as goal
 
--- what the rest would still let go
+-- the claims that the remaining ids would still free
 abbrev pub invariant-loop-id : goal.invariant-loop-id
 invariant-loop-id l = ((c o q : ℕ) → let_go_at (l.conn == c) (l.own == o) (has q (drop l.id-index l.id-items)) l.link (at_id l.self.ids c o q)
     ≡ let_go_at (l.conn == c) (l.own == o) (has q l.id-items) l.link (at_id l.fn.self.ids c o q))

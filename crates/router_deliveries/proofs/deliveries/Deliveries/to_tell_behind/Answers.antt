@@ -7,7 +7,7 @@ use Rattle.router_deliveries.proofs.Asked.{to_tell_in}
 use Rattle.router_deliveries.proofs.Found.{first_same}
 use Rattle.router_deliveries.proofs.deliveries.Deliveries.to_tell_behind.Goals as goal
 
--- those that are to be told are those of the trace
+-- the deliveries whose outcome must be reported agree with the trace
 pub returns : goal.returns
 returns c = λ t fit.
     first_same (λ n. is_above c.args.number n && contains nat_cmp c.args.self.now.store.index.to_tell n) (λ n. is_above c.args.number n && is_to_tell (delivery t n))

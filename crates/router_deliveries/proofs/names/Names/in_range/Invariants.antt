@@ -7,7 +7,7 @@ use Rattle.router_deliveries.specs.Hearing.{picks, id_of}
 use Rattle.router_deliveries.specs.Places.{at_id}
 use Rattle.router_deliveries.proofs.names.Names.in_range.Given as goal
 
--- those picked so far, and those of the rest
+-- the numbers picked so far, and those of the remaining ids
 abbrev pub invariant-loop-id : goal.invariant-loop-id
 invariant-loop-id l = (n : ℕ)
     → (has n l.numbers.items || list_any (picks (at_id l.self.ids l.conn l.own) n (id_of (get nat_cmp l.store.deliveries n))) (drop l.id-index l.id-items))

@@ -6,7 +6,7 @@ use Rattle.router_deliveries.specs.Naming.{opens}
 use Rattle.router_deliveries.specs.Places.{at_id}
 use Rattle.router_deliveries.proofs.names.Names.open_ids.Given as goal
 
--- those found so far, and those of the rest
+-- the ids found so far, and those still to come
 abbrev pub invariant-loop-id : goal.invariant-loop-id
 invariant-loop-id l = (l.found.items ++ filter (λ id. opens (get nat_cmp l.store.deliveries) l.conn l.own id (at_id l.self.ids l.conn l.own id)) (drop l.id-index l.id-items))
     ≡ filter (λ id. opens (get nat_cmp l.store.deliveries) l.conn l.own id (at_id l.self.ids l.conn l.own id)) l.id-items

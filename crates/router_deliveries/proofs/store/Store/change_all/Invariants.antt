@@ -7,7 +7,7 @@ use Rattle.router_deliveries.specs.Touching.{StoreTouches}
 use Rattle.router_deliveries.proofs.Again.{finish}
 use Rattle.router_deliveries.proofs.store.Store.change_all.Given as goal
 
--- what the rest would still do
+-- what the remaining numbers would still change
 abbrev pub invariant-loop-number : goal.invariant-loop-number
 invariant-loop-number l = ((n : ℕ) → finish l.change (has n (drop l.number-index l.numbers)) (get nat_cmp l.self.deliveries n)
     ≡ finish l.change (has n l.numbers) (get nat_cmp l.fn.self.deliveries n))

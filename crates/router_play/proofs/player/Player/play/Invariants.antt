@@ -4,7 +4,7 @@ use Rattle.router_play.specs.Script.{Scene, Plays}
 use Rattle.router_play.specs.Playing.{Follows}
 use Rattle.router_play.proofs.player.Player.play.Given as goal
 
--- how the rest goes on is how the whole does
+-- the rest continues as the whole does
 abbrev pub invariant-loop-step : goal.invariant-loop-step
 invariant-loop-step l = record {
   follows : is_failed l.self.core ≡ false → (s : Scene) → Follows l.fn.self s → (m : Scene) × Follows l.self m

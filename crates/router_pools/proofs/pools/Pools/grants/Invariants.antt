@@ -4,7 +4,7 @@ use Rattle.router_pools.specs.Fits.{is_touched, PoolsFit}
 use Rattle.router_pools.specs.Sharing.{Figure}
 use Rattle.router_pools.proofs.pools.Pools.grants.Given as goal
 
--- what fitted at the start fits still, and nobody was touched
+-- what agreed at the start still agrees, and no link was touched
 abbrev pub invariant-loop-grants : goal.invariant-loop-grants
 invariant-loop-grants l = ((share : List ℕ → Distribution) (known : ℕ → Option Figure) (last : List ℕ → ℕ) → PoolsFit l.fn.self share known last → PoolsFit l.self share known last) × ((n : ℕ) → is_touched l.self n ≡ is_touched l.fn.self n)
 

@@ -5,7 +5,7 @@ use Rattle.router_trace.specs.Sessions.{session, is_free}
 use Rattle.router_sessions.specs.Fits.{SessionsFit}
 use Rattle.router_sessions.proofs.sessions.Sessions.first_free.Given as goal
 
--- none of those before is free
+-- none of the channels before is free
 abbrev pub invariant-loop-own : goal.invariant-loop-own
 invariant-loop-own l = (t : List Entry) → SessionsFit l.self t
     → find (is_free l.channel_max (session t l.conn)) (drop l.own-index l.channels) ≡ find (is_free l.channel_max (session t l.conn)) l.channels
