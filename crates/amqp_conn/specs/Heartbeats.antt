@@ -1,7 +1,7 @@
 -- When a heartbeat is due (AMQP 1.0 part 2, section 2.4.5).
 use Rattle.std.specs.Prelude.{ℕ, ◌-◌, ◌/◌, Bool, false, nat_lt, nat_le, if◌then◌else◌, Option, Some, None}
 
--- the peer waits so long for a frame, the last one was written then, and it is this moment now: half of the idle-time-out has
+-- how long the peer waits for a frame, when the last one was written, and the time now: half of the idle-time-out has
 -- passed, or more
 abbrev pub is_due : Option ℕ → ℕ → ℕ → Bool
 is_due None written now = false

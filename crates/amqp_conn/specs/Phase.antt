@@ -5,21 +5,21 @@ use Rattle.amqp_conn.specs.declared.conn.Conn.{Conn}
 use Rattle.amqp_conn.specs.declared.fault.ConnFault.{ConnFault}
 use Rattle.amqp_conn.specs.declared.fault.ConnFault.TheVariants.{WrongPhase, FrameSizeTooSmall, ChannelTooHigh}
 
--- the phase behind a header: only the first has its turn
+-- the phase after a header: only the first is in turn
 abbrev pub after_header : Conn → Result Conn ConnFault
 after_header c = if c.closed then Err WrongPhase else if c.header then Err WrongPhase else Ok (record c { header = true })
 
--- the phase behind an open: only the first has its turn, and its largest frame is at least MIN-MAX-FRAME-SIZE (2.7.1)
+-- the phase after an open: only the first is in turn, and its largest frame is at least MIN-MAX-FRAME-SIZE (2.7.1)
 abbrev pub after_open : Open → Conn → Result Conn ConnFault
 after_open o c = if c.closed then Err WrongPhase else if c.opened then Err WrongPhase
     else if nat_lt o.max_frame_size 512 then Err FrameSizeTooSmall else Ok (record c { opened = true })
 
--- the phase behind another frame: the open stands before it, and its channel is at most 14 (2.7.1, channel-max)
+-- the phase after another frame: the open came before it, and its channel is at most 14 (2.7.1, channel-max)
 abbrev pub after_frame : ℕ → Conn → Result Conn ConnFault
 after_frame channel c = if c.closed then Err WrongPhase else if c.opened then
     (if nat_lt 14 channel then Err ChannelTooHigh else Ok c) else Err WrongPhase
 
--- the phase behind a close, which is such a frame and ends the connection
+-- the phase after a close, which is such a frame and ends the connection
 abbrev pub over : Result Conn ConnFault → Result Conn ConnFault
 over (Ok c) = Ok (record c { closed = true })
 over (Err f) = Err f

@@ -5,14 +5,14 @@ ghost use Rattle.amqp_conn.specs.Phase.{Moves, after_header, after_open, after_f
 use crate::fault::ConnFault;
 use amqp_perf::Open;
 
-/// The smallest largest frame that a peer may tell, in bytes (AMQP 1.0 part 2, section 2.7.1: MIN-MAX-FRAME-SIZE).
+/// The smallest max-frame-size that a peer may announce, in bytes (AMQP 1.0 part 2, section 2.7.1: MIN-MAX-FRAME-SIZE).
 pub const MIN_MAX_FRAME_SIZE: u32 = 512;
 
-/// The highest channel that the router takes, as its open tells.
+/// The highest channel that the router accepts, as its open announces.
 pub const CHANNEL_MAX: u16 = 14;
 
-/// The phase of a connection: which of header, open and close stand behind it (AMQP 1.0 part 2, section 2.4.6). Header
-/// and open come in either order: who wants the header first refuses other items before it.
+/// The phase of a connection: which of header, open and close have come (AMQP 1.0 part 2, section 2.4.6). Header
+/// and open come in either order: a caller that wants the header first refuses other items before it.
 #[derive(Clone, Copy, Debug, PartialEq, Eq)]
 pub struct Conn {
     /// Whether a header was taken.
@@ -24,7 +24,7 @@ pub struct Conn {
 }
 
 impl Conn {
-    /// A connection of which nothing has come.
+    /// A connection on which nothing has come yet.
     pub fn new() -> Conn
         ensures { result ≡ record { header = false; opened = false; closed = false } }
     {
@@ -49,8 +49,8 @@ impl Conn {
         Ok(())
     }
 
-    /// Takes an open, on whatever channel. Fails with `WrongPhase` where one was taken or the connection is over, else
-    /// with `FrameSizeTooSmall` where it tells a largest frame below 512 bytes; a fault changes nothing.
+    /// Takes an open, on any channel. Fails with `WrongPhase` where one was taken or the connection is over, else
+    /// with `FrameSizeTooSmall` where its max-frame-size is below 512 bytes; a fault changes nothing.
     pub fn take_open(&mut self, open: &Open) -> Result<(), ConnFault>
         ensures { Moves result self.old self.new (after_open «open».now self.old) }
     {
@@ -67,7 +67,7 @@ impl Conn {
         Ok(())
     }
 
-    /// Asks whether a frame on this channel that is neither open nor close has its turn. Fails with `WrongPhase` before
+    /// Asks whether a frame on this channel that is neither open nor close is in turn. Fails with `WrongPhase` before
     /// the open and where the connection is over, else with `ChannelTooHigh` above channel 14.
     pub fn take_frame(&self, channel: u16) -> Result<(), ConnFault>
         ensures { Moves result self.now self.now (after_frame channel self.now) }

@@ -2,10 +2,10 @@
 ghost use Rattle.std.specs.Prelude.{◌≡◌};
 ghost use Rattle.amqp_conn.specs.Heartbeats.{is_due};
 
-/// What heartbeats go by (AMQP 1.0 part 2, section 2.4.5). All times are milliseconds since one moment.
+/// What decides when a heartbeat is due (AMQP 1.0 part 2, section 2.4.5). All times are milliseconds since one moment.
 #[derive(Clone, Copy, Debug, PartialEq, Eq)]
 pub struct Heartbeat {
-    /// How long the peer waits for a frame, as its open tells; none where it tells nothing.
+    /// The peer's idle-time-out, from its open; none where its open has none.
     pub idle_time_out: Option<u32>,
     /// When the last frame was written.
     pub written: u64,
@@ -13,7 +13,7 @@ pub struct Heartbeat {
 
 impl Heartbeat {
     /// Whether a heartbeat is due: half of the peer's idle-time-out has passed since the last frame, or more, and the
-    /// peer's idle-time-out is above 0. Half is rounded down; by a clock that was set back no time has passed.
+    /// peer's idle-time-out is above 0. Half is rounded down; if the clock was set back, no time has passed.
     pub fn tick(self, now: u64) -> bool
         ensures { result ≡ is_due self.idle_time_out self.written now }
     {

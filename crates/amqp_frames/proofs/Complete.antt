@@ -1,4 +1,4 @@
--- What spells an item is found.
+-- Bytes that encode an item are found.
 use Rattle.std.proofs.Common.{◌≡◌, ℕ, ◌+◌, ◌*◌, ◌<◌, ◌≤◌, List, [], ◌∷◌, ◌++◌, length, drop, refl, sym, ap, ◌∙◌, arith, ◌⊎◌, inl, inr, Ok, Bool, true, false, ◌&&◌, ◌||◌, not, if◌then◌else◌}
 use Rattle.std.proofs.lemmas.Grind.{common_steps}
 use Rattle.std.proofs.Math.Seq.{drop-append-add, drop-append_seam}
@@ -102,7 +102,7 @@ frame_complete sasl channel body text x is reads =
     let most : number size.0 size.1 size.2 size.3 ≤ limit sasl = rw counts is.within in
     rw spelt (eight_frame sasl size.0 size.1 size.2 size.3 is.offset two.0 two.1 is.extended body x (counts ∙ ap length spelt) is.words most (rw numbers at reads))
 
--- a whole item stands at the front, whatever comes behind
+-- a whole item stands at the front, whatever follows
 pub item_front : (text behind : List ℕ) (x : Item) → IsItem text x → front (text ++ behind) ≡ found x behind
 item_front text behind x is =
     whole_front text behind (length text) is.whole (omega arith) (rw is.whole (inl refl)) ∙ (rw is.reads refl)
@@ -133,7 +133,7 @@ header_item : (id major minor revision : ℕ) → IsItem (65 ∷ 77 ∷ 81 ∷ 8
 unfolding extent item_of
 header_item id major minor revision = record { whole = refl; reads = refl }
 
--- what spells an item is that item
+-- bytes that encode an item are that item
 pub spells_item : (text : List ℕ) (x : Item) → SpellsItem text x → IsItem text x
 spells_item text (item.Header id major minor revision) is = rw is (header_item id major minor revision)
 spells_item text (item.Frame sasl channel p payload) is =

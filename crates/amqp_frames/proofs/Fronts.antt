@@ -1,4 +1,4 @@
--- What stands at the front, by the extent, and that it stays whatever comes behind.
+-- What stands at the front, by the extent; it stays so whatever follows.
 use Rattle.std.proofs.Common.{◌≡◌, ℕ, ◌-◌, ◌<◌, ◌≤◌, List, [], ◌++◌, length, take, drop, refl, sym, ◌∙◌, arith, true, false, Ok, Err, Result, ◌⊎◌, inl, inr, Bool}
 use Rattle.std.proofs.lemmas.List.{take-append-le, drop-append-le}
 use Rattle.std.proofs.lemmas.Grind.{common_steps}
@@ -34,7 +34,7 @@ front_item bytes size x h long is = front_whole bytes size h long ∙ (rw is ref
 pub front_fault : (bytes : List ℕ) (size : ℕ) (f : FrameFault) → extent bytes ≡ Whole size → size ≤ length bytes → item_of (take size bytes) ≡ Err f → front bytes ≡ wrong f
 front_fault bytes size f h long is = front_whole bytes size h long ∙ (rw is refl)
 
--- what stands behind a whole item is shorter
+-- what follows a whole item is shorter
 pub behind_shorter : (bytes : List ℕ) (size : ℕ) → extent bytes ≡ Whole size → size ≤ length bytes → length (drop size bytes) < length bytes
 behind_shorter bytes size h long = let eight = extent_at_least bytes size h in grind (arith, common_steps)
 
@@ -81,11 +81,11 @@ stays_by (Whole size) bytes behind x rest h (inr same) is =
 pub front_stays : (bytes behind : List ℕ) (x : Item) (rest : List ℕ) → front bytes ≡ found x rest → front (bytes ++ behind) ≡ found x (rest ++ behind)
 front_stays bytes behind x rest is = (stays_by (extent bytes) bytes behind x rest refl (extent_stays bytes behind) is).0
 
--- what stands behind an item is shorter
+-- what follows an item is shorter
 pub found_shorter : (bytes : List ℕ) (x : Item) (rest : List ℕ) → front bytes ≡ found x rest → length rest < length bytes
 found_shorter bytes x rest is = (stays_by (extent bytes) bytes [] x rest refl (extent_stays bytes []) is).1
 
--- what begins no item begins none however it goes on
+-- bytes that begin no item begin none however they go on
 of_item_wrong : (after behind : List ℕ) (read : Result Item FrameFault) (f : FrameFault) → of_item after read ≡ wrong f → of_item (after ++ behind) read ≡ wrong f
 of_item_wrong after behind (Ok y) f h = absurd (let bad : found y after ≡ wrong f = h in cc)
 of_item_wrong after behind (Err e) f h = h

@@ -10,7 +10,7 @@ use Rattle.amqp_frames.specs.Frames.{more, front, item_of}
 use Rattle.amqp_frames.proofs.Fronts.{front_whole, never_more}
 use Rattle.amqp_frames.proofs.Sizes.{extent_stays, extent_at_least}
 
--- of an item that isn't whole not all bytes have come
+-- where an item isn't whole, not all of its bytes have come
 short_by : (size : ℕ) (bytes : List ℕ) → (length bytes < size) ⊎ (size ≤ length bytes) → extent bytes ≡ Whole size → front bytes ≡ more → length bytes < size
 short_by size bytes (inl less) h is = less
 short_by size bytes (inr long) h is = absurd (never_more (drop size bytes) (item_of (take size bytes)) (sym (front_whole bytes size h long) ∙ is))
@@ -18,7 +18,7 @@ short_by size bytes (inr long) h is = absurd (never_more (drop size bytes) (item
 pub more_is_short : (size : ℕ) (bytes : List ℕ) → extent bytes ≡ Whole size → front bytes ≡ more → length bytes < size
 more_is_short size bytes h is = short_by size bytes (grind arith) h is
 
--- the first bytes tell no more than the item's own size
+-- the first bytes never ask for more than the item's own size
 first_within : (size : ℕ) (old first : List ℕ) → (length old ≤ 8) ⊎ (8 < length old) → length first ≤ max (length old) 8 → take (length old) first ≡ old
     → extent first ≡ Whole size → front old ≡ more → length first ≤ size
 first_within size old first (inl few) within kept is short = let least = extent_at_least first size is in omega arith

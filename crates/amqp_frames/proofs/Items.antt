@@ -1,4 +1,4 @@
--- What the bytes of one item say, by their places.
+-- What the bytes of one item mean, by their places.
 use Rattle.std.proofs.Common.{◌≡◌, ℕ, ◌+◌, ◌*◌, ◌<◌, ◌≤◌, ◌≢◌, List, [], ◌∷◌, length, get_or, drop, refl, arith, true, false, Ok, Err}
 use Rattle.std.proofs.lemmas.Bool.{ne_eqb}
 use Rattle.amqp_frames.specs.declared.fault.FrameFault.TheVariants as fault

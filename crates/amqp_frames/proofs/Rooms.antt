@@ -1,4 +1,4 @@
--- The room that a transfer leaves for what it carries.
+-- The room that a transfer leaves for its payload.
 use Rattle.std.proofs.Common.{◌≡◌, ◌≤◌, ◌<◌, ◌↔◌, ℕ, ◌+◌, ◌-◌, ◌^◌, Bool, true, false, List, length, length-append, Option, Some, None, refl, arith}
 use Rattle.std.specs.Prelude.{min, nat_lt, if◌then◌else◌}
 use Rattle.amqp_perf.specs.declared.perf.Transfer.{Transfer}
@@ -13,7 +13,7 @@ frame_len : (channel : ℕ) (p : Perf) (payload : List ℕ) → length (item_spe
 unfolding item_spelling
 frame_len channel p payload = omega (arith, length-append (spelling p) payload)
 
--- by numbers: what is taken, and whether that is more than there may be
+-- by numbers: what is taken, and whether that is more than is allowed
 by_test : (spelt len most taken : ℕ) (past : Bool) → most < 2 ^ 32 → taken ≡ min (min spelt (2 ^ 64 - 1) + 8) (2 ^ 64 - 1) → nat_lt most taken ≡ past
     → (8 + (spelt + len) ≤ most) ↔ FitsInto (if past then None else Some (most - taken)) len
 by_test spelt len most taken true small is test = ((λ h. grind (arith, h)), (λ h. absurd h))

@@ -1,4 +1,4 @@
--- The extent of some bytes, by their places, and that it stays whatever comes behind them.
+-- The extent of some bytes, by their places; it stays so whatever follows them.
 use Rattle.std.proofs.Common.{◌≡◌, ℕ, ◌+◌, ◌-◌, ◌*◌, ◌<◌, ◌≤◌, List, [], ◌∷◌, ◌++◌, length, get_or, take, drop, refl, ◌⊎◌, inl, inr, arith, Bool, true, false, ◌&&◌, ◌||◌, if◌then◌else◌}
 use Rattle.std.proofs.lemmas.Grind.{common_steps}
 use Rattle.std.specs.Prelude.{◌==◌, nat_lt}
@@ -13,7 +13,7 @@ use Rattle.amqp_frames.specs.Extents.{begins_header, typed, placed, sized, exten
 abbrev pub number : ℕ → ℕ → ℕ → ℕ → ℕ
 number a b c d = from_be_bytes w32 (a ∷ b ∷ c ∷ d ∷ [])
 
--- fewer than four bytes tell nothing
+-- fewer than four bytes don't give the extent
 pub unknown_short : (bytes : List ℕ) → length bytes < 4 → extent bytes ≡ Unknown
 unfolding extent
 unknown_short [] h = refl
@@ -22,7 +22,7 @@ unknown_short (a ∷ b ∷ []) h = refl
 unknown_short (a ∷ b ∷ c ∷ []) h = refl
 unknown_short (a ∷ b ∷ c ∷ d ∷ rest) h = absurd (omega arith)
 
--- four bytes tell a header
+-- four bytes show a header
 pub extent_of_header : (bytes : List ℕ) → 4 ≤ length bytes → begins_header (get_or bytes 0 0) (get_or bytes 1 0) (get_or bytes 2 0) (get_or bytes 3 0) ≡ true → extent bytes ≡ Whole 8
 unfolding extent
 extent_of_header [] h is = absurd (omega arith)
@@ -41,7 +41,7 @@ extent_of_size (a ∷ b ∷ []) h is = absurd (omega arith)
 extent_of_size (a ∷ b ∷ c ∷ []) h is = absurd (omega arith)
 extent_of_size (a ∷ b ∷ c ∷ d ∷ rest) h is = let e : take (length (a ∷ b ∷ c ∷ d ∷ rest) - 4) rest ≡ rest = grind (arith, common_steps) in rw (is, e) refl
 
--- a test that is passed keeps what stands behind it
+-- a test that is passed keeps what follows it
 past : (test : Bool) (x y other : Extent) → (y ≡ Unknown) ⊎ (other ≡ y)
     → ((if test then x else y) ≡ Unknown) ⊎ ((if test then x else other) ≡ (if test then x else y))
 past true x y other h = inr refl
@@ -61,7 +61,7 @@ sized_stays size rest behind =
     past (nat_lt size 8) (Wrong fault.TooSmall) _ _
     (past (nat_lt 16384 size) (Wrong fault.TooLarge) (placed size rest) (placed size (rest ++ behind)) (placed_stays size rest behind))
 
--- what is told stays, whatever comes behind
+-- a known extent stays, whatever follows
 pub extent_stays : (bytes behind : List ℕ) → (extent bytes ≡ Unknown) ⊎ (extent (bytes ++ behind) ≡ extent bytes)
 unfolding extent
 extent_stays [] behind = inl refl
@@ -76,7 +76,7 @@ told : (test : Bool) (x y : Extent) → (x ≡ Unknown → ⊥) → (y ≡ Unkno
 told true x y hx hy h = hx h
 told false x y hx hy h = hy h
 
--- six bytes tell the extent
+-- six bytes give the extent
 pub unknown_below : (bytes : List ℕ) → extent bytes ≡ Unknown → length bytes < 6
 unfolding extent
 unknown_below [] h = omega arith
@@ -94,7 +94,7 @@ unknown_below (a ∷ b ∷ c ∷ d ∷ offset ∷ kind ∷ rest) h =
     (told (nat_lt 16384 size) _ _ (λ e. cc)
     (told (nat_lt offset 2 || nat_lt size (4 * offset)) _ _ (λ e. cc) kinds))) h)
 
--- where a size is told past a test, the other outcome told it
+-- where a size is found past a test, the other outcome gave it
 pub past_wrong : (test : Bool) (f : FrameFault) (y : Extent) (size : ℕ) → (if test then Wrong f else y) ≡ Whole size → (test ≡ false) × (y ≡ Whole size)
 past_wrong true f y size h = absurd (let bad : Wrong f ≡ Whole size = h in cc)
 past_wrong false f y size h = (refl, h)

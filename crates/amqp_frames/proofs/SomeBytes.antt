@@ -1,4 +1,4 @@
--- What is written of a performative has a byte at least.
+-- At least one byte is written of a performative.
 use Rattle.std.proofs.Common.{◌<◌, List, length, arith}
 use Rattle.std.proofs.lemmas.Grind.{common_steps}
 use Rattle.amqp_perf.specs.declared.descriptor.Descriptor.{Descriptor}

@@ -1,4 +1,4 @@
--- What is found is spelt.
+-- What is found is encoded there.
 use Rattle.std.proofs.Common.{◌≡◌, ℕ, ◌+◌, ◌-◌, ◌*◌, ◌<◌, ◌≤◌, List, [], ◌∷◌, ◌++◌, length, take, drop, refl, sym, ap, ◌∙◌, subst, arith, ◌⊎◌, inl, inr, Result, Ok, Err, Bool, true, false, not, ◌&&◌, ◌||◌, if◌then◌else◌}
 use Rattle.std.proofs.lemmas.Grind.{common_steps}
 use Rattle.std.proofs.lemmas.List.{take-append-drop}
@@ -65,7 +65,7 @@ frame_by sasl channel body text x false (Ok (p, at)) is beat reads h = filled_by
 pub frame_sound : (sasl : Bool) (channel : ℕ) (body text : List ℕ) (x : Item) → IsFrame sasl channel body text → frame sasl channel body ≡ Ok x → SpellsItem text x
 frame_sound sasl channel body text x is h = frame_by sasl channel body text x (is_empty body && not sasl) (performative body) is refl refl h
 
--- what a told size says of the bytes before it
+-- what a known size means for the bytes before it
 pub record IsPlaced (size offset kind : ℕ) : Type 0 where
   pub low : 2 ≤ offset
   pub high : 4 * offset ≤ size
@@ -173,7 +173,7 @@ eight_sound false a b c d e f g h rest x t is =
     let one : f ≤ 1 = placed.1.known in
     kind_by a b c d e f g h rest x (grind arith) placed.0 placed.1 (rw t at is.reads)
 
--- an item is spelt
+-- an item is encoded
 pub item_spelt : (text : List ℕ) (x : Item) → IsItem text x → SpellsItem text x
 item_spelt [] x is = let least = extent_at_least [] _ is.whole in absurd (omega arith)
 item_spelt (a ∷ []) x is = let least = extent_at_least (a ∷ []) _ is.whole in absurd (omega arith)
@@ -193,7 +193,7 @@ told_text : (text behind bytes : List ℕ) (size : ℕ) → (extent text ≡ Unk
 told_text text behind bytes size (inl unknown) split enough is = let few = unknown_below text unknown in absurd (omega arith)
 told_text text behind bytes size (inr same) split enough is = sym same ∙ ap extent split ∙ is
 
--- what is found at the front is an item, and the bytes behind it
+-- what is found at the front is an item, and the bytes after it
 found_by : (e : Extent) (bytes : List ℕ) (x : Item) (after : List ℕ) → extent bytes ≡ e → front bytes ≡ found x after → (text : List ℕ) × (bytes ≡ text ++ after) × IsItem text x
 found_by Unknown bytes x after h is = absurd (let bad : more ≡ found x after = sym (front_unknown bytes h) ∙ is in cc)
 found_by (Wrong f) bytes x after h is = absurd (let bad : wrong f ≡ found x after = sym (front_wrong bytes f h) ∙ is in cc)

@@ -1,4 +1,4 @@
--- How streams are cut: one cut a stream, and the same however the bytes come.
+-- How streams are cut: one cut for each stream, and the same however the bytes come.
 use Rattle.std.proofs.Common.{◌≡◌, ℕ, zero, suc, ◌<◌, List, [], ◌∷◌, ◌++◌, length, refl, sym, ap, subst, ◌∙◌, arith, append_assoc, append-nil, Bool, true, false}
 use Rattle.amqp_frames.specs.declared.fault.FrameFault.{FrameFault}
 use Rattle.amqp_frames.specs.declared.item.Item.{Item}
@@ -13,17 +13,17 @@ pub leads_more : (stream : List ℕ) (xs : List Item) (rest : List ℕ) (x : Ite
 leads_more stream [] rest x after h is = (after, rw h is, refl)
 leads_more stream (y ∷ ys) rest x after h is = (h.0, h.1, leads_more h.0 ys rest x after h.2 is)
 
--- more bytes behind
+-- more bytes after them
 pub leads_stays : (stream : List ℕ) (xs : List Item) (rest behind : List ℕ) → Leads stream xs rest → Leads (stream ++ behind) xs (rest ++ behind)
 leads_stays stream [] rest behind h = ap (λ (l : List ℕ). l ++ behind) h
 leads_stays stream (x ∷ xs) rest behind h = (h.0 ++ behind, front_stays stream behind x h.0 h.1, leads_stays h.0 xs rest behind h.2)
 
--- items, and then items of what they leave
+-- items, and then items of the rest after them
 pub leads_append : (stream : List ℕ) (xs : List Item) (mid : List ℕ) (ys : List Item) (rest : List ℕ) → Leads stream xs mid → Leads mid ys rest → Leads stream (xs ++ ys) rest
 leads_append stream [] mid ys rest h k = rw h k
 leads_append stream (x ∷ xs) mid ys rest h k = (h.0, h.1, leads_append h.0 xs mid ys rest h.2 k)
 
--- a piece behind what was cut
+-- a piece after what was cut
 pub cuts_append : (ended : Bool) (stream : List ℕ) (xs : List Item) (mid piece : List ℕ) (ys : List Item) (rest : List ℕ)
     → Leads stream xs mid → Cuts ended (mid ++ piece) ys rest → Cuts ended (stream ++ piece) (xs ++ ys) rest
 cuts_append false stream xs mid piece ys rest h k = (leads_append (stream ++ piece) xs (mid ++ piece) ys rest (leads_stays stream xs mid piece h) k.0, k.1)

@@ -1,4 +1,4 @@
--- What is written is spelt, and found again.
+-- What is written is encoded, and found again.
 use Rattle.std.proofs.Common.{◌≡◌, ℕ, ◌+◌, ◌^◌, ◌<◌, ◌≤◌, List, [], ◌∷◌, ◌++◌, length, refl, sym, ap, ◌∙◌, arith, inr, Bool, true, false, if◌then◌else◌, append-nil}
 use Rattle.std.proofs.lemmas.Grind.{common_steps}
 use Rattle.std.proofs.lemmas.Nat.{from_be_bytes-to_be_bytes_2, from_be_bytes-to_be_bytes_4}
@@ -41,7 +41,7 @@ written_frame sasl channel body h none most =
       within = rw len most;
     }
 
--- what is written is spelt
+-- what is written is encoded
 pub written_spelt : (x : Item) → IsWithin x → SpellsItem (item_spelling x) x
 unfolding item_spelling
 written_spelt (item.Header id major minor revision) is = refl
@@ -58,7 +58,7 @@ written_spelt (item.Frame sasl channel p payload) is =
 written_spelt (item.Beat channel) is = written_frame false channel [] is (λ h. absurd (let bad : false ≡ true = h in cc)) (omega arith)
 written_spelt (item.Bad f) is = absurd is
 
--- what is spelt is found
+-- what is encoded is found
 pub spelt_found : (text behind : List ℕ) (x : Item) → SpellsItem text x → front (text ++ behind) ≡ found x behind
 spelt_found text behind x is = item_front text behind x (spells_item text x is)
 
@@ -66,7 +66,7 @@ spelt_found text behind x is = item_front text behind x (spells_item text x is)
 pub written_found : (x : Item) (behind : List ℕ) → IsWithin x → front (item_spelling x ++ behind) ≡ found x behind
 written_found x behind is = spelt_found (item_spelling x) behind x (written_spelt x is)
 
--- items that stand one behind the other are those that are spelt
+-- items that follow one another are those that are encoded
 pub leads_spelt : (stream : List ℕ) (items : List Item) (rest : List ℕ) → Leads stream items rest → IsSpelt stream items rest
 leads_spelt stream [] rest h = h
 leads_spelt stream (x ∷ xs) rest h = let text = found_sound stream x h.0 h.1 in (text.0, h.0, text.1, text.2, leads_spelt h.0 xs rest h.2)

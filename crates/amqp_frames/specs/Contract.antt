@@ -1,4 +1,4 @@
--- How what functions answer stands to the definitions.
+-- How the functions' answers relate to the definitions.
 use Rattle.std.specs.Prelude.{◌≡◌, ◌<◌, ◌⊎◌, ℕ, List, [], length, drop, Result, Ok, Err}
 use Rattle.amqp_perf.specs.declared.fault.PerfFault.{PerfFault}
 use Rattle.amqp_perf.specs.declared.fault.PerfFault.TheVariants as perf_fault
@@ -12,7 +12,7 @@ use Rattle.amqp_frames.specs.declared.extent.Extent.TheVariants as extent
 use Rattle.amqp_frames.specs.declared.item.Item.{Item}
 use Rattle.amqp_frames.specs.declared.item.Item.TheVariants as item
 
--- the fault of a frame whose body is at fault; want of memory stays that
+-- the fault of a frame whose body is at fault; memory refused stays memory refused
 abbrev pub of_perf : PerfFault → FrameFault
 of_perf perf_fault.Memory = fault.Memory
 of_perf e = fault.Perf e
@@ -29,7 +29,7 @@ abbrev pub Reads : Result (Item × ℕ) FrameFault → List ℕ → Result Item 
 Reads (Ok (x, at)) text defined = defined ≡ Ok (loaded x (drop at text))
 Reads (Err e) text defined = (e ≡ fault.Memory → ⊥) → defined ≡ Err e
 
--- the number by which a fault is told
+-- the number of a fault
 abbrev pub fault_number : FrameFault → ℕ
 fault_number fault.TooSmall = 1
 fault_number fault.BadOffset = 2
@@ -45,12 +45,12 @@ next_front More = more
 next_front (Found x after) = found x after.now
 next_front (Wrong f) = wrong f
 
--- what is left behind an item is shorter
+-- what is left after an item is shorter
 abbrev pub IsShorter : Next → List ℕ → Type 0
 IsShorter (Found x after) bytes = length after.now < length bytes
 IsShorter _ bytes = Unit {0}
 
--- the bytes of an item whose extent is told are all of it, or there are no further bytes
+-- the bytes of an item whose extent is known are all of it, or there are no further bytes
 abbrev pub IsGathered : Extent → List ℕ → List ℕ → Type 0
 IsGathered extent.Unknown bytes behind = behind ≡ []
 IsGathered (extent.Whole size) bytes behind = (length bytes ≡ size) ⊎ ((length bytes < size) × (behind ≡ []))

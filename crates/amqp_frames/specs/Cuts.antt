@@ -1,21 +1,21 @@
--- How a stream is cut into items: it is their spellings in order, and then a rest.
+-- How a stream is cut into items: it is their encodings in order, and then a rest.
 use Rattle.std.specs.Prelude.{◌≡◌, ℕ, Bool, true, false, List, [], ◌∷◌, ◌++◌}
 use Rattle.amqp_frames.specs.declared.fault.FrameFault.{FrameFault}
 use Rattle.amqp_frames.specs.declared.item.Item.{Item}
 use Rattle.amqp_frames.specs.declared.item.Item.TheVariants as item
 use Rattle.amqp_frames.specs.Frames.{front, more, found, wrong}
 
--- these items stand one behind the other, and then comes the rest
+-- these items follow one another, and then comes the rest
 abbrev pub Leads : List ℕ → List Item → List ℕ → Type 0
 Leads stream [] rest = stream ≡ rest
 Leads stream (x ∷ xs) rest = (after : List ℕ) × (front stream ≡ found x after) × Leads after xs rest
 
--- the stream is these items and a rest: less than an item, or, behind a last item that says so, bytes that begin none
+-- the stream is these items and a rest: less than an item, or, after a last item that says so, bytes that begin none
 abbrev pub Cuts : Bool → List ℕ → List Item → List ℕ → Type 0
 Cuts false stream items rest = Leads stream items rest × (front rest ≡ more)
 Cuts true stream items rest = (whole : List Item) × (f : FrameFault) × (items ≡ whole ++ item.Bad f ∷ []) × Leads stream whole rest × (front rest ≡ wrong f)
 
--- what a reader keeps of a stream: the bytes behind the items that it gave, and whether it takes no more
+-- what a reader keeps of a stream: the bytes after the items that it gave, and whether it takes no more
 pub record Stream : Type 0 where
   pub rest : List ℕ
   pub failed : Bool

@@ -1,4 +1,4 @@
--- How far the item at the front of some bytes goes, as soon as they tell it (AMQP 1.0 part 2, sections 2.2 and 2.3.1;
+-- How far the item at the front of some bytes goes, as soon as they show it (AMQP 1.0 part 2, sections 2.2 and 2.3.1;
 -- part 5, section 5.3.1).
 use Rattle.std.specs.Prelude.{ℕ, ◌*◌, Bool, ◌&&◌, ◌||◌, ◌==◌, nat_lt, if◌then◌else◌, List, [], ◌∷◌}
 use Rattle.std.specs.Int.{w32, from_be_bytes}
@@ -10,7 +10,7 @@ use Rattle.amqp_frames.specs.declared.fault.FrameFault.TheVariants as fault
 abbrev pub begins_header : ℕ → ℕ → ℕ → ℕ → Bool
 begins_header a b c d = (a == 65) && (b == 77) && (c == 81) && (d == 80)
 
--- behind the data offset: the type, 0 for AMQP and 1 for SASL, whose frames have at most 512 bytes
+-- after the data offset: the type, 0 for AMQP and 1 for SASL, whose frames have at most 512 bytes
 abbrev pub typed : ℕ → List ℕ → Extent
 typed size [] = Unknown
 typed size (kind ∷ rest) =
@@ -18,7 +18,7 @@ typed size (kind ∷ rest) =
     else if (kind == 1) && nat_lt 512 size then Wrong fault.TooLarge
     else Whole size
 
--- behind the size: the data offset, in words of four bytes
+-- after the size: the data offset, in words of four bytes
 abbrev pub placed : ℕ → List ℕ → Extent
 placed size [] = Unknown
 placed size (offset ∷ rest) =

@@ -17,7 +17,7 @@ abbrev pub is_empty : List ℕ → Bool
 is_empty [] = true
 is_empty (b ∷ bytes) = false
 
--- only a transfer has a payload behind it (part 2, section 2.7.5)
+-- only a transfer has a payload after it (part 2, section 2.7.5)
 abbrev pub may_carry : Perf → Bool
 may_carry (perf.Transfer transfer) = true
 may_carry _ = false
@@ -34,8 +34,8 @@ abbrev pub frame : Bool → ℕ → List ℕ → Result Item FrameFault
 frame sasl channel body =
     if is_empty body && not sasl then Ok (item.Beat channel) else filled sasl channel body (performative body)
 
--- the item that these bytes are, all of which belong to it: behind a frame's size its data offset, type and channel,
--- which a SASL frame has not, then an extended header, which is ignored, and the body
+-- the item that these bytes are, all of which belong to it: after a frame's size its data offset, type and channel,
+-- which a SASL frame doesn't have, then an extended header, which is ignored, and the body
 unfoldable pub item_of : List ℕ → Result Item FrameFault
 item_of (a ∷ b ∷ c ∷ d ∷ e ∷ f ∷ g ∷ h ∷ rest) =
     if begins_header a b c d then Ok (item.Header e f g h)
@@ -43,7 +43,7 @@ item_of (a ∷ b ∷ c ∷ d ∷ e ∷ f ∷ g ∷ h ∷ rest) =
     else frame false (g * 256 + h) (drop (4 * e) (a ∷ b ∷ c ∷ d ∷ e ∷ f ∷ g ∷ h ∷ rest))
 item_of _ = Err fault.TooSmall
 
--- what stands at the front: less than an item, an item and the bytes behind it, or bytes that begin none
+-- what stands at the front: less than an item, an item and the bytes after it, or bytes that begin none
 pub data Front : Type 0 where
   more : Front
   found : Item → List ℕ → Front

@@ -1,4 +1,4 @@
--- The canonical spelling of an item (AMQP 1.0 part 2, sections 2.2 and 2.3.1; part 5, section 5.3.1).
+-- The canonical encoding of an item (AMQP 1.0 part 2, sections 2.2 and 2.3.1; part 5, section 5.3.1).
 use Rattle.std.specs.Prelude.{ℕ, ◌+◌, Bool, false, if◌then◌else◌, List, [], ◌∷◌, ◌++◌, length}
 use Rattle.std.specs.Int.{w16, w32, to_be_bytes}
 use Rattle.amqp_perf.specs.Spelling.{spelling}
@@ -13,7 +13,7 @@ head_spelling sasl channel len =
 abbrev pub frame_spelling : Bool → ℕ → List ℕ → List ℕ
 frame_spelling sasl channel body = head_spelling sasl channel (length body) ++ body
 
--- nothing spells what is no item
+-- what is no item has no bytes
 unfoldable pub item_spelling : Item → List ℕ
 item_spelling (item.Header id major minor revision) = 65 ∷ 77 ∷ 81 ∷ 80 ∷ id ∷ major ∷ minor ∷ revision ∷ []
 item_spelling (item.Frame sasl channel perf payload) = frame_spelling sasl channel (spelling perf ++ payload)

@@ -8,7 +8,7 @@ abbrev pub HasOneCut : List ℕ → Type 0
 HasOneCut stream = ((ended : Bool) × (items : List Item) × (rest : List ℕ) × Cuts ended stream items rest)
     × ((ended closed : Bool) (items others : List Item) (rest left : List ℕ) → Cuts ended stream items rest → Cuts closed stream others left → (ended ≡ closed) × (items ≡ others) × (rest ≡ left))
 
--- Pieces come one after the other behind bytes that were kept, and each piece with what was kept before it is cut. These are
+-- Pieces come one after another, after bytes that were kept, and each piece with what was kept before it is cut. These are
 -- all items that were given, whether the last of them ended the stream, and what is kept at the end.
 abbrev pub Feeds : List ℕ → List (List ℕ) → List Item → Bool → List ℕ → Type 0
 Feeds kept [] items ended rest = (items ≡ []) × (ended ≡ false) × (kept ≡ rest)

@@ -1,4 +1,4 @@
--- The items that a reader finds again once they are written.
+-- The items that a reader finds again after they were written.
 use Rattle.std.specs.Prelude.{◌≡◌, ℕ, ◌+◌, ◌^◌, ◌<◌, ◌≤◌, ◌⊎◌, Bool, true, if◌then◌else◌, List, [], ◌++◌, length}
 use Rattle.amqp_perf.specs.declared.perf.Perf.{Perf}
 use Rattle.amqp_perf.specs.Fitting.{Fits}
@@ -13,7 +13,7 @@ pub record IsFrameWithin (sasl : Bool) (channel : ℕ) (p : Perf) (payload : Lis
   pub fits : Fits p
   -- only a transfer has a payload
   pub carried : (may_carry p ≡ true) ⊎ (payload ≡ [])
-  -- a channel has two bytes, and a SASL frame none
+  -- a channel has two bytes, and a SASL frame has none
   pub channel_field : channel < 2 ^ 16
   pub sasl_channel : sasl ≡ true → channel ≡ 0
   pub size : 8 + length (spelling p ++ payload) ≤ (if sasl then 512 else 16384)

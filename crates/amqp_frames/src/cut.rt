@@ -17,7 +17,7 @@ use std::alloc::{AllocError, Global};
 pub(crate) enum Next<'a> {
     /// Less than an item.
     More,
-    /// An item, and the bytes behind it.
+    /// An item, and the bytes after it.
     Found(Item, &'a [u8]),
     /// Bytes that begin no item.
     Wrong(FrameFault),
@@ -52,7 +52,7 @@ pub(crate) fn next_item(alloc: Global, bytes: &[u8]) -> Result<Next<'_>, AllocEr
     }
 }
 
-/// Adds the items at the front of these bytes. Gives whether what stands behind them begins no item, and that.
+/// Adds the items at the front of these bytes. Gives whether the bytes after them begin no item, and those bytes.
 pub(crate) fn cut<'a>(
     alloc: Global,
     items: &mut Vec<Item>,

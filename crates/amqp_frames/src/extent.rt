@@ -13,12 +13,12 @@ const MAX_FRAME_SIZE: usize = 16_384;
 /// The most bytes that a SASL frame has (AMQP 1.0 part 5, section 5.3.1).
 const MAX_SASL_FRAME_SIZE: usize = 512;
 
-/// How far the item at the front of some bytes goes, as far as they tell.
+/// How far the item at the front of some bytes goes, as far as the bytes show it.
 #[derive(Clone, Copy, Debug, PartialEq, Eq)]
 pub(crate) enum Extent {
     /// Too few bytes have come.
     Unknown,
-    /// So many bytes are the item, where they have come.
+    /// The item has this many bytes, where they have come.
     Whole(usize),
     /// These bytes begin no item.
     Wrong(FrameFault),
@@ -39,7 +39,7 @@ pub(crate) fn extent_of(bytes: &[u8]) -> Extent
     extent_of_frame(u32::from_be_bytes(front) as usize, rest)
 }
 
-/// How far a frame with this size goes, where these bytes stand behind the size.
+/// How far a frame with this size goes, where these bytes follow the size.
 fn extent_of_frame(size: usize, rest: &[u8]) -> Extent
     ensures { result ≡ sized size rest.now }
 {

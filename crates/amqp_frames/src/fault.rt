@@ -1,4 +1,4 @@
-//! Why bytes are no item, or why none can be read.
+//! Why bytes are no item, or why no item can be read.
 ghost use Rattle.std.specs.Prelude.{◌≡◌};
 ghost use Rattle.amqp_frames.specs.Contract.{fault_number, of_perf};
 
@@ -20,7 +20,7 @@ pub enum FrameFault {
     /// The frame's type is neither AMQP (0) nor SASL (1).
     #[error("the frame's type is unknown")]
     BadType,
-    /// The body is no performative, or has bytes behind it that it can't have.
+    /// The body is no performative, or has bytes after it that it can't have.
     #[error("the frame's body is at fault: {0}")]
     Perf(PerfFault),
     /// Memory was refused; nothing of the piece was taken.
@@ -32,7 +32,7 @@ pub enum FrameFault {
 }
 
 impl FrameFault {
-    /// The number by which the fault is told, 1 to 7 in the order above.
+    /// The fault's number, 1 to 7 in the order above.
     pub fn number(&self) -> u8
         ensures { result ≡ fault_number self.now }
     {

@@ -7,8 +7,8 @@ ghost use Rattle.amqp_frames.specs.Frames.{front, more};
 use crate::extent::{Extent, MIN_SIZE, extent_of};
 use std::alloc::AllocError;
 
-/// Appends to the beginning of an item what the piece has of it, and gives the bytes behind that. Room for all of the
-/// item is made as soon as its first bytes tell the size, so that the bytes behind those are never moved again.
+/// Appends to the beginning of an item what the piece has of it, and gives the bytes after that. Room for all of the
+/// item is made as soon as its first bytes show the size, so that the bytes after those are never moved again.
 #[tactic(auto, using(crate::proofs::Sizes::unknown_below, crate::proofs::Gathers::whole_gathered))]
 pub(crate) fn gather_item<'a>(buffer: &mut Vec<u8>, piece: &'a [u8]) -> Result<&'a [u8], AllocError>
     requires { front buffer.old.items ≡ more }
@@ -23,7 +23,7 @@ pub(crate) fn gather_item<'a>(buffer: &mut Vec<u8>, piece: &'a [u8]) -> Result<&
     }
 }
 
-/// Appends bytes of the piece until there are so many, and gives the bytes behind those.
+/// Appends bytes of the piece until there are this many, and gives the bytes after those.
 fn gather<'a>(buffer: &mut Vec<u8>, size: usize, piece: &'a [u8]) -> Result<&'a [u8], AllocError>
     ensures joined { IfOk result (λ behind. buffer.new.items ++ behind.now ≡ buffer.old.items ++ piece.now) }
     ensures filled { IfOk result (λ behind. (size ≤ length buffer.new.items) ⊎ (behind.now ≡ [])) }

@@ -21,18 +21,18 @@ pub enum Item {
     Frame {
         /// Whether its type is SASL (part 5, section 5.3.1).
         sasl: bool,
-        /// Its channel; 0 for SASL.
+        /// Its channel; 0 in a SASL frame.
         channel: u16,
         /// Its performative or SASL body.
         perf: Perf,
-        /// What stands behind the performative; only a transfer has any.
+        /// The bytes after the performative; only a transfer has any.
         payload: Bytes,
     },
-    /// A frame without a body, which shows that the peer is there (AMQP 1.0 part 2, section 2.4.5).
+    /// An empty frame, which shows that the peer is there (AMQP 1.0 part 2, section 2.4.5).
     Beat {
         /// Its channel.
         channel: u16,
     },
-    /// What is no item. Nothing stands behind it.
+    /// Bytes that are no item. Nothing follows it.
     Bad(FrameFault),
 }

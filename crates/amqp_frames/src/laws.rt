@@ -16,8 +16,8 @@ pub fn streams_have_one_cut()
     ensures any { (pieces : List (List ℕ)) (items : List AnItem) (ended : Bool) (rest : List ℕ) → Feeds [] pieces items ended rest → Cuts ended (joined pieces) items rest }
 {}
 
-/// An item is found where it is spelt, whatever stands behind it, and nowhere else: so the items of a cut are those
-/// whose spellings the stream is. Bytes that begin no item begin none however they go on. Less than an item is fewer
+/// An item is found where it is encoded, whatever follows, and nowhere else: so the items of a cut are those whose
+/// encodings make up the stream. Bytes that begin no item begin none however they go on. Less than an item is fewer
 /// than 16,384 bytes, so no reader keeps more before it fails.
 pub fn items_are_found_where_spelt()
     ensures found { (text behind : List ℕ) (x : AnItem) → SpellsItem text x → front (text ++ behind) ≡ found x behind }
@@ -27,7 +27,7 @@ pub fn items_are_found_where_spelt()
     ensures more { (bytes : List ℕ) → front bytes ≡ more → length bytes < 16384 }
 {}
 
-/// What is written within the limits is spelt rightly, and so is found again, whatever stands behind it.
+/// What is written within the limits is encoded rightly, and so is found again, whatever follows.
 pub fn written_items_are_found()
     ensures spelt { (x : AnItem) → IsWithin x → SpellsItem (item_spelling x) x }
     ensures found { (x : AnItem) (behind : List ℕ) → IsWithin x → front (item_spelling x ++ behind) ≡ found x behind }

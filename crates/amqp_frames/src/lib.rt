@@ -1,4 +1,4 @@
-//! The frames of AMQP 1.0: a stream of bytes is the spellings of items, then a rest.
+//! The frames of AMQP 1.0: a stream of bytes is the encodings of items, then a rest.
 #![tactic(auto)]
 
 mod cut;

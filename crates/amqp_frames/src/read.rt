@@ -1,4 +1,4 @@
-//! What the bytes of one item say.
+//! What the bytes of one item mean.
 ghost use Rattle.std.specs.Prelude.{◌≡◌, ◌+◌, ◌*◌, ◌≤◌, IsTrue, ◌↔◌, length, drop, IfOk};
 ghost use Rattle.amqp_frames.specs.Contract.{Reads, loaded};
 ghost use Rattle.amqp_frames.specs.Frames.{frame, item_of, may_carry};
@@ -78,7 +78,7 @@ fn carries_payload(perf: &Perf) -> bool
     matches!(perf, Perf::Transfer(_))
 }
 
-/// The bytes from a place on: none where it lies past the end.
+/// The bytes from a place on: none where it is past the end.
 fn from_place(bytes: &[u8], at: usize) -> &[u8]
     ensures { result.now ≡ drop at bytes.now }
 {

@@ -16,7 +16,7 @@ use std::alloc::{AllocError, AllocFailed, Global};
 use std::marker::Model;
 use std::mem;
 
-/// Reads the items of a stream that comes in pieces. A contract sees the bytes behind the items that it gave, and
+/// Reads the items of a stream that comes in pieces. A contract sees the bytes after the items that it gave, and
 /// whether it takes no more.
 #[derive(Drop)]
 pub struct FrameReader {
@@ -51,12 +51,12 @@ impl FrameReader {
         }
     }
 
-    /// Takes the next piece, and gives the items that are whole with it. An item `Bad` is the last of a stream: it is
+    /// Takes the next piece, and gives the items that it completes. A `Bad` is the last item of a stream: it is
     /// given as soon as the bytes that show it have come.
     ///
     /// # Errors
     ///
-    /// `Memory` where memory was refused; `Failed` behind a `Bad` or a `Memory`. Nothing of the piece was taken then.
+    /// `Memory` where memory was refused; `Failed` after a `Bad` or a `Memory`. Nothing of the piece was taken then.
     pub fn feed(&mut self, piece: &[u8]) -> Result<Vec<Item>, FrameFault>
         ensures cut { IfOk result (λ items. Cuts self.new.failed (self.old.rest ++ piece.now) items.items self.new.rest) }
         ensures failed { (result ≡ Err FrameFault.Failed) ↔ IsTrue self.old.failed }
@@ -80,7 +80,7 @@ impl FrameReader {
         }
     }
 
-    /// The bytes behind the items that were given: less than an item, or the bytes from a `Bad` on.
+    /// The bytes after the items that were given: less than an item, or the bytes from a `Bad` on.
     pub fn rest(&self) -> &[u8]
         ensures { result.now ≡ self.now.rest }
     {
@@ -89,7 +89,7 @@ impl FrameReader {
 }
 
 /// Cuts the buffer, which holds less than an item, and the piece into items, and leaves the rest in the buffer. Gives
-/// whether the last item is a `Bad`. An error leaves the buffer's bytes, with more behind them.
+/// whether the last item is a `Bad`. An error leaves the buffer's bytes, with more after them.
 #[tactic(auto, using(crate::proofs::Steps::cut_item))]
 fn take_in(
     alloc: Global,
@@ -130,8 +130,8 @@ fn take_fault(
     Ok((items, true))
 }
 
-/// The buffer is the bytes of this item, whose payload begins at a place in it. The item goes out, and the items
-/// behind it.
+/// The buffer is the bytes of this item, whose payload begins at a place in it. Gives the item and the items
+/// after it.
 fn take_item(
     alloc: Global,
     buffer: &mut Vec<u8>,
@@ -145,7 +145,7 @@ fn take_item(
 {
     match cut_behind(alloc, behind) {
         Ok((mut items, ended, rest)) => {
-            // Nothing that can fail is left, but that the item's payload takes the buffer.
+            // Only one step can still fail: that the item's payload takes the buffer.
             let loaded = share(buffer, rest, item, payload_at)?;
             drop(mem::replace(&mut items[0], loaded));
             Ok((items, ended))
@@ -157,7 +157,7 @@ fn take_item(
     }
 }
 
-/// The items of these bytes behind a place for the one before them, whether they end in a `Bad`, and the rest.
+/// The items of these bytes, after a slot for the item before them; whether they end in a `Bad`; and the rest.
 fn cut_behind(alloc: Global, behind: &[u8]) -> Result<(Vec<Item>, bool, Vec<u8>), AllocError>
     ensures { IfOk result (λ found. (others : List AnItem) × (found.0.items ≡ AnItem.Beat 0 ∷ others) × Cuts found.1 behind.now others found.2.items) }
 {
@@ -179,7 +179,7 @@ fn keep(alloc: Global, rest: &[u8]) -> Result<Vec<u8>, AllocError>
     Ok(buffer)
 }
 
-/// Puts the rest into the buffer. The bytes that it had become the item's payload, from the place on, uncopied.
+/// Puts the rest into the buffer. The buffer's old bytes become the item's payload, from the place on, without a copy.
 fn share(
     buffer: &mut Vec<u8>,
     rest: Vec<u8>,

@@ -10,7 +10,7 @@ use crate::write::write_item;
 use amqp_perf::{Transfer, transfer_len};
 use std::alloc::{AllocError, Global};
 
-/// How many bytes `write_item` writes of an item: 0 of a `Bad`. It writes them to count them, so it is for rare frames.
+/// How many bytes `write_item` writes for an item: 0 for a `Bad`. It writes them to count them, so use it for rare frames.
 ///
 /// # Errors
 ///
@@ -23,9 +23,9 @@ pub fn item_len(alloc: Global, item: &Item) -> Result<usize, AllocError>
     Ok(text.len())
 }
 
-/// The greatest payload, in bytes, that a frame with this transfer can carry where the whole frame, its 8 bytes of header
-/// counted, may have at most so many. None where not even an empty payload fits (AMQP 1.0 part 2, sections 2.3.1 and 2.7.5).
-/// It takes memory only for a state that says more than that a delivery is accepted or released.
+/// The greatest payload, in bytes, that a frame with this transfer can carry where the whole frame, with its 8 bytes of header,
+/// may have at most `most` bytes. None where not even an empty payload fits (AMQP 1.0 part 2, sections 2.3.1 and 2.7.5).
+/// It allocates only for a state that says more than that a delivery is accepted or released.
 ///
 /// # Errors
 ///

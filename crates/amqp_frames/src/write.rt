@@ -7,9 +7,9 @@ use crate::item::Item;
 use amqp_perf::write_perf;
 use std::alloc::{AllocError, Global};
 
-/// Appends the canonical spelling of an item: a frame without an extended header, on channel 0 where it is SASL's, and
-/// nothing for a `Bad`. A payload behind another performative than a transfer, or a frame beyond the sizes that a
-/// reader takes, is written all the same.
+/// Appends the canonical encoding of an item: a frame without an extended header, on channel 0 if it is a SASL frame, and
+/// nothing for a `Bad`. A payload after another performative than a transfer, or a frame beyond the sizes that a
+/// reader accepts, is still written.
 ///
 /// # Errors
 ///
@@ -27,7 +27,7 @@ pub fn write_item(alloc: Global, item: &Item, out: &mut Vec<u8>) -> Result<(), A
     written
 }
 
-/// Appends the spelling of an item, or a beginning of it.
+/// Appends the encoding of an item, or a beginning of it.
 #[tactic(auto, unfolding(crate::specs::ItemSpelling::item_spelling))]
 fn put_item(alloc: Global, item: &Item, out: &mut Vec<u8>) -> Result<(), AllocError>
     ensures ok { OnOk result (out.new.items ≡ out.old.items ++ item_spelling item.now) }

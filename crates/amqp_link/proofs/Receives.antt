@@ -114,7 +114,7 @@ none_more n = omega arith
 pub count_taken : (n : ℕ) (e : RecvFigures) (t : Received) → Receives e t → Receives (behind_count n e) (TheirCount n ∷ t)
 count_taken n e t r = record { count = none_more n; granted = r.granted; middle = r.middle }
 
--- a settlement: whatever came first, the newest frame tells it
+-- a settlement: whatever came first, the newest frame shows it
 settled_in_the_middle : (fs : List Frame) → option_map settled_now (gathered fs) ≡ gathered (settled fs)
 settled_in_the_middle [] = refl
 settled_in_the_middle (f ∷ []) = refl

@@ -1,4 +1,4 @@
--- What a start and a count that is told use up of the credit.
+-- What a start and an announced count use up of the credit.
 use Rattle.std.proofs.Common.{◌≡◌, ◌∙◌, ◌<◌, ◌≤◌, ℕ, false, ap, cond, ◌+◌, ◌%◌, ◌^◌, ◌∷◌, Option, Some, None, arith}
 use Rattle.std.specs.Prelude.{count_by}
 use Rattle.std.proofs.lemmas.List.Sums.{sum_by-cons}

@@ -1,5 +1,5 @@
 -- What happened on a link, newest first, and the credit that it gives (AMQP 1.0 part 2, sections 2.6.7 and 2.6.8). The same
--- list tells it at both ends. Each figure is looked up: what was told last, and the deliveries started since.
+-- list holds at both ends. Each figure is looked up: the last value announced, and the deliveries started since.
 use Rattle.std.specs.Prelude.{ℕ, Bool, true, false, ◌+◌, ◌%◌, ◌^◌, ◌≤◌, nat_lt, if◌then◌else◌, List, [], ◌∷◌, count_by, Option, Some, None, unwrap_or}
 use Rattle.amqp_session.specs.Serials.{distance}
 use Rattle.amqp_link.specs.declared.grant.Grant.{Grant}
@@ -11,18 +11,18 @@ pub data Happened : Type 0 where
   Granted : Option ℕ → ℕ → Happened
   -- a transfer of the sender that starts a delivery
   Started : Happened
-  -- a flow of the sender that tells its delivery-count
+  -- a flow of the sender that gives its delivery-count
   Counted : ℕ → Happened
 
 abbrev pub Link : Type 0
 Link = List Happened
 
--- what stands in front of the newest event that passes the test
+-- the events after the newest one that passes the test
 abbrev pub since : (Happened → Bool) → Link → Link
 since tells [] = []
 since tells (h ∷ t) = if tells h then [] else h ∷ since tells t
 
--- the list from the newest event on that passes the test
+-- the newest event that passes the test, and those before it
 abbrev pub from : (Happened → Bool) → Link → Link
 from tells [] = []
 from tells (h ∷ t) = if tells h then h ∷ t else from tells t
@@ -37,7 +37,7 @@ initial [] = 0
 initial (Attached n ∷ t) = n
 initial (_ ∷ t) = initial t
 
--- The sender's delivery-count: the one that its attach or a flow told last, and one more for each delivery started since.
+-- The sender's delivery-count: the last one from its attach or a flow, and one more for each delivery started since.
 abbrev pub tells_count : Happened → Bool
 tells_count (Attached n) = true
 tells_count (Counted n) = true
@@ -68,7 +68,7 @@ granted (_ ∷ t) = granted t
 abbrev pub limit : Grant → ℕ
 limit g = (g.count + g.credit) % 2 ^ 32
 
--- what is left up to a limit at a delivery-count: the distance, and none where it is 2^31 or more, which is behind it
+-- what is left up to a limit at a delivery-count: the distance, and none where it is 2^31 or more, which is past the limit
 abbrev pub left : ℕ → ℕ → ℕ
 left end at = if nat_lt (distance at end) (2 ^ 31) then distance at end else 0
 
@@ -81,7 +81,7 @@ left_of (Some g) at = left (limit g) at
 abbrev pub credit : Link → ℕ
 credit t = left_of (granted t) (count t)
 
--- No start is beyond the credit: before each delivery was started at least 1 was left, and where the sender told a count, that
+-- No start is beyond the credit: before each delivery was started at least 1 was left, and each count that the sender gave
 -- was its own or ahead of it by no more than the credit left.
 abbrev pub WithinCredit : Link → Type 0
 WithinCredit [] = Unit {0}

@@ -1,11 +1,11 @@
--- Deliveries, of the transfer frames that carry them (AMQP 1.0 part 2, sections 2.6.14 and 2.7.5).
+-- Deliveries, from the transfer frames that carry them (AMQP 1.0 part 2, sections 2.6.14 and 2.7.5).
 use Rattle.std.specs.Prelude.{ℕ, Bool, true, ◌&&◌, ◌||◌, not, nat_lt, if◌then◌else◌, List, [], ◌∷◌, ◌++◌, length}
 use Rattle.amqp_perf.specs.declared.perf.Transfer.{Transfer}
 use Rattle.amqp_link.specs.declared.part.Delivery.{Delivery}
 use Rattle.amqp_link.specs.declared.part.Part.{Part}
 use Rattle.amqp_link.specs.declared.part.Part.TheVariants as part
 
--- A transfer frame: what it says, and what it carries. The frames of a delivery stand newest first.
+-- A transfer frame: its fields, and its payload. The frames of a delivery stand newest first.
 pub record Frame : Type 0 where
   pub transfer : Transfer
   pub payload : List ℕ
@@ -17,11 +17,11 @@ frame x carried = record { transfer = x; payload = carried }
 abbrev pub goes_on : Frame → Bool
 goes_on f = f.transfer.more && not f.transfer.aborted
 
--- the frames of the delivery in the middle, behind a frame and those of its delivery that came before
+-- the frames of the delivery in progress, after a frame and those of its delivery that came before
 abbrev pub still : Frame → List Frame → List Frame
 still f fs = if goes_on f then f ∷ fs else []
 
--- what a delivery carries: what its frames do, in the order in which they came
+-- the payload of a delivery: those of its frames, in the order in which they came
 abbrev pub bytes : List Frame → List ℕ
 bytes [] = []
 bytes (f ∷ fs) = bytes fs ++ f.payload
@@ -39,7 +39,7 @@ abbrev pub settled : List Frame → List Frame
 settled [] = []
 settled (f ∷ fs) = record f { transfer = record f.transfer { settled = true } } ∷ fs
 
--- all else that is told of it, its first frame tells
+-- everything else about it comes from its first frame
 abbrev pub first : Frame → List Frame → Frame
 first f [] = f
 first f (g ∷ fs) = first g fs
@@ -56,7 +56,7 @@ told x settled = record {
 abbrev pub delivery : Frame → List Frame → Delivery
 delivery f fs = told (first f fs).transfer (is_settled f fs)
 
--- what becomes of a delivery with a frame, behind those of it that came before
+-- the state of a delivery after a frame, given its frames that came before
 abbrev pub part_of : Frame → List Frame → Part
 part_of f fs =
     if f.transfer.aborted then part.Aborted

@@ -1,4 +1,4 @@
--- The figures of a link's end are those of what happened on its link.
+-- The figures of a link's end match what happened on its link.
 use Rattle.std.specs.Prelude.{◌≡◌, ◌<◌, ℕ, ◌+◌, ◌%◌, ◌^◌, Bool, ◌&&◌, nat_eq, if◌then◌else◌, Option, Some, None, is_none, option_map, unwrap_or}
 use Rattle.amqp_link.specs.declared.grant.Grant.{Grant}
 use Rattle.amqp_link.specs.declared.part.Part.{Part}
@@ -10,7 +10,7 @@ use Rattle.amqp_link.specs.Deliveries.{Frame}
 use Rattle.amqp_link.specs.Gathering.{RecvFigures, gathered, settled_now, next}
 use Rattle.amqp_link.specs.Receiving.{Received, middle, seen}
 
--- of an end that sends
+-- of a sending end
 pub record Sends (e : SendEnd) (t : Link) : Type 0 where
   pub initial : e.initial ≡ link.initial t
   pub count : e.count ≡ link.count t
@@ -28,11 +28,11 @@ CanStart e = 0 < left_at e
 abbrev pub send_end_of : Link → SendEnd
 send_end_of t = record { initial = link.initial t; count = link.count t; granted = link.granted t }
 
--- What becomes of its figures, for a table of ends: those of a link that was just attached, ...
+-- How its figures change, for a table of ends: those of a link that was just attached, ...
 abbrev pub begun_at : ℕ → SendEnd
 begun_at n = record { initial = n; count = n % 2 ^ 32; granted = None }
 
--- ... behind a flow of the receiver, ...
+-- ... after a flow of the receiver, ...
 abbrev pub behind_grant : Option ℕ → ℕ → SendEnd → SendEnd
 behind_grant count credit e = record e { granted = Some (record { count = unwrap_or count e.initial; credit = credit }) }
 
@@ -47,11 +47,11 @@ drained_count e = (e.count + left_at e) % 2 ^ 32
 abbrev pub behind_drain : SendEnd → SendEnd
 behind_drain e = record e { count = drained_count e }
 
--- ... or a flow of the sender that told this count
+-- ... or a flow of the sender with this count
 abbrev pub behind_told_count : ℕ → SendEnd → SendEnd
 behind_told_count n e = record e { count = n % 2 ^ 32 }
 
--- of an end that receives
+-- of a receiving end
 pub record Receives (e : RecvFigures) (t : Received) : Type 0 where
   pub count : e.count ≡ link.count (seen t)
   pub granted : e.granted ≡ link.granted (seen t)
@@ -64,19 +64,19 @@ unused_at e = left_of e.granted e.count
 abbrev pub recv_end_of : Received → RecvFigures
 recv_end_of t = record { count = link.count (seen t); granted = link.granted (seen t); middle = gathered (middle t) }
 
--- What becomes of it: that of a link that was just attached, ...
+-- How it changes: that of a link that was just attached, ...
 abbrev pub awaiting_at : ℕ → RecvFigures
 awaiting_at n = record { count = n % 2 ^ 32; granted = None; middle = None }
 
--- ... behind a grant of this end, ...
+-- ... after a grant of this end, ...
 abbrev pub behind_our_grant : Grant → RecvFigures → RecvFigures
 behind_our_grant g e = record e { granted = Some g }
 
--- ... a count that the peer told, ...
+-- ... a count that the peer gave, ...
 abbrev pub behind_count : ℕ → RecvFigures → RecvFigures
 behind_count n e = record e { count = n % 2 ^ 32 }
 
--- ... a settlement of the delivery in the middle, ...
+-- ... a settlement of the delivery in progress, ...
 abbrev pub behind_settlement : RecvFigures → RecvFigures
 behind_settlement e = record e { middle = option_map settled_now e.middle }
 

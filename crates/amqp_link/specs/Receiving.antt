@@ -1,4 +1,4 @@
--- What happened on a link on which the peer sends, newest first.
+-- What happened on a link where the peer sends, newest first.
 use Rattle.std.specs.Prelude.{ℕ, Bool, true, false, ◌&&◌, nat_eq, if◌then◌else◌, List, [], ◌∷◌, Some}
 use Rattle.amqp_link.specs.declared.grant.Grant.{Grant}
 use Rattle.amqp_link.specs.declared.part.Part.{Part}
@@ -11,17 +11,17 @@ pub data Event : Type 0 where
   TheirAttach : ℕ → Event
   -- a flow of this end that grants
   OurGrant : Grant → Event
-  -- a flow of the peer that tells its delivery-count
+  -- a flow of the peer that gives its delivery-count
   TheirCount : ℕ → Event
   -- a transfer of the peer
   TheirTransfer : Frame → Event
-  -- the peer settled the delivery in the middle, by a disposition whose range has it (AMQP 1.0 part 2, section 2.7.6)
+  -- the peer settled the delivery in progress, by a disposition whose range has it (AMQP 1.0 part 2, section 2.7.6)
   TheirSettlement : Event
 
 abbrev pub Received : Type 0
 Received = List Event
 
--- The frames of the delivery in the middle, which is one of which frames came, and more are to come.
+-- The frames of the delivery in progress: one with some of its frames here and more to come.
 abbrev pub middle : Received → List Frame
 middle [] = []
 middle (TheirAttach n ∷ t) = []
@@ -33,7 +33,7 @@ abbrev pub is_empty : List Frame → Bool
 is_empty [] = true
 is_empty (_ ∷ _) = false
 
--- The same as credit has it: a transfer starts a delivery where none is in the middle.
+-- The same for credit: a transfer starts a delivery where none is in progress.
 abbrev pub seen : Received → Link
 seen [] = []
 seen (TheirAttach n ∷ t) = Attached n ∷ seen t
@@ -54,7 +54,7 @@ unused t = credit (seen t)
 abbrev pub is_beyond : Received → Bool
 is_beyond t = is_empty (middle t) && nat_eq (unused t) 0
 
--- What a transfer gives, and what then happened. One beyond the credit is none of the link's.
+-- What a transfer gives, and what then happened. One beyond the credit doesn't count on the link.
 abbrev pub given : Frame → Received → Part
 given f t = if is_beyond t then part.BeyondCredit else part_of f (middle t)
 

@@ -1,4 +1,4 @@
-//! Gathers what the frames of a delivery carry.
+//! Gathers the payloads of a delivery's frames.
 ghost use Rattle.std.specs.Prelude.{◌≡◌, ℕ, [], ◌++◌, List, Some, None, if◌then◌else◌, IfOk, IfErr, OnErr, OnOk, IsOk, true, false, not, nat_lt, length};
 ghost use Rattle.amqp_link.specs.Deliveries.{frame};
 ghost use Rattle.amqp_link.specs.Gathering.{begun, with_frame, settled_now, fitting, more, whole, next};
@@ -9,10 +9,10 @@ use bytes::Bytes;
 use std::alloc::{AllocError, Global};
 use std::marker::Model;
 
-/// The most bytes that a delivery may carry.
+/// The most bytes that a delivery may have.
 pub const MAX_MESSAGE_SIZE: usize = 65_536;
 
-/// A delivery in the middle: what is told of it, and the bytes that came, in one buffer that grows. Nothing is kept of one that
+/// A delivery in progress: its fields, and the bytes that came, in one growing buffer. Nothing is kept of one that
 /// is too large.
 #[derive(Debug, Drop)]
 pub(crate) struct Gathering {
@@ -30,7 +30,7 @@ impl Model for Gathering {
 }
 
 impl Gathering {
-    /// What the first frame of a delivery begins.
+    /// The delivery that a first frame begins.
     pub(crate) fn begin(
         alloc: Global,
         transfer: &Transfer,
@@ -47,14 +47,14 @@ impl Gathering {
         })
     }
 
-    /// What is told of the delivery.
+    /// The fields of the delivery.
     pub(crate) fn delivery(&self) -> &Delivery
         ensures { result.now ≡ self.now.delivery }
     {
         &self.delivery
     }
 
-    /// Takes one frame more. An error changes nothing.
+    /// Takes one more frame. An error changes nothing.
     fn add(&mut self, transfer: &Transfer, payload: &Bytes) -> Result<(), AllocError>
         ensures ok { OnOk result (self.new ≡ with_frame (frame transfer.now payload.now) self.old) }
         ensures err { OnErr result (self.new ≡ self.old) }
@@ -77,7 +77,7 @@ impl Gathering {
         self.delivery.settled = true;
     }
 
-    /// What its last frame made of the delivery, of which more frames are to come.
+    /// The state of the delivery after its last frame, where more frames are to come.
     fn part(&self) -> Part
         ensures { result ≡ more self.now.kept }
     {
@@ -115,7 +115,7 @@ impl Gathering {
     }
 }
 
-/// What a frame that starts a delivery gives, and what stays in the middle.
+/// What a frame that starts a delivery gives, and what stays in progress.
 pub(crate) fn first(
     alloc: Global,
     transfer: &Transfer,
@@ -138,7 +138,7 @@ pub(crate) fn first(
     Ok((Part::Whole(Delivery::begun(transfer)?, payload), None))
 }
 
-/// What a later frame gives, and what stays in the middle. An error gives the delivery back as it was.
+/// What a later frame gives, and what stays in progress. An error gives the delivery back as it was.
 pub(crate) fn later(
     mut gathering: Gathering,
     transfer: &Transfer,
@@ -172,7 +172,7 @@ fn append(bytes: &mut Vec<u8>, payload: &Bytes) -> Result<bool, AllocError>
     Ok(true)
 }
 
-/// Whether a message may carry these bytes and then those.
+/// Whether a message may hold these bytes and then those.
 fn fits(bytes: &Vec<u8>, payload: &Bytes) -> bool
     ensures { result ≡ not (nat_lt 65536 (length (bytes.now.items ++ payload.now))) }
 {

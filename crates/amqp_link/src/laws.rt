@@ -13,7 +13,7 @@ pub fn no_more_is_started_than_granted()
     ensures starts { (t : Link) → WithinCredit t → count_by is_start (since is_grant t) ≤ credit (from is_grant t) }
 {}
 
-/// Credit never goes below 0: a start uses exactly one of what is left, and a count that the sender tells, which is ahead by no
+/// Credit never goes below 0: a start uses exactly one, and a count that the sender gives, which is ahead by no
 /// more than what is left, exactly as much as it is ahead.
 pub fn each_start_uses_one()
     ensures start { (t : Link) → 1 ≤ credit t → credit (Started ∷ t) + 1 ≡ credit t }
@@ -25,23 +25,23 @@ pub fn both_ends_agree()
     ensures { (t : Link) (k : ℕ) → k < 2 ^ 31 → credit (Granted (Some (count t)) k ∷ t) ≡ k }
 {}
 
-/// Behind the count 2^32 - 1 comes 0: of 2 granted there, one delivery is started at each of the two, and none is left then.
+/// After the count 2^32 - 1 comes 0: of 2 granted there, one delivery is started at each of the two, and none is left then.
 pub fn counts_go_on_behind_the_highest()
     ensures granted { let t : Link = Granted (Some 4294967295) 2 ∷ Attached 4294967295 ∷ [] in (count t ≡ 4294967295) × (credit t ≡ 2) }
     ensures one_started { let t : Link = Started ∷ Granted (Some 4294967295) 2 ∷ Attached 4294967295 ∷ [] in (count t ≡ 0) × (credit t ≡ 1) }
     ensures both_started { let t : Link = Started ∷ Started ∷ Granted (Some 4294967295) 2 ∷ Attached 4294967295 ∷ [] in (count t ≡ 1) × (credit t ≡ 0) }
 {}
 
-/// No delivery is taken that was started beyond the credit: where the peer stayed within it, it still does behind whatever
-/// transfer came, since one beyond it is none of the link's. One that starts a delivery uses one credit, a later one none.
+/// No delivery is taken that was started beyond the credit: where the peer stayed within it, it still does after any
+/// transfer, since one beyond it doesn't count on the link. One that starts a delivery uses one credit, a later one none.
 pub fn only_what_was_granted_is_taken()
     ensures within { (t : Received) (f : Frame) → WithinCredit (seen t) → WithinCredit (seen (behind f t)) }
     ensures start { (t : Received) (f : Frame) → is_empty (middle t) ≡ true → 1 ≤ unused t → unused (behind f t) + 1 ≡ unused t }
     ensures later { (t : Received) (f : Frame) → is_empty (middle t) ≡ false → unused (behind f t) ≡ unused t }
 {}
 
-/// A delivery that its sender settled in the middle is told as settled, whatever frames of it come behind. A settlement uses no
-/// credit.
+/// A delivery that its sender settled while it was in progress is reported as settled, whatever frames of it follow. A
+/// settlement uses no credit.
 #[tactic(auto, using(crate::proofs::Settled::told_settled, crate::proofs::Settled::lasts))]
 pub fn a_settlement_lasts()
     ensures told { (t : Received) (f : Frame) → is_empty (middle t) ≡ false → (delivery f (middle (TheirSettlement ∷ t))).settled ≡ true }

@@ -1,4 +1,4 @@
-//! What transfers make of a delivery.
+//! What transfers add to a delivery.
 ghost use Rattle.std.specs.Prelude.{◌≡◌, IsOk, IfOk};
 ghost use Rattle.amqp_link.specs.Deliveries.{told};
 
@@ -6,32 +6,32 @@ use amqp_perf::{DeliveryTag, Transfer};
 use bytes::Bytes;
 use std::alloc::AllocError;
 
-/// What the transfers of a delivery tell of it: the first one all of it, but that any may settle it (AMQP 1.0 part 2,
+/// What the transfers of a delivery say of it: the first one all of it, but any may settle it (AMQP 1.0 part 2,
 /// section 2.7.5).
 #[derive(Debug, Drop)]
 pub struct Delivery {
     /// Its number in its session.
     pub id: Option<u32>,
-    /// Its sender's name of it.
+    /// Its delivery-tag, given by its sender.
     pub tag: Option<DeliveryTag>,
     /// The format of its message; absent means 0.
     pub format: Option<u32>,
-    /// Whether it goes on where it was.
+    /// Whether it resumes an earlier delivery.
     pub resume: bool,
     /// Whether its sender has settled it.
     pub settled: bool,
 }
 
-/// What a transfer makes of its delivery.
+/// The state of a delivery after a transfer.
 #[derive(Debug, Drop)]
 pub enum Part {
     /// More frames of it are to come.
     More,
-    /// It is whole: what is told of it, and what it carries.
+    /// It is whole: its fields, and its payload.
     Whole(Delivery, Bytes),
-    /// Its sender has given it up.
+    /// Its sender has aborted it.
     Aborted,
-    /// It carries more than 65,536 bytes.
+    /// Its payload has more than 65,536 bytes.
     TooLarge,
     /// It would be started without credit.
     BeyondCredit,
@@ -53,7 +53,7 @@ impl Delivery {
     }
 }
 
-/// The same tag.
+/// A copy of a tag.
 fn copy_of(tag: &Option<DeliveryTag>) -> Result<Option<DeliveryTag>, AllocError>
     ensures same { IfOk result (λ copy. copy ≡ tag.now) }
     ensures succeeds { IsOk result }

@@ -1,4 +1,4 @@
-//! The end of a link that receives.
+//! The receiving end of a link.
 ghost use Rattle.std.specs.Prelude.{◌≡◌, ◌≤◌, ◌+◌, ◌-◌, ◌^◌, ◌↔◌, [], ◌∷◌, true, false, min, IsOk, IfOk, OnOk, OnErr};
 ghost use Rattle.std.specs.Option.{option_map};
 ghost use Rattle.amqp_session.specs.Serials.{distance};
@@ -17,10 +17,10 @@ use bytes::Bytes;
 use std::alloc::{AllocError, Global};
 use std::marker::Model;
 
-/// The most credit that a link may have: a grant that reaches further would be behind the sender's count (RFC 1982, section 3.2).
+/// The most credit that a link may have: a grant that reaches further would end before the sender's count (RFC 1982, section 3.2).
 pub const MAX_CREDIT: u32 = 0x7fff_ffff;
 
-/// The end of a link that receives: the sender's delivery-count, what was granted to it last, and the delivery of which more
+/// The receiving end of a link: the sender's delivery-count, the last grant to it, and the delivery of which more
 /// frames are to come (AMQP 1.0 part 2, sections 2.6.7 and 2.6.14).
 #[derive(Debug, Drop)]
 pub struct RecvEnd {
@@ -52,7 +52,7 @@ impl RecvEnd {
         }
     }
 
-    /// Grants so many deliveries more, and gives what a flow tells of it: all credit that is unused then, from the sender's
+    /// Grants this many deliveries more, and gives what a flow says of it: all credit that is unused then, from the sender's
     /// count on. It is never more than `MAX_CREDIT`.
     pub fn grant(&mut self, credit: u32) -> Grant
         ensures fits { (t : Received) → Receives self.old t → Receives self.new (OurGrant result ∷ t) }
@@ -67,7 +67,7 @@ impl RecvEnd {
         Grant { count, credit }
     }
 
-    /// Notes that a flow of this end granted this: for a table that follows what was put out.
+    /// Notes that a flow of this end granted this: for a table that follows what was sent.
     pub fn note_grant(&mut self, grant: Grant)
         ensures figures { self.new ≡ behind_our_grant grant self.old }
     {
@@ -75,7 +75,7 @@ impl RecvEnd {
     }
 
     /// Takes the delivery-count of a flow of the sender: its own changes nothing, and one ahead of that uses up as much credit.
-    /// Fails, and changes nothing, exactly where it is behind, or ahead by more than the credit that is unused.
+    /// Fails, and changes nothing, exactly where it is before that, or ahead by more than the unused credit.
     pub fn count_forward(&mut self, count: Serial) -> Result<(), LinkFault>
         ensures fits { (t : Received) → Receives self.old t → OnOk result (Receives self.new (TheirCount count ∷ t)) }
         ensures within { (t : Received) → Receives self.old t → (IsOk result ↔ (distance (delivery_count t) count ≤ unused t)) }
@@ -90,8 +90,8 @@ impl RecvEnd {
         Ok(())
     }
 
-    /// Takes a transfer and what it carries. One that starts a delivery uses one credit, and is `BeyondCredit` and changes
-    /// nothing where none is unused. That takes no memory, and neither does a delivery of one frame or an aborted one.
+    /// Takes a transfer and its payload. One that starts a delivery uses one credit, and is `BeyondCredit` and changes
+    /// nothing where none is unused. That allocates nothing, and neither does a delivery of one frame or an aborted one.
     #[tactic(auto, using(crate::proofs::Receives::given_same, crate::proofs::Receives::behind_same))]
     pub fn on_transfer(&mut self, transfer: &Transfer, payload: Bytes) -> Result<Part, AllocError>
         ensures part { (t : Received) → Receives self.old t → IfOk result (λ p. p ≡ given (frame transfer.now payload) t) }
@@ -124,8 +124,8 @@ impl RecvEnd {
         }
     }
 
-    /// Notes that the sender settled the delivery in the middle, by a disposition whose range has it (AMQP 1.0 part 2,
-    /// section 2.7.6): it is told as settled once it is whole. Where none is in the middle nothing changes.
+    /// Notes that the sender settled the delivery in progress, by a disposition whose range has it (AMQP 1.0 part 2,
+    /// section 2.7.6): it is reported as settled once it is whole. Without one in progress nothing changes.
     pub fn settle(&mut self)
         ensures fits { (t : Received) → Receives self.old t → Receives self.new (TheirSettlement ∷ t) }
         ensures figures { self.new ≡ behind_settlement self.old }
@@ -154,7 +154,7 @@ impl RecvEnd {
         }
     }
 
-    /// What is told of the delivery in the middle, where one is.
+    /// The fields of the delivery in progress, if there is one.
     pub fn in_middle(&self) -> Option<&Delivery>
         ensures fits { (t : Received) → Receives self.now t → option_map (λ d. d.now) result ≡ option_map (λ g. g.delivery) (gathered (middle t)) }
         ensures figure { option_map (λ d. d.now) result ≡ option_map (λ g. g.delivery) self.now.middle }

@@ -1,4 +1,4 @@
-//! The end of a link that sends.
+//! The sending end of a link.
 ghost use Rattle.std.specs.Prelude.{◌≡◌, ◌≤◌, ◌+◌, ◌%◌, ◌^◌, ◌↔◌, ◌∷◌, IsTrue};
 ghost use Rattle.amqp_link.specs.Credit.{Link, Attached, Granted, Started, Counted, initial, count, credit, WithinCredit};
 ghost use Rattle.amqp_link.specs.Figures.{Sends, CanStart, left_at, begun_at, behind_grant, behind_start, behind_drain, behind_told_count, drained_count};
@@ -6,7 +6,7 @@ ghost use Rattle.amqp_link.specs.Figures.{Sends, CanStart, left_at, begun_at, be
 use crate::grant::Grant;
 use amqp_session::Serial;
 
-/// The end of a link that sends: its delivery-count, and what the receiver granted last (AMQP 1.0 part 2, section 2.6.7).
+/// The sending end of a link: its delivery-count, and the receiver's last grant (AMQP 1.0 part 2, section 2.6.7).
 #[derive(Clone, Copy, Debug, PartialEq, Eq)]
 pub struct SendEnd {
     initial: Serial,
@@ -56,21 +56,21 @@ impl SendEnd {
         self.note_started();
     }
 
-    /// Notes that a delivery was started, whatever credit is left: for a table that follows what was put out.
+    /// Notes that a delivery was started, whatever credit is left: for a table that follows what was sent.
     pub fn note_started(&mut self)
         ensures figures { self.new ≡ behind_start self.old }
     {
         self.count = self.count.plus(1);
     }
 
-    /// Notes that a flow of this end told this delivery-count: for a table that follows what was put out.
+    /// Notes that a flow of this end gave this delivery-count: for a table that follows what was sent.
     pub fn note_count(&mut self, count: Serial)
         ensures figures { self.new ≡ behind_told_count count self.old }
     {
         self.count = count;
     }
 
-    /// Uses up the credit that is left, for a receiver that drains the link, and gives the delivery-count to tell it in a flow
+    /// Uses up the credit that is left, for a receiver that drains the link, and gives the delivery-count to announce in a flow
     /// (AMQP 1.0 part 2, section 2.6.7).
     pub fn drain_left(&mut self) -> Serial
         ensures fits { (t : Link) → Sends self.old t → Sends self.new (Counted result ∷ t) }

@@ -27,7 +27,7 @@ pub no_delivery : (ds : List UnsettledDelivery) (n i : ℕ) (at : At) → n ≤ 
 unfolding deliveries_at
 no_delivery ds n i at h = let e : n - i ≡ 0 = omega arith in rw e refl
 
--- a set with one tag more has those of one delivery more
+-- a set with one more tag has those of one more delivery
 either : (b x : Bool) → cond b true x ≡ (x || (b || false))
 either true true = refl
 either true false = refl

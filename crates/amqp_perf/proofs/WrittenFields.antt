@@ -144,7 +144,7 @@ pub tag_again : (depth : ℕ) (x : Option (ArrayVec ℕ)) (fs : List FieldText) 
 unfolding tag FitsIn
 tag_again depth x fs h = kind-mapped is_tag (λ t. d.binary t.items) IsTag depth x fs (λ y. refl) (λ y. refl) tag_is (λ y fits. omega (arith, fits)) h
 
--- a map is carried as it is spelt
+-- a map is carried as it is encoded
 pub map_again : (depth : ℕ) (x : Option (List ℕ)) (fs : List FieldText) → Each (IsMap (suc depth)) x → map (place (suc depth) (x ∷ fs)) ≡ Ok (x, place (suc depth) fs)
 unfolding map
 map_again depth None fs h = ap (λ r. r >>= judged is_map) (value-none depth fs)

@@ -181,7 +181,7 @@ state_in_null : (depth : ℕ) (rest : List ℕ) → state_in depth (0x40 ∷ res
 unfolding state_in
 state_in_null depth rest = ap (λ r. r >>= state_by depth (0x40 ∷ rest)) (opening_null depth rest)
 
--- a state, or null, whose spelling is always there
+-- a state, or null, whose encoding is always there
 pub state_kept_again : (depth : ℕ) (x : Option DeliveryState) (fs : List FieldText) → Each (FitsState (suc (suc (suc (suc (suc depth)))))) x
     → state_at (place (suc (suc (suc (suc (suc depth))))) (Some (field_bytes (state_text x)) ∷ fs)) ≡ Ok (x, place (suc (suc (suc (suc (suc depth))))) fs)
 unfolding state_at

@@ -107,7 +107,7 @@ deliveries_again before (u ∷ us) all differ fresh =
     ∙ deliveries_again (before ++ u ∷ []) us all.2 differ.1 (fresh_more before us u fresh.1 differ.0)
     ∙ ap (λ ds. found ds) (append_assoc before (u ∷ []) us)
 
--- ---- the map that they spell
+-- ---- the map that they encode
 
 record Paired (us : List UnsettledDelivery) : Type 0 where
   pub pairs : Pairs

@@ -1,4 +1,4 @@
--- What was written of an error or a delivery state spells a value.
+-- What is written of an error or a delivery state encodes a value.
 use Rattle.std.proofs.Common.{◌≡◌, ℕ, suc, ◌+◌, ◌^◌, ◌<◌, Bool, true, false, List, [], ◌∷◌, ◌++◌, length, Option, Some, None, refl, sym, ap, subst, ◌∙◌, arith}
 use Rattle.amqp_types.specs.Data as d
 use Rattle.amqp_types.specs.Data.{Data, Items, no_items, item}
@@ -17,7 +17,7 @@ use Rattle.amqp_perf.specs.Fitting.{Each, IsText, IsMap, IsShort, FitsError, Fit
 use Rattle.amqp_perf.proofs.WrittenLists.{descriptor_spelled, descriptor_fits, given-shorter}
 use Rattle.amqp_perf.proofs.WrittenStates.{less_two, nothing_short, received_short}
 
--- the bytes spell this value
+-- the bytes encode this value
 pub record Spelt (depth : ℕ) (bytes : List ℕ) : Type 0 where
   pub value : Data
   pub same : bytes ≡ spelling value

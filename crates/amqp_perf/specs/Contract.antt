@@ -1,4 +1,4 @@
--- How a reader's answer stands to the definition.
+-- How a reader's answer relates to the definition.
 use Rattle.std.specs.Prelude.{◌≡◌, Result, Ok, Err}
 use Rattle.amqp_perf.specs.declared.fault.PerfFault.{PerfFault}
 use Rattle.amqp_perf.specs.declared.fault.PerfFault.TheVariants as fault

@@ -1,5 +1,5 @@
 -- Fields: values that stand one after the other in a list. A field that is absent at the end, or null, has none (AMQP 1.0
--- part 1, section 1.4). A reader answers what it read, and the place behind it.
+-- part 1, section 1.4). A reader answers what it read, and the place after it.
 use Rattle.std.specs.Prelude.{ℕ, ◌-◌, Bool, false, List, [], ◌∷◌, length, Option, Some, None, Result, Ok, Err, nat_lt, ◌==◌, if◌then◌else◌, unwrap_or}
 use Rattle.arrayvec.specs.ArrayVec.{ArrayVec}
 use Rattle.amqp_types.specs.declared.fault.TypeFault.TheVariants as type_fault
@@ -32,14 +32,14 @@ pub record At : Type 0 where
 abbrev pub Takes : Type 0 → Type 0
 Takes A = At → Result (A × At) PerfFault
 
--- behind the last item nothing is left of the list's bytes
+-- after the last item nothing is left of the list's bytes
 unfoldable pub ended : At → Result (Unit {0}) PerfFault
 ended at = if length at.bytes == 0 then Ok tt else Err (fault.Spelling type_fault.SizeMismatch)
 
 abbrev pub absent : {A : Type 0} → At → Result (Option A × At) PerfFault
 absent at = ended at >>= λ _. Ok (None, at)
 
--- the place behind the item at the front
+-- the place after the item at the front
 abbrev pub next : At → List ℕ → At
 next at rest = record { depth = at.depth; left = at.left - 1; bytes = rest }
 
@@ -110,7 +110,7 @@ abbrev pub is_binary : Data → Result (List ℕ) PerfFault
 is_binary (d.binary s) = Ok s
 is_binary _ = Err fault.WrongKind
 
--- a map is carried as its canonical spelling
+-- a map is carried as its canonical encoding
 abbrev pub is_map : Data → Result (List ℕ) PerfFault
 is_map (d.map ps) = Ok (spelling (d.map ps))
 is_map _ = Err fault.WrongKind
@@ -192,7 +192,7 @@ abbrev pub some_symbols : List (List ℕ) × At → Result (List (List ℕ) × A
 some_symbols ([], at) = Err fault.MissingField
 some_symbols (s ∷ ss, at) = Ok (s ∷ ss, at)
 
--- the address of a terminus: a string, or any other value, carried as its canonical spelling
+-- the address of a terminus: a string, or any other value, carried as its canonical encoding
 abbrev pub address_of : Data → Address
 address_of (d.string s) = address.Text s
 address_of v = address.Other (spelling v)
@@ -219,11 +219,11 @@ opened depth (_, rest) = Ok (opening.Other, rest)
 unfoldable pub opening_at : ℕ → List ℕ → Result (Opening × List ℕ) PerfFault
 opening_at depth bytes = by_fault outer (code_at bytes) >>= opened depth
 
--- a value that is no list, spelt whole first
+-- a value that is no list, decoded whole first
 abbrev pub no_list : ℕ → PerfFault → List ℕ → Result (At × List ℕ) PerfFault
 no_list depth wrong bytes = by_fault outer (after (value_at depth bytes)) >>= λ _. Err wrong
 
--- the fields of a list that has so many at most
+-- the fields of a list, with a limit to their number
 abbrev pub counted : ℕ → ℕ → List ℕ → ℕ × List ℕ → Result (At × List ℕ) PerfFault
 counted depth limit behind n =
     if nat_lt limit n.0 then Err fault.TooManyFields
@@ -235,20 +235,20 @@ listed_by depth limit wrong bytes (code.List s, rest) =
     by_fault outer (sized_at s rest) >>= λ x. by_fault inner (size_at s x.0) >>= counted depth limit x.1
 listed_by depth limit wrong bytes (_, rest) = no_list depth wrong bytes
 
--- the list at the front: the place of its first field, and the bytes behind it; what is wrong where no list stands there
+-- the list at the front: the place of its first field, and the bytes after it; what is wrong where no list stands there
 unfoldable pub listed : ℕ → ℕ → PerfFault → List ℕ → Result (At × List ℕ) PerfFault
 listed depth limit wrong bytes = by_fault outer (code_at bytes) >>= listed_by depth limit wrong bytes
 
--- a field whose value read reads, and the place behind it; within a list, the end of the bytes is the list's end
+-- a field that read reads, and the place after it; within a list, the end of the bytes is the list's end
 abbrev pub in_place : {A : Type 0} → (ℕ → List ℕ → Result (Option A × List ℕ) PerfFault) → Takes (Option A)
 in_place read at =
     if at.left == 0 then absent at
     else (within (read at.depth at.bytes) >>= λ x. Ok (x.0, next at x.1))
 
--- a value of the wrong kind, spelt whole first
+-- a value of the wrong kind, decoded whole first
 abbrev pub refused : {A : Type 0} → ℕ → List ℕ → Result A PerfFault
 refused depth bytes = by_fault outer (after (value_at depth bytes)) >>= λ _. Err fault.WrongKind
 
--- a value that is carried unread, as its canonical spelling
+-- a value that is carried unread, as its canonical encoding
 abbrev pub carried : ℕ → List ℕ → Result (List ℕ × List ℕ) PerfFault
 carried depth bytes = by_fault outer (value_at depth bytes) >>= λ x. Ok (spelling x.0, x.1)

@@ -1,6 +1,6 @@
 -- Which performatives and delivery states are read again as they were written: numbers within their types, texts and
--- symbols of their alphabets, carried values that are canonical spellings, and sizes below 2 ^ 32 (AMQP 1.0 part 1,
--- section 1.6). A depth is how many values may be around one another from there on: 32 for a whole value, 30 for a
+-- symbols of their alphabets, carried values in canonical encoding, and sizes below 2 ^ 32 (AMQP 1.0 part 1,
+-- section 1.6). A depth is how many levels of nesting are left from there on: 32 for a whole value, 30 for a
 -- performative's field, and two less for each list further in.
 use Rattle.std.specs.Prelude.{◌≡◌, ℕ, ◌+◌, ◌-◌, ◌*◌, ◌^◌, ◌<◌, ◌≤◌, Bool, true, false, List, [], ◌∷◌, length, Option, Some, None, Result, Ok}
 use Rattle.std.specs.Str.{is_utf8}
@@ -79,7 +79,7 @@ pub record AreSymbols (ss : List (List ℕ)) : Type 0 where
   pub few : length ss < 2 ^ 32
   pub short : length (constructed kind.Symbol (pieces (symbol_items ss))) + 4 < 2 ^ 32
 
--- a map that is carried: the canonical spelling of a map
+-- a map that is carried: the canonical encoding of a map
 pub record IsMap (depth : ℕ) (bytes : List ℕ) : Type 0 where
   pub pairs : Pairs
   pub canonical : bytes ≡ spelling (d.map pairs)
@@ -337,6 +337,6 @@ Fits (perf.SaslChallenge x) = FitsSaslChallenge x
 Fits (perf.SaslResponse x) = FitsSaslResponse x
 Fits (perf.SaslOutcome x) = FitsSaslOutcome x
 
--- what was read, and how many bytes spell it
+-- what was read, and how many bytes encode it
 abbrev pub read_as : {A : Type 0} → A → ℕ → Result (A × ℕ) PerfFault
 read_as x n = Ok (x, n)

@@ -1,4 +1,4 @@
--- A delivery state that is spelt.
+-- A delivery state that is encoded.
 use Rattle.std.specs.Prelude.{ℕ, List}
 use Rattle.amqp_perf.specs.declared.write_states.Nested.{Nested}
 use Rattle.amqp_perf.specs.declared.write_states.Nested.TheVariants as nested

@@ -326,7 +326,7 @@ sasl_outcome_fields at = do
     additional_data = additional_data.0;
   })
 
--- how many fields the list behind a descriptor has, where it is a performative's or a SASL body's
+-- how many fields the list after a descriptor has, where it is a performative's or a SASL body's
 abbrev pub limit_of : Descriptor → Option ℕ
 limit_of is.Open = Some 10
 limit_of is.Begin = Some 8
@@ -344,7 +344,7 @@ limit_of is.SaslResponse = Some 1
 limit_of is.SaslOutcome = Some 2
 limit_of _ = None
 
--- the fields behind the descriptor of a SASL body
+-- the fields after the descriptor of a SASL body
 abbrev pub sasl_body : Descriptor → At → Result Perf PerfFault
 sasl_body is.SaslMechanisms at = sasl_mechanisms_fields at >>= λ p. Ok (perf.SaslMechanisms p)
 sasl_body is.SaslInit at = sasl_init_fields at >>= λ p. Ok (perf.SaslInit p)
@@ -353,7 +353,7 @@ sasl_body is.SaslResponse at = sasl_response_fields at >>= λ p. Ok (perf.SaslRe
 sasl_body is.SaslOutcome at = sasl_outcome_fields at >>= λ p. Ok (perf.SaslOutcome p)
 sasl_body _ at = Err fault.NotPerformative
 
--- the fields behind a descriptor
+-- the fields after a descriptor
 abbrev pub body : Descriptor → At → Result Perf PerfFault
 body is.Open at = open_fields at >>= λ p. Ok (perf.Open p)
 body is.Begin at = begin_fields at >>= λ p. Ok (perf.Begin p)
@@ -366,7 +366,7 @@ body is.End at = end_fields at >>= λ p. Ok (perf.End p)
 body is.Close at = close_fields at >>= λ p. Ok (perf.Close p)
 body name at = sasl_body name at
 
--- the list behind a descriptor, and the bytes behind it
+-- the list after a descriptor, and the bytes after it
 abbrev pub behind : Descriptor → Option ℕ → List ℕ → Result (Perf × List ℕ) PerfFault
 behind name None rest = Err fault.NotPerformative
 behind name (Some limit) rest = do
@@ -379,15 +379,15 @@ performative_by bytes (opening.Described (Some name), rest) = behind name (limit
 performative_by bytes (opening.Described None, rest) = Err fault.NotPerformative
 performative_by bytes _ = by_fault outer (after (value_at 32 bytes)) >>= λ _. Err fault.NotPerformative
 
--- the performative at the front, and the bytes behind it
+-- the performative at the front, and the bytes after it
 unfoldable pub performative_at : List ℕ → Result (Perf × List ℕ) PerfFault
 performative_at bytes = opening_at 32 bytes >>= performative_by bytes
 
--- the performative at the front, and how many bytes spell it
+-- the performative at the front, and how many bytes encode it
 unfoldable pub performative : List ℕ → Result (Perf × ℕ) PerfFault
 performative bytes = performative_at bytes >>= λ x. Ok (x.0, length bytes - length x.1)
 
--- a delivery state that stands alone, and how many bytes spell it
+-- a delivery state that stands alone, and how many bytes encode it
 abbrev pub some_state : List ℕ → Option DeliveryState × List ℕ → Result (DeliveryState × ℕ) PerfFault
 some_state bytes (None, rest) = Err fault.MissingField
 some_state bytes (Some s, rest) = Ok (s, length bytes - length rest)

@@ -1,5 +1,5 @@
--- The one spelling that is written of each performative, delivery state, error and terminus: each field by its shortest
--- spelling, null where it has its default (AMQP 1.0 part 2, section 2.7; part 3, sections 3.4 and 3.5; part 5, section
+-- The one encoding that is written of each performative, delivery state, error and terminus: each field in its shortest
+-- encoding, null where it has its default (AMQP 1.0 part 2, section 2.7; part 3, sections 3.4 and 3.5; part 5, section
 -- 5.3.3).
 use Rattle.std.specs.Prelude.{ℕ, ◌*◌, true, false, List, [], ◌∷◌, ◌++◌, length, Option, Some, None, if◌then◌else◌}
 use Rattle.std.specs.Cmp.Lexicographic.{pointwise}
@@ -96,7 +96,7 @@ abbrev pub state_text : Option DeliveryState → FieldText
 state_text None = None
 state_text (Some x) = Some (state_spelling x)
 
--- tags with states, one after the other
+-- tags with states, one after another
 abbrev pub deliveries_text : List UnsettledDelivery → List ℕ
 deliveries_text [] = []
 deliveries_text (u ∷ us) = field_bytes (spelt (d.binary u.tag.items)) ++ field_bytes (state_text u.state) ++ deliveries_text us
@@ -254,7 +254,7 @@ sasl_outcome_texts x =
     (spelt (d.ubyte x.code)) ∷
     (mapped d.binary x.additional_data) ∷ []
 
--- the spelling of a performative
+-- the encoding of a performative
 unfoldable pub spelling : Perf → List ℕ
 spelling (perf.Open x) = described_text is.Open (open_texts x)
 spelling (perf.Begin x) = described_text is.Begin (begin_texts x)

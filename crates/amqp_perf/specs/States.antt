@@ -68,7 +68,7 @@ modified_fields at = do
   _ ← ended message_annotations.1
   Ok (record { delivery_failed = delivery_failed.0; undeliverable_here = undeliverable_here.0; message_annotations = message_annotations.0 })
 
--- the state behind a descriptor; another descriptor is carried unread
+-- the state after a descriptor; another descriptor is carried unread
 abbrev pub state_by : ℕ → List ℕ → Opening × List ℕ → Result (Option DeliveryState × List ℕ) PerfFault
 state_by depth bytes (opening.Null, rest) = Ok (None, rest)
 state_by depth bytes (opening.Other, rest) = refused depth bytes
@@ -100,7 +100,7 @@ state_in depth bytes = opening_at depth bytes >>= state_by depth bytes
 unfoldable pub state_at : Takes (Option DeliveryState)
 state_at at = in_place state_in at
 
--- An unsettled map: tags, each once, with states or null. It is spelt whole first.
+-- An unsettled map: tags, each once, with states or null. It is decoded whole first.
 abbrev pub some_tag : Option (ArrayVec ℕ) × At → Result (ArrayVec ℕ × At) PerfFault
 some_tag (None, at) = Err fault.WrongKind
 some_tag (Some tag, at) = Ok (tag, at)
@@ -114,7 +114,7 @@ is_among deliveries tag = list_any (λ other. pointwise nat_eq other.tag.items t
 abbrev pub not_among : List UnsettledDelivery → ArrayVec ℕ → Result (Unit {0}) PerfFault
 not_among deliveries tag = if is_among deliveries tag then Err fault.DuplicateTag else Ok tt
 
--- so many deliveries more, behind these
+-- this many deliveries more, after these
 unfoldable pub deliveries_at : List UnsettledDelivery → ℕ → At → Result (List UnsettledDelivery) PerfFault
 deliveries_at before zero at = Ok before
 deliveries_at before (suc n) at = do

@@ -18,11 +18,11 @@ use Rattle.amqp_perf.specs.Faults.{◌>>=◌}
 use Rattle.amqp_perf.specs.Fields.{At, Takes, ended, in_place, refused, carried, opening_at, listed, flag, uint, symbol, symbols, map, address_at}
 use Rattle.amqp_perf.specs.States.{state_at}
 
--- when a terminus ends, where nothing is told
+-- the default expiry policy of a terminus
 abbrev pub session_end : List ℕ
 session_end = codes "session-end"
 
--- what a source and a target begin with
+-- the fields that a source and a target begin with
 unfoldable pub node_at : Takes NodeFields
 node_at at = do
   address ← address_at at
@@ -43,7 +43,7 @@ node_at at = do
     dynamic_node_properties.1,
   )
 
--- what a source goes on with
+-- the further fields of a source
 unfoldable pub choices_fields : At → Result SourceChoices PerfFault
 choices_fields at = do
   distribution_mode ← symbol at

@@ -1,4 +1,4 @@
--- The canonical spelling of a described list: its descriptor as a smallulong, then its fields without the nulls at its end
+-- The canonical encoding of a described list: its descriptor as a smallulong, then its fields without the nulls at its end
 -- (AMQP 1.0 part 1, sections 1.4 and 1.6.22). A field's text is none where the field is null.
 use Rattle.std.specs.Prelude.{ℕ, Bool, true, List, [], ◌∷◌, ◌++◌, length, Option, Some, None, ◌==◌, if◌then◌else◌}
 use Rattle.amqp_types.specs.declared.code.Kind.TheVariants as kind
@@ -25,7 +25,7 @@ abbrev pub field_bytes : FieldText → List ℕ
 field_bytes None = 0x40 ∷ []
 field_bytes (Some text) = text
 
--- fields, one after the other
+-- fields, one after another
 abbrev pub joined : List FieldText → List ℕ
 joined [] = []
 joined (f ∷ fs) = field_bytes f ++ joined fs

@@ -4,7 +4,7 @@
 ghost use Rattle.std.specs.Prelude.{◌≡◌};
 ghost use Rattle.amqp_perf.specs.Descriptors.{code_of, named, symbol_named, otherwise_named};
 
-/// What a descriptor says that the list behind it is.
+/// Which list follows a descriptor.
 #[derive(Clone, Copy, Debug, PartialEq, Eq)]
 pub enum Descriptor {
     Open,

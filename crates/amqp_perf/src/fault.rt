@@ -1,4 +1,4 @@
-//! Why bytes spell no performative.
+//! Why bytes encode no performative.
 ghost use Rattle.std.specs.Prelude.{◌≡◌};
 ghost use Rattle.amqp_perf.specs.Faults.{fault_number, inner, inside, outer};
 ghost use Rattle.amqp_perf.specs.declared.fault.PerfFault.TheVariants.{Memory};
@@ -7,10 +7,10 @@ use amqp_types::TypeFault;
 use std::alloc::{AllocError, AllocFailed};
 use thiserror::Error;
 
-/// Why bytes spell no performative; `number` has the fault's number.
+/// Why bytes encode no performative; `number` has the fault's number.
 #[derive(Clone, Copy, Debug, PartialEq, Eq, Error)]
 pub enum PerfFault {
-    /// A value on the way is not spelt as the type system wants it.
+    /// A value on the way is not encoded as the type system wants it.
     #[error("a value is misspelt: {0}")]
     Spelling(TypeFault),
     /// What stands there is no described list with a known descriptor.
@@ -53,7 +53,7 @@ impl PerfFault {
         }
     }
 
-    /// The same fault where it comes within a list: the end of the bytes is the list's end there.
+    /// The same fault inside a list, where the end of the bytes is the list's end.
     pub(crate) fn within(self) -> PerfFault
         ensures { result ≡ inside self }
     {

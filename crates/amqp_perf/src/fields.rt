@@ -1,5 +1,5 @@
-//! Reading fields, front to back over the bytes of a list: one reader a kind of field. No value is built for the list, and
-//! none for a field that holds no other values.
+//! Reading fields, front to back over the bytes of a list: one reader for each kind of field. No value is built for the
+//! list, and none for a field that holds no other values.
 ghost use Rattle.std.specs.Prelude.{◌≡◌, option_map, IfOk};
 ghost use Rattle.amqp_types.specs.View.{items_view, plain_view, view};
 ghost use Rattle.amqp_types.specs.Spelling.{spelling};
@@ -26,7 +26,7 @@ pub struct Fields<'a> {
 }
 
 impl<'a> Fields<'a> {
-    /// Behind the last item nothing is left of the list's bytes.
+    /// After the last item nothing is left of the list's bytes.
     #[tactic(auto, unfolding(crate::specs::Fields::ended))]
     pub fn ended(&self) -> Result<(), PerfFault>
         ensures { Gives result (fields.ended (at_of self.now)) }
@@ -71,7 +71,7 @@ impl<'a> Fields<'a> {
         }
     }
 
-    /// A boolean that must stand there.
+    /// A required boolean.
     #[inline(never)]
     #[tactic(auto, unfolding(crate::specs::Fields::required_flag))]
     pub fn required_flag(&mut self) -> Result<bool, PerfFault>
@@ -97,7 +97,7 @@ impl<'a> Fields<'a> {
         }
     }
 
-    /// A ubyte that must stand there.
+    /// A required ubyte.
     #[tactic(auto, unfolding(crate::specs::Fields::required_ubyte))]
     pub fn required_ubyte(&mut self) -> Result<u8, PerfFault>
         ensures { Took (λ n. n) result (at_of self.new) (fields.required_ubyte (at_of self.old)) }
@@ -135,7 +135,7 @@ impl<'a> Fields<'a> {
         }
     }
 
-    /// A uint that must stand there.
+    /// A required uint.
     #[inline(never)]
     #[tactic(auto, unfolding(crate::specs::Fields::required_uint))]
     pub fn required_uint(&mut self) -> Result<u32, PerfFault>
@@ -161,7 +161,7 @@ impl<'a> Fields<'a> {
         }
     }
 
-    /// A ulong that must stand there.
+    /// A required ulong.
     #[tactic(auto, unfolding(crate::specs::Fields::required_ulong))]
     pub fn required_ulong(&mut self) -> Result<u64, PerfFault>
         ensures { Took (λ n. n) result (at_of self.new) (fields.required_ulong (at_of self.old)) }
@@ -185,7 +185,7 @@ impl<'a> Fields<'a> {
         }
     }
 
-    /// A string that must stand there.
+    /// A required string.
     #[tactic(auto, unfolding(crate::specs::Fields::required_text))]
     pub fn required_text(&mut self, alloc: Global) -> Result<Text, PerfFault>
         ensures { Took (λ x. x) result (at_of self.new) (fields.required_text (at_of self.old)) }
@@ -209,7 +209,7 @@ impl<'a> Fields<'a> {
         }
     }
 
-    /// A symbol that must stand there.
+    /// A required symbol.
     #[tactic(auto, unfolding(crate::specs::Fields::required_symbol))]
     pub fn required_symbol(&mut self, alloc: Global) -> Result<Symbol, PerfFault>
         ensures { Took (λ x. x) result (at_of self.new) (fields.required_symbol (at_of self.old)) }
@@ -233,7 +233,7 @@ impl<'a> Fields<'a> {
         }
     }
 
-    /// A binary that must stand there.
+    /// A required binary.
     #[tactic(auto, unfolding(crate::specs::Fields::required_binary))]
     pub fn required_binary(&mut self, alloc: Global) -> Result<Binary, PerfFault>
         ensures { Took (λ x. x) result (at_of self.new) (fields.required_binary (at_of self.old)) }
@@ -316,7 +316,7 @@ impl<'a> Fields<'a> {
         }
     }
 
-    /// Symbols, of which there must be one.
+    /// Symbols, at least one.
     #[tactic(auto, unfolding(crate::specs::Fields::required_symbols))]
     pub fn required_symbols(&mut self, alloc: Global) -> Result<Symbols, PerfFault>
         ensures { Took (λ x. x) result (at_of self.new) (fields.required_symbols (at_of self.old)) }
@@ -340,7 +340,7 @@ fn tag_of(octets: &[u8]) -> Result<DeliveryTag, PerfFault>
     }
 }
 
-/// The canonical spelling of a value.
+/// The canonical encoding of a value.
 pub(crate) fn spelt(alloc: Global, value: &Value) -> Result<Vec<u8>, AllocError>
     ensures { IfOk result (λ bytes. bytes.items ≡ spelling (view value.now)) }
 {

@@ -7,8 +7,8 @@ ghost use Rattle.amqp_perf.specs.Spelling.{spelling, state_spelling};
 ghost use Rattle.amqp_perf.specs.Performative.{performative, state};
 ghost use Rattle.amqp_perf.specs.Fitting.{Fits, FitsState, read_as};
 
-/// What is written of a performative, or of a delivery state that stands alone, is read again as the same one, and its
-/// length is told, whatever follows. The numbers, texts and sizes have to be within the limits of their types.
+/// What is written of a performative, or of a delivery state that stands alone, is read again as the same one, with its
+/// length, whatever follows. The numbers, texts and sizes have to be within the limits of their types.
 pub fn written_is_read_again()
     ensures performative { (p : Perf) (rest : List ℕ)
         → Fits p → performative (spelling p ++ rest) ≡ read_as p (length (spelling p)) }

@@ -12,7 +12,7 @@ pub struct Text {
 }
 
 impl Drop for Text {
-    /// Lets go of it: a call, where a derived drop is its steps at each way out of a function that holds one.
+    /// Drops it by one call, where a derived drop is its steps at each exit of a function that holds one.
     fn drop(self) {
         let Text { text: _content } = self;
     }
@@ -74,7 +74,7 @@ pub struct Symbol {
 }
 
 impl Drop for Symbol {
-    /// Lets go of it: a call, where a derived drop is its steps at each way out of a function that holds one.
+    /// Drops it by one call, where a derived drop is its steps at each exit of a function that holds one.
     fn drop(self) {
         let Symbol { text: _content } = self;
     }
@@ -89,7 +89,7 @@ impl Model for Symbol {
 }
 
 impl Symbol {
-    /// The symbol of a text, which moves in. Nothing asks whether it is ASCII: a reader of symbols does.
+    /// The symbol of a text, which moves in. No test for ASCII is made here: a reader of symbols makes it.
     pub fn new(text: String) -> Symbol
         ensures { result ≡ string_bytes text }
     {
@@ -136,7 +136,7 @@ pub struct Binary {
 }
 
 impl Drop for Binary {
-    /// Lets go of it: a call, where a derived drop is its steps at each way out of a function that holds one.
+    /// Drops it by one call, where a derived drop is its steps at each exit of a function that holds one.
     fn drop(self) {
         let Binary { bytes: _content } = self;
     }
@@ -191,15 +191,15 @@ impl PartialEq for Binary {
     }
 }
 
-/// A map that is carried unread (AMQP 1.0 part 1, section 1.6.23), kept as its canonical spelling. So two of them are
-/// equal where the maps are, however they were spelt when they came.
+/// A map that is carried unread (AMQP 1.0 part 1, section 1.6.23), kept as its canonical encoding. So two of them are
+/// equal where the maps are, however they were encoded when they came.
 #[derive(Debug)]
 pub struct Map {
     spelling: Vec<u8>,
 }
 
 impl Drop for Map {
-    /// Lets go of it: a call, where a derived drop is its steps at each way out of a function that holds one.
+    /// Drops it by one call, where a derived drop is its steps at each exit of a function that holds one.
     fn drop(self) {
         let Map { spelling: _content } = self;
     }
@@ -214,14 +214,14 @@ impl Model for Map {
 }
 
 impl Map {
-    /// The map that these bytes spell canonically.
+    /// The map whose canonical encoding these bytes are.
     pub fn new(spelling: Vec<u8>) -> Map
         ensures { result ≡ spelling.items }
     {
         Map { spelling }
     }
 
-    /// Its canonical spelling.
+    /// Its canonical encoding.
     pub fn as_slice(&self) -> &[u8]
         ensures { result.now ≡ self.now }
     {
@@ -254,14 +254,14 @@ impl PartialEq for Map {
     }
 }
 
-/// A value of any type that is carried unread, kept as its canonical spelling.
+/// A value of any type that is carried unread, kept as its canonical encoding.
 #[derive(Debug)]
 pub struct AnyValue {
     spelling: Vec<u8>,
 }
 
 impl Drop for AnyValue {
-    /// Lets go of it: a call, where a derived drop is its steps at each way out of a function that holds one.
+    /// Drops it by one call, where a derived drop is its steps at each exit of a function that holds one.
     fn drop(self) {
         let AnyValue { spelling: _content } = self;
     }
@@ -276,14 +276,14 @@ impl Model for AnyValue {
 }
 
 impl AnyValue {
-    /// The value that these bytes spell canonically.
+    /// The value whose canonical encoding these bytes are.
     pub fn new(spelling: Vec<u8>) -> AnyValue
         ensures { result ≡ spelling.items }
     {
         AnyValue { spelling }
     }
 
-    /// Its canonical spelling.
+    /// Its canonical encoding.
     pub fn as_slice(&self) -> &[u8]
         ensures { result.now ≡ self.now }
     {
@@ -324,7 +324,7 @@ pub struct Symbols {
 }
 
 impl Drop for Symbols {
-    /// Lets go of it: a call, where a derived drop is its steps at each way out of a function that holds one.
+    /// Drops it by one call, where a derived drop is its steps at each exit of a function that holds one.
     fn drop(self) {
         let Symbols { symbols: _content } = self;
     }

@@ -1,4 +1,4 @@
-//! How long a spelling is, without writing it.
+//! The length of an encoding, without writing it.
 ghost use Rattle.std.specs.Prelude.{◌≡◌, ◌^◌, ◌-◌, ◌+◌, nat_lt, if◌then◌else◌, length, min, is_none, true, IfOk, IsOk};
 ghost use Rattle.amqp_types.specs.Spelling as values;
 ghost use Rattle.amqp_types.specs.View.{plain_view};
@@ -15,7 +15,7 @@ use crate::write_states::state_text;
 use amqp_types::Plain;
 use std::alloc::{AllocError, Global};
 
-/// How many bytes the spelling of a transfer has that `write_perf` writes; `usize::MAX` where it has more. It takes memory only
+/// How many bytes `write_perf` writes for a transfer; `usize::MAX` where there are more. It allocates only
 /// for a state that says more than that a delivery is accepted or released.
 ///
 /// # Errors
@@ -47,7 +47,7 @@ fn described_len(fields: &[Field<'_>]) -> usize
     }
 }
 
-/// How many bytes these fields have, one after the other.
+/// How many bytes these fields have, one after another.
 fn fields_len(fields: &[Field<'_>]) -> usize
     ensures { result ≡ min (length (texts.joined (fields_view fields.now))) (2 ^ 64 - 1) }
 {
@@ -68,7 +68,7 @@ fn field_len(field: Field<'_>) -> usize
     }
 }
 
-/// How many bytes the spelling of a value has that holds no others.
+/// How many bytes encode a value that holds no others.
 #[tactic(auto, unfolding(amqp_types::specs::Spelling::spelling))]
 fn plain_len(plain: Plain<'_>) -> usize
     ensures { result ≡ length (values.spelling (plain_view plain.entry)) }
@@ -110,7 +110,7 @@ fn plain_len(plain: Plain<'_>) -> usize
     }
 }
 
-/// How many bytes these have with a constructor and their size in front.
+/// The length of these bytes with a constructor and their size in front.
 fn sized_len(bytes: &[u8]) -> usize
     ensures { result ≡ (if nat_lt (length bytes.now) 256 then length bytes.now + 2 else length bytes.now + 5) }
 {

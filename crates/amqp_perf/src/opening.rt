@@ -1,4 +1,4 @@
-//! How a value begins, and the list at the front of bytes: all that the readers of described lists share.
+//! How a value begins, and the list at the front of bytes: what the readers of described lists share.
 ghost use Rattle.std.specs.Prelude.{◌≡◌, option_map};
 ghost use Rattle.amqp_perf.specs.Contract.{GivesAs, Refuses};
 ghost use Rattle.amqp_perf.specs.Fields as fields;
@@ -34,7 +34,7 @@ fn name_of(descriptor: Option<Plain<'_>>) -> Option<Descriptor>
     }
 }
 
-/// How the value at the front begins, and the bytes behind that: behind a descriptor, or behind the constructor.
+/// How the value at the front begins, and the bytes after that: after a descriptor, or after the constructor.
 #[tactic(auto, unfolding(crate::specs::Fields::opening_at))]
 pub(crate) fn opening_of(depth: u32, bytes: &[u8]) -> Result<(Opening, &[u8]), PerfFault>
     ensures { GivesAs (λ x. (x.0, x.1.now)) result (fields.opening_at depth bytes.now) }
@@ -50,7 +50,7 @@ pub(crate) fn opening_of(depth: u32, bytes: &[u8]) -> Result<(Opening, &[u8]), P
     }
 }
 
-/// The fields of the list at the front, of which there are `limit` at most, and the bytes behind the list. Another value
+/// The fields of the list at the front, of which there are `limit` at most, and the bytes after the list. Another value
 /// is passed over first, and is then `wrong`.
 #[tactic(auto, unfolding(crate::specs::Fields::listed))]
 pub(crate) fn listed(
@@ -104,7 +104,7 @@ pub(crate) fn refused(depth: u32, bytes: &[u8]) -> PerfFault
     }
 }
 
-/// A value that is carried unread, and the bytes behind it.
+/// A value that is carried unread, and the bytes after it.
 pub(crate) fn carried(
     alloc: Global,
     depth: u32,

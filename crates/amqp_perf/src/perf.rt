@@ -14,11 +14,11 @@ pub enum Perf {
     Begin(Begin),
     /// Attaches a link.
     Attach(Attach),
-    /// Tells windows and credit.
+    /// Announces windows and credit.
     Flow(Flow),
     /// Carries a message, or a part of one.
     Transfer(Transfer),
-    /// Tells how far deliveries are.
+    /// Gives the states of deliveries.
     Disposition(Disposition),
     /// Detaches a link.
     Detach(Detach),
@@ -52,23 +52,23 @@ pub enum Role {
 pub struct Open {
     /// The name of the peer's container.
     pub container_id: Text,
-    /// The host that is meant.
+    /// The host that the peer means to reach.
     pub hostname: Option<Text>,
-    /// The largest frame that the peer takes, in bytes.
+    /// The largest frame that the peer accepts, in bytes.
     pub max_frame_size: u32,
-    /// The highest channel that the peer takes.
+    /// The highest channel that the peer accepts.
     pub channel_max: u16,
     /// Milliseconds of silence after which the peer may close.
     pub idle_time_out: Option<u32>,
     /// Locales of the texts that the peer sends.
     pub outgoing_locales: Symbols,
-    /// Locales of the texts that it wants.
+    /// Locales of the texts that the peer wants.
     pub incoming_locales: Symbols,
-    /// What it can do.
+    /// What the peer can do.
     pub offered_capabilities: Symbols,
-    /// What it would like.
+    /// What the peer would like.
     pub desired_capabilities: Symbols,
-    /// More about it.
+    /// Its other properties.
     pub properties: Option<Map>,
 }
 
@@ -77,19 +77,19 @@ pub struct Open {
 pub struct Begin {
     /// The channel of the begin that this one answers.
     pub remote_channel: Option<u16>,
-    /// The id of the first transfer that is going to be sent.
+    /// The transfer-id of the first transfer that will be sent.
     pub next_outgoing_id: u32,
-    /// Transfers that can be taken.
+    /// How many transfers can be received.
     pub incoming_window: u32,
-    /// Transfers that can be sent.
+    /// How many transfers can be sent.
     pub outgoing_window: u32,
-    /// The highest handle that the peer takes.
+    /// The highest handle that the peer accepts.
     pub handle_max: u32,
     /// What the session can do.
     pub offered_capabilities: Symbols,
     /// What the peer would like.
     pub desired_capabilities: Symbols,
-    /// More about it.
+    /// Its other properties.
     pub properties: Option<Map>,
 }
 
@@ -112,44 +112,44 @@ pub struct Attach {
     pub target: Option<TargetTerminus>,
     /// The deliveries that the peer holds as unsettled.
     pub unsettled: Option<Unsettled>,
-    /// Whether the peer holds more than it tells.
+    /// Whether the peer holds more of them than are in the map.
     pub incomplete_unsettled: bool,
     /// The sender's first delivery-count; from a sender, absent means 0.
     pub initial_delivery_count: Option<u32>,
-    /// The largest message that the peer takes, in bytes.
+    /// The largest message that the peer accepts, in bytes.
     pub max_message_size: Option<u64>,
     /// What the link can do.
     pub offered_capabilities: Symbols,
     /// What the peer would like.
     pub desired_capabilities: Symbols,
-    /// More about it.
+    /// Its other properties.
     pub properties: Option<Map>,
 }
 
-/// Tells windows and credit (AMQP 1.0 part 2, section 2.7.4).
+/// Announces windows and credit (AMQP 1.0 part 2, section 2.7.4).
 #[derive(Debug, Drop)]
 pub struct Flow {
-    /// The id of the transfer that the peer expects next.
+    /// The transfer-id of the transfer that the peer expects next.
     pub next_incoming_id: Option<u32>,
-    /// Transfers that it can take.
+    /// How many transfers it can receive.
     pub incoming_window: u32,
-    /// The id of the transfer that it sends next.
+    /// The transfer-id of the transfer that it sends next.
     pub next_outgoing_id: u32,
-    /// Transfers that it can send.
+    /// How many transfers it can send.
     pub outgoing_window: u32,
-    /// The link that is meant, if one is.
+    /// The handle of the link, where the flow is for a link.
     pub handle: Option<u32>,
-    /// Deliveries that the link's sender has started.
+    /// The delivery-count: deliveries that the link's sender has started.
     pub delivery_count: Option<u32>,
-    /// Deliveries that its receiver can take.
+    /// Deliveries that its receiver can accept.
     pub link_credit: Option<u32>,
-    /// Deliveries that its sender has at hand.
+    /// Deliveries that its sender has available.
     pub available: Option<u32>,
     /// Whether credit is to be used up.
     pub drain: bool,
     /// Whether a flow is wanted in return.
     pub echo: bool,
-    /// More about it.
+    /// Its other properties.
     pub properties: Option<Map>,
 }
 
@@ -170,20 +170,20 @@ pub struct Transfer {
     pub more: bool,
     /// The settlement that the sender asks for; absent means the link's.
     pub rcv_settle_mode: Option<u8>,
-    /// How far the delivery is.
+    /// The state of the delivery.
     pub state: Option<DeliveryState>,
-    /// Whether the delivery goes on where it was.
+    /// Whether the delivery is resumed.
     pub resume: bool,
-    /// Whether the delivery is given up.
+    /// Whether the delivery is aborted.
     pub aborted: bool,
     /// Whether the answer may wait for others.
     pub batchable: bool,
 }
 
-/// Tells how far deliveries are (AMQP 1.0 part 2, section 2.7.6).
+/// Gives the states of deliveries (AMQP 1.0 part 2, section 2.7.6).
 #[derive(Debug, Drop)]
 pub struct Disposition {
-    /// What the peer is on the links of these deliveries.
+    /// Whether the peer sends or receives on the links of these deliveries.
     pub role: Role,
     /// The first delivery-id.
     pub first: u32,
@@ -191,7 +191,7 @@ pub struct Disposition {
     pub last: Option<u32>,
     /// Whether they are settled.
     pub settled: bool,
-    /// How far they are.
+    /// Their state.
     pub state: Option<DeliveryState>,
     /// Whether the answer may wait for others.
     pub batchable: bool,
@@ -204,21 +204,21 @@ pub struct Detach {
     pub handle: u32,
     /// Whether it is closed for good.
     pub closed: bool,
-    /// Why.
+    /// The error, if there is one.
     pub error: Option<Fault>,
 }
 
 /// Ends a session (AMQP 1.0 part 2, section 2.7.8).
 #[derive(Debug, Drop)]
 pub struct End {
-    /// Why.
+    /// The error, if there is one.
     pub error: Option<Fault>,
 }
 
 /// Closes a connection (AMQP 1.0 part 2, section 2.7.9).
 #[derive(Debug, Drop)]
 pub struct Close {
-    /// Why.
+    /// The error, if there is one.
     pub error: Option<Fault>,
 }
 
@@ -229,15 +229,15 @@ pub struct SaslMechanisms {
     pub mechanisms: Symbols,
 }
 
-/// The mechanism that the client takes (AMQP 1.0 part 5, section 5.3.3.2). Its `Debug` tells nothing of it, since what the
-/// client says first may have a password in it.
+/// The mechanism that the client chooses (AMQP 1.0 part 5, section 5.3.3.2). Its `Debug` shows nothing of it, since the
+/// initial response may hold a password.
 #[derive(Drop)]
 pub struct SaslInit {
     /// Its name.
     pub mechanism: Symbol,
-    /// What it says first.
+    /// The initial response.
     pub initial_response: Option<Binary>,
-    /// The host that is meant.
+    /// The host that the client means to reach.
     pub hostname: Option<Text>,
 }
 
@@ -254,14 +254,14 @@ impl fmt::Debug for SaslInit {
 /// A challenge of the server (AMQP 1.0 part 5, section 5.3.3.3).
 #[derive(Debug, Drop)]
 pub struct SaslChallenge {
-    /// What it says.
+    /// The challenge's octets.
     pub challenge: Binary,
 }
 
 /// The client's response to a challenge (AMQP 1.0 part 5, section 5.3.3.4).
 #[derive(Debug, Drop)]
 pub struct SaslResponse {
-    /// What it says.
+    /// The response's octets.
     pub response: Binary,
 }
 
@@ -270,6 +270,6 @@ pub struct SaslResponse {
 pub struct SaslOutcome {
     /// 0 ok, 1 auth, 2 sys, 3 sys-perm, 4 sys-temp.
     pub code: u8,
-    /// More data with it.
+    /// Additional data.
     pub additional_data: Option<Binary>,
 }

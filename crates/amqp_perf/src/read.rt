@@ -19,15 +19,15 @@ use crate::state::DeliveryState;
 use amqp_types::skip_at;
 use std::alloc::Global;
 
-/// Levels of values around one another in a performative (AMQP 1.0 sets no limit; this one is the router's).
+/// The levels of nesting in a performative (AMQP 1.0 sets no limit; this one is the router's).
 const DEPTH: u32 = 32;
 
-/// Reads the performative or SASL body at the front of the bytes, and answers it with the number of bytes that spell it:
-/// what stands behind is a transfer's payload (AMQP 1.0 part 2, sections 2.3.2 and 2.7).
+/// Decodes the performative or SASL body at the front of the bytes, and answers it with the number of bytes that encode it:
+/// what follows is a transfer's payload (AMQP 1.0 part 2, sections 2.3.2 and 2.7).
 ///
 /// # Errors
 ///
-/// The first fault from the front: `Spelling` where a value is misspelt, `NotPerformative` where no list with a known
+/// The first fault from the front: `Spelling` where a value is encoded wrongly, `NotPerformative` where no list with a known
 /// descriptor stands there, `TooManyFields` before the first field, then field by field `MissingField`, `WrongKind`,
 /// `TagTooLong` and `DuplicateTag`; `Memory` where an allocation was refused.
 #[tactic(auto, unfolding(crate::specs::Performative::performative))]
@@ -39,7 +39,7 @@ pub fn read_perf(alloc: Global, bytes: &[u8]) -> Result<(Perf, usize), PerfFault
     Ok((perf, bytes.len().saturating_sub(rest.len())))
 }
 
-/// Reads the delivery state at the front of the bytes, and answers it with the number of bytes that spell it (AMQP 1.0
+/// Decodes the delivery state at the front of the bytes, and answers it with the number of bytes that encode it (AMQP 1.0
 /// part 3, section 3.4).
 ///
 /// # Errors
@@ -55,7 +55,7 @@ pub fn read_state(alloc: Global, bytes: &[u8]) -> Result<(DeliveryState, usize),
     Ok((state, bytes.len().saturating_sub(rest.len())))
 }
 
-/// The performative at the front, and the bytes behind it.
+/// The performative at the front, and the bytes after it.
 #[inline(always)]
 #[tactic(auto, unfolding(crate::specs::Performative::performative_at))]
 fn performative_of(alloc: Global, bytes: &[u8]) -> Result<(Perf, &[u8]), PerfFault>
@@ -76,7 +76,7 @@ fn performative_of(alloc: Global, bytes: &[u8]) -> Result<(Perf, &[u8]), PerfFau
     }
 }
 
-/// How many fields the list behind a descriptor has, where it is a performative's or a SASL body's.
+/// How many fields the list after a descriptor has, where it is a performative's or a SASL body's.
 fn limit_of(descriptor: Descriptor) -> Option<u32>
     ensures { result ≡ limit_of descriptor }
 {
@@ -106,7 +106,7 @@ fn limit_of(descriptor: Descriptor) -> Option<u32>
     }
 }
 
-/// The fields behind a descriptor.
+/// The fields after a descriptor.
 #[inline(always)]
 fn body_of(
     alloc: Global,
@@ -129,7 +129,7 @@ fn body_of(
     }
 }
 
-/// The fields behind the descriptor of a SASL body.
+/// The fields after the descriptor of a SASL body.
 fn sasl_body_of(
     alloc: Global,
     descriptor: Descriptor,

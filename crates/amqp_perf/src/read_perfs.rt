@@ -1,4 +1,4 @@
-//! Reading performatives and SASL bodies, each a list of calls of field readers.
+//! Reading performatives and SASL bodies, each by a list of calls of field readers.
 ghost use Rattle.std.specs.Prelude.{◌≡◌};
 ghost use Rattle.amqp_perf.specs.Contract.{Gives};
 ghost use Rattle.amqp_perf.specs.Places.{Took, at_of};
@@ -16,7 +16,7 @@ use crate::terminus::{SourceTerminus, TargetTerminus};
 use std::alloc::Global;
 
 impl<'a> Fields<'a> {
-    /// What an end of a link does.
+    /// The role of an end of a link.
     #[tactic(auto, unfolding(crate::specs::Performative::required_role))]
     fn required_role(&mut self) -> Result<Role, PerfFault>
         ensures { Took (λ x. x) result (at_of self.new) (performatives.required_role (at_of self.old)) }
@@ -117,7 +117,7 @@ fn ends_of(alloc: Global, fields: &mut Fields<'_>) -> Result<LinkEnds, PerfFault
     })
 }
 
-/// The next fields of an attach: what its end holds, and takes.
+/// The next fields of an attach: what its end holds and accepts.
 #[derive(Drop)]
 struct LinkHoldings {
     unsettled: Option<Unsettled>,

@@ -1,4 +1,4 @@
-//! Reading errors, delivery states and unsettled maps, each a list of calls of field readers.
+//! Reading errors, delivery states and unsettled maps, each by a list of calls of field readers.
 ghost use Rattle.std.specs.Prelude.{◌≡◌, ◌/◌, [], ◌∷◌, ◌++◌, List, IfOk, OnOk};
 ghost use Rattle.amqp_perf.specs.declared.state.UnsettledDelivery.{UnsettledDelivery};
 ghost use Rattle.amqp_perf.specs.Tags.{Has};
@@ -69,7 +69,7 @@ fn modified_fields(alloc: Global, fields: &mut Fields<'_>) -> Result<Modified, P
     })
 }
 
-/// The error at the front, and the bytes behind it; none where null stands there.
+/// The error at the front, and the bytes after it; none where null stands there.
 #[tactic(auto, unfolding(crate::specs::States::error_in))]
 pub(crate) fn error_of(
     alloc: Global,
@@ -94,7 +94,7 @@ pub(crate) fn error_of(
     }
 }
 
-/// The delivery state at the front, and the bytes behind it; none where null stands there.
+/// The delivery state at the front, and the bytes after it; none where null stands there.
 #[tactic(auto, unfolding(crate::specs::States::state_in))]
 pub(crate) fn state_of(
     alloc: Global,
@@ -216,7 +216,7 @@ impl<'a> Fields<'a> {
     }
 }
 
-/// The unsettled map at the front, and the bytes behind it; none where null stands there. It is passed over first.
+/// The unsettled map at the front, and the bytes after it; none where null stands there. It is passed over first.
 #[tactic(auto, unfolding(crate::specs::States::unsettled_in))]
 fn unsettled_of(
     alloc: Global,
@@ -244,7 +244,7 @@ fn unsettled_of(
     }
 }
 
-/// The same tag.
+/// A copy of a tag.
 fn copy_of(tag: &DeliveryTag) -> Result<DeliveryTag, AllocError>
     ensures { IfOk result (λ copy. copy ≡ tag.now) }
 {
@@ -264,7 +264,7 @@ fn note_tag(tags: &mut BTreeSet<DeliveryTag>, tag: &DeliveryTag) -> Result<(), P
     }
 }
 
-/// So many deliveries.
+/// This many deliveries.
 #[tactic(auto, using(crate::proofs::Loops::one_delivery, crate::proofs::Loops::no_delivery))]
 fn deliveries_of(
     alloc: Global,

@@ -1,4 +1,4 @@
-//! Reading sources and targets, each a list of calls of field readers.
+//! Reading sources and targets, each by a list of calls of field readers.
 ghost use Rattle.std.specs.Prelude.{◌≡◌};
 ghost use Rattle.amqp_perf.specs.Contract.{Gives, GivesAs};
 ghost use Rattle.amqp_perf.specs.Places.{Took, at_of};
@@ -15,10 +15,10 @@ use crate::state::DeliveryState;
 use crate::terminus::{Address, Source, SourceTerminus, Target, TargetTerminus};
 use std::alloc::Global;
 
-/// When a terminus ends, where nothing is told (AMQP 1.0 part 3, section 3.5.3).
+/// The default expiry policy of a terminus (AMQP 1.0 part 3, section 3.5.3).
 pub(crate) const SESSION_END: &str = "session-end";
 
-/// The expiry policy that is told, or the default.
+/// The expiry policy that is given, or the default.
 fn expiry_policy(alloc: Global, told: Option<Symbol>) -> Result<Symbol, PerfFault>
     ensures { Gives result (Ok (unwrap_or told termini.session_end)) }
 {
@@ -28,7 +28,7 @@ fn expiry_policy(alloc: Global, told: Option<Symbol>) -> Result<Symbol, PerfFaul
     }
 }
 
-/// What a source and a target begin with: the node that is meant.
+/// The fields that a source and a target begin with: the node that is meant.
 #[derive(Drop)]
 struct NodeFields {
     address: Option<Address>,
@@ -59,7 +59,7 @@ fn node_of(alloc: Global, fields: &mut Fields<'_>) -> Result<NodeFields, PerfFau
     })
 }
 
-/// What a source goes on with: which messages are wanted of the node, and how they are settled.
+/// The further fields of a source: which messages are wanted of the node, and how they are settled.
 #[derive(Drop)]
 struct SourceChoices {
     distribution_mode: Option<Symbol>,
@@ -127,7 +127,7 @@ fn target_fields(alloc: Global, fields: &mut Fields<'_>) -> Result<Target, PerfF
     })
 }
 
-/// The source at the front, and the bytes behind it; none where null stands there.
+/// The source at the front, and the bytes after it; none where null stands there.
 #[tactic(auto, unfolding(crate::specs::Termini::source_in))]
 fn source_of(
     alloc: Global,
@@ -159,7 +159,7 @@ fn source_of(
     }
 }
 
-/// The target at the front, and the bytes behind it; none where null stands there.
+/// The target at the front, and the bytes after it; none where null stands there.
 #[tactic(auto, unfolding(crate::specs::Termini::target_in))]
 fn target_of(
     alloc: Global,

@@ -5,22 +5,22 @@ use crate::leaf::{AnyValue, Map, Symbol, Text};
 use arrayvec::ArrayVec;
 use std::marker::Model;
 
-/// The sender's own name of a delivery, at most 32 bytes (AMQP 1.0 part 2, section 2.8.7).
+/// The sender's own name for a delivery, at most 32 bytes (AMQP 1.0 part 2, section 2.8.7).
 pub type DeliveryTag = ArrayVec<u8, 32>;
 
 /// An error (AMQP 1.0 part 2, section 2.8.14).
 #[derive(Debug)]
 pub struct Fault {
-    /// What is wrong, by a name of the standard or of the peer's.
+    /// What is wrong, by a name of the standard's or of the peer's.
     pub condition: Symbol,
-    /// More about it, for a person.
+    /// A description for a person.
     pub description: Option<Text>,
     /// More about it, for a program.
     pub info: Option<Map>,
 }
 
 impl Drop for Fault {
-    /// Lets go of what it holds: a call, where a derived drop is its steps at each way out of a function that holds one.
+    /// Drops what it holds by one call, where a derived drop is its steps at each exit of a function that holds one.
     fn drop(self) {
         let Fault {
             condition: _condition,
@@ -30,12 +30,12 @@ impl Drop for Fault {
     }
 }
 
-/// How far a delivery is (AMQP 1.0 part 3, section 3.4).
+/// The state of a delivery (AMQP 1.0 part 3, section 3.4).
 #[derive(Debug)]
 pub enum DeliveryState {
-    /// So much of it has come; the only state here that is not terminal, beside `Other`.
+    /// Part of it has come; with `Other` the only state here that is not terminal.
     Received(Received),
-    /// It is taken for good.
+    /// It is accepted.
     Accepted,
     /// It is invalid and refused.
     Rejected(Rejected),
@@ -48,7 +48,7 @@ pub enum DeliveryState {
 }
 
 impl Drop for DeliveryState {
-    /// Lets go of what it holds: a call, where a derived drop is its steps at each way out of a function that holds one.
+    /// Drops what it holds by one call, where a derived drop is its steps at each exit of a function that holds one.
     fn drop(self) {
         match self {
             DeliveryState::Received(_received) => {}
@@ -73,31 +73,31 @@ pub struct Received {
 /// Why a delivery is refused (AMQP 1.0 part 3, section 3.4.3).
 #[derive(Debug, Drop)]
 pub struct Rejected {
-    /// The cause, where it is told.
+    /// The cause, where it is given.
     pub error: Option<Fault>,
 }
 
-/// What is to change at the next delivery (AMQP 1.0 part 3, section 3.4.5).
+/// The changes for the next delivery (AMQP 1.0 part 3, section 3.4.5).
 #[derive(Debug, Drop)]
 pub struct Modified {
     /// Count this transfer as a failed attempt.
     pub delivery_failed: bool,
-    /// Not to this link again.
+    /// Don't send it to this link again.
     pub undeliverable_here: bool,
     /// Annotations to add to the message.
     pub message_annotations: Option<Map>,
 }
 
-/// One unsettled delivery that an attach tells of.
+/// One unsettled delivery of an attach.
 #[derive(Debug, Drop)]
 pub struct UnsettledDelivery {
     /// Its tag.
     pub tag: DeliveryTag,
-    /// How far it is, where that is told.
+    /// Its state, where it is given.
     pub state: Option<DeliveryState>,
 }
 
-/// The unsettled deliveries that an attach tells of, in the order of the frame and each tag once (AMQP 1.0 part 2,
+/// The unsettled deliveries of an attach, in the order of the frame and each tag once (AMQP 1.0 part 2,
 /// section 2.7.3).
 #[derive(Debug, Drop)]
 pub struct Unsettled {

@@ -12,7 +12,7 @@ pub enum Address {
 }
 
 impl Drop for Address {
-    /// Lets go of what it holds: a call, where a derived drop is its steps at each way out of a function that holds one.
+    /// Drops what it holds by one call, where a derived drop is its steps at each exit of a function that holds one.
     fn drop(self) {
         match self {
             Address::Text(_text) => {}
@@ -21,7 +21,7 @@ impl Drop for Address {
     }
 }
 
-/// What stands in the source of an attach.
+/// The source field of an attach.
 #[derive(Debug, Drop)]
 pub enum SourceTerminus {
     /// A source.
@@ -30,12 +30,12 @@ pub enum SourceTerminus {
     Other(AnyValue),
 }
 
-/// What stands in the target of an attach.
+/// The target field of an attach.
 #[derive(Debug, Drop)]
 pub enum TargetTerminus {
     /// A target.
     Target(Target),
-    /// A terminus with another descriptor, as a coordinator, carried unread.
+    /// A terminus with another descriptor, such as a coordinator, carried unread.
     Other(AnyValue),
 }
 
@@ -46,11 +46,11 @@ pub struct Source {
     pub address: Option<Address>,
     /// What is kept of the terminus: 0 nothing, 1 its configuration, 2 its unsettled deliveries too.
     pub durable: u32,
-    /// When it ends: `session-end` where nothing is told.
+    /// When it expires: `session-end` where nothing is given.
     pub expiry_policy: Symbol,
-    /// Seconds from then on until it is gone.
+    /// Seconds from then on until it is discarded.
     pub timeout: u32,
-    /// Whether the peer is to make a node.
+    /// Whether the peer is to create a node.
     pub dynamic: bool,
     /// Properties of such a node.
     pub dynamic_node_properties: Option<Map>,
@@ -60,14 +60,14 @@ pub struct Source {
     pub filter: Option<Map>,
     /// The outcome of deliveries that are settled without one.
     pub default_outcome: Option<DeliveryState>,
-    /// The outcomes that the sender can take.
+    /// The outcomes that the sender supports.
     pub outcomes: Symbols,
     /// What it can do.
     pub capabilities: Symbols,
 }
 
 impl Drop for Source {
-    /// Lets go of what it holds: a call, where a derived drop is its steps at each way out of a function that holds one.
+    /// Drops what it holds by one call, where a derived drop is its steps at each exit of a function that holds one.
     fn drop(self) {
         let Source {
             address: _address,
@@ -92,11 +92,11 @@ pub struct Target {
     pub address: Option<Address>,
     /// What is kept of the terminus: 0 nothing, 1 its configuration, 2 its unsettled deliveries too.
     pub durable: u32,
-    /// When it ends: `session-end` where nothing is told.
+    /// When it expires: `session-end` where nothing is given.
     pub expiry_policy: Symbol,
-    /// Seconds from then on until it is gone.
+    /// Seconds from then on until it is discarded.
     pub timeout: u32,
-    /// Whether the peer is to make a node.
+    /// Whether the peer is to create a node.
     pub dynamic: bool,
     /// Properties of such a node.
     pub dynamic_node_properties: Option<Map>,
@@ -105,7 +105,7 @@ pub struct Target {
 }
 
 impl Drop for Target {
-    /// Lets go of what it holds: a call, where a derived drop is its steps at each way out of a function that holds one.
+    /// Drops what it holds by one call, where a derived drop is its steps at each exit of a function that holds one.
     fn drop(self) {
         let Target {
             address: _address,

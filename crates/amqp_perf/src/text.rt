@@ -1,4 +1,4 @@
-//! Writing a described list from a slice of its fields, each by its shortest spelling and without the nulls at the end.
+//! Writing a described list from a slice of its fields, each in its shortest encoding and without the nulls at the end.
 ghost use Rattle.std.specs.Prelude.{◌≡◌, ◌≤◌, ◌++◌, length, take, drop, is_none, option_map, IfOk, OnOk};
 ghost use Rattle.amqp_types.specs.Data as d;
 ghost use Rattle.amqp_types.specs.View.{items_view};
@@ -25,7 +25,7 @@ pub(crate) enum Field<'a> {
     Null,
     /// A value that holds no others.
     Plain(Plain<'a>),
-    /// A value that is spelt already.
+    /// A value that is encoded already.
     Spelt(&'a [u8]),
 }
 
@@ -154,7 +154,7 @@ impl<'a> Field<'a> {
         }
     }
 
-    /// What is spelt already, or null.
+    /// What is encoded already, or null.
     pub(crate) fn spelt(bytes: &'a Option<Vec<u8>>) -> Field<'a>
         ensures { field_view result ≡ option_map (λ v. v.items) bytes.now }
     {
@@ -164,7 +164,7 @@ impl<'a> Field<'a> {
         }
     }
 
-    /// What an end of a link does: false is a sender.
+    /// The role of an end of a link: false is a sender.
     pub(crate) fn role(role: Role) -> Field<'a>
         ensures { field_view result ≡ spellings.role_text role }
     {
@@ -192,7 +192,7 @@ impl<'a> Field<'a> {
         }
     }
 
-    /// When a terminus ends: null where it is with its session.
+    /// The expiry policy of a terminus: null where it is `session-end`.
     pub(crate) fn policy(policy: &'a Symbol) -> Field<'a>
         ensures { field_view result ≡ spellings.policy_text policy.now }
     {
@@ -203,7 +203,7 @@ impl<'a> Field<'a> {
         }
     }
 
-    /// A delivery state that is spelt, or null.
+    /// A delivery state that is encoded, or null.
     pub(crate) fn nested(state: &'a Option<Nested>) -> Field<'a>
         ensures { field_view result ≡ option_map nested_view state.now }
     {
@@ -258,7 +258,7 @@ fn put_fields(out: &mut Vec<u8>, fields: &[Field<'_>]) -> Result<(), AllocError>
     Ok(())
 }
 
-/// Makes the items at the end of the bytes, from `start` on, a list: what stands before them moves in front of them.
+/// Makes the items at the end of the bytes, from `start` on, a list: what belongs before them is moved to their front.
 fn close_list(out: &mut Vec<u8>, start: usize, count: usize) -> Result<(), AllocError>
     requires { start ≤ length out.old.items }
     ensures { OnOk result (out.new.items ≡ take start out.old.items ++ list_text count (drop start out.old.items)) }
@@ -286,7 +286,7 @@ fn close_list(out: &mut Vec<u8>, start: usize, count: usize) -> Result<(), Alloc
     Ok(())
 }
 
-/// Appends the described list of these fields. It writes once, and takes no memory but that of `out`.
+/// Appends the described list of these fields. It writes once, and allocates nothing but room in `out`.
 #[tactic(auto, unfolding(crate::specs::Texts::described_text))]
 pub(crate) fn put_described(
     out: &mut Vec<u8>,
@@ -302,7 +302,7 @@ pub(crate) fn put_described(
     close_list(out, start, given.len())
 }
 
-/// The spelling of symbols, if there are any: always an array.
+/// The encoding of symbols, if there are any: always an array.
 pub(crate) fn symbols_text(alloc: Global, symbols: &Symbols) -> Result<Option<Vec<u8>>, AllocError>
     ensures { IfOk result (λ text. option_map (λ v. v.items) text ≡ texts.symbols_text symbols.now) }
 {

@@ -12,12 +12,12 @@ use crate::write_perfs::{
 use crate::write_states::put_state;
 use std::alloc::{AllocError, Global};
 
-/// Appends the shortest spelling of a performative: a field that has its default is null, and the nulls at the end are left
+/// Appends the shortest encoding of a performative: a field that has its default is null, and the nulls at the end are left
 /// out (AMQP 1.0 part 1, section 1.4).
 ///
 /// # Errors
 ///
-/// `AllocError` where memory was refused, or a length has no four bytes; the vector is then as it was.
+/// `AllocError` where memory was refused, or a length doesn't fit in four bytes; the vector is then as it was.
 pub fn write_perf(alloc: Global, perf: &Perf, out: &mut Vec<u8>) -> Result<(), AllocError>
     ensures ok { OnOk result (out.new.items ≡ out.old.items ++ spelling perf.now) }
     ensures err { OnErr result (out.new.items ≡ out.old.items) }
@@ -34,11 +34,11 @@ pub fn write_perf(alloc: Global, perf: &Perf, out: &mut Vec<u8>) -> Result<(), A
     out.extend_from_slice(&text)
 }
 
-/// Appends the shortest spelling of a delivery state.
+/// Appends the shortest encoding of a delivery state.
 ///
 /// # Errors
 ///
-/// `AllocError` where memory was refused, or a length has no four bytes; the vector is then as it was.
+/// `AllocError` where memory was refused, or a length doesn't fit in four bytes; the vector is then as it was.
 pub fn write_state(
     alloc: Global,
     state: &DeliveryState,

@@ -34,7 +34,7 @@ pub(crate) fn put_open(alloc: Global, out: &mut Vec<u8>, opening: &Open) -> Resu
     )
 }
 
-/// An open whose symbols are spelt.
+/// An open whose symbols are encoded.
 fn put_open_with<'a>(
     out: &mut Vec<u8>,
     opening: &'a Open,
@@ -72,7 +72,7 @@ pub(crate) fn put_begin(alloc: Global, out: &mut Vec<u8>, begin: &Begin) -> Resu
     put_begin_with(out, begin, &offered, &desired)
 }
 
-/// A begin whose symbols are spelt.
+/// A begin whose symbols are encoded.
 fn put_begin_with<'a>(
     out: &mut Vec<u8>,
     begin: &'a Begin,
@@ -96,7 +96,7 @@ fn put_begin_with<'a>(
     put_described(out, Descriptor::Begin, &fields)
 }
 
-/// The fields of an attach that hold other values, spelt.
+/// The fields of an attach that hold other values, encoded.
 #[derive(Drop)]
 struct AttachParts {
     source: Option<Vec<u8>>,
@@ -138,7 +138,7 @@ pub(crate) fn put_attach(
     put_attach_with(out, attach, &parts)
 }
 
-/// An attach whose fields that hold other values are spelt.
+/// An attach whose fields that hold other values are encoded.
 fn put_attach_with<'a>(
     out: &mut Vec<u8>,
     attach: &'a Attach,
@@ -200,7 +200,7 @@ pub(crate) fn put_transfer(
     put_transfer_with(out, transfer, &state)
 }
 
-/// A transfer whose state is spelt.
+/// A transfer whose state is encoded.
 fn put_transfer_with<'a>(
     out: &mut Vec<u8>,
     transfer: &'a Transfer,
@@ -212,7 +212,7 @@ fn put_transfer_with<'a>(
     put_described(out, Descriptor::Transfer, &transfer_fields(transfer, state))
 }
 
-/// The fields of a transfer whose state is spelt.
+/// The fields of a transfer whose state is encoded.
 pub(crate) fn transfer_fields<'a>(
     transfer: &'a Transfer,
     state: &'a Option<Nested>,
@@ -246,7 +246,7 @@ pub(crate) fn put_disposition(
     put_disposition_with(out, disposition, &state)
 }
 
-/// A disposition whose state is spelt.
+/// A disposition whose state is encoded.
 fn put_disposition_with<'a>(
     out: &mut Vec<u8>,
     disposition: &'a Disposition,

@@ -14,7 +14,7 @@ use crate::text::{Field, put_described};
 use amqp_types::{Plain, put_map, put_plain};
 use std::alloc::{AllocError, Global};
 
-/// A delivery state that is spelt: the two that say nothing more take no memory.
+/// A delivery state that is encoded: the two that say nothing more need no allocation.
 #[derive(Drop)]
 pub(crate) enum Nested {
     /// Accepted or released.
@@ -63,7 +63,7 @@ fn put_modified(out: &mut Vec<u8>, modified: &Modified) -> Result<(), AllocError
     put_described(out, Descriptor::Modified, &fields)
 }
 
-/// The spelling of an error, if there is one.
+/// The encoding of an error, if there is one.
 pub(crate) fn error_text(
     alloc: Global,
     error: &Option<Fault>,
@@ -80,7 +80,7 @@ pub(crate) fn error_text(
     }
 }
 
-/// The spelling of a delivery state.
+/// The encoding of a delivery state.
 #[tactic(auto, unfolding(crate::specs::Spelling::state_spelling))]
 pub(crate) fn put_state(
     alloc: Global,
@@ -99,7 +99,7 @@ pub(crate) fn put_state(
     }
 }
 
-/// The spelling of a delivery state, if there is one.
+/// The encoding of a delivery state, if there is one.
 #[tactic(auto, unfolding(crate::specs::Spelling::state_spelling, crate::specs::Texts::described_text, crate::specs::Texts::given))]
 pub(crate) fn state_text(
     alloc: Global,
@@ -147,7 +147,7 @@ fn put_deliveries(
     Ok(())
 }
 
-/// The spelling of an unsettled map, if there is one.
+/// The encoding of an unsettled map, if there is one.
 pub(crate) fn unsettled_text(
     alloc: Global,
     unsettled: &Option<Unsettled>,

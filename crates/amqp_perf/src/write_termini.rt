@@ -20,7 +20,7 @@ fn put_source(alloc: Global, out: &mut Vec<u8>, source: &Source) -> Result<(), A
     put_source_with(out, source, &default_outcome, &outcomes, &capabilities)
 }
 
-/// A source whose fields that hold other values are spelt.
+/// A source whose fields that hold other values are encoded.
 fn put_source_with<'a>(
     out: &mut Vec<u8>,
     source: &'a Source,
@@ -56,7 +56,7 @@ fn put_target(alloc: Global, out: &mut Vec<u8>, target: &Target) -> Result<(), A
     put_target_with(out, target, &capabilities)
 }
 
-/// A target whose capabilities are spelt.
+/// A target whose capabilities are encoded.
 fn put_target_with<'a>(
     out: &mut Vec<u8>,
     target: &'a Target,
@@ -77,7 +77,7 @@ fn put_target_with<'a>(
     put_described(out, Descriptor::Target, &fields)
 }
 
-/// The spelling of a source, if there is one.
+/// The encoding of a source, if there is one.
 pub(crate) fn source_text(
     alloc: Global,
     terminus: &Option<SourceTerminus>,
@@ -93,7 +93,7 @@ pub(crate) fn source_text(
     Ok(Some(text))
 }
 
-/// The spelling of a target, if there is one.
+/// The encoding of a target, if there is one.
 pub(crate) fn target_text(
     alloc: Global,
     terminus: &Option<TargetTerminus>,

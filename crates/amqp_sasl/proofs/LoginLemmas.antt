@@ -1,4 +1,4 @@
--- Who logs in, by what was read of its message and what was found of its user.
+-- Who logs in, by what was read of the message and what was found of its user.
 use Rattle.std.proofs.Common.{◌≡◌, ℕ, Bool, true, false, List, [], ◌∷◌, length, refl, sym, ◌∙◌, ap, subst, ◌+◌, Option, Some, None, IfOk, MatchOption, Result, Ok, Err, ◌⊎◌, inl, inr, get_or, find, cond, codes, arith, add-one}
 use Rattle.std.specs.Prelude.{◌≢◌, Contains, All}
 use Rattle.std.specs.Str.{bytes_eq}
@@ -16,7 +16,7 @@ use Rattle.amqp_sasl.specs.Login.{IsPlainLogin, LogsInPlain, LogsIn}
 use Rattle.amqp_sasl.specs.Answer.{AnswersInit, outcome_of}
 use Rattle.amqp_sasl.proofs.PlainLemmas.{one_reading}
 
--- a message that was read, of who acts as another
+-- a message that was read, where the user is to act as another
 pub acts_as_another : (users : List User) (m f g w : List ℕ) → IsPlain m f g w → f ≢ [] → f ≢ g → (name : List ℕ) → IsPlainLogin users m name → ⊥
 acts_as_another users m f g w said not_empty not_same name login =
     let same = one_reading m f g w said login.authorization name login.password login.read in
@@ -25,7 +25,7 @@ acts_as_another users m f g w said not_empty not_same name login =
       | inr e ↦ not_same (sym same.authorization ∙ e ∙ same.authentication)
     ]
 
--- of whom no user has the password
+-- where no user has the password
 pub of_no_user : (users : List User) (m f g w : List ℕ) → IsPlain m f g w → ((k : ℕ) → ¬ HasUser users g w k) → (name : List ℕ) → IsPlainLogin users m name → ⊥
 of_no_user users m f g w said unknown name login =
     let same = one_reading m f g w said login.authorization name login.password login.read in
@@ -34,7 +34,7 @@ of_no_user users m f g w said unknown name login =
     let known = subst P same.authentication (subst Q same.password login.known) in
     unknown known.0 (known.1, known.2)
 
--- of a user
+-- where a user has it
 pub of_user : (users : List User) (m f g w : List ℕ) (k : ℕ) (u : User) → IsPlain m f g w → (f ≡ []) ⊎ (f ≡ g) → HasUser users g w k → (name : List ℕ) → name ≡ (get_or users k u).name → IsPlainLogin users m name
 of_user users m f g w k u said itself known name e =
     let at : get_or users k u ≡ user_of g w = get_or_default users k u (user_of g w) known.0 ∙ known.1 in

@@ -24,7 +24,7 @@ use Rattle.amqp_sasl.specs.Judging.{is_user, user_by_parts, user_by_message, use
 use Rattle.amqp_sasl.proofs.PlainLemmas.{one_reading}
 use Rattle.amqp_sasl.proofs.LoginLemmas.{first_named, names_differ, nobody, by_anonymous, not_by_plain, nobody_in_plain, judged_by_plain}
 
--- nobody is two users
+-- no login is that of two users
 one_plain : (users : List User) (m n k : List ℕ) → IsPlainLogin users m n → IsPlainLogin users m k → n ≡ k
 one_plain users m n k h i = (one_reading m i.authorization k i.password i.read h.authorization n h.password h.read).authentication
 

@@ -17,7 +17,7 @@ use Rattle.amqp_sasl.specs.Answer.{outcome_of}
 abbrev pub is_user : List User → List ℕ → List ℕ → Bool
 is_user users name password = list_any (λ u. bytes_eq u.name name && bytes_eq u.password password) users
 
--- the user by the parts of a message: three of them, of who acts as itself
+-- the user by the parts of a message: three parts, where the user acts as itself
 abbrev pub user_by_parts : List User → List (List ℕ) → Option (List ℕ)
 user_by_parts users (authorization ∷ name ∷ password ∷ []) =
     if (bytes_eq authorization [] || bytes_eq authorization name) && is_user users name password then Some name else None

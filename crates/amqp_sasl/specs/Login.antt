@@ -17,7 +17,7 @@ pub record Logins : Type 0 where
 abbrev pub Takes : Logins → SaslInit → Mechanism → Type 0
 Takes server init m = Contains server.mechanisms m × (init.mechanism ≡ name_of m)
 
--- a message of PLAIN that has the name and the password of a user, who acts as itself
+-- a message of PLAIN with the name and the password of a user, who acts as itself
 pub record IsPlainLogin (users : List User) (message name : List ℕ) : Type 0 where
   pub authorization : List ℕ
   pub password : List ℕ

@@ -11,9 +11,9 @@ pub enum SaslCode {
     Auth,
     /// The system failed.
     Sys,
-    /// The system failed, and will go on failing until it is looked after.
+    /// The system failed, and will go on failing until someone mends it.
     SysPerm,
-    /// The system failed, and another try may pass.
+    /// The system failed, and another try may succeed.
     SysTemp,
     /// A number that the standard doesn't give.
     Other(u8),

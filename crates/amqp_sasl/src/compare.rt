@@ -1,8 +1,8 @@
-//! Comparing what must not be found out byte by byte.
+//! Comparing secrets without showing, byte by byte, how much of a guess is right.
 ghost use Rattle.std.specs.Prelude.{◌≡◌, ◌↔◌, IsTrue, slice_get, unwrap_or};
 
-/// Whether the two are the same bytes. All bytes that are given are looked at, also behind one that differs and behind
-/// the end of those that are held, so that how many are the same doesn't show in how long it takes.
+/// Whether the two are the same bytes. All given bytes are looked at, even after one that differs and after
+/// the end of those that are held, so that the time taken doesn't show how many are the same.
 pub(crate) fn same_bytes(given: &[u8], held: &[u8]) -> bool
     ensures { IsTrue result ↔ (given.now ≡ held.now) }
 {
@@ -13,7 +13,7 @@ pub(crate) fn same_bytes(given: &[u8], held: &[u8]) -> bool
     same
 }
 
-/// The byte at this place, 0 behind the end.
+/// The byte at this place, 0 after the end.
 fn byte_at(bytes: &[u8], place: usize) -> u8
     ensures { result ≡ unwrap_or (slice_get bytes.now place) 0 }
 {

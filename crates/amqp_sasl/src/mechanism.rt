@@ -1,4 +1,4 @@
-//! The mechanisms that the router has.
+//! The mechanisms that the router supports.
 ghost use Rattle.std.specs.Prelude.{◌≡◌, find, IfOk, map};
 ghost use Rattle.std.specs.Str.{bytes_eq};
 ghost use Rattle.amqp_sasl.specs.Names.{name_of};

@@ -2,12 +2,12 @@
 ghost use Rattle.std.specs.Prelude.{◌≡◌, ◌++◌, ◌∷◌, ℕ, List, IfSome, IfNone, IsTrue, false};
 ghost use Rattle.amqp_sasl.specs.Plain.{NoNul, IsPlain};
 
-/// What a message of PLAIN says.
+/// The parts of a message of PLAIN.
 #[derive(Clone, Copy)]
 pub(crate) struct PlainMessage<'a> {
-    /// Whom to act as; empty for whom it proves to be.
+    /// The identity to act as; empty for the one that is proved.
     pub(crate) authorization: &'a [u8],
-    /// Whose password it has.
+    /// The identity whose password it gives.
     pub(crate) authentication: &'a [u8],
     /// The password.
     pub(crate) password: &'a [u8],
@@ -30,7 +30,7 @@ pub(crate) fn read_plain(message: &[u8]) -> Option<PlainMessage<'_>>
     })
 }
 
-/// The bytes before the first NUL, and those behind it.
+/// The bytes before the first NUL, and those after it.
 fn cut_at_nul(bytes: &[u8]) -> Option<(&[u8], &[u8])>
     ensures cut { IfSome result (λ p. (bytes.now ≡ p.0.now ++ 0 ∷ p.1.now) × NoNul p.0.now) }
     ensures whole { IfNone result (NoNul bytes.now) }

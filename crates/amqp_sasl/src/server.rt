@@ -16,13 +16,13 @@ use std::marker::Model;
 /// What a server answers to a performative or SASL body.
 #[derive(Debug, Drop)]
 pub enum SaslAnswer {
-    /// The exchange is over: the outcome's code, and behind `Ok` the user that the peer is.
+    /// The exchange is over: the outcome's code, and with `Ok` the user that the peer is.
     Outcome(SaslCode, Option<Text>),
     /// It has no answer: only an init has one.
     Refuse,
 }
 
-/// The server's side of SASL: the users, and the mechanisms that are offered. It keeps nothing of what it is asked, so that
+/// The server's side of SASL: the users, and the mechanisms that are offered. It keeps no state of an exchange, so that
 /// one serves any number of connections.
 #[derive(Debug, Drop)]
 pub struct SaslServer {
@@ -53,9 +53,9 @@ impl SaslServer {
         offer(alloc, self.mechanisms.as_slice())
     }
 
-    /// Answers the peer's first body (AMQP 1.0 part 5, section 5.3.2). An init that proves the peer to be a user has code
+    /// Answers the peer's first body (AMQP 1.0 part 5, section 5.3.2). An init that proves the peer to be a user gets code
     /// `Ok` and that user: `anonymous` by ANONYMOUS, whatever it says, and by PLAIN the user whose name and password it
-    /// has, where it asks to act as nobody else. Any other init has code `Auth`, and anything else `Refuse`. Fails where
+    /// has, where it asks to act as nobody else. Any other init gets code `Auth`, and anything else `Refuse`. Fails where
     /// there is no memory for the user's name.
     pub fn step(&self, alloc: Global, perf: &Perf) -> Result<SaslAnswer, AllocError>
         ensures standard { IfOk result (λ a. Answers self.now perf.now a) }
@@ -118,7 +118,7 @@ fn plain_user(users: &[User], message: &[u8]) -> Result<Option<Text>, AllocError
     }
 }
 
-/// Whether who is proved to be the one asks to act as nobody else.
+/// Whether the proved identity asks to act as nobody else.
 fn acts_as_itself(authorization: &[u8], authentication: &[u8]) -> bool
     ensures itself { IsTrue result → (authorization.now ≡ []) ⊎ (authorization.now ≡ authentication.now) }
     ensures another { result ≡ false → (authorization.now ≢ []) × (authorization.now ≢ authentication.now) }

@@ -29,7 +29,7 @@ impl Password {
         Password { text }
     }
 
-    /// Whether it is these bytes. All bytes that are given are looked at, whichever differ.
+    /// Whether it is these bytes. All given bytes are looked at, whichever differ.
     pub fn is(&self, given: &[u8]) -> bool
         ensures { IsTrue result ↔ (given.now ≡ self.now) }
     {
@@ -57,7 +57,7 @@ pub struct User {
 }
 
 impl User {
-    /// Whether these are its name and its password. All bytes that are given are looked at, those of the password also
+    /// Whether these are its name and its password. All given bytes are looked at, those of the password also
     /// where the name differs.
     pub fn is(&self, name: &[u8], password: &[u8]) -> bool
         ensures { IsTrue result ↔ (self.now ≡ record { name = name.now; password = password.now }) }
@@ -66,7 +66,7 @@ impl User {
     }
 }
 
-/// The place of a user of this name and this password. All users are looked at, also behind the one.
+/// The place of a user of this name and this password. All users are looked at, even after a match.
 pub(crate) fn place_of(users: &[User], name: &[u8], password: &[u8]) -> Option<usize>
     ensures found { IfSome result (λ k. HasUser users.now name.now password.now k) }
     ensures missed { IfNone result ((k : ℕ) → ¬ HasUser users.now name.now password.now k) }

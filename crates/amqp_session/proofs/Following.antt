@@ -30,7 +30,7 @@ none_more a = omega arith
 none_less : (a : ℕ) → a ≡ a - 0
 none_less a = omega arith
 
--- an id and a window behind what isn't counted, and behind what is
+-- an id and a window after what isn't counted, and after what is
 id_skips : (p : Happened → Bool) (a : ℕ) (x : Happened) (xs : List Happened) → p x ≡ false → (a + count_by p xs) % 2 ^ 32 ≡ (a + count_by p (x ∷ xs)) % 2 ^ 32
 id_skips p a x xs e = ap (λ n. (a + n) % 2 ^ 32) (sym (skipped p x xs e))
 

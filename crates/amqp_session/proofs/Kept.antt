@@ -1,4 +1,4 @@
--- Where the window is kept, no more transfers are sent than it has room for.
+-- Where the window is respected, no more transfers are sent than it has room for.
 use Rattle.std.proofs.Common.{◌≤◌, ◌+◌, ◌-◌, ℕ, [], ◌∷◌, cond, subst, sym, arith}
 use Rattle.std.proofs.lemmas.List.Sums.{sum_by-cons}
 use Rattle.std.specs.Prelude.{count_by}

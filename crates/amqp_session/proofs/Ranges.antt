@@ -109,7 +109,7 @@ unfolding IsStrictlySortedBy
 resorted first P goes [] ps sorted = tt
 resorted first P goes (x ∷ xs) ps sorted = (turned first P goes x xs ps.0 ps.1 sorted.0, resorted first P goes xs ps.1 sorted.1)
 
--- two parts that rise, the second behind the first
+-- two parts that rise, the second after the first
 all_joined : (P : ℕ → Type 0) (xs ys : List ℕ) → AllByRecursion P xs → AllByRecursion P ys → AllByRecursion P (xs ++ ys)
 all_joined P [] ys h k = k
 all_joined P (x ∷ xs) ys h k = (h.0, all_joined P xs ys h.1 k)

@@ -1,4 +1,4 @@
--- What a map has once a value that it lent was written.
+-- What a map has after a value that it lent was written.
 use Rattle.std.proofs.Common.{◌≡◌, ◌∙◌, ℕ, Bool, true, false, refl, sym, ap, cond, List, [], ◌∷◌, Option, Some}
 use Rattle.std.specs.Prelude.{◌==◌, if◌then◌else◌}
 use Rattle.std.specs.Map.{lookup, set_value}

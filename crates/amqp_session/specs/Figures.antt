@@ -38,14 +38,14 @@ begun ours asked = record {
   allowance = ours.incoming_window;
 }
 
--- ... behind a flow of the peer, ...
+-- ... after a flow of the peer, ...
 abbrev pub behind_their_flow : FlowState → Window → Window
 behind_their_flow f w = record w {
   remote_window = f.incoming_window - distance (unwrap_or f.next_incoming w.first_outgoing) w.next_outgoing;
   next_incoming = f.next_outgoing % 2 ^ 32;
 }
 
--- ... a transfer of the peer, which is none of the session's beyond what the peer may send, ...
+-- ... a transfer of the peer, which doesn't count on the session beyond what the peer may send, ...
 abbrev pub behind_their_transfer : Window → Window
 behind_their_transfer w =
     if nat_eq w.allowance 0 then w else record w { next_incoming = (w.next_incoming + 1) % 2 ^ 32; allowance = w.allowance - 1 }

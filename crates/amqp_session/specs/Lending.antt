@@ -1,4 +1,4 @@
--- What becomes of the deliveries of a session once what is known of one of them was lent and changed.
+-- The deliveries of a session after what is known of one of them was lent and changed.
 use Rattle.std.specs.Prelude.{◌≡◌, ◌==◌, ℕ, Option, if◌then◌else◌}
 use Rattle.std.specs.Option.{option_map}
 use Rattle.std.specs.Borrow.{LendsSo, MutBor, Fml, RattleType}

@@ -6,7 +6,7 @@ use Rattle.std.specs.Ordering.{nat_cmp}
 use Rattle.std.specs.declared.cmp.Ordering.{Ordering}
 use Rattle.amqp_session.specs.Serials.{distance}
 
--- The last id is the first or behind it, and this one stands no further from the first than the last does.
+-- The last id is the first or after it, and this one is no further from the first than the last is.
 abbrev pub in_range : ℕ → ℕ → ℕ → Bool
 in_range first last id = nat_lt (distance first last) (2 ^ 31) && nat_le (distance first id) (distance first last)
 
@@ -14,10 +14,10 @@ in_range first last id = nat_lt (distance first last) (2 ^ 31) && nat_le (distan
 abbrev pub has : ℕ → List ℕ → Bool
 has id ids = list_any (λ other. id == other) ids
 
--- which of two ids stands further from the first
+-- which of two ids is further from the first
 abbrev pub by_distance : ℕ → ℕ → ℕ → Ordering
 by_distance first a b = nat_cmp (distance first a) (distance first b)
 
--- each of these stands further from the first than those before it
+-- each of these is further from the first than those before it
 abbrev pub IsRising : ℕ → List ℕ → Type 0
 IsRising first ids = IsStrictlySortedBy (by_distance first) ids

@@ -20,7 +20,7 @@ pub struct DeliveryIds<T> {
 }
 
 impl<T: Drop> DeliveryIds<T> {
-    /// No delivery.
+    /// Without deliveries.
     pub fn new(alloc: Global) -> DeliveryIds<T>
         ensures none { (id : ℕ) → get nat_cmp result.deliveries id ≡ None }
         ensures len { btree_map_len result.deliveries ≡ 0 }
@@ -59,7 +59,7 @@ impl<T: Drop> DeliveryIds<T> {
         self.deliveries.get_mut(&id.number())
     }
 
-    /// Notes this of the delivery with this id, and gives what was known of it before. Fails, and changes nothing, where memory
+    /// Stores this for the delivery with this id, and gives what was known of it before. Fails, and changes nothing, where memory
     /// is refused.
     pub fn insert(&mut self, id: Serial, known: T) -> Result<Option<T>, AllocError>
         ensures noted { OnOk result ((q : ℕ) → get nat_cmp self.new.deliveries q ≡ (if id == q then Some known else get nat_cmp self.old.deliveries q)) }
@@ -74,7 +74,7 @@ impl<T: Drop> DeliveryIds<T> {
         }
     }
 
-    /// Forgets the delivery with this id, and gives what was known of it.
+    /// Removes the delivery with this id, and gives what was known of it.
     pub fn remove(&mut self, id: Serial) -> Option<T>
         ensures gone { (q : ℕ) → get nat_cmp self.new.deliveries q ≡ (if id == q then None else get nat_cmp self.old.deliveries q) }
         ensures before { result ≡ get nat_cmp self.old.deliveries id }
@@ -83,8 +83,8 @@ impl<T: Drop> DeliveryIds<T> {
         self.deliveries.remove(&id.number())
     }
 
-    /// The ids of the deliveries that a disposition's range has, in its order: from its first id to its last, modulo 2^32, and
-    /// none where that is 2^31 or more. It looks at these deliveries alone, and never at the ids of the range. Fails where
+    /// The ids of the unsettled deliveries in a disposition's range, in its order: from its first id to its last, modulo 2^32, and
+    /// none where that is 2^31 or more. It looks only at these deliveries, never at each id of the range. Fails where
     /// memory is refused.
     #[tactic(auto, using(crate::proofs::Ranges::none_rises))]
     pub fn in_range(

@@ -5,12 +5,12 @@ ghost use Rattle.amqp_session.specs.Serials.{distance};
 ghost use Rattle.amqp_session.specs.declared.states.FlowState.{FlowState};
 ghost use Rattle.amqp_session.specs.Session.{Session, TheirFlow, TheirTransfer, OurTransfer, is_our_transfer, since, tells_id, window_told, allowance, WindowKept};
 
-/// Where the window is kept, no more transfers were sent since the peer last told its window than that window had room for.
+/// Where the window is respected, no more transfers were sent since the peer last announced its window than it had room for.
 pub fn no_more_is_sent_than_told()
     ensures { (t : Session) → WindowKept t → count_by is_our_transfer (since tells_id t) ≤ window_told t }
 {}
 
-/// What the peer may still send is what this end told it: a flow of the peer changes nothing of it, wherever its
+/// What the peer may still send is what this end announced: a flow of the peer doesn't change it, wherever its
 /// next-outgoing-id jumps, and neither does a transfer of this end.
 pub fn allowance_is_told_by_this_end_alone()
     ensures flow { (t : Session) (f : FlowState) → allowance (TheirFlow f ∷ t) ≡ allowance t }

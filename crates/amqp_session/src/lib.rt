@@ -1,5 +1,5 @@
 //! The windows of a session: how many transfers each end may still send (AMQP 1.0 part 2, section 2.5.6), and the serial
-//! numbers that they are told by (RFC 1982).
+//! numbers that they are given in (RFC 1982).
 #![tactic(auto)]
 
 pub mod delivery_ids;

@@ -6,7 +6,7 @@ ghost use Rattle.amqp_session.specs.Serials.{IsBefore, distance};
 use std::cmp::Ordering;
 use std::marker::Model;
 
-/// A serial number of 32 bits: behind 2^32 - 1 comes 0 again (RFC 1982; AMQP 1.0 part 2, section 2.8.8, `sequence-no`).
+/// A serial number of 32 bits: after 2^32 - 1 comes 0 again (RFC 1982; AMQP 1.0 part 2, section 2.8.8, `sequence-no`).
 #[derive(Clone, Copy, Debug, PartialEq, Eq)]
 pub struct Serial {
     number: u32,
@@ -49,7 +49,7 @@ impl Serial {
         }
     }
 
-    /// How far it is from this one forward to the other: what has to be added, modulo 2^32.
+    /// The distance from this one forward to the other: what has to be added, modulo 2^32.
     pub fn distance_to(self, other: Serial) -> u32
         ensures exact { result ≡ distance self other }
         ensures reaches { (self + result) % 2 ^ 32 ≡ other }

@@ -7,7 +7,7 @@ use crate::fault::SessionFault;
 use crate::serial::Serial;
 use crate::states::{BeginState, FlowState};
 
-/// The windows of one session, of which both ends have begun: what this end may still send, and what the peer may.
+/// The windows of one session that both ends have begun: what this end may still send, and what the peer may.
 #[derive(Clone, Copy, Debug, PartialEq, Eq)]
 pub struct Window {
     first_outgoing: Serial,
@@ -59,8 +59,8 @@ impl Window {
         self.remote_window = self.remote_window.saturating_sub(1);
     }
 
-    /// Takes a transfer frame of the peer. Fails with `WindowViolation`, and changes nothing, exactly where the peer was
-    /// told that it may send none.
+    /// Takes a transfer frame of the peer. Fails with `WindowViolation`, and changes nothing, exactly where the peer's
+    /// window is used up.
     pub fn received(&mut self) -> Result<(), SessionFault>
         ensures fits { (t : Session) → Fits self.old t → OnOk result (Fits self.new (TheirTransfer ∷ t)) }
         ensures beyond { (t : Session) → Fits self.old t → (OnErr result (allowance t ≡ 0)) × OnOk result (1 ≤ allowance t) }
@@ -75,7 +75,7 @@ impl Window {
         Ok(())
     }
 
-    /// Takes what a flow of the peer tells of its end.
+    /// Takes what a flow of the peer says of its end.
     pub fn on_flow(&mut self, flow: FlowState)
         ensures fits { (t : Session) → Fits self.old t → Fits self.new (TheirFlow flow ∷ t) }
         ensures figures { self.new ≡ behind_their_flow flow self.old }
@@ -86,8 +86,8 @@ impl Window {
         self.next_incoming = flow.next_outgoing;
     }
 
-    /// What a flow tells of this end, which takes so many transfers from now on. The flow is one that is sent: the peer is
-    /// held to what it tells.
+    /// The figures of this end's next flow, with this incoming-window from now on. The flow has to be sent: the peer is
+    /// held to what it says.
     pub fn flow_state(&mut self, incoming_window: u32) -> FlowState
         ensures fits { (t : Session) → Fits self.old t → Fits self.new (OurFlow result ∷ t) }
         ensures told { (t : Session) → Fits self.old t → result ≡ record {

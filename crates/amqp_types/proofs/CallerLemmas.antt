@@ -1,4 +1,4 @@
--- For the crates above: how what was written begins, whatever follows.
+-- For the crates above: how written bytes begin, whatever follows.
 use Rattle.std.proofs.Common.{◌≡◌, ℕ, suc, ◌+◌, ◌^◌, ◌<◌, ◌≤◌, Bool, true, false, cond, ◌&&◌, nat_lt, List, [], ◌∷◌, ◌++◌, length, Some, Ok, refl, sym, ap, subst, ◌∙◌}
 use Rattle.std.proofs.Math.Dec.{eqb-suc-zero}
 use Rattle.amqp_types.specs.declared.code.Size.{Size}
@@ -18,7 +18,7 @@ use Rattle.amqp_types.proofs.Tools.{done}
 use Rattle.amqp_types.proofs.Complete.{size_complete, sized_complete, code_complete, element_complete}
 use Rattle.amqp_types.proofs.RoundTrip.{compound_wide, compound_narrow}
 
--- what stands behind a size: a count, and then these bytes
+-- what follows a size: a count, and then these bytes
 abbrev Counted : Size → ℕ → List ℕ → Spelling
 Counted s n inside bytes v = (field : List ℕ) × (bytes ≡ field ++ inside) × IsNumber s field n
 

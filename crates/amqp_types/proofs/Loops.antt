@@ -1,4 +1,4 @@
--- Reading one value after the other, as a loop does; and one level of reading.
+-- Reading one value after another, as a loop does; and one level of reading.
 use Rattle.std.proofs.Common.{◌≡◌, ℕ, zero, suc, ◌-◌, ◌+◌, ◌≤◌, ◌<◌, List, [], ◌∷◌, ◌++◌, Result, Ok, Err, refl, sym, ap, ◌∙◌, arith}
 use Rattle.amqp_types.specs.declared.fault.TypeFault.{TypeFault}
 use Rattle.amqp_types.specs.declared.fault.TypeFault.TheVariants as fault
@@ -13,7 +13,7 @@ unfolding body_at
 body_at_deeper zero c bytes h = absurd (omega arith)
 body_at_deeper (suc depth) c bytes h = let e : suc depth - 1 ≡ depth = omega arith in rw e refl
 
--- ---- values one after the other
+-- ---- values one after another
 
 -- what was read before, and what follows it
 abbrev pub items_before : List Value → Items → Items
@@ -56,7 +56,7 @@ items_done one xs count i bytes total le so_far =
     let step : to (items_before xs) (items_at one (count - i) bytes) ≡ Ok (items_view xs, bytes) = rw k (ap (λ ws. Ok (ws, bytes)) (items_before-none xs)) in
     sym so_far ∙ step
 
--- ---- keys with their values one after the other
+-- ---- keys with their values, one after another
 
 abbrev pub pairs_before : List (Value × Value) → Pairs → Pairs
 pairs_before [] ps = ps

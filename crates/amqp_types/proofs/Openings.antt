@@ -1,4 +1,4 @@
--- Values that hold others, told apart by their constructors.
+-- Values that hold others, distinguished by their constructors.
 use Rattle.std.proofs.Common.{◌≡◌, ℕ, zero, suc, ◌-◌, ◌/◌, ◌%◌, ◌<◌, cond, List, [], Result, Ok, Err, Option, Some, None, refl, sym, ap, subst, ◌∙◌, arith, ◌==◌}
 use Rattle.amqp_types.specs.declared.fault.TypeFault.{TypeFault}
 use Rattle.amqp_types.specs.declared.fault.TypeFault.TheVariants as fault
@@ -39,7 +39,7 @@ plain_part-plain_view (plain.Binary bytes) = refl
 plain_part-plain_view (plain.String text) = refl
 plain_part-plain_view (plain.Symbol name) = refl
 
--- what is read so holds other values
+-- what is read this way holds other values
 abbrev Holding : Result (Data × List ℕ) TypeFault → Type 0
 Holding read = (v : Data) (rest : List ℕ) → read ≡ Ok (v, rest) → plain_part v ≡ None
 

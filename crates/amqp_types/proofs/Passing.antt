@@ -1,4 +1,4 @@
--- What is behind a value, told without the value.
+-- The bytes after a value, given without the value.
 use Rattle.std.proofs.Common.{◌≡◌, ℕ, suc, ◌-◌, ◌+◌, ◌/◌, ◌%◌, ◌≤◌, ◌<◌, cond, List, Result, Ok, Err, Some, None, refl, sym, ap, ◌∙◌, arith, ◌==◌, true, false, Bool}
 use Rattle.amqp_types.specs.declared.fault.TypeFault.{TypeFault}
 use Rattle.amqp_types.specs.declared.fault.TypeFault.TheVariants as fault
@@ -30,7 +30,7 @@ after-made : {A B : Type 0} (f : A → Result B TypeFault) (r : Result (A × Lis
 after-made f (Ok x) = after-done (f x.0) x.1
 after-made f (Err e) = refl
 
--- passing over what stands behind a constructor
+-- passing over what follows a constructor
 abbrev pub pass_by : (Code → Reads Data) → Code → List ℕ → Result (List ℕ) TypeFault
 pass_by body (code.Leaf l) bytes = after (leaf_at l bytes)
 pass_by body code.EmptyList bytes = Ok bytes

@@ -1,4 +1,4 @@
--- What is written is spelled so, and so it is read again.
+-- What is written is an encoding, and so it is read again.
 use Rattle.std.proofs.Common.{◌≡◌, ℕ, zero, suc, ◌+◌, ◌*◌, ◌^◌, ◌<◌, ◌≤◌, ℤ, pos, negsuc, int_le, Bool, true, false, cond, ◌&&◌, nat_lt, ◌==◌, List, [], ◌∷◌, ◌++◌, length, Option, Some, None, Ok, Err, refl, sym, ap, subst, ◌∙◌, append_assoc, arith, FitsSigned}
 use Rattle.std.specs.Int.{Width, w8, w16, w32, w64, to_be_bytes, from_be_bytes, cast_signed, cast_unsigned}
 use Rattle.std.proofs.lemmas.Bool.{eqb-true}
@@ -186,7 +186,7 @@ wide_typed kind.List = refl
 wide_typed kind.Map = refl
 wide_typed kind.Array = refl
 
--- only null has no bytes where it is written into an array
+-- only null has no bytes as an element of a written array
 narrow_empty : (k : Kind) → is_without_bytes (narrow_at k) ≡ true → k ≡ kind.Null
 narrow_empty kind.Null e = refl
 narrow_empty kind.Boolean e = absurd cc
@@ -239,12 +239,12 @@ wide_empty kind.List e = absurd cc
 wide_empty kind.Map e = absurd cc
 wide_empty kind.Array e = absurd cc
 
--- a piece is spelled so behind both constructors, where it fits
+-- a piece is the encoding after both constructors, where it fits
 record IsPiece (Body : Code → Spelling) (k : Kind) (p : Piece) (v : Data) : Type 0 where
   wide : Body (wide_at k) p.wide v
   narrow : p.fits ≡ true → Body (narrow_at k) p.narrow v
 
--- a value behind the shortest constructor that fits it
+-- a value after the shortest constructor that fits it
 constructed_is : (Body : Code → Spelling) (k : Kind) (p : Piece) (v : Data) → IsPiece Body k p v → Constructed Body (constructed k p) v
 constructed_is Body k p v h = by_test p.fits refl
   where
@@ -281,7 +281,7 @@ either_is : (Body : Code → Spelling) (k : Kind) (fits : Bool) (narrow wide : L
 either_is Body k true narrow wide v h n = record { wide = h; narrow = n }
 either_is Body k false narrow wide v h n = record { wide = h; narrow = λ e. absurd cc }
 
--- bytes behind their length
+-- bytes after their length
 sized_wide : (bytes : List ℕ) → length bytes < 2 ^ 32 → IsSized size.Four (to_be_bytes w32 (length bytes) ++ bytes) bytes
 sized_wide bytes lt = record { field = to_be_bytes w32 (length bytes); parts = refl; size = record { wide = refl; number = from_be_bytes-to_be_bytes_4 (length bytes) lt } }
 
@@ -290,7 +290,7 @@ sized_narrow bytes = record { field = length bytes ∷ []; parts = refl; size = 
 
 -- ---- values that hold others
 
--- what fills its size, by what stands behind any field of its count
+-- what fills its size, by what follows any field of its count
 pub compound_wide : (n : ℕ) (inside : List ℕ) (v : Data) (Inside : Spelling) → n < 2 ^ 32 → length inside + 4 < 2 ^ 32
     → ((field : List ℕ) → IsNumber size.Four field n → Inside (field ++ inside) v) → Fills size.Four (wide_sizes n (length inside) ++ inside) v Inside
 compound_wide n inside v Inside few short is =
@@ -317,7 +317,7 @@ compound_narrow n inside v Inside is =
       spelled = is (n ∷ []) number;
     }
 
--- what is known of each value inside: it is spelled, and it is an element of an array of its type
+-- what is known of each value inside: it is encoded, and it is an element of an array of its type
 abbrev PieceIn : (Code → Spelling) → Option Kind → Data → Type 0
 PieceIn Body None v = Unit {0}
 PieceIn Body (Some k) v = IsPiece Body k (piece v) v
@@ -339,7 +339,7 @@ written_pairs Body One is (pair k v ps) fits = (spelling k, spelling v, pair_spe
 element_is : (Body : Code → Spelling) (k : Kind) (v : Data) → IsWritten Body v → value_kind v ≡ Some k → IsPiece Body k (piece v) v
 element_is Body k v h e = subst (λ o. PieceIn Body o v) e h.element
 
--- the elements behind both constructors
+-- the elements after both constructors
 wide_items : (Body : Code → Spelling) (k : Kind) (One : Data → Type 0) → ((v : Data) → One v → IsWritten Body v) → (vs : Items) → AllItems One vs → AreOf k vs → AreItems (Body (wide_at k)) (pieces vs).wide vs
 unfolding pieces
 wide_items Body k One is no_items fits of = refl
@@ -562,7 +562,7 @@ written_is (suc depth) v h =
     let p = piece_is (Behind depth) (FitsIn depth) (written_is depth) v h in
     record { alone = alone_is (Behind depth) (FitsIn depth) (written_is depth) v h p; element = p }
 
--- what is written is spelled so
+-- what is written encodes the value
 pub Spells-spelling : (depth : ℕ) (v : Data) → FitsIn depth v → Spells depth (spelling v) v
 Spells-spelling depth v h = (written_is depth v h).alone
 
@@ -570,7 +570,7 @@ Spells-spelling depth v h = (written_is depth v h).alone
 pub value_at-spelling : (depth : ℕ) (v : Data) (rest : List ℕ) → FitsIn depth v → value_at depth (spelling v ++ rest) ≡ Ok (v, rest)
 value_at-spelling depth v rest h = value_at-Spells depth (spelling v) v rest (Spells-spelling depth v h)
 
--- the elements of an array as they are written: one constructor, and each behind it
+-- the elements of an array as they are written: one constructor, and each element after it
 pub record WrittenElements (depth : ℕ) (k : Kind) (vs : Items) : Type 0 where
   pub byte : ℕ
   pub bytes : List ℕ

@@ -1,4 +1,4 @@
--- What reading gives is spelled by the bytes that it took.
+-- What reading gives is encoded by the bytes that it took.
 use Rattle.std.proofs.Common.{◌≡◌, ℕ, zero, suc, ◌*◌, ◌/◌, ◌%◌, ◌≤◌, Bool, true, false, cond, ◌&&◌, nat_lt, ◌==◌, List, [], ◌∷◌, ◌++◌, length, take, drop, Option, Some, None, Ok, Err, refl, sym, ap, subst, ◌∙◌, append_assoc, arith}
 use Rattle.std.specs.Int.{byte_len, from_be_bytes}
 use Rattle.std.proofs.lemmas.Bool.{ltb-false, eqb-false}

@@ -1,4 +1,4 @@
--- Texts: what the tests of a string and of a symbol say.
+-- Texts: what the tests of a string and of a symbol mean.
 use Rattle.std.proofs.Common.{◌≡◌, ℕ, zero, suc, ◌<◌, Bool, true, false, cond, List, [], ◌∷◌, nat_lt, ◌&&◌, Ok, Err, IsUtf8, IsAscii, refl, lit<}
 use Rattle.std.specs.List.{list_all}
 use Rattle.std.specs.Str.{is_utf8}

@@ -1,4 +1,4 @@
--- What is spelled has arrays whose elements are of their type.
+-- An encoded value has arrays whose elements are of their type.
 use Rattle.std.proofs.Common.{◌≡◌, ℕ, zero, suc, Bool, true, false, cond, ◌==◌, List, Some, Ok, Err, refl, sym, ap, subst, ◌∙◌}
 use Rattle.std.specs.Int.{w8, w16, w32, w64, from_be_bytes, cast_signed}
 use Rattle.std.specs.Str.{is_utf8}

@@ -1,4 +1,4 @@
--- The spellings of values that hold others, and one more value at the end.
+-- The encodings of values that hold others, and one more value at the end.
 use Rattle.std.proofs.Common.{◌≡◌, ℕ, suc, ◌+◌, ◌*◌, ◌<◌, Bool, true, false, ◌&&◌, List, [], ◌∷◌, ◌++◌, length, take, get_or, Vec, Box, refl, sym, ap, ◌∙◌, append_assoc, rules}
 use Rattle.std.specs.declared.alloc.Global.{Global}
 use Rattle.std.proofs.lemmas.List.{append-nil, take_more}

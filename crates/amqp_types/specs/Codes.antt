@@ -1,4 +1,4 @@
--- Which byte is which constructor, and what stands behind it (AMQP 1.0 part 1, section 1.6).
+-- Which byte is which constructor, and what follows it (AMQP 1.0 part 1, section 1.6).
 use Rattle.std.specs.Prelude.{ℕ, Bool, true, false, List, length, ◌≡◌, Option, Some, None, ◌==◌, if◌then◌else◌}
 use Rattle.std.specs.Int.{Width, w8, w32}
 use Rattle.amqp_types.specs.declared.code.Size.{Size}
@@ -62,7 +62,7 @@ abbrev pub width : Size → Width
 width size.One = w8
 width size.Four = w32
 
--- how many bytes a plain value has behind its constructor, or the size that says it
+-- how many bytes a plain value has after its constructor, or the size that gives their number
 abbrev pub layout_of : Leaf → Layout
 layout_of leaf.Null = layout.Fixed 0
 layout_of leaf.True = layout.Fixed 0
@@ -94,7 +94,7 @@ layout_of (leaf.Binary s) = layout.Sized s
 layout_of (leaf.String s) = layout.Sized s
 layout_of (leaf.Symbol s) = layout.Sized s
 
--- the bytes are as many as the layout wants
+-- there are as many bytes as the layout wants
 abbrev pub IsLaid : Layout → List ℕ → Type 0
 IsLaid (layout.Fixed n) bytes = length bytes ≡ n
 IsLaid (layout.Sized s) bytes = Unit {0}
@@ -140,7 +140,7 @@ kind_of (code.Map s) = Some kind.Map
 kind_of (code.Array s) = Some kind.Array
 kind_of code.Described = None
 
--- nothing stands behind the constructor
+-- nothing follows the constructor
 abbrev pub has_no_bytes : Layout → Bool
 has_no_bytes (layout.Fixed n) = n == 0
 has_no_bytes (layout.Sized s) = false

@@ -3,8 +3,8 @@ use Rattle.std.specs.Prelude.{ℕ, ℤ, Bool, List}
 use Rattle.amqp_types.specs.declared.code.Kind.{Kind}
 
 mutual
-  -- Texts are their bytes, and numbers with a binary point too; a char is its number, a timestamp
-  -- its milliseconds. An array has the type of its elements beside them; a described value is its
+  -- Texts are their bytes, and so are numbers with a binary point; a char is its number, a timestamp
+  -- its milliseconds. An array carries the type of its elements; a described value is its
   -- descriptor, then what is described.
   pub data Data : Type 0 where
     null : Data

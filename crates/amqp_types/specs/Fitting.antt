@@ -1,4 +1,4 @@
--- Which values have a spelling: those within the ranges of their types, with sizes and counts below
+-- Which values have an encoding: those within the ranges of their types, with sizes and counts below
 -- 2 ^ 32, whose arrays have elements of their type.
 use Rattle.std.specs.Prelude.{◌≡◌, ℕ, zero, suc, ◌+◌, ◌*◌, ◌^◌, ◌<◌, ◌≤◌, true, length, Option, Some, None, FitsSigned}
 use Rattle.std.specs.Int.{w8, w16, w32, w64}
@@ -51,7 +51,7 @@ AllPairs One (pair k v ps) = One k × One v × AllPairs One ps
 abbrev pub AreOf : Kind → Items → Type 0
 AreOf k vs = AllItems (λ v. value_kind v ≡ Some k) vs
 
--- a value fits, where One says it of the values inside
+-- a value fits, where One holds of the values inside
 abbrev pub FitsBy : (Data → Type 0) → Data → Type 0
 FitsBy One d.null = Unit {0}
 FitsBy One (d.boolean b) = Unit {0}
@@ -79,7 +79,7 @@ FitsBy One (d.map ps) = (2 * pair_count ps < 2 ^ 32) × (length (pair_spellings 
 FitsBy One (d.array k vs) = (count vs < 2 ^ 32) × (length (constructed k (pieces vs)) + 4 < 2 ^ 32) × AllItems One vs × AreOf k vs × (k ≡ kind.Null → count vs ≤ 1024)
 FitsBy One (d.described a b) = One a × One b
 
--- a value fits, where so many values may be around one another: 32 for a whole value
+-- a value fits, with at most this many levels of nesting: 32 for a whole value
 unfoldable pub FitsIn : ℕ → Data → Type 0
 FitsIn zero v = ⊥
 FitsIn (suc depth) v = FitsBy (FitsIn depth) v

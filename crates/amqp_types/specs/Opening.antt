@@ -1,4 +1,4 @@
--- How a value begins, where it holds others: what stands before its items, elements or descriptor.
+-- How a value that holds others begins: what stands before its items, elements or descriptor.
 use Rattle.std.specs.Prelude.{ℕ, zero, suc, List, [], Result, Ok, Err}
 use Rattle.amqp_types.specs.declared.fault.TypeFault.{TypeFault}
 use Rattle.amqp_types.specs.declared.fault.TypeFault.TheVariants as fault
@@ -9,7 +9,7 @@ use Rattle.amqp_types.specs.declared.opening.Opening.{Opening}
 use Rattle.amqp_types.specs.declared.opening.Opening.TheVariants as opening
 use Rattle.amqp_types.specs.Reading.{◌>>=◌, within, size_at, sized_at, code_at, element_kind}
 
--- A list has a count, the bytes of its items to the end of the list, and the bytes behind the list.
+-- A list has a count, the bytes of its items to the end of the list, and the bytes after the list.
 -- An array has the constructor of its elements besides. A described value has the bytes from its
 -- descriptor on. All else is another value.
 pub data Opened : Type 0 where
@@ -37,7 +37,7 @@ array_opening s inside behind = do
   k ← element_kind n.0 c.0
   Ok (opened_array c.0 n.0 c.1 behind)
 
--- how a value begins behind its constructor, so many levels deep at most
+-- how a value begins after its constructor, with at most this many levels
 unfoldable pub opening_by : ℕ → Code → List ℕ → Result Opened TypeFault
 opening_by zero c bytes = Err fault.TooDeep
 opening_by (suc depth) (code.Leaf l) bytes = Ok opened_other

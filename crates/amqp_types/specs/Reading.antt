@@ -1,5 +1,5 @@
 -- Reading a value from the front of bytes, and the first fault that is met (AMQP 1.0 part 1, section 1.2).
--- A reader answers what it read, and the bytes behind it.
+-- A reader answers what it read, and the bytes after it.
 use Rattle.std.specs.Prelude.{◌≡◌, ℕ, zero, suc, ◌-◌, ◌/◌, ◌%◌, Bool, true, false, List, [], ◌∷◌, length, take, drop, Option, Some, None, Result, Ok, Err, nat_lt, nat_le, ◌&&◌, ◌||◌, ◌==◌, if◌then◌else◌}
 use Rattle.std.specs.Int.{w8, w16, w32, w64, byte_len, from_be_bytes, cast_signed}
 use Rattle.std.specs.Str.{is_utf8}
@@ -35,11 +35,11 @@ to f read = read >>= λ x. Ok (f x.0, x.1)
 abbrev pub made : {A B : Type 0} → (A → Result B TypeFault) → Result (A × List ℕ) TypeFault → Result (B × List ℕ) TypeFault
 made f read = read >>= λ x. f x.0 >>= λ y. Ok (y, x.1)
 
--- the bytes behind what was read
+-- the bytes after what was read
 abbrev pub after : {A : Type 0} → Result (A × List ℕ) TypeFault → Result (List ℕ) TypeFault
 after read = read >>= λ x. Ok x.1
 
--- the bytes behind a compound whose inside was read
+-- the bytes after a compound whose inside was read
 abbrev pub behind : {A : Type 0} → Result A TypeFault → List ℕ → Result (List ℕ) TypeFault
 behind read rest = read >>= λ x. Ok rest
 
@@ -53,7 +53,7 @@ abbrev pub Gives : {X Y : Type 0} → (X → Y) → Result X TypeFault → Resul
 Gives see (Ok x) read = read ≡ Ok (see x)
 Gives see (Err e) read = (e ≡ fault.Memory → ⊥) → read ≡ Err e
 
--- so many bytes
+-- this many bytes
 abbrev pub bytes_at : ℕ → Reads (List ℕ)
 bytes_at n bytes = if nat_lt (length bytes) n then Err fault.Truncated else Ok (take n bytes, drop n bytes)
 
@@ -81,7 +81,7 @@ abbrev pub chunk_at : Layout → Reads (List ℕ)
 chunk_at (layout.Fixed n) bytes = bytes_at n bytes
 chunk_at (layout.Sized s) bytes = sized_at s bytes
 
--- values that not all bytes spell (section 1.6.2, 1.6.16, 1.6.20 and 1.6.21)
+-- values that only some bytes encode (section 1.6.2, 1.6.16, 1.6.20 and 1.6.21)
 abbrev pub boolean_of : ℕ → Result Data TypeFault
 boolean_of n = if n == 0 then Ok (d.boolean false) else if n == 1 then Ok (d.boolean true) else Err fault.BadBool
 
@@ -135,7 +135,7 @@ content_of (leaf.Symbol s) bytes = symbol_of bytes
 unfoldable pub leaf_at : Leaf → Reads Data
 leaf_at l bytes = made (content_of l) (chunk_at (layout_of l) bytes)
 
--- What was read inside a compound has to be all of it.
+-- All of the inside of a compound has to be read.
 abbrev pub within : {A : Type 0} → Result A TypeFault → Result A TypeFault
 within (Ok x) = Ok x
 within (Err e) = Err (inner e)
@@ -146,16 +146,16 @@ ended x = if length x.1 == 0 then Ok x.0 else Err fault.SizeMismatch
 unfoldable pub whole : {A : Type 0} → Result (A × List ℕ) TypeFault → Result A TypeFault
 whole read = within read >>= ended
 
--- a constructor, and what it stands before
+-- a constructor, and what follows it
 abbrev pub value_by : (Code → Reads Data) → Reads Data
 value_by body bytes = code_at bytes >>= λ c. body c.0 c.1
 
--- a value behind its own constructor, or behind the one that an array's elements share
+-- a value after its own constructor, or after the one that an array's elements share
 abbrev pub one_by : (Code → Reads Data) → Option Code → Reads Data
 one_by body None bytes = value_by body bytes
 one_by body (Some c) bytes = body c bytes
 
--- so many values, one after the other
+-- this many values, one after another
 unfoldable pub items_at : Reads Data → ℕ → Reads Items
 items_at one zero bytes = Ok (no_items, bytes)
 items_at one (suc n) bytes = do
@@ -163,7 +163,7 @@ items_at one (suc n) bytes = do
   others ← items_at one n first.1
   Ok (item first.0 others.0, others.1)
 
--- a key with its value, and so many of them
+-- a key with its value, and this many of them
 unfoldable pub pair_at : Reads Data → Reads (Data × Data)
 pair_at one bytes = do
   key ← one bytes
@@ -213,7 +213,7 @@ described_at body bytes = do
   value ← value_by body descriptor.1
   Ok (d.described descriptor.0 value.0, value.1)
 
--- what stands behind a constructor, where body reads a level further in
+-- what follows a constructor, where body reads a level further in
 abbrev pub body_by : (Code → Reads Data) → Code → Reads Data
 body_by body (code.Leaf l) bytes = leaf_at l bytes
 body_by body code.EmptyList bytes = Ok (d.list no_items, bytes)
@@ -222,24 +222,24 @@ body_by body (code.Map s) bytes = made (λ inside. whole (map_in body s inside))
 body_by body (code.Array s) bytes = made (λ inside. whole (array_in body s inside)) (sized_at s bytes)
 body_by body code.Described bytes = described_at body bytes
 
--- what stands behind a constructor, so many levels deep at most
+-- what follows a constructor, with at most this many levels
 unfoldable pub body_at : ℕ → Code → Reads Data
 body_at zero c bytes = Err fault.TooDeep
 body_at (suc depth) c bytes = body_by (body_at depth) c bytes
 
--- the value at the front, so many levels deep at most: 32 where no other is around it
+-- the value at the front, with at most this many levels: 32 where no other is around it
 unfoldable pub value_at : ℕ → Reads Data
 value_at depth bytes = value_by (body_at depth) bytes
 
--- a value, and the bytes behind it
+-- a value, and the bytes after it
 abbrev pub found_before : Data → List ℕ → Result (Data × List ℕ) TypeFault
 found_before v rest = Ok (v, rest)
 
--- a value, and how many bytes spell it
+-- a value, and how many bytes encode it
 abbrev pub found_at : Data → ℕ → Result (Data × ℕ) TypeFault
 found_at v n = Ok (v, n)
 
--- what was read at the front of bytes, and how many of them spell it
+-- what was read at the front of bytes, and how many of them encode it
 abbrev pub measured : {A : Type 0} → List ℕ → Result (A × List ℕ) TypeFault → Result (A × ℕ) TypeFault
 measured bytes read = read >>= λ x. Ok (x.0, length bytes - length x.1)
 

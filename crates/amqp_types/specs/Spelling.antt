@@ -1,4 +1,4 @@
--- The one spelling that is written for each value: the shortest (AMQP 1.0 part 1, section 1.6).
+-- The one encoding that is written for each value: the shortest (AMQP 1.0 part 1, section 1.6).
 use Rattle.std.specs.Prelude.{ℕ, ℤ, pos, negsuc, int_le, ◌+◌, ◌*◌, Bool, true, false, List, [], ◌∷◌, ◌++◌, length, nat_lt, ◌&&◌, ◌==◌, if◌then◌else◌}
 use Rattle.std.specs.Int.{Width, w8, w16, w32, w64, to_be_bytes, cast_unsigned}
 use Rattle.amqp_types.specs.declared.code.Kind.{Kind}
@@ -7,8 +7,8 @@ use Rattle.amqp_types.specs.Data as d
 use Rattle.amqp_types.specs.Data.{Data, Items, no_items, item, Pairs, no_pairs, pair}
 use Rattle.amqp_types.specs.Spells.{count, pair_count}
 
--- The shorter and the longer constructor of each type that has bytes behind it; the same one where
--- there is but one. Null has no other than its own.
+-- The shorter and the longer constructor of each type that has bytes after it; the same one where
+-- there is only one. Null has only its own.
 abbrev pub narrow_code : Kind → ℕ
 narrow_code kind.Null = 0x40
 narrow_code kind.Boolean = 0x56
@@ -61,8 +61,8 @@ wide_code kind.List = 0xD0
 wide_code kind.Map = 0xD1
 wide_code kind.Array = 0xF0
 
--- The bytes of values of one type behind their constructor: behind the longer one always, and
--- behind the shorter one where each of them fits it.
+-- The bytes of values of one type after their constructor: after the longer one always, and
+-- after the shorter one where each of them fits it.
 pub record Piece : Type 0 where
   pub fits : Bool
   pub narrow : List ℕ
@@ -75,7 +75,7 @@ no_piece = record { fits = true; narrow = []; wide = [] }
 abbrev pub join : Piece → Piece → Piece
 join p q = record { fits = p.fits && q.fits; narrow = p.narrow ++ q.narrow; wide = p.wide ++ q.wide }
 
--- values behind the shortest constructor that fits each of them
+-- values after the shortest constructor that fits each of them
 abbrev pub constructed : Kind → Piece → List ℕ
 constructed k p = if p.fits then narrow_code k ∷ p.narrow else wide_code k ∷ p.wide
 
@@ -97,18 +97,18 @@ is_small z = int_le (negsuc 127) z && int_le z (pos 127)
 abbrev pub signed_piece : Width → ℤ → Piece
 signed_piece w z = piece_by (is_small z) (cast_unsigned w8 z ∷ []) (to_be_bytes w (cast_unsigned w z))
 
--- bytes behind their length
+-- bytes after their length
 abbrev pub sized_piece : List ℕ → Piece
 sized_piece bytes = piece_by (nat_lt (length bytes) 256) (length bytes ∷ bytes) (to_be_bytes w32 (length bytes) ++ bytes)
 
--- what a list, a map or an array holds, behind its size and its count
+-- what a list, a map or an array holds, after its size and its count
 abbrev pub wide_sizes : ℕ → ℕ → List ℕ
 wide_sizes n len = to_be_bytes w32 (len + 4) ++ to_be_bytes w32 n
 
 abbrev pub compound_piece : ℕ → List ℕ → Piece
 compound_piece n inside = piece_by (nat_lt (length inside) 255 && nat_lt n 256) ((length inside + 1) ∷ n ∷ inside) (wide_sizes n (length inside) ++ inside)
 
--- a list, by how many values it has and their spellings
+-- a list, by how many values it has and their encodings
 abbrev pub list_text : ℕ → List ℕ → List ℕ
 list_text n inside = if n == 0 then 0x45 ∷ [] else constructed kind.List (compound_piece n inside)
 
@@ -143,7 +143,7 @@ unfoldable mutual
   spelling (d.array k vs) = constructed kind.Array (compound_piece (count vs) (constructed k (pieces vs)))
   spelling (d.described a b) = 0x00 ∷ (spelling a ++ spelling b)
 
-  -- values one after the other
+  -- values one after another
   pub spellings : Items → List ℕ
   spellings no_items = []
   spellings (item v vs) = spelling v ++ spellings vs
@@ -152,7 +152,7 @@ unfoldable mutual
   pair_spellings no_pairs = []
   pair_spellings (pair k v ps) = spelling k ++ (spelling v ++ pair_spellings ps)
 
-  -- A value as an element of an array. A described value is none, and stands here for nothing.
+  -- A value as an element of an array. A described value can't be one, and gives no bytes here.
   pub piece : Data → Piece
   piece d.null = single []
   piece (d.boolean b) = single (boolean_byte b ∷ [])

@@ -1,4 +1,4 @@
--- Which bytes spell which value: one case for each constructor (AMQP 1.0 part 1, sections 1.2 and 1.6).
+-- Which bytes encode which value: one case for each constructor (AMQP 1.0 part 1, sections 1.2 and 1.6).
 use Rattle.std.specs.Prelude.{◌≡◌, ℕ, zero, suc, ◌*◌, ◌≤◌, true, List, [], ◌∷◌, ◌++◌, length, Some, Ok}
 use Rattle.std.specs.Int.{byte_len, from_be_bytes}
 use Rattle.amqp_types.specs.declared.code.Size.{Size}
@@ -30,13 +30,13 @@ pub record IsNumber (s : Size) (field : List ℕ) (n : ℕ) : Type 0 where
   pub wide : length field ≡ byte_len (width s)
   pub number : from_be_bytes (width s) field ≡ n
 
--- bytes behind a size that says how many they are
+-- bytes after a size that gives their number
 pub record IsSized (s : Size) (bytes inside : List ℕ) : Type 0 where
   pub field : List ℕ
   pub parts : bytes ≡ field ++ inside
   pub size : IsNumber s field (length inside)
 
--- the bytes of a plain value, behind its constructor
+-- the bytes of a plain value, after its constructor
 abbrev pub IsChunk : Layout → List ℕ → List ℕ → Type 0
 IsChunk (layout.Fixed n) bytes chunk = (bytes ≡ chunk) × (length chunk ≡ n)
 IsChunk (layout.Sized s) bytes chunk = IsSized s bytes chunk
@@ -46,7 +46,7 @@ pub record IsLeaf (l : Leaf) (bytes : List ℕ) (v : Data) : Type 0 where
   pub laid : IsChunk (layout_of l) bytes chunk
   pub meant : content_of l chunk ≡ Ok v
 
--- a constructor, and what stands behind it
+-- a constructor, and what follows it
 pub record Constructed (Body : Code → Spelling) (bytes : List ℕ) (v : Data) : Type 0 where
   pub byte : ℕ
   pub body : List ℕ
@@ -55,7 +55,7 @@ pub record Constructed (Body : Code → Spelling) (bytes : List ℕ) (v : Data) 
   pub known : code_of byte ≡ Some constructor
   pub spelled : Body constructor body v
 
--- values one after the other, and keys each with its value
+-- values one after another, and keys each with its value
 abbrev pub AreItems : Spelling → List ℕ → Items → Type 0
 AreItems One bytes no_items = bytes ≡ []
 AreItems One bytes (item v vs) = (first : List ℕ) × (more : List ℕ) × (bytes ≡ first ++ more) × One first v × AreItems One more vs
@@ -85,7 +85,7 @@ pub record IsMapInside (Body : Code → Spelling) (s : Size) (inside : List ℕ)
   pub spelled : ArePairs (Constructed Body) bytes pairs
 
 -- The inside of an array (section 1.6.24): how many elements, their one constructor, and the elements without it.
--- Described elements have no spelling here, and 1,024 elements without bytes are the most.
+-- Described elements have no encoding here; at most 1,024 elements may have no bytes.
 pub record IsArrayInside (Body : Code → Spelling) (s : Size) (inside : List ℕ) (v : Data) : Type 0 where
   pub field : List ℕ
   pub byte : ℕ
@@ -118,7 +118,7 @@ pub record Fills (s : Size) (bytes : List ℕ) (v : Data) (Inside : Spelling) : 
   pub sized : IsSized s bytes inside
   pub spelled : Inside inside v
 
--- what stands behind a constructor, where Body says it of the values inside
+-- what follows a constructor, where Body says it of the values inside
 abbrev pub BodyBy : (Code → Spelling) → Code → Spelling
 BodyBy Body (code.Leaf l) bytes v = IsLeaf l bytes v
 BodyBy Body code.EmptyList bytes v = (bytes ≡ []) × (d.list no_items ≡ v)
@@ -127,11 +127,11 @@ BodyBy Body (code.Map s) bytes v = Fills s bytes v (IsMapInside Body s)
 BodyBy Body (code.Array s) bytes v = Fills s bytes v (IsArrayInside Body s)
 BodyBy Body code.Described bytes v = IsDescribed Body bytes v
 
--- what stands behind a constructor, where so many values may be around one another
+-- what follows a constructor, with at most this many levels of nesting
 unfoldable pub Behind : ℕ → Code → Spelling
 Behind zero c bytes v = ⊥
 Behind (suc depth) c bytes v = BodyBy (Behind depth) c bytes v
 
--- the bytes spell the value, where so many values may be around one another: 32 for a whole value
+-- the bytes encode the value, with at most this many levels of nesting: 32 for a whole value
 abbrev pub Spells : ℕ → Spelling
 Spells depth bytes v = Constructed (Behind depth) bytes v

@@ -1,10 +1,10 @@
-//! The constructor codes: which byte says what stands behind it (AMQP 1.0 part 1, section 1.6).
+//! The constructor codes: which byte says what follows it (AMQP 1.0 part 1, section 1.6).
 
 ghost use Rattle.std.specs.Prelude.{◌≡◌};
 ghost use Rattle.amqp_types.specs.Codes.{code_of, layout_of, leaf_kind, kind_of, is_without_bytes};
 ghost use Rattle.amqp_types.specs.Spelling.{narrow_code, wide_code};
 
-/// How many bytes a size and a count have.
+/// The width of a size and of a count, in bytes.
 #[derive(Clone, Copy, Debug, PartialEq, Eq)]
 pub enum Size {
     One,
@@ -56,7 +56,7 @@ pub enum Code {
     Described,
 }
 
-/// Where the bytes of a value without others are: so many, or as many as a size before them says.
+/// Where the bytes of a value without others are: a fixed number, or as many as a size before them says.
 #[derive(Clone, Copy, Debug, PartialEq, Eq)]
 pub enum Layout {
     Fixed(usize),
@@ -144,7 +144,7 @@ pub(crate) fn constructor(byte: u8) -> Option<Code>
 }
 
 impl Leaf {
-    /// The type of a value behind this constructor.
+    /// The type of a value after this constructor.
     pub(crate) fn kind(self) -> Kind
         ensures { result ≡ leaf_kind self }
     {
@@ -173,7 +173,7 @@ impl Leaf {
         }
     }
 
-    /// Where the bytes behind the constructor are.
+    /// Where the bytes after the constructor are.
     #[inline(always)]
     pub(crate) fn layout(self) -> Layout
         ensures { result ≡ layout_of self }
@@ -201,7 +201,7 @@ impl Leaf {
 }
 
 impl Code {
-    /// The type of a value behind this constructor; none for a described value.
+    /// The type of a value after this constructor; none for a described value.
     pub fn kind(self) -> Option<Kind>
         ensures { result ≡ kind_of self }
     {
@@ -214,7 +214,7 @@ impl Code {
         }
     }
 
-    /// Whether nothing stands behind this constructor.
+    /// Whether nothing follows this constructor.
     pub(crate) fn is_without_bytes(self) -> bool
         ensures { result ≡ is_without_bytes self }
     {
@@ -227,7 +227,7 @@ impl Code {
 }
 
 impl Kind {
-    /// The byte of the shorter constructor of this type that has bytes behind it.
+    /// The byte of the shorter constructor of this type that has bytes after it.
     #[inline(always)]
     pub(crate) fn narrow_code(self) -> u8
         ensures { result ≡ narrow_code self }

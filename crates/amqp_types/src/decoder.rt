@@ -1,4 +1,4 @@
-//! Reading values.
+//! Decoding values.
 
 ghost use Rattle.std.specs.Prelude.{◌≡◌, ◌≤◌, ◌++◌, List, ℕ, Result, length, take, IfOk};
 ghost use Rattle.amqp_types.specs.Spells.{Spells};
@@ -14,22 +14,22 @@ use crate::reader::{code_of, leaf_of, size_of, sized_of};
 use crate::value::Value;
 use std::alloc::Global;
 
-/// Elements of an array that have no bytes: so many at most.
+/// The most elements without bytes that an array may have.
 const MOST_EMPTY_ELEMENTS: u32 = 1024;
 
-/// How many values may stand around one another: a value is in at most 31 others.
+/// The deepest nesting of values: a value is in at most 31 others.
 pub const MOST_LEVELS: u32 = 32;
 
-/// The value at the front of the bytes, and how many bytes spell it.
+/// The value at the front of the bytes, and how many bytes encode it.
 ///
-/// Errors: the first fault from the front where no beginning of the bytes spells a value, or
+/// Errors: the first fault from the front where no prefix of the bytes encodes a value, or
 /// `TypeFault::Memory`.
 pub fn decode(alloc: Global, bytes: &[u8]) -> Result<(Value, usize), TypeFault>
-    // What is read is spelled so.
+    // What is read is encoded by these bytes.
     ensures found { IfOk result (λ x. Spells 32 (take x.1 bytes.now) (view x.0)) }
     ensures bounded { IfOk result (λ x. x.1 ≤ length bytes.now) }
 
-    // What is spelled so is read, whatever follows, unless memory runs out.
+    // What is encoded this way is read, whatever follows, unless memory runs out.
     ensures only { (v : Data) (text rest : List ℕ) → bytes.now ≡ text ++ rest → Spells 32 text v
         → Gives (λ x. (view x.0, x.1)) result (found_at v (length text)) }
 
@@ -46,8 +46,8 @@ fn decode_counted(alloc: Global, bytes: &[u8]) -> Result<(Value, usize), TypeFau
     Ok((value, bytes.len().saturating_sub(rest.len())))
 }
 
-/// The value at the front of the bytes, and the bytes behind it, where `depth` values at most may
-/// stand around one another: the value itself is the first of them.
+/// The value at the front of the bytes, and the bytes after it, with at most `depth` levels of
+/// nesting: the value itself is the first of them.
 #[cycle(read)]
 #[tactic(auto, unfolding(crate::specs::Reading::value_at))]
 pub fn value_of(alloc: Global, depth: u32, bytes: &[u8]) -> Result<(Value, &[u8]), TypeFault>
@@ -88,7 +88,7 @@ fn body_of(alloc: Global, depth: u32, code: Code, bytes: &[u8]) -> Result<(Value
     }
 }
 
-/// A value behind the one constructor of an array's elements, or behind its own.
+/// A value after the one constructor of an array's elements, or after its own.
 #[cycle(read)]
 #[tactic(auto, unfolding(crate::specs::Reading::value_at))]
 fn one_of(
@@ -210,7 +210,7 @@ fn described_of(alloc: Global, depth: u32, bytes: &[u8]) -> Result<(Value, &[u8]
     Ok((described, rest))
 }
 
-/// The type of an array's elements, of which there are so many.
+/// The type of an array's elements, by their number and their constructor.
 pub(crate) fn kind_of_elements(count: u32, element: Code) -> Result<Kind, TypeFault>
     ensures { Same (λ x. x) result (element_kind count element) }
 {

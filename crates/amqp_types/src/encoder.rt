@@ -1,4 +1,4 @@
-//! Writing values: of each the one spelling that is the shortest.
+//! Encoding values: each in the one encoding that is the shortest.
 
 ghost use Rattle.std.specs.Prelude.{◌≡◌, ◌++◌, ◌∷◌, [], ◌*◌, OnOk, OnErr, IfOk};
 ghost use Rattle.amqp_types.specs.Data as d;
@@ -12,13 +12,13 @@ use crate::plain::Plain;
 use crate::value::Value;
 use std::alloc::{AllocError, Global};
 
-/// Bytes for which room is made before what a compound holds is written.
+/// Bytes reserved before the contents of a compound are written.
 const FIRST_ROOM: usize = 64;
 
-/// Appends the shortest spelling of the value.
+/// Appends the shortest encoding of the value.
 ///
-/// A text or a compound of 2^32 bytes or more has no spelling, and is answered as if memory ran
-/// out. Elements of an array that are not of its type are written as what they are, behind the
+/// A text or a compound of 2^32 bytes or more has no encoding, and is answered as if memory ran
+/// out. Elements of an array that are not of its type are written as what they are, after the
 /// constructor of its type.
 pub fn encode(alloc: Global, value: &Value, out: &mut Vec<u8>) -> Result<(), AllocError>
     ensures ok { OnOk result (out.new.items ≡ out.old.items ++ spelling (view value.now)) }
@@ -171,7 +171,7 @@ fn put_piece(alloc: Global, all: &mut Pieces, value: &Value) -> Result<(), Alloc
     }
 }
 
-/// Appends the shortest spelling of a value that holds no others.
+/// Appends the shortest encoding of a value that holds no others.
 #[inline(always)]
 #[tactic(auto, unfolding(crate::specs::Spelling::spelling))]
 pub fn put_plain(out: &mut Vec<u8>, plain: Plain<'_>) -> Result<(), AllocError>
@@ -307,7 +307,7 @@ fn put_compound(
     out.extend_from_slice(inside)
 }
 
-/// Appends a list, by how many values it has and the bytes that spell them.
+/// Appends a list, by how many values it has and the bytes that encode them.
 pub fn put_list(out: &mut Vec<u8>, count: usize, inside: &[u8]) -> Result<(), AllocError>
     ensures { OnOk result (out.new.items ≡ out.old.items ++ list_text count inside.now) }
 {
@@ -317,7 +317,7 @@ pub fn put_list(out: &mut Vec<u8>, count: usize, inside: &[u8]) -> Result<(), Al
     put_compound(out, Kind::List, count, inside)
 }
 
-/// Appends a map, by how many keys it has and the bytes that spell them and their values.
+/// Appends a map, by how many keys it has and the bytes that encode them and their values.
 pub fn put_map(out: &mut Vec<u8>, count: usize, inside: &[u8]) -> Result<(), AllocError>
     ensures { OnOk result (out.new.items ≡ out.old.items ++ constructed kind.Map (compound_piece (2 * count) inside.now)) }
 {

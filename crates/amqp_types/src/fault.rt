@@ -1,4 +1,4 @@
-//! Why bytes spell no value.
+//! Why bytes encode no value.
 
 ghost use Rattle.std.specs.Prelude.{◌≡◌};
 ghost use Rattle.amqp_types.specs.Faults.{fault_number, inner};
@@ -7,7 +7,7 @@ ghost use Rattle.amqp_types.specs.declared.fault.TypeFault.TheVariants.{Memory};
 use std::alloc::{AllocError, AllocFailed};
 use thiserror::Error;
 
-/// What is wrong with the bytes of a value, at the first place from the front where none goes on.
+/// What is wrong with the bytes of a value, at the first place from the front where no value can go on.
 #[derive(Clone, Copy, Debug, PartialEq, Eq, Error)]
 pub enum TypeFault {
     /// The bytes end within the value, or before the end that a size names.
@@ -66,7 +66,7 @@ impl TypeFault {
         }
     }
 
-    /// What this fault is inside a list, a map or an array, whose end the bytes end at.
+    /// This fault inside a list, a map or an array, where the end of the bytes is the end of the compound.
     pub fn inside(self) -> TypeFault
         ensures { result ≡ inner self }
     {

@@ -1,4 +1,4 @@
-//! What holds of all spellings. These functions do nothing: their contracts are the laws.
+//! What holds of all encodings. These functions do nothing: their contracts are the laws.
 
 ghost use Rattle.std.specs.Prelude.{◌≡◌, ◌++◌, List, ℕ};
 ghost use Rattle.amqp_types.specs.Data.{Data};
@@ -7,20 +7,20 @@ ghost use Rattle.amqp_types.specs.Spells.{Spells};
 ghost use Rattle.amqp_types.specs.Spelling.{spelling};
 ghost use Rattle.amqp_types.specs.Reading.{value_at, found_before};
 
-/// No spelling begins another: what the bytes at the front spell is settled, whatever follows.
+/// No encoding is a prefix of another: the value at the front is settled, whatever follows.
 pub fn none_begins_another()
     ensures { (depth : ℕ) (a b x y : List ℕ) (v w : Data)
         → Spells depth a v → Spells depth b w → a ++ x ≡ b ++ y → (a ≡ b) × (v ≡ w) }
 {}
 
-/// What is written of a value spells it, and is read again as the same value, whatever follows.
+/// What is written of a value encodes it, and is read again as the same value, whatever follows.
 pub fn written_is_read_again()
     ensures spelled { (depth : ℕ) (v : Data) → FitsIn depth v → Spells depth (spelling v) v }
     ensures again { (depth : ℕ) (v : Data) (rest : List ℕ)
         → FitsIn depth v → value_at depth (spelling v ++ rest) ≡ found_before v rest }
 {}
 
-/// The elements of each array in a value that is spelled, and so in one that was decoded, are of the
+/// The elements of each array in an encoded value, and so in a decoded one, are of the
 /// array's type.
 pub fn arrays_are_of_one_type()
     ensures { (depth : ℕ) (bytes : List ℕ) (v : Data) → Spells depth bytes v → IsTyped depth v }

@@ -1,4 +1,4 @@
-//! The type system of AMQP 1.0 (part 1): values, and the bytes that spell them.
+//! The type system of AMQP 1.0 (part 1): values, and the bytes that encode them.
 #![tactic(auto)]
 
 mod code;

@@ -1,4 +1,4 @@
-//! How values begin that hold others, so that what they hold can be read in place.
+//! How values that hold others begin, so that what they hold can be read in place.
 
 ghost use Rattle.std.specs.Prelude.{◌≡◌, option_map};
 ghost use Rattle.amqp_types.specs.View.{plain_view, plain_part};
@@ -12,17 +12,17 @@ use crate::plain::Plain;
 use crate::reader::{code_of, leaf_of, size_of, sized_of};
 use crate::skipper::pass_body;
 
-/// How a value begins, where it holds others.
+/// How a value that holds others begins.
 #[derive(Clone, Copy, Debug, PartialEq)]
 pub enum Opening<'a> {
-    /// A list: how many items, their bytes to the end of the list, and the bytes behind the list.
+    /// A list: how many items, their bytes to the end of the list, and the bytes after the list.
     List {
         count: u32,
         items: &'a [u8],
         behind: &'a [u8],
     },
     /// An array: the constructor of its elements, how many they are, their bytes to the end of the
-    /// array, and the bytes behind the array.
+    /// array, and the bytes after the array.
     Array {
         element: Code,
         count: u32,
@@ -33,14 +33,14 @@ pub enum Opening<'a> {
     Described {
         descriptor: &'a [u8],
     },
-    /// Another value, which was not looked at behind its constructor.
+    /// Another value, which was not looked at past its constructor.
     Other,
 }
 
-/// How the value at the front begins, where `depth` values at most may stand around one another:
+/// How the value at the front begins, with at most `depth` levels of nesting:
 /// the value itself is the first of them.
 ///
-/// A list and an array are told with the faults that they have before their first item; what they
+/// The answer for a list or an array has the faults that come before its first item; what they
 /// hold is not looked at.
 #[tactic(auto, unfolding(crate::specs::Opening::opening_at))]
 pub fn opening_of(depth: u32, bytes: &[u8]) -> Result<Opening<'_>, TypeFault>
@@ -109,8 +109,8 @@ fn open_array<'a>(size: Size, inside: &'a [u8], behind: &'a [u8]) -> Result<Open
     })
 }
 
-/// The value at the front, where it holds no others, and the bytes behind it. A value that holds
-/// others is passed over, all of it.
+/// The value at the front, where it holds no others, and the bytes after it. A value that holds
+/// others is passed over whole.
 #[inline(always)]
 #[tactic(auto, using(crate::proofs::Openings::to_value_at), unfolding(crate::specs::Reading::value_at))]
 pub fn front_of(depth: u32, bytes: &[u8]) -> Result<(Option<Plain<'_>>, &[u8]), TypeFault>
@@ -120,7 +120,7 @@ pub fn front_of(depth: u32, bytes: &[u8]) -> Result<(Option<Plain<'_>>, &[u8]), 
     element_of(depth, code, rest)
 }
 
-/// The same for a value behind a constructor, as the elements of an array are.
+/// The same for a value after a constructor, as the elements of an array are.
 #[inline(always)]
 #[tactic(auto, using(crate::proofs::Openings::to_leaf, crate::proofs::Openings::to_others), unfolding(crate::specs::Reading::body_at))]
 pub fn element_of(

@@ -1,4 +1,4 @@
-//! The elements of an array, each written once behind the shorter and the longer constructor.
+//! The elements of an array, each written once after the shorter and the longer constructor.
 
 ghost use Rattle.std.specs.Prelude.{◌≡◌, ◌++◌, ◌*◌, OnOk};
 ghost use Rattle.std.specs.Int.{w32, w64};
@@ -10,7 +10,7 @@ use std::alloc::{AllocError, Global};
 
 /// Elements of an array, without their constructor.
 ///
-/// After an `Err` the elements are in no useful state.
+/// After an `Err` the elements are not to be used.
 #[derive(Debug, Drop)]
 pub struct Pieces {
     /// Whether each element fits the shorter constructor.
@@ -104,7 +104,7 @@ impl Pieces {
         self.wide.extend_from_slice(bytes)
     }
 
-    /// A list, a map or an array, by its count and the bytes behind the count.
+    /// A list, a map or an array, by its count and the bytes after the count.
     pub(crate) fn compound(&mut self, count: usize, inside: &[u8]) -> Result<(), AllocError>
         ensures { OnOk result (pieces_view self.new ≡ join (pieces_view self.old) (compound_piece count inside.now)) }
     {
@@ -129,7 +129,7 @@ impl Pieces {
         self.compound(count, inside)
     }
 
-    /// Appends the constructor of all elements, the shortest that fits them, and the elements.
+    /// Appends the one constructor of all elements, the shortest that fits them, and the elements.
     pub fn put(&self, kind: Kind, out: &mut Vec<u8>) -> Result<(), AllocError>
         ensures { OnOk result (out.new.items ≡ out.old.items ++ constructed kind (pieces_view self.now)) }
     {

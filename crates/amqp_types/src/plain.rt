@@ -1,4 +1,4 @@
-//! Values that hold no others, borrowed from the bytes that spell them.
+//! Values that hold no others, borrowed from the bytes that encode them.
 
 ghost use Rattle.std.specs.Prelude.{◌≡◌, IfOk};
 ghost use Rattle.amqp_types.specs.View.{view, plain_view};
@@ -6,7 +6,7 @@ ghost use Rattle.amqp_types.specs.View.{view, plain_view};
 use crate::value::Value;
 use std::alloc::{AllocError, Global};
 
-/// A value that holds no others. Its texts are those of the bytes that spell it.
+/// A value that holds no others. Its texts are those of the bytes that encode it.
 #[derive(Clone, Copy, Debug, PartialEq)]
 pub enum Plain<'a> {
     Null,

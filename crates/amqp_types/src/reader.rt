@@ -1,4 +1,4 @@
-//! Reading what takes no memory: constructors, sizes, and values that hold no others.
+//! Reading what needs no allocation: constructors, sizes, and values that hold no others.
 
 ghost use Rattle.std.specs.Prelude.{◌≡◌, length, IfOk};
 ghost use Rattle.amqp_types.specs.Codes.{IsLaid, layout_of};
@@ -9,7 +9,7 @@ use crate::code::{Code, Layout, Leaf, Size, constructor};
 use crate::fault::TypeFault;
 use crate::plain::Plain;
 
-/// The first so many bytes.
+/// The first bytes, as many as asked for.
 #[inline(always)]
 pub(crate) fn bytes_of(count: usize, bytes: &[u8]) -> Result<(&[u8], &[u8]), TypeFault>
     ensures { Same (λ x. (x.0.now, x.1.now)) result (bytes_at count bytes.now) }
@@ -72,7 +72,7 @@ fn chunk_of(layout: Layout, bytes: &[u8]) -> Result<(&[u8], &[u8]), TypeFault>
     }
 }
 
-/// A value without others, behind its constructor.
+/// A value without others, after its constructor.
 #[inline(always)]
 #[tactic(auto, unfolding(crate::specs::Reading::leaf_at))]
 pub(crate) fn leaf_of(leaf: Leaf, bytes: &[u8]) -> Result<(Plain<'_>, &[u8]), TypeFault>

@@ -1,4 +1,4 @@
-//! Passing over values: the same faults as reading them, and no memory.
+//! Passing over values: the same faults as reading them, without allocation.
 
 ghost use Rattle.std.specs.Prelude.{◌≡◌, ◌≤◌, ◌++◌, List, ℕ, Result, length, take, IfOk};
 ghost use Rattle.amqp_types.specs.Spells.{Spells};
@@ -11,14 +11,14 @@ use crate::decoder::{MOST_LEVELS, kind_of_elements};
 use crate::fault::TypeFault;
 use crate::reader::{code_of, leaf_of, size_of, sized_of};
 
-/// How many bytes spell the value at the front: the length and the faults of `decode`, without
-/// memory.
+/// How many bytes encode the value at the front: the length and the faults of `decode`, without
+/// allocation.
 pub fn skip(bytes: &[u8]) -> Result<usize, TypeFault>
     // What is passed over is a value.
     ensures found { IfOk result (λ n. (v : Data) × Spells 32 (take n bytes.now) v) }
     ensures bounded { IfOk result (λ n. n ≤ length bytes.now) }
 
-    // What spells a value is passed over, whatever follows.
+    // What encodes a value is passed over, whatever follows.
     ensures only { (v : Data) (text rest : List ℕ) → bytes.now ≡ text ++ rest → Spells 32 text v → result ≡ Ok (length text) }
 
     // Which length, or which fault.
@@ -34,8 +34,8 @@ fn skip_counted(bytes: &[u8]) -> Result<usize, TypeFault>
     Ok(bytes.len().saturating_sub(rest.len()))
 }
 
-/// The bytes behind the value at the front, where `depth` values at most may stand around one
-/// another: the value itself is the first of them.
+/// The bytes after the value at the front, with at most `depth` levels of nesting:
+/// the value itself is the first of them.
 #[cycle(pass)]
 #[tactic(auto, using(crate::proofs::Passing::after_value_by), unfolding(crate::specs::Reading::value_at))]
 pub fn skip_at(depth: u32, bytes: &[u8]) -> Result<&[u8], TypeFault>
@@ -45,7 +45,7 @@ pub fn skip_at(depth: u32, bytes: &[u8]) -> Result<&[u8], TypeFault>
     pass_body(depth, code, rest)
 }
 
-/// The bytes behind what stands behind a constructor.
+/// The bytes after what follows a constructor.
 #[cycle(pass)]
 #[tactic(auto, using(crate::proofs::Passing::after_body_at), unfolding(crate::specs::Reading::body_at))]
 pub(crate) fn pass_body(depth: u32, code: Code, bytes: &[u8]) -> Result<&[u8], TypeFault>
@@ -165,7 +165,7 @@ fn pass_described(depth: u32, bytes: &[u8]) -> Result<&[u8], TypeFault>
     skip_at(depth, rest)
 }
 
-/// What stands behind a list, a map or an array, where all of its inside was passed over.
+/// What follows a list, a map or an array, where all of its inside was passed over.
 #[tactic(auto, unfolding(crate::specs::Reading::whole))]
 fn all_passed<'a>(passed: Result<&[u8], TypeFault>, rest: &'a [u8]) -> Result<&'a [u8], TypeFault>
     ensures { (all : Result (Data × List ℕ) TypeFault)
