@@ -17,7 +17,7 @@ frame x carried = record { transfer = x; payload = carried }
 abbrev pub goes_on : Frame → Bool
 goes_on f = f.transfer.more && not f.transfer.aborted
 
--- the frames of the delivery in progress, after a frame and those of its delivery that came before
+-- the frames of the delivery in the middle, after a frame and those of its delivery that came before
 abbrev pub still : Frame → List Frame → List Frame
 still f fs = if goes_on f then f ∷ fs else []
 

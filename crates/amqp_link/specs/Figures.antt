@@ -76,7 +76,7 @@ behind_our_grant g e = record e { granted = Some g }
 abbrev pub behind_count : ℕ → RecvFigures → RecvFigures
 behind_count n e = record e { count = n % 2 ^ 32 }
 
--- ... a settlement of the delivery in progress, ...
+-- ... a settlement of the delivery in the middle, ...
 abbrev pub behind_settlement : RecvFigures → RecvFigures
 behind_settlement e = record e { middle = option_map settled_now e.middle }
 

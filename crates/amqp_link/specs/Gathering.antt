@@ -1,4 +1,4 @@
--- What a receiving end keeps, and what it keeps of the frames of the delivery in progress.
+-- What a receiving end keeps, and what it keeps of the frames of the delivery in the middle.
 use Rattle.std.specs.Prelude.{ℕ, true, ◌||◌, if◌then◌else◌, nat_lt, List, [], ◌∷◌, ◌++◌, length, Option, Some, None}
 use Rattle.amqp_link.specs.declared.grant.Grant.{Grant}
 use Rattle.amqp_link.specs.declared.part.Delivery.{Delivery}
@@ -11,7 +11,7 @@ pub record Gathered : Type 0 where
   pub delivery : Delivery
   pub kept : Option (List ℕ)
 
--- an end: the sender's delivery-count, the last grant to it, and the delivery in progress
+-- an end: the sender's delivery-count, the last grant to it, and the delivery in the middle
 pub record RecvFigures : Type 0 where
   pub count : ℕ
   pub granted : Option Grant
@@ -43,7 +43,7 @@ with_frame f g = record {
 abbrev pub settled_now : Gathered → Gathered
 settled_now g = record g { delivery = record g.delivery { settled = true } }
 
--- ... and what becomes of it with a frame that was joined to it, with what stays in progress
+-- ... and what becomes of it with a frame that was joined to it, with what stays in the middle
 abbrev pub whole : Delivery → Option (List ℕ) → Part
 whole d None = part.TooLarge
 whole d (Some b) = part.Whole d b
@@ -58,7 +58,7 @@ turned f g =
     else if f.transfer.more then (more g.kept, Some g)
     else (whole g.delivery g.kept, None)
 
--- what a frame gives, and what stays in progress
+-- what a frame gives, and what stays in the middle
 abbrev pub next : Frame → Option Gathered → Part × Option Gathered
 next f None = turned f (begun f)
 next f (Some g) = turned f (with_frame f g)

@@ -15,13 +15,13 @@ pub data Event : Type 0 where
   TheirCount : ℕ → Event
   -- a transfer of the peer
   TheirTransfer : Frame → Event
-  -- the peer settled the delivery in progress, by a disposition whose range has it (AMQP 1.0 part 2, section 2.7.6)
+  -- the peer settled the delivery in the middle, by a disposition whose range has it (AMQP 1.0 part 2, section 2.7.6)
   TheirSettlement : Event
 
 abbrev pub Received : Type 0
 Received = List Event
 
--- The frames of the delivery in progress: one with some of its frames here and more to come.
+-- The frames of the delivery in the middle: one with some of its frames here and more to come.
 abbrev pub middle : Received → List Frame
 middle [] = []
 middle (TheirAttach n ∷ t) = []
@@ -33,7 +33,7 @@ abbrev pub is_empty : List Frame → Bool
 is_empty [] = true
 is_empty (_ ∷ _) = false
 
--- The same for credit: a transfer starts a delivery where none is in progress.
+-- The same for credit: a transfer starts a delivery where none is in the middle.
 abbrev pub seen : Received → Link
 seen [] = []
 seen (TheirAttach n ∷ t) = Attached n ∷ seen t

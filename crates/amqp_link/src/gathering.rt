@@ -12,7 +12,7 @@ use std::marker::Model;
 /// The most bytes that a delivery may have.
 pub const MAX_MESSAGE_SIZE: usize = 65_536;
 
-/// A delivery in progress: its fields, and the bytes that came, in one growing buffer. Nothing is kept of one that
+/// A delivery in the middle: its fields, and the bytes that came, in one growing buffer. Nothing is kept of one that
 /// is too large.
 #[derive(Debug, Drop)]
 pub(crate) struct Gathering {
@@ -115,7 +115,7 @@ impl Gathering {
     }
 }
 
-/// What a frame that starts a delivery gives, and what stays in progress.
+/// What a frame that starts a delivery gives, and what stays in the middle.
 pub(crate) fn first(
     alloc: Global,
     transfer: &Transfer,
@@ -138,7 +138,7 @@ pub(crate) fn first(
     Ok((Part::Whole(Delivery::begun(transfer)?, payload), None))
 }
 
-/// What a later frame gives, and what stays in progress. An error gives the delivery back as it was.
+/// What a later frame gives, and what stays in the middle. An error gives the delivery back as it was.
 pub(crate) fn later(
     mut gathering: Gathering,
     transfer: &Transfer,

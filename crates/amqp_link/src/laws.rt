@@ -40,7 +40,7 @@ pub fn only_what_was_granted_is_taken()
     ensures later { (t : Received) (f : Frame) → is_empty (middle t) ≡ false → unused (behind f t) ≡ unused t }
 {}
 
-/// A delivery that its sender settled while it was in progress is reported as settled, whatever frames of it follow. A
+/// A delivery that its sender settled while it was in the middle is reported as settled, whatever frames of it follow. A
 /// settlement uses no credit.
 #[tactic(auto, using(crate::proofs::Settled::told_settled, crate::proofs::Settled::lasts))]
 pub fn a_settlement_lasts()

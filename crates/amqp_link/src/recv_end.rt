@@ -124,8 +124,8 @@ impl RecvEnd {
         }
     }
 
-    /// Notes that the sender settled the delivery in progress, by a disposition whose range has it (AMQP 1.0 part 2,
-    /// section 2.7.6): it is reported as settled once it is whole. Without one in progress nothing changes.
+    /// Notes that the sender settled the delivery in the middle, by a disposition whose range has it (AMQP 1.0 part 2,
+    /// section 2.7.6): it is reported as settled once it is whole. Without one in the middle nothing changes.
     pub fn settle(&mut self)
         ensures fits { (t : Received) → Receives self.old t → Receives self.new (TheirSettlement ∷ t) }
         ensures figures { self.new ≡ behind_settlement self.old }
@@ -154,7 +154,7 @@ impl RecvEnd {
         }
     }
 
-    /// The fields of the delivery in progress, if there is one.
+    /// The fields of the delivery in the middle, if there is one.
     pub fn in_middle(&self) -> Option<&Delivery>
         ensures fits { (t : Received) → Receives self.now t → option_map (λ d. d.now) result ≡ option_map (λ g. g.delivery) (gathered (middle t)) }
         ensures figure { option_map (λ d. d.now) result ≡ option_map (λ g. g.delivery) self.now.middle }

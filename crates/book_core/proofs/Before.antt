@@ -1,4 +1,4 @@
--- What stood before one change more.
+-- What stood before one more change.
 use Rattle.std.proofs.Common.{◌≡◌, ℕ, List, [], ◌∷◌, ◌++◌, length, set, get_or, refl, ap, ◌∙◌}
 use Rattle.std.proofs.lemmas.List.{take_at, set-set, set-get_or}
 use Rattle.book_core.specs.declared.table.Change.{Change}

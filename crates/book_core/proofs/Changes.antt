@@ -1,4 +1,4 @@
--- What stood at the keys before one change more.
+-- What stood at the keys before one more change.
 use Rattle.std.proofs.Common.{◌≡◌, ℕ, Bool, true, false, cond, List, [], ◌∷◌, ◌++◌, Option, Some, None, refl, ap, ◌∙◌}
 use Rattle.std.specs.BTreeMap.{get, BTreeMap}
 use Rattle.std.specs.Cmp.{IsTotalOrder}

@@ -127,7 +127,7 @@ module _ {V : Type 0} (name : V → ℕ) where
 zero_more : (n : ℕ) → n ≡ 0 + n
 zero_more n = omega arith
 
--- whether any passes, by how many do
+-- whether any passes, by the number of those that do
 pub any_counted : {V : Type 0} (p : V → Bool) (vs : List V) → list_any p vs ≡ nat_lt 0 (count_by p vs)
 any_counted p [] = refl
 any_counted p (v ∷ vs) = by_bool (p v) (any_counted p vs) ∙ ap (nat_lt 0) (sym (sum_by-cons (λ w. cond (p w) 1 0) v vs))

@@ -73,7 +73,7 @@ role_itself Consumer = refl
 itself : (text : List ℕ) → same_bytes text text ≡ true
 itself text = (bytes_eq-Decides text text).1 refl
 
--- the test of keys tells whether they are one
+-- the test of keys shows whether they are one
 key_of : (a b : LinkKey) → same_key a b ≡ true → a ≡ b
 key_of a b h =
     let names = and_of (same_role a.role b.role && same_bytes a.user b.user && same_bytes a.container b.container) (same_bytes a.name b.name) h in
@@ -96,7 +96,7 @@ has_it keys k [] keyed = tt
 has_it keys k (t ∷ ts) keyed =
     ((λ h. same_number t.number.0 (number_at key_cmp keys k) (sym keyed.0 ∙ ap (number_at key_cmp keys) (key_of t.key k h))), has_it keys k ts keyed.1)
 
--- a look-up by key: the terminus of the number that stands there, if it has that key
+-- a look-up by key: the terminus whose number is there, if it has that key
 pub looked : (keys : Numbers LinkKey) (k : LinkKey) (xs : List TerminusSlot) (o : Option Terminus) (n : ℕ) → n ≡ number_at key_cmp keys k
     → (Rises terminus_number xs → o ≡ terminus_at n (termini_in xs)) → Rises terminus_number xs → AllKeyed keys (termini_in xs) → terminus_of k (termini_in xs) ≡ passing (λ t. same_key t.key k) o
 looked keys k xs o n stands found up keyed =
@@ -126,7 +126,7 @@ module _ (old new : Numbers LinkKey) (k : LinkKey) (n : ℕ) (set : (q : LinkKey
       join [] all = (last, tt)
       join (u ∷ us) all = (all.0, join us all.1)
 
--- the key of a terminus that goes is free
+-- the key of a terminus that is dropped is free
 module _ (old new : Numbers LinkKey) (k : LinkKey) (m n : ℕ) (set : (q : LinkKey) → number_at key_cmp new q ≡ cond (is_eq (key_cmp k q)) m (number_at key_cmp old q)) (stood : number_at key_cmp old k ≡ n) where
   other : (t : Terminus) → (t.number.0 == n) ≡ false → number_at key_cmp old t.key ≡ t.number.0 → number_at key_cmp new t.key ≡ t.number.0
   other t differs keyed =
@@ -154,7 +154,7 @@ keyed_at keys n (u ∷ ts) t keyed h =
     (λ e. let found : cond (u.number.0 == n) (Some u) (terminus_at n ts) ≡ Some t = h in let same : u ≡ t = same_terminus u t (rw e at found) in rw (← same) (keyed.0 ∙ number_of u.number.0 n e))
     (λ e. let found : cond (u.number.0 == n) (Some u) (terminus_at n ts) ≡ Some t = h in keyed_at keys n ts t keyed.1 (rw e at found))
 
--- where the same numbers stand
+-- where the same numbers are
 pub keyed_same : (old new : Numbers LinkKey) → ((q : LinkKey) → number_at key_cmp new q ≡ number_at key_cmp old q) → (ts : List Terminus) → AllKeyed old ts → AllKeyed new ts
 keyed_same old new same [] keyed = tt
 keyed_same old new same (t ∷ ts) keyed = (same t.key ∙ keyed.0, keyed_same old new same ts keyed.1)

@@ -54,7 +54,7 @@ third_of false b c h = absurd cc
 all_of : (a b c : Bool) → a ≡ true → b ≡ false → c ≡ true → (a && not b && c) ≡ true
 all_of a b c e f g = rw (e, f, g) refl
 
--- a row with this name has the number that stands there
+-- a row with this name has the number that is there
 tagged : (names : Numbers RowName) (k : RowName) (r : Row) → IsNamed names r → has_tag k.producer k.tag.items r ≡ true → (r.number.0 == number_at name_cmp names k) ≡ true
 tagged names k r named h =
     let from = number_of r.producer.0 k.producer (first_of (r.producer.0 == k.producer) (not r.forgotten) (same_bytes r.tag.items k.tag.items) h) in
@@ -136,12 +136,12 @@ named_at names n (x ∷ rs) r named h =
     (λ t. let found : cond (x.number.0 == n) (Some x) (row_at n rs) ≡ Some r = h in let same : x ≡ r = some_same x r (rw t at found) in rw (← same) (named.0, number_of x.number.0 n t))
     (λ t. let found : cond (x.number.0 == n) (Some x) (row_at n rs) ≡ Some r = h in named_at names n rs r named.1 (rw t at found))
 
--- where the same numbers stand
+-- where the same numbers are
 pub named_same : (old new : Numbers RowName) → ((q : RowName) → number_at name_cmp new q ≡ number_at name_cmp old q) → (rs : List Row) → AllNamed old rs → AllNamed new rs
 named_same old new same [] named = tt
 named_same old new same (r ∷ rs) named = (λ f. same (name_of r) ∙ named.0 f, named_same old new same rs named.1)
 
--- a look-up by name: the row of the number that stands there, if it has that name
+-- a look-up by name: the row whose number is there, if it has that name
 pub looked : (names : Numbers RowName) (k : RowName) (p : ℕ) (tag : List ℕ) (xs : List RowSlot) (o : Option Row) (n : ℕ) → k.producer ≡ p → k.tag.items ≡ tag → n ≡ number_at name_cmp names k
     → (Rises row_number xs → o ≡ row_at n (rows_in xs)) → Rises row_number xs → AllNamed names (rows_in xs) → row_named p tag (rows_in xs) ≡ passing (has_tag p tag) o
 looked names k p tag xs o n producer same stands found up named =

@@ -43,7 +43,7 @@ pub row_changed : (xs : List RowSlot) (n at : ℕ) (s : RowSlot) (old : Row) (ch
     → rows_in (set xs at s) ≡ with_row n change (rows_in xs)
 row_changed xs n at s old change up h was now = shown.change_at row_number (λ s. s.row) (λ (r : Row). r.number.0) (λ s. s.same) n change xs at s old up h was now
 
--- no row of this number is there to be changed
+-- there is no row of this number to change
 pub row_unchanged : (xs : List RowSlot) (n : ℕ) (change : Row → Option Row) → row_at n (rows_in xs) ≡ None → with_row n change (rows_in xs) ≡ rows_in xs
 row_unchanged xs n change none = shown.changed_none (λ (r : Row). r.number.0) n change (rows_in xs) none
 
@@ -111,7 +111,7 @@ makes_new b t h =
 pub admits_next : (b : BookView) (a : Admission) → admit_refusal b a ≡ None → a.row.0 ≡ b.next_row
 admits_next b a h = equal _ _ (first_holds (a.row.0 == b.next_row) _ _ (then_holds _ _ _ (then_holds _ _ _ h)))
 
--- a place that is read at one default has the same at all
+-- a place that is read with one default reads the same with any
 read_at : {S : Type 0} (xs : List S) (at : ℕ) (x d : S) → at < length xs → x ≡ get_or xs at x → get_or xs at d ≡ x
 read_at xs at x d l e = get_or_default xs at d x l ∙ sym e
 
@@ -318,7 +318,7 @@ swept_rows xs ys e = rw e (record {
   below = λ n. shown.below_filter row_number n (λ s. is_some s.row) xs;
 })
 
--- tables that show a book show that one alone
+-- tables that show a book show only that one
 pub shown_is : (t : Tables) (b : BookView) → Shows t b → shown_by t ≡ b
 shown_is t b s = λ i. record { termini = s.termini i; rows = s.rows i; next_terminus = s.next_terminus i; next_row = s.next_row i }
 

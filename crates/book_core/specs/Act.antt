@@ -1,4 +1,4 @@
--- What an act is called, and what it is about.
+-- The kind of an act, and what it is about.
 use Rattle.std.specs.Prelude.{ℕ}
 use Rattle.book_core.specs.declared.act.Act.{Act}
 use Rattle.book_core.specs.declared.act.Act.TheVariants.{Make, Admit, Decide, Forget, Drop}

@@ -23,7 +23,7 @@ pub record BookView : Type 0 where
   pub next_terminus : ℕ
   pub next_row : ℕ
 
--- a book of nothing
+-- an empty book
 abbrev pub empty_book : BookView
 empty_book = record { termini = []; rows = []; next_terminus = 1; next_row = 1 }
 
@@ -66,7 +66,7 @@ is_for_by n (Some c) = c.0 == n
 abbrev pub is_for : ℕ → Row → Bool
 is_for n r = is_for_by n r.consumer
 
--- whether nothing is decided of a row
+-- whether a row has no outcome yet
 abbrev pub is_undecided : Row → Bool
 is_undecided r = is_none r.outcome
 
@@ -85,7 +85,7 @@ abbrev pub has_role : LinkRole → Option Terminus → Bool
 has_role role None = false
 has_role role (Some t) = same_role t.key.role role
 
--- a row may be bound to this terminus: to none, or to one of a consumer
+-- a row may be bound to this terminus: to none, or to a consumer's
 abbrev pub may_bind : Option TerminusNumber → List Terminus → Bool
 may_bind None ts = true
 may_bind (Some n) ts = has_role Consumer (terminus_at n.0 ts)
@@ -107,11 +107,11 @@ abbrev pub keeps : LinkRole → ℕ → Row → Bool
 keeps Producer n r = is_from n r && not r.forgotten
 keeps Consumer n r = is_for n r && is_undecided r
 
--- the fault where a condition doesn't hold, and what is asked next where it does
+-- the fault where a condition doesn't hold, and the next condition where it does
 abbrev pub unless : Bool → BookFault → Option BookFault → Option BookFault
 unless holds fault next = if holds then next else Some fault
 
--- Why an act doesn't apply; the conditions are asked in this order.
+-- Why an act doesn't apply; the conditions are tested in this order.
 abbrev pub make_refusal : BookView → Terminus → Option BookFault
 make_refusal b t =
     unless (t.number.0 == b.next_terminus) NoTerminus (
@@ -157,14 +157,14 @@ refusal b (Drop n) = drop_refusal (terminus_at n.0 b.termini) b.rows
 abbrev pub admitted : Admission → Row
 admitted a = record { number = a.row; producer = a.producer; tag = a.tag; consumer = a.consumer; format = a.format; payload = a.payload; outcome = None; forgotten = false }
 
--- what becomes of a row: it leaves once it is decided and forgotten
+-- a row after its outcome: it leaves once it is decided and forgotten
 abbrev pub decided : DeliveryState → Row → Option Row
 decided outcome r = if r.forgotten then None else Some (record r { outcome = Some outcome })
 
 abbrev pub forgotten : Row → Option Row
 forgotten r = if is_some r.outcome then None else Some (record r { forgotten = true })
 
--- the rows, the one of this number changed
+-- the rows, with the one of this number changed
 abbrev pub with_row : ℕ → (Row → Option Row) → List Row → List Row
 with_row n change = filter_map (λ r. if r.number.0 == n then change r else Some r)
 
@@ -182,12 +182,12 @@ abbrev pub or_else : Option BookFault → Option BookFault → Option BookFault
 or_else None next = next
 or_else (Some fault) next = Some fault
 
--- the fault of the first act that doesn't apply, each to the book that the acts before it leave
+-- the fault of the first act that doesn't apply, each to the book after the acts before it
 unfoldable pub first_fault : BookView → List Act → Option BookFault
 first_fault b [] = None
 first_fault b (act ∷ acts) = or_else (refusal b act) (first_fault (effect b act) acts)
 
--- the book that acts leave
+-- the book after these acts
 unfoldable pub effects : BookView → List Act → BookView
 effects b [] = b
 effects b (act ∷ acts) = effects (effect b act) acts

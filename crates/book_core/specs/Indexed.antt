@@ -1,4 +1,4 @@
--- How the index of a book stands to its rows.
+-- How the index of a book relates to its rows.
 use Rattle.std.specs.Prelude.{◌≡◌, ℕ, Bool, ◌==◌, Option, None, Some, List, count_by, if◌then◌else◌}
 use Rattle.std.specs.BTreeMap.{get}
 use Rattle.std.specs.Ordering.{nat_cmp}
@@ -15,7 +15,7 @@ abbrev pub one_for : Option TerminusNumber → ℕ → ℕ
 one_for None n = 0
 one_for (Some t) n = if t.0 == n then 1 else 0
 
--- the terminus that has a row less, where the row left
+-- the terminus that has one row less, if the row left
 abbrev pub left_by : Bool → Row → Option TerminusNumber
 left_by leaves r = if leaves then Some r.producer else None
 

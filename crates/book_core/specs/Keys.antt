@@ -32,6 +32,6 @@ keys_total =
     (then_total (on_total (λ (k : LinkKey). k.user) nat_list_cmp_total)
     (on_total (λ (k : LinkKey). rank k.role) nat_cmp_total)))
 
--- the number of each terminus stands at its key
+-- the number of each terminus is at its key
 abbrev pub AllKeyed : Numbers LinkKey → List Terminus → Type 0
 AllKeyed keys = AllByRecursion (λ t. number_at key_cmp keys t.key ≡ t.number.0)

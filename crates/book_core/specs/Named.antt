@@ -16,7 +16,7 @@ name_cmp a b = ordering_then (nat_cmp a.producer b.producer) (slice_cmp nat_cmp 
 abbrev pub name_of : Row → RowName
 name_of r = record { producer = r.producer.0; tag = r.tag }
 
--- the number of a row stands at its name, unless the row is forgotten
+-- the number of a row is at its name, unless the row is forgotten
 abbrev pub IsNamed : Numbers RowName → Row → Type 0
 IsNamed names r = r.forgotten ≡ false → number_at name_cmp names (name_of r) ≡ r.number.0
 

@@ -15,7 +15,7 @@ or_zero (Some n) = n
 abbrev pub number_at : {K : Type 0} → (K → K → Ordering) → Numbers K → K → ℕ
 number_at cmp numbers key = or_zero (get cmp numbers.numbers key)
 
--- what stands at a key whose last change is undone: what stood there; nothing stands where nothing stood
+-- what is at a key after its last change is undone: what was there before, or nothing
 abbrev pub back : Option ℕ → Option ℕ → Option ℕ
 back None now = None
 back (Some n) now = option_map (λ _. n) now

@@ -7,7 +7,7 @@ module _ {S : Type 0} (number : S → ℕ) where
   AllAbove n [] = Unit {0}
   AllAbove n (s ∷ ss) = (n < number s) × AllAbove n ss
 
-  -- each has a number below those of all behind it
+  -- each has a number below those of all after it
   abbrev pub Rises : List S → Type 0
   Rises [] = Unit {0}
   Rises (s ∷ ss) = AllAbove (number s) ss × Rises ss

@@ -1,4 +1,4 @@
--- How the tables of a book stand to what it shows.
+-- How the tables of a book relate to what it shows.
 use Rattle.std.specs.Prelude.{◌≡◌, ℕ, List, Option, Some, None, Result, Ok, Err, filter_map, length}
 use Rattle.book_core.specs.declared.fault.BookFault.{BookFault}
 use Rattle.book_core.specs.declared.fault.BookFault.TheVariants.{Memory}

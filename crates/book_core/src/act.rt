@@ -1,4 +1,4 @@
-//! What changes a book.
+//! The changes of a book.
 ghost use Rattle.std.specs.Prelude.{◌≡◌};
 ghost use Rattle.book_core.specs.Act.{kind_of, number_of};
 
@@ -8,18 +8,18 @@ use amqp_perf::{DeliveryState, DeliveryTag};
 use bytes::Bytes;
 use std::fmt;
 
-/// A change of a book.
+/// A change of a book, written as one log record.
 #[derive(Debug, Drop)]
 pub enum Act {
     /// A terminus is made for a durable link.
     Make(Terminus),
     /// A delivery is admitted.
     Admit(Admission),
-    /// It is decided what becomes of a delivery.
+    /// The outcome of a delivery is decided.
     Decide(Decision),
     /// The producer of a delivery has settled it.
     Forget(RowNumber),
-    /// The terminus of a link that was closed goes.
+    /// The terminus of a closed link is dropped.
     Drop(TerminusNumber),
 }
 
@@ -30,7 +30,7 @@ pub struct Admission {
     pub row: RowNumber,
     /// The terminus of the link on which it came.
     pub producer: TerminusNumber,
-    /// The producer's name of it.
+    /// Its delivery-tag, given by the producer.
     pub tag: DeliveryTag,
     /// The terminus of the link to which it is bound; none where that link is not durable.
     pub consumer: Option<TerminusNumber>,
@@ -40,12 +40,12 @@ pub struct Admission {
     pub payload: Bytes,
 }
 
-/// What becomes of a delivery.
+/// The outcome of a delivery.
 #[derive(Debug, Drop)]
 pub struct Decision {
     /// The number of its row.
     pub row: RowNumber,
-    /// What becomes of it: a terminal state.
+    /// Its outcome: a terminal state.
     pub outcome: DeliveryState,
 }
 
@@ -60,7 +60,7 @@ pub enum ActKind {
     Decide,
     /// A row is forgotten.
     Forget,
-    /// A terminus goes.
+    /// A terminus is dropped.
     Drop,
 }
 

@@ -35,7 +35,7 @@ impl Model for Book {
 }
 
 impl Book {
-    /// A book of nothing.
+    /// An empty book.
     pub fn empty(alloc: Global) -> Book
         ensures { result ≡ empty_book }
     {
@@ -44,7 +44,7 @@ impl Book {
         }
     }
 
-    /// Applies acts in turn, each to the book that those before it leave: all of them, or none.
+    /// Applies acts in turn, each to the book after those before it: all of them, or none.
     pub fn apply(&mut self, acts: &[Act]) -> Result<(), BookFault>
         ensures applies { OnOk result (first_fault self.old acts.now ≡ None) }
         ensures applied { OnOk result (self.new ≡ effects self.old acts.now) }
@@ -64,8 +64,8 @@ impl Book {
         }
     }
 
-    /// The rows that came on the link of a terminus or are bound to it, forgotten ones too, by number. It takes no
-    /// memory.
+    /// The rows that came on the link of a terminus or are bound to it, forgotten ones too, by number. It allocates
+    /// nothing.
     pub fn rows_of(&self, terminus: TerminusNumber) -> Rows<'_>
         ensures { rows_left result ≡ filter (is_of terminus.0) self.now.rows }
     {
@@ -75,7 +75,7 @@ impl Book {
         }
     }
 
-    /// All rows, by number. It takes no memory.
+    /// All rows, by number. It allocates nothing.
     #[tactic(auto, using(crate::proofs::Looked::all_wanted))]
     pub fn rows(&self) -> Rows<'_>
         ensures { rows_left result ≡ self.now.rows }
@@ -86,7 +86,7 @@ impl Book {
         }
     }
 
-    /// The row of a number.
+    /// The row with a number.
     pub fn row(&self, number: RowNumber) -> Option<&Row>
         ensures { option_copied result ≡ row_at number.0 self.now.rows }
     {
@@ -105,7 +105,7 @@ impl Book {
         )
     }
 
-    /// The terminus of a number.
+    /// The terminus with a number.
     pub fn terminus(&self, number: TerminusNumber) -> Option<&Terminus>
         ensures { option_copied result ≡ terminus_at number.0 self.now.termini }
     {

@@ -1,4 +1,4 @@
-//! Copies of what a book keeps. What a payload holds is shared.
+//! Copies of what a book keeps. The bytes of a payload are shared.
 ghost use Rattle.std.specs.Prelude.{◌≡◌, IfOk};
 ghost use Rattle.std.specs.Option.{ForSome};
 ghost use Rattle.book_core.specs.Book.{admitted, decided, forgotten};
@@ -113,7 +113,7 @@ pub(crate) fn admitted_row(admission: &Admission) -> Result<Row, AllocError>
     })
 }
 
-/// A row once it is decided; none where it leaves.
+/// A row after it is decided; none if it leaves.
 pub(crate) fn decided_row(row: &Row, decision: &DeliveryState) -> Result<Option<Row>, AllocError>
     ensures row { IfOk result (λ r. r ≡ decided decision.now row.now) }
     ensures same { IfOk result (λ o. ForSome o (λ r. r.number.0 ≡ row.now.number.0)) }
@@ -133,7 +133,7 @@ pub(crate) fn decided_row(row: &Row, decision: &DeliveryState) -> Result<Option<
     }))
 }
 
-/// A row once it is forgotten; none where it leaves.
+/// A row after it is forgotten; none if it leaves.
 pub(crate) fn forgotten_row(row: &Row) -> Result<Option<Row>, AllocError>
     ensures row { IfOk result (λ r. r ≡ forgotten row.now) }
     ensures same { IfOk result (λ o. ForSome o (λ r. r.number.0 ≡ row.now.number.0)) }

@@ -9,10 +9,10 @@ use thiserror::Error;
 /// Why an act doesn't apply to a book; `number` has the fault's number.
 #[derive(Clone, Copy, Debug, PartialEq, Eq, Error)]
 pub enum BookFault {
-    /// There is no such terminus, or it isn't the next to be made or free to go.
+    /// There is no such terminus, or it isn't the next to be made or isn't free to be dropped.
     #[error("no such terminus")]
     NoTerminus,
-    /// There is no such row, or it isn't the next to be admitted or is forgotten.
+    /// There is no such row, or it isn't the next to be admitted, or it is forgotten.
     #[error("no such row")]
     NoRow,
     /// The row is decided.

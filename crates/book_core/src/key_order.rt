@@ -66,7 +66,7 @@ fn rank(role: LinkRole) -> u8
     }
 }
 
-/// Sets the number of the terminus that has a key: 0 where none has it.
+/// Sets the number of the terminus that has a key: 0 if none has it.
 pub(crate) fn set_key(
     keys: &mut Numbers<LinkKey>,
     key: &LinkKey,

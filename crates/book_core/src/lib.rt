@@ -1,6 +1,6 @@
-//! The book of a router: which links have a terminus, which deliveries are admitted, and what became of them.
+//! The book of a router: which durable links have a terminus, which deliveries are admitted, and their outcomes.
 //!
-//! A book changes by acts alone. A list of acts applies whole or not at all.
+//! A book changes only by acts. A list of acts is applied whole or not at all.
 #![tactic(auto)]
 
 pub mod act;

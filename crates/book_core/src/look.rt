@@ -16,7 +16,7 @@ use crate::slot::{RowSlot, TerminusSlot};
 use crate::terminus::{LinkKey, LinkRole, Terminus, TerminusNumber};
 use amqp_perf::DeliveryTag;
 
-/// The terminus of a number.
+/// The terminus with a number.
 pub(crate) fn terminus(slots: &[TerminusSlot], number: TerminusNumber) -> Option<&Terminus>
     ensures { Rises (λ (s : TerminusSlot). s.number) slots.now → option_copied result ≡ terminus_at number.0 (termini_in slots.now) }
 {
@@ -26,7 +26,7 @@ pub(crate) fn terminus(slots: &[TerminusSlot], number: TerminusNumber) -> Option
     }
 }
 
-/// The row of a number.
+/// The row with a number.
 pub(crate) fn row(slots: &[RowSlot], number: u64) -> Option<&Row>
     ensures { Rises (λ (s : RowSlot). s.number) slots.now → option_copied result ≡ row_at number (rows_in slots.now) }
 {
@@ -91,7 +91,7 @@ pub(crate) fn terminus_with<'a>(
     }
 }
 
-/// Whether a terminus stands for the link with this key.
+/// Whether the link with this key has a terminus.
 pub(crate) fn has_key(slots: &[TerminusSlot], keys: &Numbers<LinkKey>, key: &LinkKey) -> bool
     ensures { Rises (λ (s : TerminusSlot). s.number) slots.now → AllKeyed keys.now (termini_in slots.now) → result ≡ list_any (λ t. same_key t.key key.now) (termini_in slots.now) }
 {
@@ -140,7 +140,7 @@ pub(crate) fn is_named(row: &Row, producer: TerminusNumber, tag: &DeliveryTag) -
     came_from(row, producer) && !row.forgotten && row.tag == *tag
 }
 
-/// Whether a row came on the link of this terminus or is bound to it; any row where none is named.
+/// Whether a row came on the link of this terminus or is bound to it; any row if no terminus is given.
 pub(crate) fn is_wanted_row(row: &Row, terminus: Option<TerminusNumber>) -> bool
     ensures { result ≡ is_wanted terminus row.now }
 {

@@ -1,4 +1,4 @@
-//! Numbers by key, which keep what their changes replaced, so that they can be undone without memory.
+//! Numbers by key, which keep what their changes replaced, so that they can be undone without allocation.
 ghost use Rattle.std.specs.Prelude.{◌≡◌, ◌++◌, [], None, Some, OnOk, if◌then◌else◌, option_map};
 ghost use Rattle.std.specs.BTreeMap.{get};
 ghost use Rattle.std.specs.Ordering.{is_eq};
@@ -14,7 +14,7 @@ pub(crate) struct Earlier<K> {
     number: Option<u64>,
 }
 
-/// Numbers by key, 0 where none was set, and what stood there before the changes since the last commit, the oldest
+/// Numbers by key, 0 where none was set, and what was there before the changes since the last commit, the oldest
 /// change first.
 #[derive(Drop)]
 pub(crate) struct Numbers<K: Ord> {
@@ -71,7 +71,7 @@ impl<K: Ord + Drop> Numbers<K> {
         }
     }
 
-    /// Makes each change since the last commit last, and takes out the keys whose number is 0.
+    /// Makes each change since the last commit permanent, and removes the keys whose number is 0.
     #[tactic(auto, using(crate::proofs::Changes::earlier_none))]
     pub(crate) fn commit(&mut self)
         ensures same { (q : K) → number_at K.cmp self.new q ≡ number_at K.cmp self.old q }
@@ -99,7 +99,7 @@ fn remove<K: Ord + Drop>(numbers: &mut BTreeMap<K, u64>, key: &K)
     let _ = numbers.remove(key);
 }
 
-/// Puts a number in the place of another, where there is one.
+/// Puts a number in the place of another, if there is one.
 fn replace<K: Ord + Drop>(numbers: &mut BTreeMap<K, u64>, key: &K, number: u64)
     ensures { (q : K) → get K.cmp numbers.new q ≡ (if is_eq (K.cmp key.now q) then option_map (λ _. number) (get K.cmp numbers.old q) else get K.cmp numbers.old q) }
 {
@@ -108,7 +108,7 @@ fn replace<K: Ord + Drop>(numbers: &mut BTreeMap<K, u64>, key: &K, number: u64)
     }
 }
 
-/// Takes a key out whose number is 0.
+/// Removes a key whose number is 0.
 fn take_zero<K: Ord + Drop>(numbers: &mut BTreeMap<K, u64>, key: &K)
     ensures { (q : K) → or_zero (get K.cmp numbers.new q) ≡ or_zero (get K.cmp numbers.old q) }
 {

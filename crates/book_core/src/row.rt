@@ -4,7 +4,7 @@ use amqp_perf::{DeliveryState, DeliveryTag};
 use bytes::Bytes;
 use std::fmt;
 
-/// The number of a row: from 1, in the order in which they were admitted, and never given twice.
+/// The number of a row: from 1, in the order in which rows were admitted, and never reused.
 #[derive(Clone, Copy, Debug, PartialEq, Eq)]
 pub struct RowNumber(pub u64);
 
@@ -22,7 +22,7 @@ pub struct Row {
     pub number: RowNumber,
     /// The terminus of the link on which it came.
     pub producer: TerminusNumber,
-    /// The producer's name of it.
+    /// Its delivery-tag, given by the producer.
     pub tag: DeliveryTag,
     /// The terminus of the link to which it is bound; none where that link is not durable.
     pub consumer: Option<TerminusNumber>,
@@ -30,7 +30,7 @@ pub struct Row {
     pub format: u32,
     /// Its message, carried unread.
     pub payload: Bytes,
-    /// What became of it, once that is decided.
+    /// Its outcome, once it is decided.
     pub outcome: Option<DeliveryState>,
     /// Whether its producer has settled it.
     pub forgotten: bool,

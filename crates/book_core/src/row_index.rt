@@ -1,4 +1,4 @@
-//! What the rows of a book are found and counted by.
+//! The index by which the rows of a book are found and counted.
 ghost use Rattle.std.specs.Prelude.{◌≡◌, ◌+◌, ◌-◌, ◌∷◌, ◌++◌, [], None, Some, OnOk, false, count_by, ℕ, List};
 ghost use Rattle.std.specs.BTreeMap.{get};
 ghost use Rattle.std.specs.List.{list_any};
@@ -17,10 +17,10 @@ use crate::row_name::{RowName, set_name};
 use crate::terminus::{LinkRole, TerminusNumber};
 use std::alloc::{AllocError, Global};
 
-/// The numbers of rows by name, and how many rows a terminus has.
+/// The numbers of rows by name, and how many rows each terminus has.
 #[derive(Drop)]
 pub(crate) struct RowIndex {
-    /// The number of the unforgotten row of a name.
+    /// The number of the unforgotten row with a name.
     pub(crate) names: Numbers<RowName>,
     /// How many rows came on the link of a terminus.
     pub(crate) from: Numbers<u64>,
@@ -50,7 +50,7 @@ impl RowIndex {
         self.from.at(&terminus.0)
     }
 
-    /// How many undecided rows are bound to the link of a terminus; none where none is named.
+    /// How many undecided rows are bound to the link of a terminus; 0 if none is given.
     pub(crate) fn count_waiting(&self, terminus: Option<TerminusNumber>) -> u64
         ensures { (rs : List Row) → IsIndexed self.now rs → result ≡ undecided_for terminus rs }
     {
@@ -71,7 +71,7 @@ impl RowIndex {
         }
     }
 
-    /// A row is admitted, whose name no row has.
+    /// Admits a row, whose name no row has.
     pub(crate) fn admit(&mut self, admission: &Admission) -> Result<(), AllocError>
         ensures indexed { (rs : List Row) → IsIndexed self.old rs → list_any (has_tag admission.now.producer.0 admission.now.tag.items) rs ≡ false → OnOk result (IsIndexed self.new (rs ++ admitted admission.now ∷ [])) }
         ensures before { SameIndexBefore self.old self.new }
@@ -88,7 +88,7 @@ impl RowIndex {
         Ok(())
     }
 
-    /// A row is decided, which wasn't.
+    /// Decides a row that wasn't decided.
     pub(crate) fn decide(&mut self, row: &Row) -> Result<(), AllocError>
         ensures indexed { (rs : List Row) (n : ℕ) (outcome : DeliveryState) → Rises (λ (r : Row). r.number.0) rs → IsIndexed self.old rs → row_at n rs ≡ Some row.now → row.now.outcome ≡ None → OnOk result (IsIndexed self.new (with_row n (decided outcome) rs)) }
         ensures before { SameIndexBefore self.old self.new }
@@ -98,7 +98,7 @@ impl RowIndex {
         Ok(())
     }
 
-    /// A row is forgotten, which wasn't.
+    /// Forgets a row that wasn't forgotten.
     pub(crate) fn forget(&mut self, row: &Row) -> Result<(), AllocError>
         ensures indexed { (rs : List Row) (n : ℕ) → Rises (λ (r : Row). r.number.0) rs → IsIndexed self.old rs → row_at n rs ≡ Some row.now → row.now.forgotten ≡ false → OnOk result (IsIndexed self.new (with_row n forgotten rs)) }
         ensures before { SameIndexBefore self.old self.new }
@@ -120,7 +120,7 @@ impl RowIndex {
         self.waiting.rollback();
     }
 
-    /// Makes each change since the last commit last.
+    /// Makes each change since the last commit permanent.
     pub(crate) fn commit(&mut self)
         ensures indexed { (rs : List Row) → IsIndexed self.old rs → IsIndexed self.new rs }
         ensures settled { IsIndexSettled self.new }
@@ -132,14 +132,14 @@ impl RowIndex {
     }
 }
 
-/// The terminus that has a row less, where the row leaves.
+/// The terminus that has one row less, if the row leaves.
 fn left_by(leaves: bool, row: &Row) -> Option<TerminusNumber>
     ensures { result ≡ left_by leaves row.now }
 {
     if leaves { Some(row.producer) } else { None }
 }
 
-/// Counts one more of a terminus, where one is named.
+/// Counts one more for a terminus, if one is given.
 #[tactic(auto, using(crate::proofs::Counted::one_more))]
 fn add_one(counts: &mut Numbers<u64>, terminus: Option<TerminusNumber>) -> Result<(), AllocError>
     ensures counts { OnOk result ((n : ℕ) → number_at nat_cmp counts.new n ≡ number_at nat_cmp counts.old n + one_for terminus n) }
@@ -156,7 +156,7 @@ fn add_one(counts: &mut Numbers<u64>, terminus: Option<TerminusNumber>) -> Resul
     }
 }
 
-/// Counts one less of a terminus, where one is named.
+/// Counts one less for a terminus, if one is given.
 #[tactic(auto, using(crate::proofs::Counted::one_less))]
 fn take_one(counts: &mut Numbers<u64>, terminus: Option<TerminusNumber>) -> Result<(), AllocError>
     ensures counts { OnOk result ((n : ℕ) → number_at nat_cmp counts.new n ≡ number_at nat_cmp counts.old n - one_for terminus n) }

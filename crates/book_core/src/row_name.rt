@@ -1,4 +1,4 @@
-//! What names a delivery, as long as it isn't forgotten.
+//! The name of a delivery, as long as it isn't forgotten.
 ghost use Rattle.std.specs.Prelude.{◌≡◌, OnOk, if◌then◌else◌};
 ghost use Rattle.std.specs.BTreeMap.{get};
 ghost use Rattle.std.specs.Ordering.{is_eq};
@@ -10,7 +10,7 @@ use crate::terminus::TerminusNumber;
 use amqp_perf::DeliveryTag;
 use std::alloc::AllocError;
 
-/// The terminus of the link on which a delivery came, and the producer's name of it. Names are in order by these.
+/// The terminus of the link on which a delivery came, and its delivery-tag. Names are ordered by these.
 #[derive(PartialEq, Eq, PartialOrd, Ord, Drop)]
 pub(crate) struct RowName {
     producer: u64,
@@ -18,7 +18,7 @@ pub(crate) struct RowName {
 }
 
 impl RowName {
-    /// It takes no memory.
+    /// It allocates nothing.
     pub(crate) fn new(producer: TerminusNumber, tag: &DeliveryTag) -> RowName
         ensures producer { result.producer ≡ producer.0 }
         ensures tag { result.tag ≡ tag.now }
@@ -30,7 +30,7 @@ impl RowName {
     }
 }
 
-/// Sets the number of the row that has a name: 0 where none has it.
+/// Sets the number of the row that has a name: 0 if none has it.
 pub(crate) fn set_name(
     names: &mut Numbers<RowName>,
     producer: TerminusNumber,

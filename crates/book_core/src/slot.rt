@@ -1,11 +1,11 @@
-//! The places of a book's tables, in the order of their numbers. What left stays as an empty place until a commit.
+//! The slots of a book's tables, in the order of their numbers. What was removed leaves an empty slot until a commit.
 ghost use Rattle.std.specs.Prelude.{◌≡◌};
 ghost use Rattle.std.specs.Option.{ForSome};
 
 use crate::row::Row;
 use crate::terminus::Terminus;
 
-/// A place for a row.
+/// A slot for a row.
 #[derive(Drop)]
 pub(crate) struct RowSlot {
     pub(crate) number: u64,
@@ -13,7 +13,7 @@ pub(crate) struct RowSlot {
     ghost same: { ForSome row (λ r. r.number.0 ≡ number) },
 }
 
-/// A place for a terminus.
+/// A slot for a terminus.
 #[derive(Drop)]
 pub(crate) struct TerminusSlot {
     pub(crate) number: u64,

@@ -1,4 +1,4 @@
-//! A list that keeps what its changes replaced, so that they can be undone without memory.
+//! A list that keeps what its changes replaced, so that they can be undone without allocation.
 ghost use Rattle.std.specs.Prelude.{◌≡◌, ◌<◌, [], ◌∷◌, ◌++◌, OnOk, OnErr, slice_set, vec_len};
 ghost use Rattle.book_core.specs.Table.{before};
 
@@ -7,13 +7,13 @@ use std::alloc::{AllocError, Global};
 /// A change of a table.
 #[derive(Drop)]
 pub(crate) enum Change<S> {
-    /// This stood at that place.
+    /// This was at that place.
     Replaced(usize, S),
-    /// The place was the first behind all others.
+    /// The slot at that place was added after all others.
     Added(usize),
 }
 
-/// A list of slots, and what became of them since the last commit, the oldest change first.
+/// A list of slots, and their changes since the last commit, the oldest change first.
 #[derive(Drop)]
 pub(crate) struct Table<S> {
     pub(crate) slots: Vec<S>,
@@ -32,7 +32,7 @@ impl<S: Drop> Table<S> {
         }
     }
 
-    /// Adds a slot behind all others.
+    /// Adds a slot after all others.
     #[tactic(auto, using(crate::proofs::Before::before_added))]
     pub(crate) fn add(&mut self, slot: S) -> Result<(), AllocError>
         ensures ok { OnOk result (self.new.slots.items ≡ self.old.slots.items ++ slot ∷ []) }
@@ -76,7 +76,7 @@ impl<S: Drop> Table<S> {
         }
     }
 
-    /// Makes each change since the last commit last.
+    /// Makes each change since the last commit permanent.
     #[tactic(auto, using(crate::proofs::Before::before_none))]
     pub(crate) fn commit(&mut self)
         ensures slots { self.new.slots.items ≡ self.old.slots.items }

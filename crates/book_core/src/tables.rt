@@ -29,13 +29,13 @@ use std::alloc::{AllocError, Global};
 const MAX_TERMINI: usize = 1024;
 /// The most rows of a book.
 const MAX_ROWS: usize = 4096;
-/// The most rows of one producer's terminus, and the most undecided ones of one consumer's.
+/// The most rows of one producer's terminus, and the most undecided rows of one consumer's.
 const MAX_ROWS_OF_TERMINUS: u64 = 64;
 /// The most bytes of a text of a terminus.
 const MAX_TEXT: usize = 1024;
 /// The most bytes of a payload.
 const MAX_PAYLOAD: usize = 65536;
-/// The most bytes of an outcome's spelling.
+/// The most bytes of an encoded outcome.
 const MAX_OUTCOME: usize = 400;
 
 /// The tables of a book.
@@ -49,7 +49,7 @@ pub(crate) struct Tables {
     pub(crate) counters: Counters,
 }
 
-/// What a book counts.
+/// The counters of a book.
 #[derive(Clone, Copy)]
 pub(crate) struct Counters {
     /// The number of the next terminus.
@@ -77,7 +77,7 @@ fn has_short(terminus: &Terminus) -> bool
         && is_short(terminus.address.as_str())
 }
 
-/// How many bytes spell an outcome.
+/// How many bytes encode an outcome.
 fn spelled_len(alloc: Global, outcome: &DeliveryState) -> Result<usize, AllocError>
     ensures { IfOk result (λ n. n ≡ length (state_spelling outcome.now)) }
 {
@@ -234,7 +234,7 @@ impl Tables {
         }
     }
 
-    /// Makes a terminus that applies.
+    /// Makes a terminus; the act applies.
     fn make(&mut self, terminus: &Terminus) -> Result<(), AllocError>
         ensures shows { (b : BookView) → Shows self.old b → make_refusal b terminus.now ≡ None → OnOk result (Shows self.new (effect b (act.Make terminus.now))) }
         ensures before { SameBefore self.old self.new }
@@ -256,7 +256,7 @@ impl Tables {
         Ok(())
     }
 
-    /// Admits a row that applies.
+    /// Admits a row; the act applies.
     fn admit(&mut self, admission: &Admission) -> Result<(), AllocError>
         ensures shows { (b : BookView) → Shows self.old b → admit_refusal b admission.now ≡ None → OnOk result (Shows self.new (effect b (act.Admit admission.now))) }
         ensures before { SameBefore self.old self.new }
@@ -300,7 +300,7 @@ impl Tables {
         }
     }
 
-    /// Forgets a row that applies.
+    /// Forgets a row; the act applies.
     fn forget(&mut self, number: RowNumber) -> Result<(), AllocError>
         ensures shows { (b : BookView) → Shows self.old b → forget_refusal (row_at number.0 b.rows) ≡ None → OnOk result (Shows self.new (effect b (act.Forget number))) }
         ensures before { SameBefore self.old self.new }
@@ -322,7 +322,7 @@ impl Tables {
         }
     }
 
-    /// Takes a terminus out, where it is there.
+    /// Removes a terminus, if it is there.
     fn remove(&mut self, number: TerminusNumber) -> Result<(), AllocError>
         ensures shows { (b : BookView) → Shows self.old b → OnOk result (Shows self.new (effect b (act.Drop number))) }
         ensures before { SameBefore self.old self.new }
@@ -343,7 +343,7 @@ impl Tables {
         }
     }
 
-    /// Does what an act does that applies.
+    /// Performs an act that applies.
     fn perform(&mut self, act: &Act) -> Result<(), AllocError>
         ensures shows { (b : BookView) → Shows self.old b → refusal b act.now ≡ None → OnOk result (Shows self.new (effect b act.now)) }
         ensures before { SameBefore self.old self.new }
@@ -385,7 +385,7 @@ impl Tables {
         Ok(())
     }
 
-    /// Undoes each act since the last commit, before which the counters stood so.
+    /// Undoes each act since the last commit, and sets the counters back to these.
     pub(crate) fn rollback(&mut self, counters: Counters)
         ensures termini { self.new.termini.slots.items ≡ before self.old.termini.log.items self.old.termini.slots.items }
         ensures rows { self.new.rows.slots.items ≡ before self.old.rows.log.items self.old.rows.slots.items }
@@ -401,7 +401,7 @@ impl Tables {
         self.counters = counters;
     }
 
-    /// Makes each act since the last commit last, and sweeps empty places out once they are more than the others.
+    /// Makes each act since the last commit permanent, and removes empty slots once they are more than the others.
     pub(crate) fn commit(&mut self)
         ensures shows { (b : BookView) → Shows self.old b → Shows self.new b }
         ensures settled { IsSettled self.new }
@@ -415,7 +415,7 @@ impl Tables {
     }
 }
 
-/// How many rows there are behind a change that leaves this of a row.
+/// How many rows there are after a change that leaves this of a row.
 fn rows_after(rows: usize, after: &Option<Row>) -> usize
     ensures { result ≡ (if is_some after.now then rows else rows - 1) }
 {
@@ -426,7 +426,7 @@ fn rows_after(rows: usize, after: &Option<Row>) -> usize
     }
 }
 
-/// Takes empty places out, where fewer than half of all are taken.
+/// Removes empty slots, if fewer than half of all are taken.
 fn sweep_termini(slots: &mut Vec<TerminusSlot>, taken: usize)
     ensures { IsSwept terminus_number (λ s. s.terminus) slots.old.items slots.new.items }
 {
@@ -435,7 +435,7 @@ fn sweep_termini(slots: &mut Vec<TerminusSlot>, taken: usize)
     }
 }
 
-/// The same of places for rows.
+/// The same for the slots of rows.
 fn sweep_rows(slots: &mut Vec<RowSlot>, taken: usize)
     ensures { IsSwept row_number (λ s. s.row) slots.old.items slots.new.items }
 {

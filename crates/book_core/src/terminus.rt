@@ -2,7 +2,7 @@
 use amqp_perf::Text;
 use std::fmt;
 
-/// The number of a terminus: from 1, in the order in which they were made, and never given twice.
+/// The number of a terminus: from 1, in the order in which termini were made, and never reused.
 #[derive(Clone, Copy, Debug, PartialEq, Eq)]
 pub struct TerminusNumber(pub u64);
 
@@ -13,7 +13,7 @@ impl fmt::Display for TerminusNumber {
     }
 }
 
-/// Which way deliveries go on a link.
+/// The direction of deliveries on a link.
 #[derive(Clone, Copy, Debug, PartialEq, Eq)]
 pub enum LinkRole {
     /// The peer sends on it.
@@ -22,10 +22,10 @@ pub enum LinkRole {
     Consumer,
 }
 
-/// What names a durable link, whichever connection it is attached on.
+/// The key of a durable link, whichever connection it is attached on.
 #[derive(Debug, Drop)]
 pub struct LinkKey {
-    /// Which way deliveries go on it.
+    /// The direction of deliveries on it.
     pub role: LinkRole,
     /// The user of the SASL exchange (AMQP 1.0 part 5, section 5.3).
     pub user: Text,
@@ -42,6 +42,6 @@ pub struct Terminus {
     pub number: TerminusNumber,
     /// The key of its link.
     pub key: LinkKey,
-    /// The address at which it stands.
+    /// Its address.
     pub address: Text,
 }

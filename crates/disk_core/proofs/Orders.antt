@@ -1,4 +1,4 @@
--- Two steps since the last sync may be told in either order.
+-- Two steps since the last sync may be listed in either order.
 use Rattle.std.proofs.Common.{◌≡◌, ℕ, ◌+◌, Bool, true, false, List, ◌∷◌, length, refl}
 use Rattle.std.specs.Prelude.{◌||◌}
 use Rattle.disk_core.specs.Disk.{between, from}

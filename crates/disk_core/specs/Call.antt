@@ -1,4 +1,4 @@
--- The events that a record of calls tells.
+-- The events of a record of calls.
 use Rattle.std.specs.Prelude.{List, map, reverse}
 use Rattle.disk_core.specs.declared.call.Call.{Call}
 use Rattle.disk_core.specs.declared.call.Call.TheVariants as Calls

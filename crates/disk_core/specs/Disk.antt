@@ -1,11 +1,11 @@
 -- What the calls of a disk do to its bytes, and what a crash may leave of them.
--- Source: the project's own disk model, told in docs/disk.md. Between two syncs each written range and the part
--- past the old end may hold any bytes; bytes outside stay; after a sync that succeeds a crash leaves what a read gives.
+-- Source: the project's own disk model, described in docs/disk.md. Between two syncs each written range and the part
+-- past the old end may hold any bytes; bytes outside stay; after a successful sync a crash leaves what a read gives.
 use Rattle.std.specs.Prelude.{◌<◌, ◌≡◌, ◌⊎◌, ℕ, ◌+◌, ◌-◌, ◌≤◌, Bool, false, ◌&&◌, ◌||◌, nat_le, nat_lt, List, [], ◌∷◌, ◌++◌, length, take, drop, replicate, slice_get, Result, IsErrOf}
 use Rattle.disk_core.specs.declared.fault.DiskFault.{DiskFault}
 use Rattle.disk_core.specs.declared.fault.DiskFault.TheVariants.{Failed}
 
--- at most so many bytes of a file from a place on: fewer where it ends earlier, none past its end
+-- at most this many bytes of a file from a place on: fewer where it ends earlier, none past its end
 abbrev pub part : ℕ → ℕ → List ℕ → List ℕ
 part at most file = take most (drop at file)
 
@@ -21,21 +21,21 @@ between at end place = nat_le at place && nat_lt place end
 abbrev pub from : ℕ → ℕ → Bool
 from at place = nat_le at place
 
--- A file has each byte of another, but at open places. Behind the other's end it may have anything; where all from some
+-- A file has each byte of another, except at open places. After the other's end it may have anything; where all from some
 -- place on is open, it may end there.
 abbrev pub Agrees : (ℕ → Bool) → List ℕ → List ℕ → Type 0
 Agrees free file c = (place : ℕ) → place < length file → free place ≡ false → slice_get c place ≡ slice_get file place
 
--- each outcome of a crash has the bytes of a file, but at open places
+-- each outcome of a crash has the bytes of a file, except at open places
 abbrev pub Spares : (ℕ → Bool) → List ℕ → (List ℕ → Type 0) → Type 0
 Spares free file outcomes = (c : List ℕ) → outcomes c → Agrees free file c
 
--- Of what stayed, whatever a crash did, all stays that isn't at these places. So the order of the writes is nothing to it.
+-- Whatever a crash would have left stays, except at these places. So the order of the writes doesn't matter.
 pub record Opens (places : ℕ → Bool) (old new : List ℕ → Type 0) : Type 0 where
   pub spares : (file : List ℕ) (free : ℕ → Bool) → Spares free file old → Spares (λ place. free place || places place) file new
 
 -- What a write from one place up to another may leave of a file that a crash would have left whole: any bytes between the
--- two places and past the old end, the same bytes elsewhere. It is what agrees but there.
+-- two places and past the old end, the same bytes elsewhere. It agrees except there.
 pub record Spoilt (at end : ℕ) (old new : List ℕ) : Type 0 where
   pub middle : List ℕ
   pub past : List ℕ

@@ -1,4 +1,4 @@
--- Laws of the words of Disk: a write that leaves no gap, and runs of calls.
+-- Laws of the definitions of Disk: a write that leaves no gap, and runs of calls.
 use Rattle.std.proofs.Common.{◌≡◌, inl, inr, ⊎_elim, ℕ, ◌+◌, ◌-◌, ◌≤◌, List, [], ◌∷◌, ◌++◌, length, take, drop, replicate, sym, ◌∙◌, ap, arith, take-append-drop}
 use Rattle.std.proofs.lemmas.List.{append-nil}
 use Rattle.disk_core.specs.Disk.{overwritten, Elapses, LeavesOnly}
@@ -36,7 +36,7 @@ module _ {D : Type 0} (moment : D → ℕ) (left_since : D → ℕ → List ℕ 
     before = λ t c le left. ⊎_elim (λ past. inl past) (λ has. inr (wider c has)) (run.before t c le left);
   }
 
-  -- two runs, one behind the other
+  -- two runs, one after the other
   pub joined : (old mid new : D) (P : List ℕ → Type 0) → LeavesOnly moment left_since old mid P → LeavesOnly moment left_since mid new P → LeavesOnly moment left_since old new P
   joined old mid new P front back = record {
     later = omega (arith, front.later, back.later);

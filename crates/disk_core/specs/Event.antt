@@ -1,8 +1,8 @@
--- A disk told by what was done to it, the newest first: what a read gives then, and what a crash may leave.
+-- A disk as a list of what was done to it, the newest first: what a read gives then, and what a crash may leave.
 use Rattle.std.specs.Prelude.{◌≡◌, ◌⊎◌, ℕ, ◌+◌, ◌≤◌, Bool, false, ◌||◌, List, [], ◌∷◌, length, take}
 use Rattle.disk_core.specs.Disk.{overwritten, between, from, Agrees}
 
--- The last two are a write and a cut that failed: nothing of them is seen, but a crash may leave them begun.
+-- The last two are a write and a cut that failed: a read sees nothing of them, but a crash may leave them begun.
 pub data Event : Type 0 where
   Wrote : (at : ℕ) (bytes : List ℕ) → Event
   Shortened : (len : ℕ) → Event
@@ -28,7 +28,7 @@ kept_of first (Synced ∷ es) = seen_of first es
 kept_of first (BeganWrite at count ∷ es) = kept_of first es
 kept_of first (BeganCut len ∷ es) = kept_of first es
 
--- the places that a write or a cut since the last sync has opened
+-- the places that writes and cuts since the last sync have opened
 abbrev pub opened : List Event → ℕ → Bool
 opened [] place = false
 opened (Wrote at bytes ∷ es) place = opened es place || between at (at + length bytes) place
@@ -37,8 +37,8 @@ opened (Synced ∷ es) place = false
 opened (BeganWrite at count ∷ es) place = opened es place || between at (at + count) place
 opened (BeganCut len ∷ es) place = opened es place || from len place
 
--- What a crash may leave now: behind a sync, what a read gives; else anything that has each byte of the last sync but at the
--- places opened since, in whatever order.
+-- What a crash may leave now: after a sync, what a read gives; else anything that has each byte of the last sync except at
+-- the places opened since, in any order.
 abbrev pub ImagesNow : List ℕ → List Event → List ℕ → Type 0
 ImagesNow first [] c = c ≡ first
 ImagesNow first (Wrote at bytes ∷ es) c = Agrees (opened (Wrote at bytes ∷ es)) (kept_of first es) c

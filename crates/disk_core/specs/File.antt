@@ -8,11 +8,11 @@ use Rattle.disk_core.specs.Note.{events_noted}
 abbrev pub bytes_in : FileDisk → List ℕ
 bytes_in disk = disk.bytes.items
 
--- the calls of the system that failed
+-- the failed system calls
 abbrev pub failures_of : FileDisk → ℕ
 failures_of disk = disk.failed
 
--- a sync has failed, or the file may be other than the copy, so that no sync is trusted any more
+-- a sync has failed, or the file may differ from the copy, so that no sync is trusted any more
 abbrev pub has_lost : FileDisk → Bool
 has_lost disk = disk.lost
 

@@ -1,13 +1,13 @@
--- A fuse: it lets so many calls through, and then none.
+-- A fuse: it lets a number of calls through, and then none.
 use Rattle.std.specs.Prelude.{◌≡◌, ℕ, zero, suc, Bool, Option, None, Some, Result, IsErr}
 use Rattle.disk_core.specs.declared.fault.DiskFault.{DiskFault}
 use Rattle.disk_core.specs.declared.fuse.FuseDisk.{FuseDisk}
 
--- the calls that it lets through yet; none is set at `None`
+-- the calls that it still lets through; no fuse is set at `None`
 abbrev pub calls_left : {D : Type 0} → FuseDisk D → Option ℕ
 calls_left disk = disk.left
 
--- a write that it let fail has begun
+-- a write that failed at the fuse has begun
 abbrev pub has_begun : {D : Type 0} → FuseDisk D → Bool
 has_begun disk = disk.begun
 

@@ -80,7 +80,7 @@ written_around at (byte ∷ bytes) old place l (inr behind) =
     append_skips (front ++ gap ++ (byte ∷ bytes)) (drop end old) (place - end) place long
     ∙ drop_skips end old (place - end) place (omega (arith, behind))
 
--- What a read gives has the bytes of the last sync, but at the places opened since.
+-- What a read gives has the bytes of the last sync, except at the places opened since.
 seen_agrees : (first : List ℕ) (es : List Event) → Agrees (opened es) (kept_of first es) (seen_of first es)
 seen_agrees first [] place l shut = refl
 seen_agrees first (Wrote at bytes ∷ es) place l shut =
@@ -118,7 +118,7 @@ image_as_seen first es c is = subst (λ (f : List ℕ). ImagesNow first es f) (s
 pub image_as_kept : (first : List ℕ) (es : List Event) (c : List ℕ) → c ≡ kept_of first es → ImagesNow first es c
 image_as_kept first es c is = subst (λ (f : List ℕ). ImagesNow first es f) (sym is) (image_kept first es)
 
--- after a sync there is what a read gives, which there might have been before
+-- after a sync a crash leaves what a read gives, which it might have left before
 pub image_synced : (first : List ℕ) (es now : List Event) (c : List ℕ) → now ≡ Synced ∷ es → ImagesNow first now c → ImagesNow first es c
 image_synced first es now c is left =
     image_as_seen first es c (subst (λ (l : List Event). ImagesNow first l c) is left)

@@ -1,4 +1,4 @@
--- What a file's record says, and the events that it tells.
+-- The notes of a file's record, and the events that they stand for.
 use Rattle.std.specs.Prelude.{ℕ, List, length, map, slice_index, if◌then◌else◌, ◌==◌}
 use Rattle.disk_core.specs.Event.{Event, Wrote, Shortened, Synced, BeganWrite, BeganCut}
 

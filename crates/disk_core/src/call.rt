@@ -14,7 +14,7 @@ pub(crate) enum Call {
     Synced,
 }
 
-/// Puts a call behind the others.
+/// Adds a call after the others.
 #[tactic(auto, using(crate::proofs::Calls::events_push))]
 pub(crate) fn note(calls: &mut Vec<Call>, call: Call) -> Result<(), AllocError>
     ensures ok { OnOk result (events_of calls.new.items ≡ event_of call ∷ events_of calls.old.items) }
@@ -25,7 +25,7 @@ pub(crate) fn note(calls: &mut Vec<Call>, call: Call) -> Result<(), AllocError>
     Ok(())
 }
 
-/// Does the calls again, in order.
+/// Replays the calls, in order.
 pub(crate) fn replay(bytes: &mut Vec<u8>, calls: &[Call]) -> Result<(), AllocError>
     ensures { OnOk result (bytes.new.items ≡ seen_of bytes.old.items (events_of calls.now)) }
 {

@@ -7,9 +7,9 @@ use std::alloc::AllocError;
 
 /// A file on a device that may stop at any moment.
 ///
-/// Positions and lengths are in bytes. Every call is total: a place past the end, a gap and a length near 2^64 are
-/// all answered. `Failed` comes exactly where the device failed, and its count is then one higher; of what a read
-/// gives after a `Failed` write, cut or sync nothing is said but that a crash might leave it. `Memory` comes where
+/// Positions and lengths are in bytes. Every call is total: a place past the end, a gap and a length near 2^64 all
+/// get an answer. `Failed` comes exactly where the device failed, and its count is then one higher; after a
+/// `Failed` write, cut or sync nothing is known of a read but that a crash might leave what it gives. `Memory` comes where
 /// memory was refused, or where a position is past what the disk can count; nothing was done then.
 pub trait Disk: Drop {
     /// The bytes that a read gives.
@@ -18,7 +18,7 @@ pub trait Disk: Drop {
     /// What a crash at this moment may leave.
     ghost may_leave: { Self → List ℕ → Type 0 };
 
-    /// The moment, as a number that doesn't fall.
+    /// The moment, as a number that never decreases.
     ghost moment: { Self → ℕ };
 
     /// What a crash at some moment from that one on might have left, during a call or between two.
@@ -37,7 +37,7 @@ pub trait Disk: Drop {
             (may_leave self.new) }
         ensures cause { HasCause (failures self.old) (failures self.new) result };
 
-    /// Reads as much as there is from a place on and the buffer takes: nothing past the end. The rest of the buffer
+    /// Reads as much as there is from a place on and fits into the buffer: nothing past the end. The rest of the buffer
     /// stays. At an `Err` the buffer may hold anything.
     fn read_at(&mut self, at: usize, buffer: &mut [u8]) -> Result<usize, DiskFault>
         ensures count { IfOk result
@@ -111,18 +111,18 @@ pub trait Disk: Drop {
     ghost only_now: { (disk : Self) (c : List ℕ) → left_since disk (moment disk) c → may_leave disk c };
 }
 
-/// A disk whose stop can be played.
+/// A disk whose stop can be simulated.
 pub trait Crash: Disk {
     /// What a read gave at the last sync, or at first where none was.
     ghost kept: { Self → List ℕ };
 
-    /// The calls that its fuse lets through yet. None is set at `None`.
+    /// The calls that its fuse still lets through. No fuse is set at `None`.
     ghost lets_through: { Self → Option ℕ };
 
-    /// What setting the fuse to so many calls makes of it: `None` on a disk that has no fuse.
+    /// The fuse after it is set to this many calls: `None` on a disk that has no fuse.
     ghost fused: { ℕ → Option ℕ };
 
-    /// After so many calls more every call fails, on a disk that has a fuse; another disk does nothing. The bytes
+    /// After this many more calls every call fails, on a disk that has a fuse; another disk does nothing. The bytes
     /// stay as they are.
     fn fuse(&mut self, calls: u64)
         ensures set { lets_through self.new ≡ fused calls }
@@ -135,7 +135,7 @@ pub trait Crash: Disk {
         ensures failures { Self.Disk.failures self.new ≡ Self.Disk.failures self.old };
 
     /// The disk after a stop, with no fuse set, its failures counted from 0: `how` 0 leaves what the last sync left,
-    /// 1 all writes since, and any other number does as 1. What it leaves is on the disk. At an `Err` the disk is
+    /// 1 all writes since, and any other number does as 1. What it leaves is synced. At an `Err` the disk is
     /// dropped.
     fn crash(self, how: u8) -> Result<Self, AllocError>
         ensures left { IfOk result (λ disk. Self.Disk.may_leave self (Self.Disk.seen disk)) }

@@ -17,20 +17,20 @@ use std::rt::Files;
 
 /// A disk over a file that nobody else writes.
 ///
-/// Each call makes one call of the system, or none where there is nothing to do. What it says of the file's bytes
-/// rests on a premise: that the file holds what was written to it, and keeps what was synced. To say it, the disk
+/// Each call makes one system call, or none where there is nothing to do. Its contract on the file's bytes
+/// rests on a premise: that the file holds what was written to it, and keeps what was synced. For this, the disk
 /// has a copy of the bytes in memory, and an answer of the system that differs from the copy is `Failed`. What a
-/// crash may leave is told by a record that takes no memory, so the disk grows with its bytes and not with its calls.
+/// crash may leave is kept in a ghost record, so the memory grows with the disk's bytes and not with its calls.
 ///
 /// A file that was just opened may hold anything after a crash, until it is synced. After a sync, a write or a cut that
-/// failed, or where the file was found other than the copy, no later sync succeeds: the system may have dropped what it
+/// failed, or where the file differed from the copy, no later sync succeeds: the system may have dropped what it
 /// could not write, or a part may have been written. The file has to be opened again.
 #[derive(Drop)]
 pub struct FileDisk {
     file: File,
     bytes: Vec<u8>,
     history: Record,
-    /// The file may be other than the copy, or may not be on the disk: no sync succeeds any more.
+    /// The file may differ from the copy, or may not be on the disk: no sync succeeds any more.
     lost: bool,
     failed: u64,
     ghost recorded: { bytes.items ≡ seen_of [] (events_noted history.notes) },
@@ -49,7 +49,7 @@ impl FileDisk {
         FileDisk::within(alloc, file, usize::MAX)
     }
 
-    /// A disk over a file of at most so many bytes. One that has more is `Memory` before any is asked for.
+    /// A disk over a file with a limit to its bytes. A larger file is `Memory`, before any memory is asked for.
     fn within(alloc: Global, file: File, most: usize) -> Result<Self, DiskFault>
         ensures failures { IfOk result (λ disk. failures_of disk ≡ 0) }
         ensures works { IfOk result (λ disk. has_lost disk ≡ false) }
@@ -83,7 +83,7 @@ impl FileDisk {
 
     /// Opens a file that is there, for reading and writing.
     ///
-    /// `Failed`: it can't be opened so, or read. `Memory`: its bytes don't fit in memory.
+    /// `Failed`: it can't be opened for both, or read. `Memory`: its bytes don't fit in memory.
     pub fn open<R: Files<File = File>>(rt: &R, alloc: Global, path: &str) -> Result<Self, DiskFault>
         ensures failures { IfOk result (λ disk. failures_of disk ≡ 0) }
         ensures works { IfOk result (λ disk. has_lost disk ≡ false) }
@@ -94,10 +94,10 @@ impl FileDisk {
         }
     }
 
-    /// Opens a regular file that is there, of at most so many bytes, for reading only: each write fails.
+    /// Opens a regular file that is there, with a limit to its bytes, for reading only: each write fails.
     ///
     /// `Failed`: there is none, or it is no regular file, or it can't be opened or read. A folder, a pipe and a device are
-    /// told before they are opened, so that none is waited for. `Memory`: it has more bytes, which is told before any
+    /// refused before they are opened, so that none is waited for. `Memory`: it has more bytes, which is found before any
     /// memory is asked for them, or they don't fit in memory.
     pub fn open_to_read<R: Files<File = File>>(
         rt: &R,
@@ -121,7 +121,7 @@ impl FileDisk {
         }
     }
 
-    /// Opens a file as `open` does, and makes an empty one where none is. Syncs its name too. Where it fails it leaves no
+    /// Opens a file as `open` does, and makes an empty one where none is. Syncs its name too. Where it fails it removes any
     /// file that it made.
     ///
     /// `Failed`: it can't be made, opened or read, or its folder not synced. `Memory`: its bytes don't fit in memory.
@@ -139,7 +139,7 @@ impl FileDisk {
         }
     }
 
-    /// The count after one failure more.
+    /// The count after one more failure.
     fn next_failure(&self) -> Result<u64, DiskFault>
         ensures next { IfOk result (λ failed. failed ≡ self.now.failed + 1) }
         ensures full { IfErr result (λ fault. fault ≡ DiskFault.Memory) }
@@ -197,7 +197,7 @@ impl Disk for FileDisk {
             (left_since_of self.old) (left_since_of self.new) (images_of self.new) }
         ensures cause { HasCause (failures_of self.old) (failures_of self.new) result }
 
-        // A file that was found other than the copy isn't trusted any more.
+        // A file that differed from the copy isn't trusted any more.
         ensures kept { IsErrOf result DiskFault.Failed → has_lost self.new ≡ true }
         ensures still_lost { has_lost self.old ≡ true → has_lost self.new ≡ true }
     {
@@ -222,7 +222,7 @@ impl Disk for FileDisk {
             (left_since_of self.old) (left_since_of self.new) (images_of self.new) }
         ensures cause { HasCause (failures_of self.old) (failures_of self.new) result }
 
-        // A file that was found other than the copy isn't trusted any more.
+        // A file that differed from the copy isn't trusted any more.
         ensures kept { IsErrOf result DiskFault.Failed → has_lost self.new ≡ true }
         ensures still_lost { has_lost self.old ≡ true → has_lost self.new ≡ true }
     {
@@ -311,7 +311,7 @@ impl Disk for FileDisk {
             (left_since_of self.old) (left_since_of self.new) (images_of self.new) }
         ensures cause { HasCause (failures_of self.old) (failures_of self.new) result }
 
-        // What failed isn't made good by a later sync.
+        // A later sync doesn't repair what failed.
         ensures lost { has_lost self.old ≡ true → IsErr result }
         ensures kept { IsErrOf result DiskFault.Failed → has_lost self.new ≡ true }
         ensures still_lost { has_lost self.old ≡ true → has_lost self.new ≡ true }

@@ -6,12 +6,12 @@ ghost use Rattle.disk_core.specs.Fuse.{Burns, calls_left, has_begun, own_failure
 use crate::{Crash, Disk, DiskFault};
 use std::alloc::AllocError;
 
-/// A disk with a fuse: it passes so many calls on, and then every call fails. The first write that fails so may have
-/// begun: it is passed on, so that a stop may leave it or not. Any other call that fails leaves the disk as it was.
+/// A disk with a fuse: it passes a number of calls on, and then every call fails. The first write that fails this way may
+/// have begun: it is passed on, so that a stop may leave it or not. Any other call that fails leaves the disk as it was.
 #[derive(Debug, Drop)]
 pub struct FuseDisk<D: Disk> {
     inner: D,
-    /// The calls to pass on yet.
+    /// The calls still to pass on.
     left: Option<u64>,
     /// A write that failed here has begun.
     begun: bool,
@@ -43,7 +43,7 @@ impl<D: Disk> FuseDisk<D> {
         inner
     }
 
-    /// After so many calls more every call fails. The bytes stay as they are.
+    /// After this many more calls every call fails. The bytes stay as they are.
     pub fn fuse(&mut self, calls: u64)
         ensures fuse { calls_left self.new ≡ Some calls }
         ensures disk { disk_of self.new ≡ disk_of self.old }
@@ -53,7 +53,7 @@ impl<D: Disk> FuseDisk<D> {
         self.left = Some(calls);
     }
 
-    /// Counts a call. An `Err` says that the fuse lets none through.
+    /// Counts a call. `Err`: the fuse lets none through.
     fn spend(&mut self) -> Result<(), DiskFault>
         ensures burns { Burns self.old.left self.new.left result }
         ensures blown { IsErr result → self.old.left ≡ Some 0 }

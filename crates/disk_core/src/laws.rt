@@ -2,7 +2,7 @@
 ghost use Rattle.std.specs.Prelude.{◌≡◌, ◌∷◌, List, ℕ};
 ghost use Rattle.disk_core.specs.Event.{Event, Wrote, Shortened, ImagesNow};
 
-/// What a crash may leave doesn't hang on the order of what was done since the last sync: of two writes, and of a write
+/// What a crash may leave doesn't depend on the order of what was done since the last sync: of two writes, and of a write
 /// and a cut, the second might as well have come first.
 pub fn order_is_nothing()
     ensures writes { (first : List ℕ) (es : List Event) (at other : ℕ) (bytes others c : List ℕ)

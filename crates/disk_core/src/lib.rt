@@ -1,5 +1,5 @@
 //! Disks as a journal sees them: what a read gives, what a crash at any moment may leave, and how often the
-//! device has failed. `docs/disk.md` tells the model.
+//! device has failed. `docs/disk.md` describes the model.
 #![tactic(auto)]
 
 mod call;

@@ -15,7 +15,7 @@ use std::alloc::{AllocError, Global};
 #[derive(Debug, Drop)]
 pub struct MemDisk {
     alloc: Global,
-    /// What stood there when the record began, all of it on the disk.
+    /// The bytes at the beginning of the record, all of them synced.
     first: Vec<u8>,
     bytes: Vec<u8>,
     /// The writes, cuts and syncs since, in order.

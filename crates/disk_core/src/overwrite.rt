@@ -4,7 +4,7 @@ ghost use Rattle.disk_core.specs.Disk.{part, overwritten};
 
 use std::alloc::AllocError;
 
-/// Asks for memory for a write. The bytes stay.
+/// Reserves memory for a write. The bytes stay.
 pub(crate) fn reserve_for(bytes: &mut Vec<u8>, at: usize, count: usize) -> Result<(), AllocError>
     ensures same { bytes.new.items ≡ bytes.old.items }
     ensures room { OnOk result (at + count ≤ vec_capacity bytes.new) }
@@ -48,7 +48,7 @@ fn overwrite_to_end(bytes: &mut Vec<u8>, at: usize, written: &[u8])
     bytes.extend_from_slice(written).unwrap();
 }
 
-/// At most so many bytes from a place on.
+/// At most this many bytes from a place on.
 pub(crate) fn part_of(bytes: &[u8], at: usize, most: usize) -> &[u8]
     ensures { result.now ≡ part at most bytes.now }
 {
@@ -60,7 +60,7 @@ pub(crate) fn part_of(bytes: &[u8], at: usize, most: usize) -> &[u8]
     }
 }
 
-/// Copies what there is from a place on, as far as the buffer takes it.
+/// Copies what there is from a place on, as far as it fits into the buffer.
 pub(crate) fn copy_part(bytes: &[u8], at: usize, buffer: &mut [u8]) -> usize
     ensures count { result ≡ length (part at (length buffer.old) bytes.now) }
     ensures copied { buffer.new ≡ part at (length buffer.old) bytes.now ++ drop result buffer.old }

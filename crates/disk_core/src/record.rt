@@ -1,4 +1,4 @@
-//! A record that clauses read and that takes no memory: a ghost list of what was done.
+//! A record that clauses read and that needs no memory: a ghost list of what was done.
 ghost use Rattle.std.specs.Prelude.{◌≡◌, List, [], ◌∷◌};
 ghost use Rattle.std.specs.Borrow.{ftrue};
 ghost use Rattle.disk_core.specs.Note.{Note, note_of};

@@ -29,7 +29,7 @@ not_closest distribution is other = ⊎_elim (λ e. differ (sym e ∙ other)) (�
     differ2 : Multicast ≡ Closest → ⊥
     differ2 h = cc
 
--- first those behind a number, then the others
+-- first those after a number, then the others
 abbrev round : ℕ → (ℕ → Option ℕ) → ℕ → Option ℕ
 round last f other = option_map {U = ℕ} (λ n. if nat_lt last other then 0 else 1) (f other)
 
@@ -43,7 +43,7 @@ none_some m h = absurd cc
 abbrev Flat : (ℕ → Option ℕ) → Type 0
 Flat f = (other m : ℕ) → f other ≡ Some m → m ≡ 0
 
--- the first of those behind the number is the first of all
+-- the first of those after the number is the first of all
 round_behind : (last : ℕ) (f : ℕ → Option ℕ) (id : ℕ) → Flat f → IsLeast (behind last f) (Some id) → IsLeast (round last f) (Some id)
 round_behind last f id flat least =
     by_test (nat_lt last id)
@@ -61,7 +61,7 @@ round_behind last f id flat least =
         (least.2 other found.0 (rw e found.1)))
         (λ e. let one_is : 1 ≡ m = rw e at found.2 in inl (omega (arith, one_is)))
 
--- where nobody is behind the number, the first of all is
+-- where nobody is after the number, the first of all is
 round_first : (last : ℕ) (f : ℕ → Option ℕ) (r : Option ℕ) → Flat f → IsLeast (behind last f) None → IsLeast f r → IsLeast (round last f) r
 round_first last f None flat none least = λ id. rw (least id) refl
 round_first last f (Some id) flat none least =
@@ -89,7 +89,7 @@ flat_rank (Some offer) m h = by_test (nat_lt 0 offer.free) (λ e. zero_of m (rw 
     zero_of : (m : ℕ) → Some 0 ≡ Some m → m ≡ 0
     zero_of m h = cc
 
--- in turn, all have one rank
+-- in turn, all have the same rank
 pub flat_ranks : (distribution : Distribution) (links : List (ℕ × Offer)) → distribution ≡ Closest → (other m : ℕ) → rank_at (offer_rank distribution) links other ≡ Some m → m ≡ 0
 flat_ranks distribution links is other m h = flat_rank (link_at links other) m (rw is at h)
 

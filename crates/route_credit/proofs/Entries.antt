@@ -41,7 +41,7 @@ module _ {X : Type 0} where
   pub here : (e : ℕ × X) (es : List (ℕ × X)) → link_at (e ∷ es) e.0 ≡ Some e.1
   here e es = ap (λ b. cond b (Some e.1) (link_at es e.0)) (same_test e.0 e.0 ∙ eq-eqb e.0 e.0 refl)
 
-  -- another one is found behind it
+  -- another one is found after it
   pub behind_first : (e : ℕ × X) (es : List (ℕ × X)) (q : ℕ) → (q ≡ e.0 → ⊥) → link_at (e ∷ es) q ≡ link_at es q
   behind_first e es q other = ap (λ b. cond b (Some e.1) (link_at es q)) (same_test q e.0 ∙ ne_eqb q e.0 other)
 
@@ -55,7 +55,7 @@ module _ {X : Type 0} where
   unfolding IsStrictlySortedBy
   none_below e es id ordered below = none_above (e ∷ es) id (less_is id e.0 below, above_more id e.0 (keys_of es) below ordered.0)
 
-  -- the number of a link that is found is above those that all are above
+  -- the number of a link that is found is above what all numbers are above
   pub found_above : (es : List (ℕ × X)) (id q : ℕ) (x : X) → Above id (keys_of es) → link_at es q ≡ Some x → id < q
   found_above [] id q x all found = absurd (no x found)
     where
@@ -65,7 +65,7 @@ module _ {X : Type 0} where
       (λ f. let l : id < e.0 = is_less id e.0 all.0 in let s : q ≡ e.0 = eqb-true q e.0 f in omega (arith, l, s))
       (λ f. found_above es id q x all.1 (sym (ap (λ b. cond b (Some e.1) (link_at es q)) (same_test q e.0 ∙ f)) ∙ found))
 
-  -- two lists in order in which the same is found are one
+  -- two lists in order are one if look-ups find the same in both
   pub same_entries : (es fs : List (ℕ × X)) → InOrder es → InOrder fs → ((q : ℕ) → link_at es q ≡ link_at fs q) → es ≡ fs
   unfolding IsStrictlySortedBy
   same_entries [] [] s t same = refl
@@ -111,7 +111,7 @@ module _ {X : Type 0} where
       by_order Equal rest = all
       by_order Greater rest = (all.0, rest)
 
-  -- a list stays in order where a link comes
+  -- a list stays in order when a link comes
   pub with_ordered : (es : List (ℕ × X)) (id : ℕ) (x : X) → InOrder es → InOrder (with_link es id x)
   unfolding IsStrictlySortedBy
   with_ordered [] id x s = (tt, tt)
@@ -139,7 +139,7 @@ module _ {X : Type 0} where
       by_head true rest = rest
       by_head false rest = (all.0, rest)
 
-  -- and where one goes
+  -- and when one leaves
   pub without_ordered : (es : List (ℕ × X)) (id : ℕ) → InOrder es → InOrder (without_link es id)
   unfolding IsStrictlySortedBy
   without_ordered [] id s = tt
@@ -149,7 +149,7 @@ module _ {X : Type 0} where
       by_head true rest = rest
       by_head false rest = (above_without e.0 es id s.0, rest)
 
-  -- the numbers are the same where a link has changed
+  -- the numbers stay the same when a link changes
   pub keys_with : (es : List (ℕ × X)) (id : ℕ) (x y : X) → InOrder es → link_at es id ≡ Some y → keys_of (with_link es id x) ≡ keys_of es
   unfolding IsStrictlySortedBy
   keys_with [] id x y s found = absurd (no y found)

@@ -1,4 +1,4 @@
--- What the first place of the index says.
+-- What the first place of the index means.
 use Rattle.std.proofs.Common.{◌≡◌, ◌∙◌, sym, ap, refl, ℕ, true, false, true≢false, ◌⊎◌, inl, inr, ◌<◌, ◌≤◌, Option, Some, None, List, [], ◌∷◌, length, zero, suc, arith}
 use Rattle.std.specs.Prelude.{◌==◌, nat_lt}
 use Rattle.std.specs.Ordering.{nat_cmp, ordering_then, is_gt}
@@ -74,7 +74,7 @@ not_some : (a : Option ℕ) → ((n : ℕ) → a ≡ Some n → ⊥) → a ≡ N
 not_some None none = refl
 not_some (Some n) none = absurd (none n refl)
 
--- nobody behind a link has a turn where there is no place behind it
+-- nobody after a link has a turn where there is no place after it
 pub behind_none : (ranking : Ranking) (ranks : ℕ → Option ℕ) (id : ℕ) → Ranks ranking ranks → ((other m : ℕ) → ranks other ≡ Some m → m ≡ 0)
     → ((q : Place) → place_cmp (record { rank = 0; id = id }) q ≡ Less → has ranking q ≡ false) → IsLeast (behind id ranks) None
 behind_none ranking ranks id fits flat none other =
@@ -84,7 +84,7 @@ behind_none ranking ranks id fits flat none other =
     true≢false (sym (fits q ∙ is_some_rank (ranks other) m is) ∙ none q (here_less id other m (flat other m is) e)))))
     (λ e. rw e refl)
 
--- the first place behind a link is that of the next one
+-- the first place after a link is that of the next one
 pub behind_some : (ranking : Ranking) (ranks : ℕ → Option ℕ) (id : ℕ) (place : Place) → Ranks ranking ranks → ((other m : ℕ) → ranks other ≡ Some m → m ≡ 0)
     → place_cmp (record { rank = 0; id = id }) place ≡ Less → has ranking place ≡ true
     → ((q : Place) → place_cmp (record { rank = 0; id = id }) q ≡ Less → has ranking q ≡ true → is_gt (place_cmp place q) ≡ false)

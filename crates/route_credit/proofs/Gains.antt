@@ -23,7 +23,7 @@ use Rattle.route_credit.proofs.Steps.{InNeed, next_needs}
 none_some : {P : Type 0} {X : Type 0} (x : X) → None ≡ Some x → P
 none_some x h = absurd cc
 
--- one grant on the way to all
+-- one grant of all
 pub all_more : (old now after : Sharing) (id : ℕ) → all_granted now ≡ all_granted old → InOrder now.producers → IsNext now (Some id)
     → ((demand : Demand) → link_at now.producers id ≡ Some demand → after ≡ given now id demand) → all_granted after ≡ all_granted old
 all_more old now after id all ordered first gives =
@@ -138,11 +138,11 @@ no_grants pool none = no_gains (gain pool (all_granted pool)) (keys_of pool.prod
     let same : lent_at (all_granted pool) id ≡ lent_at pool id = ap (λ p. lent_at p id) (none_granted pool none) in
     omega (arith, same))
 
--- and so behind all grants
+-- and so after all grants
 pub no_more_grants : (pool : Sharing) → InOrder pool.producers → grants_of (all_granted pool) ≡ []
 no_more_grants pool ordered = no_grants (all_granted pool) (all_done pool ordered)
 
--- whom the last choice was doesn't matter
+-- the last choice doesn't matter
 granting_but_last : (n : ℕ) (pool : Sharing) (last : ℕ) → granting n (record pool { last = last }) ≡ record (granting n pool) { last = last }
 granting_but_last zero pool last = refl
 granting_but_last (suc n) pool last = ap (granting n) (one (next pool)) ∙ granting_but_last n (granted pool (next pool)) last
@@ -158,7 +158,7 @@ granting_but_last (suc n) pool last = ap (granting n) (one (next pool)) ∙ gran
 pub grants_but_last : (pool : Sharing) (last : ℕ) → grants_of (record pool { last = last }) ≡ grants_of pool
 grants_but_last pool last = ap (λ p. gains (gain pool p) (keys_of pool.producers)) (granting_but_last (room pool) pool last)
 
--- who is granted nothing is as it was
+-- a producer that is granted nothing is as it was
 pub kept_producer : (pool : Sharing) (q : ℕ) → InOrder pool.producers → link_at (grants_of pool) q ≡ None → link_at (all_granted pool).producers q ≡ link_at pool.producers q
 kept_producer pool q ordered none = by_gain (nat_lt 0 (gain pool (all_granted pool) q)) refl
   where

@@ -60,7 +60,7 @@ one_grant P pool ordered none some = by_next (next pool) refl
         let need : InNeed pool.distribution (link_at pool.producers id) = needs pool id ordered is in
         subst P (sym (granted_is pool id need.demand is need.there)) (some id need.demand is need.there)
 
--- a property that each grant keeps
+-- a property that each grant preserves
 pub all_keep : (P : Sharing → Type 0) (n : ℕ) (pool : Sharing) → InOrder pool.producers
     → ((now : Sharing) (id : ℕ) (demand : Demand) → InOrder now.producers → next now ≡ Some id → link_at now.producers id ≡ Some demand → P now → P (given now id demand))
     → P pool → P (granting n pool)
@@ -78,7 +78,7 @@ no_room pool ordered none = by_next (next pool) refl
     by_next None is = refl
     by_next (Some id) is = let l : 0 < room pool = some_room pool id ordered is in absurd (omega (arith, l, none))
 
--- behind as many grants as there is room for nobody is next
+-- after as many grants as there is room for nobody is next
 finished : (n : ℕ) (pool : Sharing) → InOrder pool.producers → room pool ≤ n → next (granting n pool) ≡ None
 finished zero pool ordered most = no_room pool ordered most
 finished (suc n) pool ordered most = by_next (next pool) refl (finished n (granted pool (next pool)))
@@ -116,11 +116,11 @@ enough (suc n) (suc m) pool ordered one two = by_next (next pool) refl (enough n
         (subst (λ p. room p ≤ n) (sym same) (omega (arith, less, one)))
         (subst (λ p. room p ≤ m) (sym same) (omega (arith, less, two)))
 
--- behind all grants nobody is next
+-- after all grants nobody is next
 pub all_done : (pool : Sharing) → InOrder pool.producers → next (all_granted pool) ≡ None
 all_done pool ordered = finished (room pool) pool ordered (omega arith)
 
--- all grants are one, and then all others
+-- all grants are one grant, and then all others
 pub one_of_all : (pool : Sharing) (id : ℕ) (demand : Demand) → InOrder pool.producers → next pool ≡ Some id → link_at pool.producers id ≡ Some demand → all_granted (given pool id demand) ≡ all_granted pool
 one_of_all pool id demand ordered is there =
     let less : room (given pool id demand) < room pool = one_less pool id demand ordered is there in
@@ -135,7 +135,7 @@ one_of_all pool id demand ordered is there =
 pub none_granted : (pool : Sharing) → next pool ≡ None → all_granted pool ≡ pool
 none_granted pool none = still (room pool) pool none
 
--- all grants leave nothing to be granted
+-- all grants leave nothing more to grant
 pub all_of_all : (pool : Sharing) → InOrder pool.producers → all_granted (all_granted pool) ≡ all_granted pool
 all_of_all pool ordered = none_granted (all_granted pool) (all_done pool ordered)
 
@@ -156,7 +156,7 @@ all_distribution pool ordered = all_keep (λ p. p.distribution ≡ pool.distribu
 pub all_last : (pool : Sharing) → InOrder pool.producers → (all_granted pool).last ≡ pool.last
 all_last pool ordered = all_keep (λ p. p.last ≡ pool.last) (room pool) pool ordered (λ now id demand o next there is. is) refl
 
--- a producer that was granted so much, or nobody
+-- a producer and the credit that it was granted, or nobody
 abbrev raised_by : ℕ → Option Demand → Option Demand
 raised_by n None = None
 raised_by n (Some demand) = Some (record demand { lent = demand.lent + n })
@@ -203,6 +203,6 @@ kept_by_all pool q ordered none = by_link (link_at pool.producers q) (link_at (a
         let zero_is : is.0 ≡ 0 = omega (arith, lent, none) in
         is.1 ∙ ap (λ n. raised_by n (Some before)) zero_is ∙ sym (raised_none (Some before))
 
--- and who isn't there doesn't come
+-- and no producer is added
 pub none_by_all : (pool : Sharing) (q : ℕ) → InOrder pool.producers → link_at pool.producers q ≡ None → link_at (all_granted pool).producers q ≡ None
 none_by_all pool q ordered none = let raised = all_raised pool q ordered in raised.1 ∙ ap (raised_by raised.0) none

@@ -33,7 +33,7 @@ least_is_one figure (Some x) (Some y) a b =
 pub choice_is_one : ChoiceIsOne
 choice_is_one pool one other a b = least_is_one (turn pool) one other a b
 
--- who has a turn has free credit
+-- a consumer that has a turn has free credit
 turn_is_free : (distribution : Distribution) (last id : ℕ) (link : Option Offer) (n : ℕ) → option_and_then (turn_of distribution last id) link ≡ Some n → (offer : Offer) × (link ≡ Some offer) × (0 < offer.free)
 turn_is_free distribution last id None n h = none_some n h
 turn_is_free Balanced last id (Some offer) n h = by_test (nat_lt 0 offer.free) (λ e. (offer, refl, ltb-true 0 offer.free e)) (λ e. none_some n (rw e at h))

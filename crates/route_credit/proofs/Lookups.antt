@@ -1,4 +1,4 @@
--- What is known of links behind a change of one.
+-- What is known of links after a change of one.
 use Rattle.std.proofs.Common.{◌≡◌, ◌∙◌, sym, ap, refl, ℕ, Bool, true, false, true≢false, not, cond, Some, None, List, [], ◌∷◌}
 use Rattle.std.specs.Prelude.{◌==◌, filter}
 use Rattle.std.specs.BTreeMap.{is_at}
@@ -17,7 +17,7 @@ test_sym a b = by_test (b == a) (λ e. rw e (eq-eqb a b (sym (eqb-true b a e))))
 is_test : (a b : ℕ) (o : Ordering) → nat_cmp a b ≡ o → is_eq o ≡ (a == b)
 is_test a b o is = ap is_eq (sym is) ∙ same_test a b
 
--- what is known behind a change of one link
+-- what is known after a change of one link
 pub link_with : {X : Type 0} (links : List (ℕ × X)) (id : ℕ) (x : X) (q : ℕ) → link_at (with_link links id x) q ≡ cond (id == q) (Some x) (link_at links q)
 link_with [] id x q = ap (λ b. cond b (Some x) None) (same_test q id ∙ test_sym q id)
 link_with {X} (e ∷ es) id x q = by_order (nat_cmp id e.0) refl (link_with es id x q)

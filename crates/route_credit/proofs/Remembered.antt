@@ -1,4 +1,4 @@
--- What a choice goes by of the one before.
+-- How much of the previous choice a choice depends on.
 use Rattle.std.proofs.Common.{◌≡◌, ap, refl, ℕ, Option, Some, None}
 use Rattle.std.specs.Prelude.{option_and_then}
 use Rattle.route_credit.specs.Granting.{choice, least}
@@ -15,6 +15,6 @@ same_turn Balanced last id (Some offer) = refl
 same_turn Closest last id (Some offer) = refl
 same_turn Multicast last id (Some offer) = refl
 
--- so the choice is
+-- and so is the choice
 pub choice_but_last : (pool : Sharing) → choice (remembering pool) ≡ choice pool
 choice_but_last pool = ap (λ figure. least figure pool.consumers) (λ i id. same_turn pool.distribution pool.last id (link_at pool.consumers id) i)

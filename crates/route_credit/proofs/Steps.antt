@@ -56,7 +56,7 @@ next_needs pool id next = by_short (is_short pool) next
     by_short true least = in_need pool.distribution (link_at pool.producers id) least.0 least.1
     by_short false is = absurd (some_none id is)
 
--- behind a grant no more is lent than is free
+-- after a grant no more is lent than is free
 pub within_more : (now after : Sharing) (id : ℕ) → IsNext now (Some id)
     → ((demand : Demand) → link_at now.producers id ≡ Some demand → after ≡ given now id demand)
     → ((demand : Demand) → link_at now.producers id ≡ Some demand → IsStrictlySortedBy nat_cmp (keys_of now.producers))

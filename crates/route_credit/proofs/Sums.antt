@@ -22,7 +22,7 @@ module _ {X : Type 0} (amount : X → ℕ) where
       by_cases true rest = omega arith
       by_cases false rest = omega (arith, rest)
 
-  -- what is known of a link gives way
+  -- what is known of a link is replaced
   pub total_set : (links : List (ℕ × X)) (id : ℕ) (link : X) → IsStrictlySortedBy nat_cmp (keys_of links)
       → total amount (with_link links id link) + amount_at amount (link_at links id) ≡ total amount links + amount link
   total_set [] id link sorted = omega arith

@@ -5,7 +5,7 @@ use Rattle.route_credit.specs.Granting.{all_granted}
 use Rattle.route_credit.specs.Links.{amount_at, link_at}
 use Rattle.route_credit.specs.Pool.{free, Granted, lent, lent_at, Sharing, WithinFree}
 
--- these sums were given between two pools
+-- these sums were granted between two pools
 pub record IsGiving (old now : Sharing) (sums : List (ℕ × ℕ)) : Type 0 where
   pub granted : Granted old now
   pub within : (now ≡ old) ⊎ WithinFree now.distribution (lent now) (free now)

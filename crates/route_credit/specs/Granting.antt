@@ -11,7 +11,7 @@ is_sooner None other = false
 is_sooner (Some n) None = true
 is_sooner (Some n) (Some m) = nat_le n m
 
--- of the numbers in a list the one with the lowest figure, of several the one that stands first
+-- of the numbers in a list the one with the lowest figure; of several, the one that comes first
 abbrev pub least : {X : Type 0} → (ℕ → Option ℕ) → List (ℕ × X) → Option ℕ
 least figure [] = None
 least figure (link ∷ links) = if is_sooner (figure link.0) (option_and_then figure (least figure links)) then Some link.0 else least figure links
@@ -37,12 +37,12 @@ granted pool (Some id) = given_to pool id (link_at pool.producers id)
 abbrev pub room : Sharing → ℕ
 room pool = total (λ demand. 64 - demand.lent) pool.producers
 
--- the pool behind so many grants, each to the producer that is next
+-- the pool after this many grants, each to the producer that is next
 abbrev pub granting : ℕ → Sharing → Sharing
 granting zero pool = pool
 granting (suc n) pool = granting n (granted pool (next pool))
 
--- the pool behind all grants: there are no more than there is room for
+-- the pool after all grants: there are no more than there is room for
 abbrev pub all_granted : Sharing → Sharing
 all_granted pool = granting (room pool) pool
 
@@ -50,7 +50,7 @@ all_granted pool = granting (room pool) pool
 abbrev pub gain : Sharing → Sharing → ℕ → ℕ
 gain old new id = lent_at new id - lent_at old id
 
--- of these links those that got some, with how much
+-- of these links those that got some, and how much
 abbrev pub gains : (ℕ → ℕ) → List ℕ → List (ℕ × ℕ)
 gains amount ids = filter (λ sum. nat_lt 0 sum.1) (map (λ id. (id, amount id)) ids)
 

@@ -45,14 +45,14 @@ GrantsAreEnough = (pool : Sharing) → IsNext pool None → NothingLeft pool.dis
 abbrev pub InOrder : Sharing → Type 0
 InOrder pool = IsStrictlySortedBy nat_cmp (keys_of pool.producers)
 
--- behind all grants nothing is granted
+-- after all grants nothing more is granted
 abbrev pub GrantsLeaveNone : Type 0
 GrantsLeaveNone = (pool : Sharing) → InOrder pool → grants_of (all_granted pool) ≡ []
 
--- whom the last delivery went to says nothing of grants
+-- the consumer of the last delivery doesn't affect grants
 abbrev pub GrantsButLast : Type 0
 GrantsButLast = (pool : Sharing) (last : ℕ) → grants_of (record pool { last = last }) ≡ grants_of pool
 
--- nor of choices, but where an address goes round
+-- nor choices, except on an address that goes round
 abbrev pub ChoiceButLast : Type 0
 ChoiceButLast = (pool : Sharing) → choice (remembering pool) ≡ choice pool

@@ -8,7 +8,7 @@ use Rattle.std.specs.Map.{lookup}
 abbrev pub link_at : {X : Type 0} → List (ℕ × X) → ℕ → Option X
 link_at links id = lookup (is_at (nat_cmp id)) links
 
--- the links with this one, in its place in the order; what was known of it before gives way
+-- the links with this one, in its place in the order; what was known of it before is replaced
 abbrev pub with_link : {X : Type 0} → List (ℕ × X) → ℕ → X → List (ℕ × X)
 with_link links id link = insert_entry nat_cmp links id link
 
@@ -26,7 +26,7 @@ abbrev pub total : {X : Type 0} → (X → ℕ) → List (ℕ × X) → ℕ
 total amount [] = 0
 total amount (link ∷ links) = amount link.1 + total amount links
 
--- the link with the lowest figure, of several the one that attached first; none only where no link has a figure
+-- the link with the lowest figure; of several, the one that attached first; none only where no link has a figure
 abbrev pub IsLeast : (ℕ → Option ℕ) → Option ℕ → Type 0
 IsLeast figure None = (id : ℕ) → figure id ≡ None
 IsLeast figure (Some id) = (n : ℕ) × (figure id ≡ Some n) × ((other m : ℕ) → figure other ≡ Some m → (n < m) ⊎ ((n ≡ m) × (id ≤ other)))

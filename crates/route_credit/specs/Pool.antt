@@ -28,7 +28,7 @@ has_no_links pool = length pool.consumers == 0 && length pool.producers == 0
 abbrev pub offered : Sharing → ℕ → ℕ → ℕ → Sharing
 offered pool id free undecided = record pool { consumers = with_link pool.consumers id (record { free = free; undecided = undecided }) }
 
--- what is due is part of the unused credit, and the rest of that is lent
+-- what is due is part of the unused credit, and the rest is lent
 abbrev pub demand_of : ℕ → ℕ → ℕ → Demand
 demand_of unused due held = record { lent = unused - due; due = min due unused; held = held }
 
@@ -49,7 +49,7 @@ free pool = total (λ offer. offer.free) pool.consumers
 abbrev pub lent : Sharing → ℕ
 lent pool = total (λ demand. demand.lent) pool.producers
 
--- What a consumer with free credit is chosen by. Balanced: its undecided deliveries. Closest: those behind the one last chosen come first, then the others. Multicast chooses nobody.
+-- What a consumer with free credit is chosen by. Balanced: its undecided deliveries. Closest: those after the one last chosen come first, then the others. Multicast chooses nobody.
 abbrev pub turn_of : Distribution → ℕ → ℕ → Offer → Option ℕ
 turn_of Balanced last id offer = if nat_lt 0 offer.free then Some offer.undecided else None
 turn_of Closest last id offer = if nat_lt 0 offer.free then Some (if nat_lt last id then 0 else 1) else None
@@ -62,12 +62,12 @@ turn pool id = option_and_then (turn_of pool.distribution pool.last id) (link_at
 abbrev pub IsChoice : Sharing → Option ℕ → Type 0
 IsChoice pool chosen = IsLeast (turn pool) chosen
 
--- the pool behind a choice
+-- the pool after a choice
 abbrev pub chose : Sharing → Option ℕ → Sharing
 chose pool None = pool
 chose pool (Some id) = record pool { last = id }
 
--- How much of the number last chosen the next choice goes by: closest alone goes by it.
+-- How much of the number last chosen the next choice depends on: only closest uses it.
 abbrev pub remembered : Distribution → ℕ → ℕ
 remembered Balanced last = 0
 remembered Closest last = last
@@ -95,7 +95,7 @@ short_by Multicast below = true
 abbrev pub is_short : Sharing → Bool
 is_short pool = short_by pool.distribution (nat_lt (lent pool) (free pool))
 
--- the producer that is given credit next, if one is
+-- the producer that is given credit next, if there is one
 abbrev pub IsNextIf : Bool → Sharing → Option ℕ → Type 0
 IsNextIf true pool next = IsLeast (need pool) next
 IsNextIf false pool next = next ≡ None
@@ -103,7 +103,7 @@ IsNextIf false pool next = next ≡ None
 abbrev pub IsNext : Sharing → Option ℕ → Type 0
 IsNext pool next = IsNextIf (is_short pool) pool next
 
--- how much a producer is given: one credit; on a multicast address as much as it needs for 64 unused
+-- how much a producer is given: one credit; on a multicast address as much as it needs to have 64 unused
 abbrev pub part_of : Distribution → Demand → ℕ
 part_of Balanced demand = 1
 part_of Closest demand = 1
@@ -112,7 +112,7 @@ part_of Multicast demand = 64 - demand.due - demand.lent
 abbrev pub given : Sharing → ℕ → Demand → Sharing
 given pool id demand = record pool { producers = with_link pool.producers id (record demand { lent = demand.lent + part_of pool.distribution demand }) }
 
--- the pool, behind some grants one after the other, each to the producer that is next
+-- the pool after some grants, each to the producer that is next
 pub data Granted (pool : Sharing) : Sharing → Type 0 where
   none : Granted pool pool
   more : (now : Sharing) (id : ℕ) (demand : Demand) → Granted pool now → IsNext now (Some id) → link_at now.producers id ≡ Some demand → Granted pool (given now id demand)
@@ -131,7 +131,7 @@ lent_at pool id = amount_at (λ demand. demand.lent) (link_at pool.producers id)
 abbrev pub by_id : List (ProducerId × ℕ) → List (ℕ × ℕ)
 by_id sums = map (λ sum. (sum.0.0, sum.1)) sums
 
--- what was given between two pools: each producer that got some stands once, in order of attach, with its sum
+-- what was given between two pools: each producer that got some is listed once, in order of attach, with its sum
 pub record IsTold (old new : Sharing) (sums : List (ProducerId × ℕ)) : Type 0 where
   pub ascend : IsStrictlySortedBy nat_cmp (map (λ sum. sum.0) (by_id sums))
   pub some : (id n : ℕ) → link_at (by_id sums) id ≡ Some n → 0 < n

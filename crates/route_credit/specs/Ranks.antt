@@ -1,4 +1,4 @@
--- What the index of the links of an address says.
+-- What the index of the links of an address contains.
 use Rattle.std.specs.Prelude.{◌≡◌, ◌==◌, ◌&&◌, ℕ, Bool, false, Option, None, Some, List, option_and_then, if◌then◌else◌, nat_lt}
 use Rattle.std.specs.BTreeSet.{contains}
 use Rattle.std.specs.Ordering.{nat_cmp, ordering_then}
@@ -26,7 +26,7 @@ is_rank (Some r) rank = r == rank
 abbrev pub is_place : ℕ → Option ℕ → Place → Bool
 is_place id rank place = (id == place.id) && is_rank rank place.rank
 
--- the ranks, but for one link's
+-- the ranks, except one link's
 abbrev pub ranked : (ℕ → Option ℕ) → ℕ → Option ℕ → ℕ → Option ℕ
 ranked ranks id rank other = if id == other then rank else ranks other
 
@@ -38,7 +38,7 @@ Ranks ranking ranks = (place : Place) → has ranking place ≡ is_rank (ranks p
 abbrev pub rank_at : {X : Type 0} → (X → Option ℕ) → List (ℕ × X) → ℕ → Option ℕ
 rank_at rank links id = option_and_then rank (link_at links id)
 
--- the ranks of the links behind this one
+-- the ranks of the links after this one
 abbrev pub behind : ℕ → (ℕ → Option ℕ) → ℕ → Option ℕ
 behind id ranks other = if nat_lt id other then ranks other else None
 

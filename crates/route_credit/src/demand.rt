@@ -5,13 +5,13 @@ ghost use Rattle.route_credit.specs.Pool.{demand_of, need_of, part_of};
 use crate::weigh::Weigh;
 use route_table::Distribution;
 
-/// How much of a producer link's credit and deliveries there may be.
+/// The limit of a producer link's credit and deliveries.
 const MOST: u32 = 64;
 
 /// The unused credit at which a multicast address grants again.
 const LOW: u64 = 32;
 
-/// What a producer link has: unused credit, in two parts (what is due, and what is lent), and deliveries that the router
+/// What a producer link has: its unused credit, in two parts (due and lent), and the deliveries that the router
 /// holds.
 #[derive(Clone, Copy, Debug, PartialEq, Eq)]
 pub struct Demand {

@@ -16,23 +16,23 @@ pub fn nobody_where_none_is_free()
     ensures { NobodyWhereNoneIsFree }
 {}
 
-/// Behind all grants what is lent isn't below what is free, or no producer's lent credit and held deliveries are below
+/// After all grants what is lent isn't below what is free, or no producer's lent credit and held deliveries are below
 /// 64; on a multicast address each producer has more than 32 unused.
 pub fn grants_are_enough()
     ensures { GrantsAreEnough }
 {}
 
-/// Behind all grants nothing is granted.
+/// After all grants nothing more is granted.
 pub fn grants_leave_none()
     ensures { GrantsLeaveNone }
 {}
 
-/// Whom the last delivery went to says nothing of grants.
+/// The consumer of the last delivery doesn't affect grants.
 pub fn grants_but_last()
     ensures { GrantsButLast }
 {}
 
-/// Nor of choices, but on a closest address.
+/// Nor does it affect choices, except on a closest address.
 pub fn choice_but_last()
     ensures { ChoiceButLast }
 {}

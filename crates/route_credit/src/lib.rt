@@ -1,6 +1,6 @@
 //! The links of one address: which consumer gets the next delivery, and which producers get credit.
 //!
-//! [`Pool`] is told what each link has, and answers both.
+//! [`Pool`] is given what each link has, and answers both.
 #![tactic(auto)]
 
 mod demand;

@@ -54,7 +54,7 @@ impl<T: Weigh> Links<T> {
         self.total
     }
 
-    /// Notes what is known of a link, in place of what was.
+    /// Stores what is known of a link, in place of what was known.
     pub(crate) fn set(
         &mut self,
         distribution: Distribution,
@@ -84,7 +84,7 @@ impl<T: Weigh> Links<T> {
         Ok(())
     }
 
-    /// Takes a link out.
+    /// Removes a link.
     pub(crate) fn remove(&mut self, distribution: Distribution, id: u64)
         ensures removed { self.new.rows.entries ≡ without_link self.old.rows.entries id }
         ensures whole { IsIndexed (T.rank distribution) T.amount self.old → IsIndexed (T.rank distribution) T.amount self.new }
@@ -102,7 +102,7 @@ impl<T: Weigh> Links<T> {
         self.ranking.first()
     }
 
-    /// The first link behind this one, in the order of their numbers, where every rank is 0.
+    /// The first link after this one, in the order of their numbers, where every rank is 0.
     pub(crate) fn first_behind(&self, id: u64) -> Option<u64>
         ensures { (rank : T → Option ℕ) → IsIndexed rank T.amount self.now → ((other m : ℕ) → rank_at rank self.now.rows.entries other ≡ Some m → m ≡ 0) → IsLeast (behind id (rank_at rank self.now.rows.entries)) result }
     {

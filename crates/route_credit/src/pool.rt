@@ -71,7 +71,7 @@ impl Pool {
         self.consumers.is_empty() && self.producers.is_empty()
     }
 
-    /// Notes what a consumer link has now: its free credit and its undecided deliveries. The first call for a link is
+    /// Stores what a consumer link has now: its free credit and its undecided deliveries. The first call for a link is
     /// its attach.
     pub fn offer(
         &mut self,
@@ -86,7 +86,7 @@ impl Pool {
         self.consumers.set(self.distribution, consumer.0, offer)
     }
 
-    /// Notes what a producer link has now: its unused credit, how much of that is due, and its deliveries that are
+    /// Stores what a producer link has now: its unused credit, how much of that is due, and its deliveries that are
     /// undecided or not forgotten. The first call for a link is its attach.
     pub fn want(
         &mut self,
@@ -102,14 +102,14 @@ impl Pool {
         self.producers.set(self.distribution, producer.0, demand)
     }
 
-    /// Forgets a consumer link. The one last chosen is remembered all the same.
+    /// Removes a consumer link. If it was the one last chosen, it is still remembered as that.
     pub fn drop_consumer(&mut self, consumer: ConsumerId)
         ensures { self.new ≡ without_consumer self.old consumer.0 }
     {
         self.consumers.remove(self.distribution, consumer.0);
     }
 
-    /// Forgets a producer link.
+    /// Removes a producer link.
     pub fn drop_producer(&mut self, producer: ProducerId)
         ensures { self.new ≡ without_producer self.old producer.0 }
     {
@@ -117,7 +117,7 @@ impl Pool {
     }
 
     /// Chooses the consumer of the next delivery and notes that it was chosen; none where no consumer has free credit.
-    /// A multicast address chooses nobody. It takes no memory.
+    /// A multicast address chooses nobody. It allocates nothing.
     #[tactic(auto, using(crate::proofs::Leasts::choice_is))]
     pub fn choose(&mut self) -> Option<ConsumerId>
         ensures choice { IsChoice self.old (option_map (λ c. c.0) result) }
@@ -133,8 +133,8 @@ impl Pool {
         }
     }
 
-    /// Gives credit to producers, one credit after the other, while there is a producer that is next, and tells each
-    /// producer's sum, in order of attach. Where memory was refused, the credit that was given so far is told to nobody.
+    /// Gives credit to producers, one credit after another, while there is a producer that is next, and returns each
+    /// producer's sum, in order of attach. Where memory was refused, the credit that was given so far is in no answer.
     pub fn grants(&mut self) -> Result<Vec<(ProducerId, u32)>, AllocError>
         ensures granted { Granted self.old self.new }
         ensures done { OnOk result (IsNext self.new None) }
@@ -189,7 +189,7 @@ impl Pool {
         self.producers.first()
     }
 
-    /// Gives a producer its part, and says how much that is.
+    /// Gives a producer its part, and returns how much that is.
     fn give(&mut self, id: u64) -> Result<u32, AllocError>
         ensures given { (demand : Demand) → link_at self.old.producers id ≡ Some demand → OnOk result (self.new ≡ given self.old id demand) }
         ensures part { (demand : Demand) → link_at self.old.producers id ≡ Some demand → IfOk result (λ part. part ≡ part_of self.old.distribution demand) }

@@ -1,4 +1,4 @@
-//! Links in the order in which their turn comes.
+//! Links in the order of their turns.
 ghost use Rattle.std.specs.Prelude.{◌≡◌, ◌∷◌, ◌||◌, ◌&&◌, not, ℕ, Option, None, Some, OnOk, OnErr, option_map};
 ghost use Rattle.route_credit.specs.Links.{IsLeast};
 ghost use Rattle.route_credit.specs.Ranks.{behind, has, is_place, ranked, Ranks};
@@ -56,7 +56,7 @@ impl Ranking {
         }
     }
 
-    /// Moves a link from its rank to another one.
+    /// Moves a link from its rank to another.
     #[tactic(auto, using(crate::proofs::Moved::ranks_moved, crate::proofs::Moved::ranks_same, crate::proofs::Moved::ranks_kept))]
     pub(crate) fn set(
         &mut self,
@@ -75,7 +75,7 @@ impl Ranking {
         Ok(())
     }
 
-    /// Takes a link away, which has this rank.
+    /// Removes a link, which has this rank.
     #[tactic(auto, using(crate::proofs::Moved::ranks_less))]
     pub(crate) fn unset(&mut self, id: u64, rank: Option<u64>)
         ensures { (ranks : ℕ → Option ℕ) → Ranks self.old ranks → ranks id ≡ rank → Ranks self.new (ranked ranks id None) }
@@ -93,7 +93,7 @@ impl Ranking {
         }
     }
 
-    /// The first link behind this one, in the order of their numbers, where all have the rank 0.
+    /// The first link after this one, in the order of their numbers, where all have the rank 0.
     pub(crate) fn first_behind(&self, id: u64) -> Option<u64>
         ensures { (ranks : ℕ → Option ℕ) → Ranks self.now ranks → ((other m : ℕ) → ranks other ≡ Some m → m ≡ 0) → IsLeast (behind id ranks) result }
     {

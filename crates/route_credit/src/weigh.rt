@@ -1,4 +1,4 @@
-//! What links are put in order and counted by.
+//! What links are ordered and summed by.
 ghost use Rattle.std.specs.Prelude.{◌≡◌, ℕ, Option};
 ghost use Rattle.route_table.specs.declared.sections.Distribution.{Distribution};
 

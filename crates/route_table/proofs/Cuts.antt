@@ -42,7 +42,7 @@ lines_last (byte ∷ next ∷ bytes) some h = by_test (byte == 10) h (lines_last
     by_test true h more = absurd (omega arith)
     by_test false h more = rw (more (omega arith)) refl
 
--- a text that begins with no space: the tab in front is cut off, or nothing is
+-- a text that begins with no space: the tab in front is removed, or nothing is
 pub front_tab : (text : List ℕ) (r : Option (Bor (List ℕ))) → ((rest : List ℕ) → text ≢ 32 ∷ rest) → MatchOption r ((rest : List ℕ) → text ≢ 9 ∷ rest) (λ x. text ≡ 9 ∷ x.now)
     → MatchOption r (trim_front text ≡ text) (λ rest. (trim_front text ≡ trim_front rest.now) × (length rest.now < length text))
 front_tab [] (Some x) space tab = absurd cc

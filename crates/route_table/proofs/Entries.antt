@@ -1,4 +1,4 @@
--- What a look-up finds in a list of entries with one more.
+-- What a look-up finds in a list of entries with one more entry.
 use Rattle.std.proofs.Common.{◌≡◌, ℕ, Bool, true, false, cond, List, [], ◌∷◌, ◌++◌, Option, Some, None, map, filter, take, length, get_or, ◌+◌, ◌<◌, append-nil, is_some, refl, sym, ◌∙◌, ap, subst}
 use Rattle.std.specs.Str.{bytes_eq}
 use Rattle.std.specs.Map.{lookup}

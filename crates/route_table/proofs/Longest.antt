@@ -1,4 +1,4 @@
--- The longest prefix that matches is found by asking for each beginning of the address, the longest first.
+-- The longest prefix that matches is found by looking up each prefix of the address, the longest first.
 use Rattle.std.proofs.Common.{◌≡◌, ℕ, Bool, true, false, cond, List, [], ◌∷◌, length, take, drop, Option, Some, None, IfSome, option_map, refl, sym, ◌∙◌, ap, subst, arith, ◌≤◌, ◌<◌, ◌+◌, ◌-◌, ◌&&◌, zero, suc, nat_lt, nat_eq, add-one}
 use Rattle.std.proofs.lemmas.List.{length-take-le, length-take}
 use Rattle.std.specs.Str.{bytes_eq}
@@ -19,11 +19,11 @@ length_at : (prefix a : List ℕ) (n : ℕ) → n ≤ length a → bytes_eq (tak
 length_at prefix a n le same = sym (ap length ((bytes_eq-Decides (take n a) prefix).0 same)) ∙ length-take-le n a le
 
 module _ {V : Type 0} where
-  -- the entry at the beginning of n bytes, where the address may end there; else the other
+  -- the entry for the first n bytes, where a prefix may end there; else the other
   abbrev pub asked : List (List ℕ × V) → List ℕ → ℕ → Option (List ℕ × V) → Option (List ℕ × V)
   asked es a n less = cond (goes_on (drop n a)) (or_else (option_map (λ v. (take n a, v)) (lookup (bytes_eq (take n a)) es)) less) less
 
-  -- the entry at the longest beginning of fewer than n bytes
+  -- the entry for the longest prefix of fewer than n bytes
   abbrev pub scan : List (List ℕ × V) → List ℕ → ℕ → Option (List ℕ × V)
   scan es a zero = None
   scan es a (suc n) = asked es a n (scan es a n)
@@ -65,7 +65,7 @@ module _ {V : Type 0} where
   longer_none None = refl
   longer_none (Some e) = refl
 
-  -- one more entry e, of the length of the beginning p or not; m: they are equal; ends: the address may end behind p
+  -- one more entry e, of the length of the prefix p or not; m: they are equal; ends: a match may end after p
   same_length : (ends m : Bool) (e : List ℕ × V) (p : List ℕ) (l : Option V) (less : Option (List ℕ × V)) → (m ≡ true → p ≡ e.0) → IfSome (cond ends (or_else (option_map (λ v. (p, v)) l) less) less) (λ f. length f.0 < length e.0 + 1)
       → cond ends (or_else (option_map (λ v. (p, v)) (cond m (Some e.1) l)) less) less ≡ longer (cond (m && ends) (Some e) None) (cond ends (or_else (option_map (λ v. (p, v)) l) less) less)
   same_length false true e p l less is h = refl
@@ -137,12 +137,12 @@ module _ {V : Type 0} where
       by_test true less h = h
       by_test false less h = h
 
-  -- the scan of all beginnings finds the best
+  -- the scan of all prefixes of the address finds the best
   pub scan_best : (es : List (List ℕ × V)) (a : List ℕ) → scan es a (length a + 1) ≡ best es a
   scan_best [] a = scan_none a (length a + 1)
   scan_best (e ∷ es) a = scan_more e es a (length a + 1) (omega arith) ∙ rw (short_all e a, scan_best es a) refl
 
-  -- the scan asks by looking up alone
+  -- the scan uses look-ups alone
   pub scan_by_lookup : (es fs : List (List ℕ × V)) (a : List ℕ) (n : ℕ) → FindSame es fs → scan es a n ≡ scan fs a n
   scan_by_lookup es fs a zero same = refl
   scan_by_lookup es fs a (suc n) same = rw (same (take n a), scan_by_lookup es fs a n same) refl
@@ -175,7 +175,7 @@ module _ {V : Type 0} where
   pub none_left : (es : List (List ℕ × V)) (a : List ℕ) (n : ℕ) → n ≡ 0 → None ≡ value_at es a n → scan es a (n + 1) ≡ best es a → None ≡ option_map (λ e. e.1) (best es a)
   none_left es a n zero_is here whole = rw (sym whole ∙ not_here es a n here ∙ ap (λ k. scan es a k) zero_is) refl
 
--- a table whose entries are found as a configuration's finds as the configuration says
+-- a table that finds a configuration's entries finds what the configuration says
 pub finds : (table : Routing) (settings : Settings) (addresses : List Address) (ins outs : List LinkRoute)
     → addresses ≡ settings.addresses → ins ≡ settings.link_routes → outs ≡ settings.link_routes
     → FindSame table.addresses (address_pairs addresses) → FindSame table.routes_in (route_pairs In ins) → FindSame table.routes_out (route_pairs Out outs)

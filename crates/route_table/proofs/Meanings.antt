@@ -1,4 +1,4 @@
--- The sections of one kind, one section more.
+-- The sections of one kind, with one more section.
 use Rattle.std.proofs.Common.{◌≡◌, ℕ, ◌+◌, ◌<◌, Bool, true, false, cond, List, [], ◌∷◌, ◌++◌, length, take, get_or, Option, Some, None, append-nil, refl, sym, ◌∙◌, ap}
 use Rattle.std.specs.List.{filter_map}
 use Rattle.std.proofs.lemmas.List.{take_more}

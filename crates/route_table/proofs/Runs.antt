@@ -11,7 +11,7 @@ use Rattle.route_table.specs.declared.faults.FaultKind.TheVariants.{Syntax}
 abbrev pub Read : Type 0
 Read = Result (List Section) (ℕ × FaultKind)
 
--- a fault at the line of this number, or what comes of the lines below it
+-- a fault at the line of this number, or the result for the lines below it
 abbrev pub going : Option FaultKind → ℕ → Read → Read
 going None number later = later
 going (Some kind) number later = Err (number, kind)
@@ -20,7 +20,7 @@ abbrev pub closing : ℕ → Option Section → List Section → Read
 closing number None ended = Ok ended
 closing number (Some section) ended = Err (number, Syntax)
 
--- what comes of the lines below so many lines
+-- the result for the lines below the first ones
 abbrev pub run : ℕ → Option Section → List Section → List Form → Read
 run number current ended [] = closing number current ended
 run number current ended (line ∷ below) = going (fault_in current ended line below) (number + 1) (run (number + 1) (open_behind line current) (ended_behind line current ended) below)

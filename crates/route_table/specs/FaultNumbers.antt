@@ -3,7 +3,7 @@ use Rattle.std.specs.Prelude.{ℕ}
 use Rattle.route_table.specs.declared.faults.FaultKind.{FaultKind}
 use Rattle.route_table.specs.declared.faults.FaultKind.TheVariants.{Syntax, UnknownSection, UnknownAttribute, BadValue, DuplicatePrefix, Memory}
 
--- as they are printed
+-- the number that is printed
 abbrev pub fault_number : FaultKind → ℕ
 fault_number Syntax = 1
 fault_number UnknownSection = 2

@@ -1,4 +1,4 @@
--- A configuration as a list of lines: which line is faulty, and what the lines say where none is.
+-- A configuration as a list of lines: which line is faulty, and what the lines say if none is.
 use Rattle.std.specs.Prelude.{ℕ, ◌+◌, Bool, true, false, ◌&&◌, List, [], ◌∷◌, ◌++◌, count_by, reverse, Option, None, Some, is_some, option_map, nat_le, not, codes, if◌then◌else◌}
 use Rattle.std.specs.List.{list_any, find}
 use Rattle.std.specs.Str.{bytes_eq}
@@ -31,13 +31,13 @@ is_text (Some value) text = bytes_eq value text
 abbrev pub has : SectionKind → Attribute → List ℕ → Section → Bool
 has wanted name text section = is_kind section.kind wanted && is_text (value_of name section) text
 
--- ---- what stands above a line
+-- ---- what comes before a line
 
 abbrev pub with_value : Option Attribute → List ℕ → Section → Section
 with_value None value section = section
 with_value (Some name) value section = record section { values = section.values ++ (name, value) ∷ [] }
 
--- the section that is open behind a line, by the one that is open in front of it
+-- the section that is open after a line, by the one that is open before it
 abbrev pub open_behind : Form → Option Section → Option Section
 open_behind nothing current = current
 open_behind wrong current = current
@@ -45,7 +45,7 @@ open_behind close current = None
 open_behind (head name) current = option_map (λ k. record { kind = k; values = [] }) (kind_of name)
 open_behind (given key value) current = option_map (λ section. with_value (attribute_of section.kind key) value section) current
 
--- the section that is open below these lines, the nearest first: that of the nearest head, where no end stands below it
+-- the section that is open after these lines, the nearest first: that of the nearest head, unless an end follows it
 abbrev pub open_below : List Form → Option Section
 open_below [] = None
 open_below (line ∷ above) = open_behind line (open_below above)
@@ -109,7 +109,7 @@ is_same_direction None other = false
 is_same_direction (Some one) None = false
 is_same_direction (Some one) (Some other) = is_direction one other
 
--- an earlier section has the prefix, and where it is a link route the same direction too
+-- an earlier section has the prefix, and for a link route the same direction too
 abbrev pub is_second_prefix_of : SectionKind → List Section → Option Direction → List ℕ → Bool
 is_second_prefix_of kinds.Router ended direction prefix = false
 is_second_prefix_of kinds.Listener ended direction prefix = false

@@ -7,7 +7,7 @@ use Rattle.route_table.specs.Places.{distribution_of, route_in_of, route_out_of,
 use Rattle.route_table.specs.Prefixes.{best, matches}
 use Rattle.route_table.specs.Settings.{Settings}
 
--- the best of these entries for the address matches it, stands among them, and no entry that matches is longer; there is none only where none matches
+-- the best of these entries for the address matches it, is one of them, and no matching entry is longer; there is none only where none matches
 abbrev pub IsLongest : {V : Type 0} → List (List ℕ × V) → List ℕ → Type 0
 IsLongest entries address =
     MatchOption (best entries address)

@@ -3,7 +3,7 @@ use Rattle.std.specs.Prelude.{ℕ, ◌-◌, Bool, ◌==◌, ◌||◌, ◌&&◌, 
 use Rattle.std.specs.List.{before_first, after_first, position_or_len, list_any}
 use Rattle.std.specs.Str.{bytes_eq}
 
--- in front of a line
+-- put in front of a line
 abbrev pub onto_first : ℕ → List (List ℕ) → List (List ℕ)
 onto_first byte [] = (byte ∷ []) ∷ []
 onto_first byte (line ∷ lines) = (byte ∷ line) ∷ lines
@@ -40,11 +40,11 @@ pub data Form : Type 0 where
   close : Form
   wrong : Form
 
--- `key: value`, neither empty; the key is all in front of the first colon (byte 58), and has no blank
+-- `key: value`, neither empty; the key is everything before the first colon (byte 58), and has no blank
 abbrev pub given_form : List ℕ → List ℕ → Form
 given_form key value = if is_word key && nat_lt 0 (length value) then given key value else wrong
 
--- `NAME {` in front of the brace, with at least one blank behind the name, which has none
+-- `NAME {` before the brace, with at least one blank after the name, which has none
 abbrev pub head_form : List ℕ → List ℕ → Form
 head_form name before = if is_word name && nat_lt (length name) (length before) then head name else wrong
 
@@ -57,7 +57,7 @@ plain_form bytes =
     if slice_index bytes (length bytes - 1) == 123 then head_form (trim_back (take (length bytes - 1) bytes)) (take (length bytes - 1) bytes)
     else wrong
 
--- what a line is that has no blank at either end. A comment begins with `#` (byte 35)
+-- what a line without a blank at either end is. A comment begins with `#` (byte 35)
 abbrev pub trimmed_form : List ℕ → Form
 trimmed_form bytes =
     if (length bytes == 0) || (slice_index bytes 0 == 35) then nothing

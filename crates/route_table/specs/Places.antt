@@ -1,4 +1,4 @@
--- Where an address belongs, by the sections of a configuration.
+-- Which routes and distribution an address has, by the sections of a configuration.
 use Rattle.std.specs.Prelude.{◌≡◌, ℕ, List, map, filter, Option, option_map, unwrap_or}
 use Rattle.route_table.specs.declared.sections.Address.{Address}
 use Rattle.route_table.specs.declared.sections.LinkRoute.{LinkRoute}
@@ -26,15 +26,15 @@ route_pairs direction sections = map (λ s. (s.prefix, s.container_id)) (filter 
 abbrev pub routing_of : Settings → Routing
 routing_of settings = record { addresses = address_pairs settings.addresses; routes_in = route_pairs In settings.link_routes; routes_out = route_pairs Out settings.link_routes }
 
--- how the deliveries of an address are shared: as at its longest prefix, and balanced where none matches
+-- how the deliveries of an address are shared: as its longest prefix says, and balanced where none matches
 abbrev pub distribution_of : Routing → List ℕ → Distribution
 distribution_of routing address = unwrap_or (option_map (λ e. e.1) (best routing.addresses address)) Balanced
 
--- the container to which links are passed on which the peer sends
+-- the container that gets links on which the peer sends
 abbrev pub route_in_of : Routing → List ℕ → Option (List ℕ)
 route_in_of routing address = option_map (λ e. e.1) (best routing.routes_in address)
 
--- the container to which links are passed on which the peer receives
+-- the container that gets links on which the peer receives
 abbrev pub route_out_of : Routing → List ℕ → Option (List ℕ)
 route_out_of routing address = option_map (λ e. e.1) (best routing.routes_out address)
 

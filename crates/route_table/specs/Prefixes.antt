@@ -3,12 +3,12 @@ use Rattle.std.specs.Prelude.{◌≡◌, ℕ, Bool, true, ◌==◌, ◌||◌, �
 use Rattle.std.specs.Str.{bytes_eq}
 use Rattle.std.specs.Map.{lookup}
 
--- an address may go on like this behind a prefix: not at all, or with `.` or `/`
+-- how an address may go on after a prefix: not at all, or with `.` or `/`
 abbrev pub goes_on : List ℕ → Bool
 goes_on [] = true
 goes_on (byte ∷ rest) = (byte == 46) || (byte == 47)
 
--- the address equals the prefix, or goes on behind it with `.` or `/`
+-- the address equals the prefix, or goes on after it with `.` or `/`
 abbrev pub matches : List ℕ → List ℕ → Bool
 matches prefix address = bytes_eq (take (length prefix) address) prefix && goes_on (drop (length prefix) address)
 
@@ -28,10 +28,10 @@ module _ {V : Type 0} where
   best [] address = None
   best (entry ∷ entries) address = longer (candidate entry address) (best entries address)
 
-  -- the value of the prefix that is the beginning of the address up to `end`, where the address may go on behind it
+  -- the value of the prefix that is the first `end` bytes of the address, where the address may go on after it
   abbrev pub value_at : List (List ℕ × V) → List ℕ → ℕ → Option V
   value_at entries address end = if goes_on (drop end address) then lookup (bytes_eq (take end address)) entries else None
 
-  -- each prefix stands with the same value in both, or in neither
+  -- each prefix has the same value in both, or is in neither
   abbrev pub FindSame : List (List ℕ × V) → List (List ℕ × V) → Type 0
   FindSame xs ys = (prefix : List ℕ) → lookup (bytes_eq prefix) xs ≡ lookup (bytes_eq prefix) ys

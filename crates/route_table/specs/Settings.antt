@@ -24,6 +24,6 @@ standard = record { router_id = codes "R1"; listeners = []; addresses = []; link
 abbrev pub both : List Mechanism
 both = Anonymous ∷ Plain ∷ []
 
--- a listener of which nothing but its role is said
+-- a listener of which only the role is given
 abbrev pub standard_listener : Role → Listener
 standard_listener role = record { host = codes "127.0.0.1"; port = 5672; role = role; authenticate_peer = false; mechanisms = both }

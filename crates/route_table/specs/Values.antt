@@ -97,7 +97,7 @@ attribute_of kinds.Address key = address_attribute key
 attribute_of kinds.LinkRoute key = link_route_attribute key
 attribute_of kinds.User key = user_attribute key
 
--- a number in decimal digits; leading zeros count for nothing
+-- a number in decimal digits; leading zeros are allowed
 abbrev pub decimal : List ℕ → ℕ
 decimal digits = fold (λ n digit. 10 * n + (digit - 48)) 0 digits
 
@@ -146,7 +146,7 @@ both None rest = None
 both (Some one) None = None
 both (Some one) (Some rest) = Some (one ∷ rest)
 
--- each word's mechanism, where each has one
+-- each word's mechanism, if each has one
 abbrev pub mechanisms_named : List (List ℕ) → Option (List Mechanism)
 mechanisms_named [] = Some []
 mechanisms_named (word ∷ words) = both (mechanism_named word) (mechanisms_named words)

@@ -9,7 +9,7 @@ use thiserror::Error;
 /// Why a line of a configuration is refused.
 #[derive(Clone, Copy, Debug, PartialEq, Eq, Error)]
 pub enum FaultKind {
-    /// A line that is no head, key with a value, end, comment or blank, or that stands where it may not; a key given
+    /// A line that is no head, key with a value, end, comment or blank, or that isn't allowed where it stands; a key given
     /// twice; a section without its end.
     #[error("syntax")]
     Syntax,
@@ -19,14 +19,14 @@ pub enum FaultKind {
     /// An attribute that the section doesn't have.
     #[error("unknown attribute")]
     UnknownAttribute,
-    /// A value that the attribute doesn't take, a required attribute that isn't there, or one section of a kind too
+    /// A value that the attribute doesn't take, a required attribute that is missing, or one section of a kind too
     /// many.
     #[error("bad value")]
     BadValue,
     /// A prefix that an earlier section has, of a link route in the same direction.
     #[error("duplicate prefix")]
     DuplicatePrefix,
-    /// There was no memory to read on.
+    /// There was no memory to go on.
     #[error("no memory")]
     Memory,
 }

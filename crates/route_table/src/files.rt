@@ -14,8 +14,8 @@ use std::alloc::Global;
 /// Reads a configuration.
 ///
 /// A line is empty, a comment (`#` is its first character), `NAME {`, `key: value` or `}`; spaces and tabs at its ends
-/// count for nothing. The answer is what the sections say, with each default filled in, or the first faulty line with
-/// what is wrong with it. It takes memory, and answers `Memory` where that was refused.
+/// are ignored. The answer is what the sections say, with each default filled in, or the first faulty line with
+/// what is wrong with it. It allocates, and answers `Memory` where memory was refused.
 pub fn read_config(alloc: Global, text: &str) -> Result<Config, ConfigFault>
     ensures config { IfOk result (λ c. c ≡ settings_of (sections text.now)) }
     ensures faultless { OnOk result (first_fault text.now ≡ None) }

@@ -1,4 +1,4 @@
-// The fault of a line, by the sections above it and the text behind it.
+// The fault of a line, by the sections before it and the text after it.
 ghost use Rattle.std.specs.Prelude.{◌≡◌, ◌≢◌, ◌&&◌, ℕ, List, [], None, Some, IfOk, IfErr, OnOk, count_by};
 ghost use Rattle.std.specs.List.{list_any};
 ghost use Rattle.route_table.specs.declared.attributes.Attribute.TheVariants as attributes;
@@ -107,7 +107,7 @@ fn judge(
     Ok(attribute)
 }
 
-// The section that is open behind a line outside of a section.
+// The section that is open after a line outside of a section.
 fn outside<'a>(
     alloc: Global,
     ended: &[Section<'a>],
@@ -137,7 +137,7 @@ fn begin<'a>(alloc: Global, ended: &[Section<'a>], name: &str) -> Result<Section
     Ok(Section::new(alloc, kind))
 }
 
-// The section that is open behind a line inside of a section; one that ends is put behind the others.
+// The section that is open after a line inside of a section; one that ends is put at the end of the others.
 fn inside<'a>(
     alloc: Global,
     ended: &mut Vec<Section<'a>>,
@@ -169,7 +169,7 @@ fn inside<'a>(
     }
 }
 
-/// The section that is open behind a line, by the one that is open in front of it; one that ends is put behind the
+/// The section that is open after a line, by the one that is open before it; one that ends is put at the end of the
 /// others. An error is the line's fault.
 #[tactic(auto, unfolding(crate::specs::File::fault_in))]
 pub fn step<'a>(

@@ -1,4 +1,4 @@
-//! The configuration of a router, and the place that it gives an address.
+//! The configuration of a router, and the routes and distribution that it gives an address.
 //!
 //! [`read_config`] reads the file's text, or says which line is the first faulty one. [`Table`] finds the longest prefix
 //! of an address.

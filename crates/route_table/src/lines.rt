@@ -19,7 +19,7 @@ pub enum Line<'a> {
     Wrong,
 }
 
-/// The first line of a text, and the text behind it.
+/// The first line of a text, and the text after it.
 pub fn first_line(text: &str) -> (&str, &str)
     requires { 0 < length text.now }
     ensures lines { lines text.now ≡ result.0.now ∷ lines result.1.now }
@@ -94,7 +94,7 @@ pub fn read_line(line: &str) -> Line<'_>
     trimmed_line(trim_back(trim_front(line)))
 }
 
-// What a line is that has no blanks at its ends.
+// What a line without blanks at its ends is.
 fn trimmed_line(text: &str) -> Line<'_>
     ensures { form_seen result ≡ trimmed_form text.now }
 {

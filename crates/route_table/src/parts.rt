@@ -133,7 +133,7 @@ impl<'a> Section<'a> {
         }
     }
 
-    // Whether it is a link route of the prefix in the direction.
+    // Whether it is a link route with this prefix and direction.
     pub fn routes(&self, prefix: &str, direction: Option<Direction>) -> bool
         ensures { result ≡ (has kinds.LinkRoute attributes.Prefix prefix.now self.now
             && is_same_direction (direction_of self.now []) direction) }
@@ -142,7 +142,7 @@ impl<'a> Section<'a> {
             && is_same_direction(self.direction(""), direction)
     }
 
-    // The direction of a link route, which may stand in the text behind.
+    // The direction of a link route, which may be given in the text after it.
     pub fn direction(&self, behind: &str) -> Option<Direction>
         ensures { result ≡ direction_of self.now (forms behind.now) }
     {

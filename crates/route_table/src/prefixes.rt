@@ -1,4 +1,4 @@
-// A map from prefixes to values, asked for the longest prefix of an address.
+// A map from prefixes to values, searched for the longest prefix of an address.
 ghost use Rattle.std.specs.Prelude.{◌≡◌, ℕ, List, [], ◌∷◌, ◌++◌, ◌≤◌, length, OnOk, map, option_map};
 ghost use Rattle.std.specs.Option.{option_copied};
 ghost use Rattle.route_table.specs.Prefixes.{best, FindSame, goes_on, value_at};
@@ -28,7 +28,7 @@ impl<V> Prefixes<V> {
         }
     }
 
-    /// Puts in a value at a prefix; where that is there already, the older value stays.
+    /// Adds a value at a prefix; where the prefix is there already, the older value stays.
     pub fn add(&mut self, alloc: Global, prefix: &str, value: V) -> Result<(), AllocError>
     where
         V: Drop,
@@ -58,7 +58,7 @@ impl<V> Prefixes<V> {
         }
     }
 
-    // The value of the prefix that ends there, where the address may go on behind it.
+    // The value of the prefix that ends there, where the address may go on after it.
     #[tactic(auto, using(crate::proofs::Entries::lookup_seen))]
     fn value_at(&self, address: &[u8], end: usize) -> Option<&V>
         requires { end ≤ length address.now }
@@ -73,7 +73,7 @@ impl<V> Prefixes<V> {
     }
 }
 
-// Whether an address with these bytes behind a prefix goes on behind it.
+// Whether an address with these bytes after a prefix goes on after it.
 fn goes_on(rest: &[u8]) -> bool
     ensures { result ≡ goes_on rest.now }
 {

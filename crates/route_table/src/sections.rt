@@ -58,7 +58,7 @@ pub enum Mechanism {
     Plain,
 }
 
-/// A list of SASL mechanisms, in the order of the file; a word may stand there twice.
+/// A list of SASL mechanisms, in the order of the file; a mechanism may be listed twice.
 #[derive(Debug, Drop)]
 pub struct Mechanisms {
     words: Vec<Mechanism>,
@@ -96,7 +96,7 @@ impl Mechanisms {
     }
 }
 
-/// A place at which the router takes connections.
+/// A host and a port where the router accepts connections.
 #[derive(Debug, Drop)]
 pub struct Listener {
     /// The host's name or address.
@@ -112,7 +112,7 @@ pub struct Listener {
 }
 
 impl Listener {
-    /// The listener of which nothing but its role is said. Fails where there is no memory for it.
+    /// The listener of which only the role is given. Fails where there is no memory for it.
     pub fn standard(alloc: Global, role: Role) -> Result<Listener, AllocError>
         ensures { IfOk result (λ l. l ≡ standard_listener role) }
     {
@@ -146,7 +146,7 @@ pub struct LinkRoute {
     pub direction: Direction,
 }
 
-/// A user of SASL PLAIN (RFC 4616). Its `Debug` tells nothing of it.
+/// A user of SASL PLAIN (RFC 4616). Its `Debug` shows nothing of it.
 #[derive(Drop)]
 pub struct User {
     /// The name, at most 1,024 bytes, and never `anonymous`.

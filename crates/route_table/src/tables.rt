@@ -1,4 +1,4 @@
-// Where an address belongs.
+// The routes and the distribution of an address.
 ghost use Rattle.std.specs.Prelude.{◌≡◌, IfOk, option_map, take};
 ghost use Rattle.route_table.specs.Places.{Routing, routing_of, address_pairs, route_pairs, distribution_of, route_in_of, route_out_of, FindsAs};
 ghost use Rattle.route_table.specs.Prefixes.{FindSame, best};
@@ -10,12 +10,12 @@ use crate::texts::Text;
 use std::alloc::{AllocError, Global};
 use std::marker::Model;
 
-/// Where an address belongs.
+/// The routes and the distribution of an address.
 #[derive(Clone, Copy, Debug)]
 pub struct Place<'a> {
     /// How its deliveries are shared.
     pub distribution: Distribution,
-    /// The container-id to which links are passed on which the peer sends, where a link route takes them.
+    /// The container-id of the link route for links on which the peer sends, if there is one.
     pub route_in: Option<&'a str>,
     /// The same for links on which the peer receives.
     pub route_out: Option<&'a str>,
@@ -47,8 +47,8 @@ impl Table {
         })
     }
 
-    /// Where the address belongs: the longest prefix that it equals, or that it goes on behind with `.` or `/`.
-    /// Balanced and without routes where none matches. Takes no memory, and one look-up for each `.` and `/` of the
+    /// The place of an address: by the longest prefix that it equals, or that it goes on after with `.` or `/`.
+    /// Balanced and without routes where none matches. It allocates nothing, and makes one look-up for each `.` and `/` of the
     /// address.
     pub fn find(&self, address: &str) -> Place<'_>
         ensures distribution { result.distribution ≡ distribution_of self.now address.now }

@@ -4,7 +4,7 @@ ghost use Rattle.std.specs.Prelude.{◌≡◌, ℕ, List, IfOk, string_bytes};
 use std::alloc::{AllocError, Global};
 use std::marker::Model;
 
-/// A text of the configuration, as a prefix or a name. It owns its bytes.
+/// A text of the configuration, such as a prefix or a name. It owns its bytes.
 #[derive(Debug, Drop)]
 pub struct Text {
     text: String,
@@ -17,7 +17,7 @@ impl Model for Text {
 }
 
 impl Text {
-    /// A text of its own with the same bytes. Fails where there is no memory for it.
+    /// A new text with the same bytes. Fails where there is no memory for it.
     pub fn new(alloc: Global, text: &str) -> Result<Text, AllocError>
         ensures { IfOk result (λ t. t ≡ text.now) }
     {

@@ -110,7 +110,7 @@ fn parts(alloc: Global, value: &str) -> Result<Vec<&[u8]>, AllocError>
         .collect(alloc)
 }
 
-/// The mechanisms of a list of words, where each is one.
+/// The mechanisms of a list of words, if each names one.
 pub fn mechanisms(alloc: Global, value: &str) -> Result<Option<Mechanisms>, AllocError>
     ensures { IfOk result (λ m. m ≡ mechanisms_of value.now) }
 {
@@ -127,7 +127,7 @@ pub fn mechanisms(alloc: Global, value: &str) -> Result<Option<Mechanisms>, Allo
     Ok(Some(Mechanisms::new(found)))
 }
 
-/// Whether the attribute takes the value. Takes memory for a list of mechanisms alone.
+/// Whether the attribute takes the value. Allocates only for a list of mechanisms.
 pub fn takes(alloc: Global, attribute: Attribute, value: &str) -> Result<bool, AllocError>
     ensures { IfOk result (λ t. t ≡ takes attribute value.now) }
 {

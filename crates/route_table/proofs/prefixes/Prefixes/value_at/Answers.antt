@@ -5,7 +5,7 @@ use Rattle.route_table.specs.Prefixes.{goes_on, value_at}
 use Rattle.route_table.proofs.Entries.{lookup_seen, seen}
 use Rattle.route_table.proofs.prefixes.Prefixes.value_at.Goals as goal
 
--- what is found at the prefix, in words of the whole address
+-- what is found at the prefix, for the whole address
 at_front : {V : Type 0} (found : Option V) (entries : List (List ℕ × V)) (address front back : List ℕ) (end : ℕ) → front ≡ take end address → back ≡ drop end address → true ≡ goes_on back
     → found ≡ lookup (bytes_eq front) entries → found ≡ value_at entries address end
 at_front found entries address front back end f b ends is = rw (← b, ← f, ← ends) is
