@@ -66,7 +66,7 @@ pub fn connection<
     }
 }
 
-/// Serves a connection behind its door.
+/// Serves a connection after its door.
 fn enter<
     U: Hall + Send + Sync,
     I: Hall + Send + Sync,
@@ -159,7 +159,7 @@ fn both<
     )
 }
 
-/// Writes what the router puts out, then waits for the peer's end.
+/// Writes the router's output, then waits for the peer's end.
 fn output<G: Ledgers, R: Wait + Clock + Eprint>(
     rt: &R,
     hub: &Hub<G>,
@@ -185,7 +185,7 @@ fn output<G: Ledgers, R: Wait + Clock + Eprint>(
     Some(end)
 }
 
-/// Takes what still waits for a connection that is over.
+/// Takes what is still waiting for a connection that is over.
 fn drained<G: Ledgers, R: Wait>(
     rt: &R,
     hub: &Hub<G>,
@@ -206,7 +206,7 @@ fn drained<G: Ledgers, R: Wait>(
     seat
 }
 
-/// Tells why a connection ended.
+/// Reports why a connection ended.
 fn tell_end<G: Ledgers, R: Wait + Eprint>(
     rt: &R,
     hub: &Hub<G>,

@@ -6,21 +6,21 @@ use router_serve::{Ledgers, NoLog, Seat, Shared};
 use std::alloc::Global;
 use std::sync::{Condvar, Mutex, Wait};
 
-/// At most so many connections have threads at once.
+/// The most connections that have threads at once.
 const THREADS: usize = 256;
 
-/// How many connections there were and are, and whether more are taken.
+/// How many connections there were and are, and whether more are accepted.
 #[derive(Clone, Copy)]
 pub struct Taking {
-    /// So many are still to be taken; any number where none is told.
+    /// How many are still to be accepted; any number where no limit is given.
     pub left: Option<u64>,
-    /// So many have threads.
+    /// How many have threads.
     pub running: usize,
-    /// No more are taken.
+    /// No more are accepted.
     pub over: bool,
 }
 
-/// What becomes of a connection that was accepted.
+/// What happens to a connection that was accepted.
 #[derive(Clone, Copy)]
 pub enum Taken {
     /// It gets threads.
@@ -29,33 +29,33 @@ pub enum Taken {
     Last,
     /// There are too many: it is closed.
     TooMany,
-    /// No more are taken.
+    /// No more are accepted.
     Over,
 }
 
-/// The router, its seats, and what else the threads share.
+/// The router, its seats, and everything else that the threads share.
 #[derive(Drop)]
 pub struct Hub<G: Ledgers> {
-    /// For all that grows.
+    /// For everything that grows.
     pub alloc: Global,
     /// The router.
     pub shared: Shared<NoLog, G>,
     /// The configuration.
     pub config: Config,
-    /// What is told.
+    /// The lines on standard error.
     pub lines: Lines,
-    /// Seats that nobody sits on.
+    /// Seats that no thread uses.
     pub bench: Mutex<Vec<Seat<G>>>,
     /// The number of the last connection that came up.
     pub newest: Mutex<u64>,
-    /// The connections that are taken.
+    /// The count of the connections.
     pub taking: Mutex<Taking>,
-    /// Rings when no more are taken.
+    /// Notified when no more are accepted.
     pub over: Condvar,
 }
 
 impl<G: Ledgers> Hub<G> {
-    /// A seat, which is put back.
+    /// A seat, to be put back later.
     pub fn seat<R: Wait>(&self, rt: &R) -> Option<Seat<G>> {
         let free = self.bench.lock(rt).pop();
         match free {
@@ -64,12 +64,12 @@ impl<G: Ledgers> Hub<G> {
         }
     }
 
-    /// Puts a seat back. Where memory is refused it is lost, and its counts with it.
+    /// Puts a seat back. Where memory is refused the seat is lost, and its counts with it.
     pub fn put_back<R: Wait>(&self, rt: &R, seat: Seat<G>) {
         let _ = self.bench.lock(rt).push(seat);
     }
 
-    /// A connection was accepted.
+    /// A connection was accepted: what happens to it.
     pub fn take<R: Wait>(&self, rt: &R) -> Taken {
         let mut taking = self.taking.lock(rt);
         if taking.over {
@@ -97,13 +97,13 @@ impl<G: Ledgers> Hub<G> {
         taking.running = taking.running.saturating_sub(1);
     }
 
-    /// No more connections are taken.
+    /// No more connections are to be accepted.
     pub fn stop<R: Wait>(&self, rt: &R) {
         self.taking.lock(rt).over = true;
         self.over.notify_all();
     }
 
-    /// Waits until no more connections are taken.
+    /// Waits until no more connections are accepted.
     pub fn wait_over<R: Wait>(&self, rt: &R) {
         let taking = self
             .over
@@ -111,12 +111,12 @@ impl<G: Ledgers> Hub<G> {
         drop(taking);
     }
 
-    /// Whether no more connections are taken.
+    /// Whether no more connections are accepted.
     pub fn is_over<R: Wait>(&self, rt: &R) -> bool {
         self.taking.lock(rt).over
     }
 
-    /// The router answered a fault; where it failed, no more connections are taken.
+    /// The router answered a fault; where it failed, no more connections are accepted.
     pub fn failed<R: Wait>(&self, rt: &R, fault: CoreFault) {
         if fault != CoreFault::NoConnection {
             self.stop(rt);

@@ -1,4 +1,4 @@
-//! What is told of connections on standard error.
+//! What is reported of connections on standard error.
 use amqp_frames::Item;
 use amqp_perf::{Fault, Perf};
 use router_core::{ConnectionId, CoreFault};
@@ -7,7 +7,7 @@ use std::alloc::Global;
 use std::net::SocketAddr;
 use std::sync::{Mutex, Wait};
 
-/// Standard error, a whole line at a time; nothing is told where it is quiet.
+/// Standard error, a whole line at a time; quiet where nothing is to be reported.
 #[derive(Drop)]
 pub struct Lines {
     quiet: bool,
@@ -15,7 +15,7 @@ pub struct Lines {
 }
 
 impl Lines {
-    /// Lines that are told, or not.
+    /// Lines that are written, or not.
     pub fn new(quiet: bool) -> Lines {
         Lines {
             quiet,
@@ -23,7 +23,7 @@ impl Lines {
         }
     }
 
-    /// A line. One that can't be written is lost.
+    /// Writes a line. One that can't be written is lost.
     pub fn say<R: Wait + Eprint>(&self, rt: &R, line: &str) {
         if self.quiet {
             return;
@@ -34,14 +34,14 @@ impl Lines {
     }
 }
 
-/// Tells what a connection's threads see: who opened it, and what it is refused.
+/// Reports what a connection's threads see: who opened it, and what it is refused.
 #[derive(Drop)]
 pub struct Watch<'a, R> {
     /// The runtime.
     pub rt: &'a R,
     /// For the lines.
     pub alloc: Global,
-    /// Where they are told.
+    /// Where they are written.
     pub lines: &'a Lines,
     /// The peer's address.
     pub peer: SocketAddr,
@@ -60,7 +60,7 @@ impl<'a, R: Wait + Eprint> Watch<'a, R> {
         }
     }
 
-    /// An error that the router tells.
+    /// An error that the router sends.
     fn refused(&self, conn: ConnectionId, error: &Fault) {
         let number = conn.0;
         let condition = error.condition.as_str();
@@ -93,7 +93,7 @@ impl<'a, R: Wait + Eprint> Gate for Watch<'a, R> {
     }
 }
 
-/// The error that a performative of the router tells, where it does.
+/// The error in a performative of the router, if there is one.
 fn error_in(perf: &Perf) -> Option<&Fault> {
     match perf {
         Perf::Close(close) => close.error.as_ref(),

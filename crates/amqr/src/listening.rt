@@ -1,4 +1,4 @@
-//! Takes connections, and tells the time.
+//! Accepts connections, and gives the router the time.
 use crate::connection::connection;
 use crate::hub::{Hub, Taken};
 use route_table::Listener;
@@ -10,13 +10,13 @@ use std::thread;
 use std::thread::Threads;
 use std::time::{Clock, Duration, Instant};
 
-/// So long between two ticks, in milliseconds.
+/// The time between two ticks, in milliseconds.
 const TICK: u64 = 500;
 
-/// So long is waited when no connection could be taken, in milliseconds.
+/// The pause after no connection could be accepted, in milliseconds.
 const PAUSE: u64 = 20;
 
-/// Takes connections at all listeners, each of which has its socket, until no more are taken and all have ended.
+/// Accepts connections at all listeners, each of which has its socket, until no more are accepted and all have ended.
 pub fn listen<
     U: Hall + Send + Sync,
     I: Hall + Send + Sync,
@@ -49,7 +49,7 @@ pub fn listen<
     });
 }
 
-/// Takes the connections of one listener.
+/// Accepts the connections of one listener.
 fn accept_all<
     U: Hall + Send + Sync,
     I: Hall + Send + Sync,
@@ -113,7 +113,7 @@ fn run_one<
     hub.leave(rt);
 }
 
-/// Wakes the threads that wait at listeners: each takes a connection that asks for nothing, and finds that no more are taken.
+/// Wakes the threads that wait at listeners: each accepts a connection that asks for nothing, and finds that no more are accepted.
 fn wake<R: Net<Listener = TcpListener, Stream = TcpStream>>(rt: &R, sockets: &[TcpListener]) {
     for socket in sockets {
         if let Ok(at) = socket.local_addr() {
@@ -122,7 +122,7 @@ fn wake<R: Net<Listener = TcpListener, Stream = TcpStream>>(rt: &R, sockets: &[T
     }
 }
 
-/// Tells the router the time every half second, until it is done; where the router fails no more connections are taken.
+/// Gives the router the time every half second, until it is done; where the router fails no more connections are accepted.
 fn tick<G: Ledgers, R: Wait + Clock>(rt: &R, hub: &Hub<G>, done: &Mutex<bool>, rung: &Condvar) {
     let Some(mut seat) = hub.seat(rt) else {
         return;

@@ -30,12 +30,12 @@ fn main(rt: HostRuntime) -> ExitCode {
     ExitCode::from(status.code())
 }
 
-/// The words that the process was called with.
+/// The arguments of the process.
 fn words_of(rt: &HostRuntime) -> io::Result<Vec<String>> {
     Ok(env::args(rt)?.collect(rt.alloc())?)
 }
 
-/// Runs the program on the words and streams of the process.
+/// Runs the program on the arguments and streams of the process.
 fn run_over(rt: &HostRuntime, words: &[String]) -> io::Result<Status> {
     let Ok(mut output) = BufWriter::new(rt.alloc(), rt.stdout()) else {
         return refuse(&mut rt.stdout(), Refusal::Memory);

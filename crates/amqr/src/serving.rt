@@ -119,7 +119,7 @@ fn start<
     )
 }
 
-/// Serves, and puts what the threads counted beside what the router did.
+/// Serves, and joins the threads' counts with what the router did.
 fn counted<
     U: Hall + Send + Sync,
     I: Hall + Send + Sync,

@@ -3,13 +3,13 @@ use std::io::Read;
 use std::net::TcpStream;
 use std::time::{Clock, Duration, Instant};
 
-/// A write that moves nothing waits so long for the peer, in milliseconds.
+/// How long a write that moves nothing waits for the peer, in milliseconds.
 pub const PATIENCE: u64 = 10_000;
 
-/// So long is read and dropped what a peer sends behind the end of its connection, in milliseconds.
+/// How long bytes that a peer sends after the end of its connection are read and dropped, in milliseconds.
 pub const LINGER: u64 = 2_000;
 
-/// Reads and drops what a peer still sends, for two seconds at most, or as long as one read takes.
+/// Reads and drops what a peer still sends, for at most two seconds, or as long as one read takes.
 pub fn swallow<R: Clock>(rt: &R, stream: &TcpStream) {
     let mut stream = stream;
     let mut piece = [0u8; 4096];

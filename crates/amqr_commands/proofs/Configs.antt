@@ -1,4 +1,4 @@
--- A configuration's fault as it is told.
+-- A configuration's fault as it is reported.
 use Rattle.std.proofs.Common.{◌≡◌, ◌≢◌, ℕ, List, inr}
 use Rattle.std.specs.Prelude.{Some}
 use Rattle.std.specs.Str.{IsUtf8}

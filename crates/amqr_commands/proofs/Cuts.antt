@@ -6,13 +6,13 @@ use Rattle.std.proofs.lemmas.Str.Pattern.{IsSplitOnceResult, split_once_first, s
 use Rattle.amqr_commands.specs.Words.{Text, cut_at}
 use Rattle.amqr_commands.specs.Lines.{step_by}
 
--- where the mark stands nowhere, the text is whole
+-- where the text doesn't have the mark, it stays whole
 pub cut_none : (mark : ℕ) (text : Text) → mark < 128 → IsSplitOnceResult mark text None → cut_at mark text ≡ text ∷ []
 cut_none mark text small h =
     let absent = split_parts mark text None h small in
     slice_split_none (λ byte. byte == mark) text (All-from_get_or (λ byte. (byte == mark) ≡ false) text 0 (λ i inside. ne_eqb (get_or text i 0) mark (absent i inside)))
 
--- where it stands somewhere, the text is cut there
+-- where it has the mark, it is cut there
 pub cut_some : (mark : ℕ) (text : Text) (x : Bor Text × Bor Text) → mark < 128 → IsSplitOnceResult mark text (Some x) → cut_at mark text ≡ x.0.now ∷ cut_at mark x.1.now
 cut_some mark text x small h =
     let first = split_once_first mark text (Some x) h small in
@@ -22,7 +22,7 @@ cut_some mark text x small h =
 pub cut_is_some : (mark : ℕ) (text : Text) → 0 < length (cut_at mark text)
 cut_is_some mark text = let e = length-slice_split (λ byte. byte == mark) text in omega (arith, e)
 
--- more than three words say no step
+-- more than three words are no step
 pub many_words : (a b c : Text) (others : List Text) → 0 < length others → step_by (a ∷ b ∷ c ∷ others) ≡ None
 many_words a b c [] h = absurd (omega (arith, h))
 many_words a b c (d ∷ ds) h = refl

@@ -1,4 +1,4 @@
--- The number that a word is, from what `parse` says of it.
+-- The number that a word is, from the answer of `parse`.
 use Rattle.std.proofs.Common.{◌≡◌, ◌≢◌, ℕ, ◌<◌, ◌^◌, ◌&&◌, nat_lt, [], ◌∷◌, length, get_or, refl, Some, None, Result, Ok, Err, Bool, true, false, cond, lt-ltb, ltb-true}
 use Rattle.std.specs.Str.{all_ascii_digits}
 use Rattle.std.specs.Str.Parse.{digits_value, ParsesUnsigned}
@@ -26,7 +26,7 @@ number_by word (Err e) h = no_number (all_ascii_digits word) (nat_lt 0 (length w
 pub number_parsed : {E : Type 0} (word : Text) (r : Result ℕ E) → ParsesUnsigned 64 10 word r → get_or word 0 0 ≢ 43 → result_ok r ≡ number_of word
 number_parsed word r h plain = number_by word r (parse_plain digits 64 word r h plain)
 
--- with one, it is none
+-- with one, the word is no number
 pub number_plus : (word : Text) → get_or word 0 0 ≡ 43 → None ≡ number_of word
 number_plus [] h = cc
 number_plus (b ∷ bs) h = rw h refl

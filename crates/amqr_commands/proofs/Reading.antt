@@ -1,4 +1,4 @@
--- The lines of a script, read one after the other.
+-- The lines of a script, read one after another.
 use Rattle.std.proofs.Common.{◌≡◌, ◌≢◌, ℕ, ◌<◌, ◌+◌, ◌^◌, ◌==◌, List, [], ◌∷◌, ◌++◌, length, refl, sym, ◌∙◌, ap, arith, append_assoc, append-nil, subst}
 use Rattle.std.proofs.lemmas.List.{length-append}
 use Rattle.std.proofs.lemmas.List.Splits.{length-slice_split}
@@ -8,7 +8,7 @@ use Rattle.amqr_commands.specs.Lines.{Saying, nothing, step, wrong, saying_of}
 use Rattle.amqr_commands.specs.Script.{AllSay, steps_of, steps_in, IsFirstWrong}
 use Rattle.router_play.specs.declared.script.Step.{Step}
 
--- of these lines so many were read, which say these steps, and these are left
+-- this many of these lines were read; they say these steps, and these lines are left
 abbrev pub ReadSoFar : List Text → List Text → ℕ → List Step → Type 0
 ReadSoFar lines left n steps = (before : List Text) × (lines ≡ before ++ left) × AllSay before × (steps ≡ steps_of before) × (n ≡ length before)
 

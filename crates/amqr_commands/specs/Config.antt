@@ -1,4 +1,4 @@
--- What the bytes of a configuration say: its sections, or its first faulty line.
+-- What the bytes of a configuration mean: its sections, or its first faulty line.
 use Rattle.std.specs.Prelude.{◌≡◌, ℕ, None, Some, ⊤, ◌⊎◌}
 use Rattle.std.specs.Str.{IsUtf8}
 use Rattle.amqr_files.specs.declared.status.Refusal.{Refusal}
@@ -16,7 +16,7 @@ use Rattle.amqr_commands.specs.Words.{Text}
 abbrev pub IsConfig : Text → Settings → Type 0
 IsConfig text config = IsUtf8 text × (first_fault text ≡ None) × (config ≡ settings_of (sections text))
 
--- how a fault is told
+-- how a fault is reported
 abbrev pub told : ℕ → FaultKind → Refusal
 told line Memory = refusal.Memory
 told line kind = refusal.Config line kind
@@ -24,14 +24,14 @@ told line kind = refusal.Config line kind
 abbrev pub config_refusal : ConfigFault → Refusal
 config_refusal fault = told fault.line fault.kind
 
--- the text is refused so: text that is no UTF-8 is a fault of syntax, and comes before any other fault
+-- the refusal of a text: text that isn't UTF-8 is a syntax fault, and comes before any other fault
 abbrev pub IsRefused : Text → Refusal → Type 0
 IsRefused text (refusal.Config line kind) =
     ((IsUtf8 text → ⊥) × IsFirstBroken text line × (kind ≡ Syntax)) ⊎ (IsUtf8 text × (first_fault text ≡ Some (line, kind)))
 IsRefused text refusal.Memory = ⊤
 IsRefused text _ = ⊥
 
--- the same of an input whose bytes are this text; `file` is told where they are not read to their end
+-- the same for an input whose bytes are this text; `file` is reported where they can't be read to their end
 abbrev pub IsRefusedInput : Text → Refusal → Type 0
 IsRefusedInput text refusal.File = ⊤
 IsRefusedInput text r = IsRefused text r

@@ -1,9 +1,9 @@
--- What `cut` gives: the text before a mark and the text behind it.
+-- What `cut` gives: the text before a mark and the text after it.
 use Rattle.std.specs.Prelude.{ℕ, List, [], ◌∷◌, Option, Some, None}
 use Rattle.std.specs.Borrow.{Bor}
 use Rattle.amqr_commands.specs.Words.{Text, cut_at}
 
--- the texts that are cut off at each such mark, of those behind the first
+-- the texts that are cut off at each such mark, of those after the first
 abbrev pub behind : ℕ → Option (Bor Text) → List Text
 behind mark None = []
 behind mark (Some text) = cut_at mark text.now

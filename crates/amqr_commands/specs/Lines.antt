@@ -1,4 +1,4 @@
--- What one line of a script says.
+-- What one line of a script means.
 use Rattle.std.specs.Prelude.{◌≡◌, ℕ, ◌==◌, ◌||◌, if◌then◌else◌, Bool, List, [], ◌∷◌, slice_index, codes, Option, Some, None, Result, Ok, Err, ⊤}
 use Rattle.std.specs.List.{list_all}
 use Rattle.std.specs.Str.{bytes_eq}
@@ -9,7 +9,7 @@ use Rattle.router_trace.specs.declared.event.PeerRole.TheVariants.{Normal, Route
 use Rattle.amqr_commands.specs.declared.script.line.LineFault.{LineFault}
 use Rattle.amqr_commands.specs.declared.script.line.LineFault.TheVariants.{Wrong, Memory}
 
--- a line says nothing, or a step, or nothing that a script may say
+-- a line says nothing, or a step, or something that a script may not say
 pub data Saying : Type 0 where
   nothing : Saying
   step : Step → Saying
@@ -19,7 +19,7 @@ pub data Saying : Type 0 where
 abbrev pub is_comment : Text → Bool
 is_comment line = slice_index line 0 == 35
 
--- spaces and tabs alone, or not even these
+-- nothing, or only spaces and tabs
 abbrev pub is_blank : Text → Bool
 is_blank line = list_all (λ byte. byte == 32 || byte == 9) line
 
@@ -27,7 +27,7 @@ abbrev pub said : Option Step → Saying
 said (Some x) = step x
 said None = wrong
 
--- of two words, a verb and a number: `up N`, `down N`, `tick MS`
+-- from two words, a verb and a number: `up N`, `down N`, `tick MS`
 abbrev pub with_number : Text → Option ℕ → Option Step
 with_number verb None = None
 with_number verb (Some n) =
@@ -36,7 +36,7 @@ with_number verb (Some n) =
     else if bytes_eq verb (codes "tick") then Some (Tick n)
     else None
 
--- of three words: `in N HEX`
+-- from three words: `in N HEX`
 abbrev pub with_bytes : Text → Option ℕ → Option Text → Option Step
 with_bytes verb (Some n) (Some bytes) = if bytes_eq verb (codes "in") then Some (In (record { 0 = n }) bytes) else None
 with_bytes verb _ _ = None
@@ -49,17 +49,17 @@ with_role (Some n) role = if bytes_eq role (codes "route-container") then Some (
 abbrev pub with_word : Text → Option ℕ → Text → Option Step
 with_word verb number word = if bytes_eq verb (codes "up") then with_role number word else with_bytes verb number (bytes_of word)
 
--- the step that so many words say
+-- the step that these words say
 abbrev pub step_by : List Text → Option Step
 step_by (verb ∷ number ∷ []) = with_number verb (number_of number)
 step_by (verb ∷ number ∷ word ∷ []) = with_word verb (number_of number) word
 step_by _ = None
 
--- what a line says; its words stand one space apart, with none before or behind them
+-- what a line says; its words are one space apart, with none before or after them
 unfoldable pub saying_of : Text → Saying
 saying_of line = if is_comment line || is_blank line then nothing else said (step_by (cut_at 32 line))
 
--- what a function read of a line is what it says, unless memory ran out
+-- what a function read from a line is what it says, unless memory ran out
 abbrev pub Says : Result (Option Step) LineFault → Saying → Type 0
 Says (Ok None) saying = saying ≡ nothing
 Says (Ok (Some x)) saying = saying ≡ step x

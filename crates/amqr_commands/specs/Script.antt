@@ -8,7 +8,7 @@ use Rattle.router_play.specs.declared.script.Step.{Step}
 use Rattle.amqr_commands.specs.declared.script.ScriptFault.{ScriptFault}
 use Rattle.amqr_commands.specs.declared.script.ScriptFault.TheVariants.{Line, Memory}
 
--- a text's lines; behind a last line feed an empty line stands, which says nothing
+-- a text's lines; after a last line feed there is an empty line, which says nothing
 abbrev pub lines_of : Text → List Text
 lines_of text = cut_at 10 text
 
@@ -27,15 +27,15 @@ unfoldable pub steps_of : List Text → List Step
 steps_of [] = []
 steps_of (line ∷ lines) = steps_in (saying_of line) ++ steps_of lines
 
--- the n-th line, counted from 1, is the first that says nothing that a script may say
+-- the n-th line, counted from 1, is the first that says something that a script may not say
 abbrev pub IsFirstWrong : List Text → ℕ → Type 0
 IsFirstWrong lines n = (before : List Text) × (line : Text) × (behind : List Text) × (lines ≡ before ++ line ∷ behind) × AllSay before × (saying_of line ≡ wrong) × (n ≡ length before + 1)
 
--- the number of the line, counted from 1, that stands behind this much of a text
+-- the number of the line, counted from 1, that follows this much of a text
 abbrev pub line_of : Text → ℕ
 line_of before = count_by (λ byte. byte == 10) before + 1
 
--- the n-th line, counted from 1, has the first byte that is no UTF-8
+-- the n-th line, counted from 1, has the first byte that isn't UTF-8
 abbrev pub IsFirstBroken : Text → ℕ → Type 0
 IsFirstBroken text n = (place : ℕ) × IsValidUpTo text place × (n ≡ line_of (take place text))
 
@@ -43,7 +43,7 @@ IsFirstBroken text n = (place : ℕ) × IsValidUpTo text place × (n ≡ line_of
 abbrev pub HasSteps : Text → List Step → Type 0
 HasSteps text steps = IsUtf8 text × AllSay (lines_of text) × (steps ≡ steps_of (lines_of text))
 
--- the text is at fault in this line: text that is no UTF-8 comes before lines that are wrong
+-- the text is at fault in this line: text that isn't UTF-8 comes before lines that are wrong
 abbrev pub IsFaulty : Text → ScriptFault → Type 0
 IsFaulty text (Line n) = ((IsUtf8 text → ⊥) × IsFirstBroken text n) ⊎ (IsUtf8 text × IsFirstWrong (lines_of text) n)
 IsFaulty text Memory = ⊤

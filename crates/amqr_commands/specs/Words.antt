@@ -10,11 +10,11 @@ use Rattle.hex.specs.declared.error.FromHexError.{FromHexError}
 abbrev pub Text : Type 0
 Text = List ℕ
 
--- a text cut at each such byte: the words of a line at the space, the lines of a text at the line feed
+-- a text cut at each such byte: a line into words at the space, a text into lines at the line feed
 abbrev pub cut_at : ℕ → Text → List Text
 cut_at mark text = slice_split (λ byte. byte == mark) text
 
--- the number that a word is: decimal digits, zeros in front among them, up to 2^64 - 1
+-- the number that a word is: decimal digits, with leading zeros allowed, up to 2^64 - 1
 abbrev pub number_of : Text → Option ℕ
 number_of word = if (all_ascii_digits word && nat_lt 0 (length word)) && nat_lt (digits_value 10 word) (2 ^ 64) then Some (digits_value 10 word) else None
 

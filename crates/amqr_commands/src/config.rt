@@ -8,8 +8,8 @@ use route_table::{Config, ConfigFault, FaultKind, read_config};
 use std::alloc::Global;
 use std::str;
 
-/// The configuration that a text is. The whole text is judged: a fault is that of its first faulty line, and text that
-/// isn't UTF-8 is a fault of syntax in the line of its first byte that is none, before any other fault.
+/// The configuration in a text. The whole text is checked: a fault is that of its first faulty line. Text that
+/// isn't UTF-8 is a syntax fault in the line of its first wrong byte, and comes before any other fault.
 ///
 /// # Errors
 ///
@@ -31,7 +31,7 @@ pub fn config_of(alloc: Global, text: &[u8]) -> Result<Config, Refusal>
     }
 }
 
-/// How a fault of a configuration is told.
+/// How a fault of a configuration is reported.
 fn refusal_of(fault: ConfigFault) -> Refusal
     ensures { result ≡ config_refusal fault }
 {

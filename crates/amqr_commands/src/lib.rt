@@ -1,4 +1,4 @@
-//! What the program does: its words carried out, scripts played, over any files, reader and writers.
+//! What the program does: it runs its commands and plays scripts, over any files, reader and writers.
 #![tactic(auto)]
 
 mod config;

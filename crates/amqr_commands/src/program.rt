@@ -24,11 +24,11 @@ use std::fs::{self, File};
 use std::io::{self, Read, Write};
 use std::rt::Files;
 
-/// The most bytes that a journal's file may have to be listed: a journal's, and one gate.
+/// The most bytes of a journal's file that can be listed: those of a journal, and one gate.
 const MOST_JOURNAL: usize = MOST_BYTES + 1;
 
-/// Does what the words ask for, the first of which is the program's name. Lines go to the output, faults of the words to
-/// the errors.
+/// Does what the arguments ask for, the first of which is the program's name. Lines go to the output, faults of the arguments
+/// to the errors.
 ///
 /// # Errors
 ///
@@ -63,7 +63,7 @@ pub fn run<R: Files<File = File> + AllocGlobal, S: AsStr, I: Read, O: Write, E: 
     }
 }
 
-/// How clients are to be served, where good words ask for that.
+/// How clients are to be served, if the arguments are good and ask for that.
 pub fn serving_in<'a, S: AsStr>(alloc: Global, words: &'a [S]) -> Option<Serving<'a>> {
     match read_words(alloc, words) {
         Ok(Task::Serve(serving)) => Some(serving),
@@ -71,7 +71,7 @@ pub fn serving_in<'a, S: AsStr>(alloc: Global, words: &'a [S]) -> Option<Serving
     }
 }
 
-/// The configuration in a file, or the standard one where none is named.
+/// The configuration in a file, or the standard one where no file is named.
 ///
 /// # Errors
 ///
@@ -86,7 +86,7 @@ pub fn config_at<R: Files<File = File> + AllocGlobal>(
     }
 }
 
-/// Writes what is wrong with the words, or the help that they ask for.
+/// Writes what is wrong with the arguments, or the help that they ask for.
 fn explain<O: Write, E: Write>(
     fault: &Error,
     output: &mut O,
@@ -120,7 +120,7 @@ fn make<O: Write>(disk: Result<FileDisk, DiskFault>, output: &mut O) -> io::Resu
     }
 }
 
-/// What is told where a file could not be opened or made as a disk.
+/// The refusal where a file could not be opened or made as a disk.
 fn not_opened(fault: DiskFault) -> Refusal
     ensures failed { fault ≡ DiskFault.Failed → result ≡ Refusal.File }
     ensures memory { fault ≡ DiskFault.Memory → result ≡ Refusal.Memory }
@@ -143,7 +143,7 @@ fn show<O: Write>(
     }
 }
 
-/// Plays the script in a file, with the configuration in another where one is named, which is judged first.
+/// Plays the script in a file, with the configuration in another where one is named, which is checked first.
 fn play_file<R: Files<File = File> + AllocGlobal, O: Write>(
     rt: &R,
     config: Option<&str>,
@@ -172,7 +172,7 @@ fn config_in<R: Files<File = File> + AllocGlobal>(rt: &R, path: &str) -> Result<
     }
 }
 
-/// The configuration that an input is.
+/// The configuration in an input.
 ///
 /// # Errors
 ///
@@ -188,7 +188,7 @@ fn read_config<I: Read>(alloc: Global, input: &mut I) -> Result<Config, Refusal>
     }
 }
 
-/// The configuration of a router that is called `R1` and has no sections.
+/// The configuration of a router named `R1` with no sections.
 ///
 /// # Errors
 ///
@@ -202,7 +202,7 @@ fn standard(alloc: Global) -> Result<Config, Refusal>
     }
 }
 
-/// Plays the script that an input is, with the standard configuration.
+/// Plays the script in an input, with the standard configuration.
 fn play_standard<I: Read, O: Write>(
     alloc: Global,
     input: &mut I,
@@ -216,7 +216,7 @@ fn play_standard<I: Read, O: Write>(
     }
 }
 
-/// Plays the script that an input is.
+/// Plays the script in an input.
 fn play<I: Read, O: Write>(
     alloc: Global,
     config: Config,
@@ -232,7 +232,7 @@ fn play<I: Read, O: Write>(
     }
 }
 
-/// Plays a script against a router of this configuration. The whole of it is judged before anything is played.
+/// Plays a script against a router with this configuration. The whole of it is checked before anything is played.
 pub fn play_text<O: Write>(
     alloc: Global,
     config: Config,
@@ -265,7 +265,7 @@ fn play_steps<O: Write>(
     print_report(&report, output)
 }
 
-/// Writes the lines of a report, and that memory was refused to the play where it was.
+/// Writes the lines of a report, and a line that memory was refused if it was.
 fn print_report<O: Write>(report: &Report, output: &mut O) -> io::Result<Status>
     ensures status { IfOk result (λ status. status ≡ end_of report.now) }
     ensures lines { report.now.out_of_memory ≡ false → OnOk result (IfSome (printed (λ line. Some (line_text line)) report.now.lines.items) (Appends (O.contents output.old) (O.contents output.new))) }

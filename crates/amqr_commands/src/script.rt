@@ -15,7 +15,7 @@ use thiserror::Error;
 /// Why a script can't be read.
 #[derive(Clone, Copy, Debug, PartialEq, Eq, Error)]
 pub enum ScriptFault {
-    /// This line, counted from 1, says nothing that a script may say, or has the first byte that is no UTF-8.
+    /// This line, counted from 1, says something that a script may not say, or has the first byte that isn't UTF-8.
     #[error("line {line} of the script is at fault")]
     Line {
         /// The line, counted from 1.
@@ -26,8 +26,8 @@ pub enum ScriptFault {
     Memory,
 }
 
-/// The steps of a script. The whole text is judged: a fault is that of its first faulty line, and text that isn't UTF-8
-/// is at fault in the line of its first byte that is none, before any other fault.
+/// The steps of a script. The whole text is checked: a fault is that of its first faulty line. Text that isn't UTF-8
+/// is at fault in the line of its first wrong byte, and comes before any other fault.
 ///
 /// # Errors
 ///
@@ -44,7 +44,7 @@ pub fn read_script(alloc: Global, text: &[u8]) -> Result<Vec<Step>, ScriptFault>
     }
 }
 
-/// The line, counted from 1, in which a place of a text lies.
+/// The line, counted from 1, that has this place of a text.
 pub(crate) fn line_at(text: &[u8], place: usize) -> u64
     requires { place < length text.now }
     ensures { result ≡ line_of (take place text.now) }

@@ -11,7 +11,7 @@ use Rattle.amqr_files.specs.Listing.{IsListing, line_of, lines_of_items}
 use Rattle.amqr_files.specs.declared.listing.ListingLine.{ListingLine}
 use Rattle.amqr_files.specs.declared.listing.ListingLine.TheVariants.{Rest}
 
--- of this stream all but the bytes behind were read; a reader keeps these bytes, and these lines were made
+-- everything of this stream was read except the last bytes; a reader keeps these bytes, and these lines were made
 abbrev pub ListedSoFar : List ℕ → List ℕ → Bool → List ℕ → List ListingLine → Type 0
 ListedSoFar stream behind failed kept lines = (fed : List ℕ) × (items : List Item) × (stream ≡ fed ++ behind) × Cuts failed fed items kept × (lines ≡ lines_of_items items)
 
@@ -30,11 +30,11 @@ listed_piece stream behind others piece failed kept rest lines items h cut fed =
   rw h.4 (sym (map-append line_of h.1 items)),
 )
 
--- bytes behind what ends a stream
+-- bytes after what ends a stream
 cuts_stays : (stream : List ℕ) (items : List Item) (rest behind : List ℕ) → Cuts true stream items rest → Cuts true (stream ++ behind) items (rest ++ behind)
 cuts_stays stream items rest behind h = (h.0, h.1, h.2, leads_stays stream h.0 rest behind h.3, wrong_stays rest behind h.1 h.4)
 
--- the stream ended before the bytes behind
+-- the stream ended before the last bytes
 pub listed_ended : (stream behind : List ℕ) (kept : List ℕ) (lines : List ListingLine) → ListedSoFar stream behind true kept lines → IsListing stream (lines ++ Rest (length kept + length behind) ∷ [])
 listed_ended stream behind kept lines h = (
   true,

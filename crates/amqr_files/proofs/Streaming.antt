@@ -1,4 +1,4 @@
--- What reads and writes, one behind the other, do to the bytes of a reader and a writer.
+-- What reads and writes, one after another, do to the bytes of a reader and a writer.
 use Rattle.std.proofs.Common.{◌≡◌, ℕ, List, [], ◌∷◌, ◌++◌, refl, sym, ap, ◌∙◌, append_assoc, append-nil, Option, Some, None, IfSome}
 use Rattle.std.specs.Fmt.{option_append, with_newline}
 use Rattle.std.specs.Io.KnownBytes.{Consumes, Keeps, Appends}

@@ -1,4 +1,4 @@
--- What the words on journals print: the lines of a journal, or why none is listed or made.
+-- What the journal commands print: the lines of a journal, or why none is listed or made.
 use Rattle.std.specs.Prelude.{◌≡◌, ◌≢◌, ℕ, List, [], ◌∷◌, ◌++◌, map, length, codes, decimal, Option, Some, IfSome, ⊤, ◌⊎◌}
 use Rattle.std.specs.Io.KnownBytes.{Appends}
 use Rattle.book_core.specs.Act.{kind_of, number_of}
@@ -41,11 +41,11 @@ act_line entry = Act entry.place (kind_of entry.act) (number_of entry.act)
 abbrev pub end_line : ℕ → BookView → JournalLine
 end_line place book = End place (length book.rows) (length book.termini)
 
--- the lines of a file that is a journal: the acts of the batches behind open gates, and the end
+-- the lines of a file that is a journal: the acts of the batches after open gates, and the end
 abbrev pub IsJournal : List ℕ → List JournalLine → Type 0
 IsJournal file lines = (entries : List Entry) × (place : ℕ) × (book : BookView) × IsListed file entries place book × (lines ≡ map act_line entries ++ end_line place book ∷ [])
 
--- a writer that held these bytes, where they are known, now holds the lines of a journal more
+-- a writer that held these bytes, where they are known, now holds the lines of a journal as well
 abbrev pub WritesJournal : List ℕ → Option (List ℕ) → Option (List ℕ) → Type 0
 WritesJournal file old new = (lines : List JournalLine) × IsJournal file lines × IfSome (printed (λ x. Some (journal_text x)) lines) (Appends old new)
 
@@ -64,7 +64,7 @@ IsNotMade file failed refusal.Disk = failed
 IsNotMade file failed refusal.Memory = ⊤
 IsNotMade file failed _ = ⊥
 
--- a refusal that has a reason was written, and the status is its own
+-- a refusal with a reason was written, and the status is that of the refusal
 abbrev pub RefusesFor : (Refusal → Type 0) → Status → Option (List ℕ) → Option (List ℕ) → Type 0
 RefusesFor Reason status old new = (r : Refusal) × Reason r × (status ≡ status_of r) × Refuses r old new
 
@@ -78,6 +78,6 @@ pub record IsMade (before after : List ℕ) (may_leave : List ℕ → Type 0) : 
   pub journal : after ≡ fresh
   pub durable : Only after may_leave
 
--- how the making of a journal ends
+-- how making a journal ends
 abbrev pub Formats : List ℕ → Type 0 → Type 0 → Status → Option (List ℕ) → Option (List ℕ) → Type 0
 Formats before made failed status old new = ((status ≡ Done) × made × Appends old new (codes "formatted" ++ 10 ∷ [])) ⊎ RefusesFor (IsNotMade before failed) status old new

@@ -36,7 +36,7 @@ descriptor_of (perf.SaslChallenge p) = is.SaslChallenge
 descriptor_of (perf.SaslResponse p) = is.SaslResponse
 descriptor_of (perf.SaslOutcome p) = is.SaslOutcome
 
--- the line of an item: a SASL frame's channel is not told, and of a payload its length alone
+-- the line of an item: a SASL frame's channel is left out, and of a payload only its length is given
 abbrev pub line_of : Item → ListingLine
 line_of (item.Header id major minor revision) = Header id
 line_of (item.Beat channel) = Beat channel
@@ -46,7 +46,7 @@ line_of (item.Bad fault) = Bad (fault_number fault)
 abbrev pub lines_of_items : List Item → List ListingLine
 lines_of_items items = map line_of items
 
--- the lines of the items that a stream is cut into, and of the bytes behind them, those of no item among these
+-- the lines of the items that a stream is cut into, and of the bytes after them, including those of no item
 abbrev pub IsListing : List ℕ → List ListingLine → Type 0
 IsListing stream lines = (ended : Bool) × (items : List Item) × (rest : List ℕ) × Cuts ended stream items rest × (lines ≡ lines_of_items items ++ Rest (length rest) ∷ [])
 
@@ -63,7 +63,7 @@ abbrev pub is_bad : ListingLine → Bool
 is_bad (Bad fault) = true
 is_bad _ = false
 
--- the listing of the stream was written, and it tells bytes that begin no item, or not
+-- the listing of the stream was written, and it reports bytes that begin no item, or not
 abbrev pub WritesListing : Bool → List ℕ → Option (List ℕ) → Option (List ℕ) → Type 0
 WritesListing bad stream old new = (lines : List ListingLine) × IsListing stream lines × (list_any is_bad lines ≡ bad) × IfSome (printed (λ x. Some (text_of x)) lines) (Appends old new)
 

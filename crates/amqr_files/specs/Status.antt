@@ -8,7 +8,7 @@ use Rattle.amqr_files.specs.declared.status.Status.TheVariants as status
 use Rattle.amqr_files.specs.declared.status.Refusal.{Refusal}
 use Rattle.amqr_files.specs.declared.status.Refusal.TheVariants as refusal
 
--- the number that the process ends with
+-- the exit code of the process
 abbrev pub code_of : Status → ℕ
 code_of status.Done = 0
 code_of status.BadInput = 1
@@ -26,12 +26,12 @@ status_of (refusal.Damaged place) = status.BadInput
 status_of refusal.Disk = status.Failed
 status_of refusal.Memory = status.Failed
 
--- the refusal by which a disk's fault is told
+-- the refusal for a disk's fault
 abbrev pub refusal_of : DiskFault → Refusal
 refusal_of disk.Failed = refusal.Disk
 refusal_of disk.Memory = refusal.Memory
 
--- the line that it prints then
+-- the line that the program prints then
 abbrev pub refusal_text : Refusal → List ℕ
 refusal_text (refusal.Script line) = codes "script " ++ decimal line
 refusal_text (refusal.Config line kind) = codes "config " ++ (decimal line ++ (codes " " ++ decimal (fault_number kind)))

@@ -1,4 +1,4 @@
-//! Reads an input whole.
+//! Reads a whole input.
 ghost use Rattle.std.specs.Prelude.{◌≡◌, ◌≤◌, length, IfOk, IfErr, IfSome};
 ghost use Rattle.std.specs.Io.KnownBytes.{Consumes, IsAtEnd};
 
@@ -9,13 +9,13 @@ use thiserror::Error;
 /// The most bytes that an input may have, and the most reads that it may take.
 pub const MOST_BYTES: usize = 67_108_864;
 
-/// So many bytes are asked for at a time.
+/// The bytes that are asked for at a time.
 const PIECE: usize = 16_384;
 
 /// Why an input isn't read.
 #[derive(Clone, Copy, Debug, PartialEq, Eq, Error)]
 pub enum InputFault {
-    /// It can't be read, or not within the most bytes and reads.
+    /// It can't be read, or has more than the most bytes or takes more than the most reads.
     #[error("the file can't be read")]
     Unread,
     /// Memory was refused.

@@ -1,4 +1,4 @@
-//! The words on journals: the lines of a journal, and the making of one.
+//! The journal commands: the lines of a journal, and making one.
 ghost use Rattle.std.specs.Prelude.{◌≡◌, ◌≢◌, ◌<◌, ◌++◌, ◌∷◌, [], map, IfOk, IfErr, IsErrOf, OnOk};
 ghost use Rattle.disk_core.specs.Disk.{NoMore};
 ghost use Rattle.amqr_files.specs.Journals.{kind_name, act_line, end_line, IsJournal, IsNotListed, IsNotMade, IsMade, ListsJournal, Formats};
@@ -84,7 +84,7 @@ fn act_line(entry: &Entry) -> JournalLine
     }
 }
 
-/// The lines of what a list of a journal has.
+/// The lines of a journal's list.
 fn lines_of(alloc: Global, listing: &Listing) -> Result<Vec<JournalLine>, AllocError>
     ensures { IfOk result (λ lines. lines.items ≡ map act_line listing.now.entries.items ++ end_line listing.now.place listing.now.book ∷ []) }
 {
@@ -104,7 +104,7 @@ fn lines_of(alloc: Global, listing: &Listing) -> Result<Vec<JournalLine>, AllocE
 ///
 /// # Errors
 ///
-/// `NoJournal` where it has none; `Damaged` where an open gate has no batch behind it; `Disk` where it failed; `Memory`
+/// `NoJournal` where it has none; `Damaged` where an open gate has no batch after it; `Disk` where it failed; `Memory`
 /// where memory was refused.
 fn journal_lines<D: Disk>(alloc: Global, disk: &mut D) -> Result<Vec<JournalLine>, Refusal>
     ensures lines { IfOk result (λ lines. IsJournal (D.seen disk.old) lines.items) }
@@ -124,8 +124,8 @@ fn journal_lines<D: Disk>(alloc: Global, disk: &mut D) -> Result<Vec<JournalLine
     }
 }
 
-/// Writes the list of the journal on a disk, or why it has none. Unless the disk or memory failed, a read of the disk gives
-/// what it gave.
+/// Writes the list of the journal on a disk, or why it has none. Unless the disk or memory failed, a read of the disk still
+/// gives what it gave.
 ///
 /// # Errors
 ///

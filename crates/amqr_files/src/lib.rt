@@ -1,4 +1,4 @@
-//! What the program reads and prints without a router: its words, inputs, listings and journals, over any disk, reader and writer.
+//! What the program reads and prints without a router: arguments, inputs, listings and journals, over any disk, reader and writer.
 #![tactic(auto)]
 
 mod input;

@@ -1,4 +1,4 @@
-//! The list of what a stream of bytes is: a line for each item, and one for the rest.
+//! The listing of a stream of bytes: a line for each item, and one for the rest.
 ghost use Rattle.std.specs.Prelude.{◌≡◌, ◌++◌, ◌+◌, ◌∷◌, [], length, IfOk, OnOk};
 ghost use Rattle.std.specs.List.{list_any};
 ghost use Rattle.amqr_files.specs.Listing.{IsListing, Lists, is_bad, line_of, lines_of_items, descriptor_of};
@@ -11,7 +11,7 @@ use std::alloc::{AllocError, Global};
 use std::fmt::{self, Display, Formatter};
 use std::io::{self, Write};
 
-/// So many bytes are read at a time.
+/// The bytes that are read at a time.
 const PIECE: usize = 16_384;
 
 /// A line of a listing; `{}` prints it, without the LF.
@@ -22,7 +22,7 @@ pub enum ListingLine {
         /// 0 for AMQP, 2 for TLS, 3 for SASL.
         id: u8,
     },
-    /// A frame without a body: `beat C`.
+    /// An empty frame: `beat C`.
     Beat {
         /// Its channel.
         channel: u16,
@@ -31,14 +31,14 @@ pub enum ListingLine {
     Frame {
         /// Its channel.
         channel: u16,
-        /// What its performative is.
+        /// The descriptor of its performative.
         descriptor: Descriptor,
-        /// The bytes of its payload.
+        /// The length of its payload, in bytes.
         payload: usize,
     },
     /// A SASL frame: `sasl DD`.
     Sasl {
-        /// What its body is.
+        /// The descriptor of its body.
         descriptor: Descriptor,
     },
     /// Bytes that begin no item: `bad F`.
@@ -46,9 +46,9 @@ pub enum ListingLine {
         /// The number of the fault.
         fault: u8,
     },
-    /// What stands behind the items: `rest N`.
+    /// The bytes after the items: `rest N`.
     Rest {
-        /// Its bytes.
+        /// Their number.
         bytes: usize,
     },
 }
@@ -99,7 +99,7 @@ pub fn list<O: Write>(alloc: Global, stream: &[u8], output: &mut O) -> io::Resul
     Ok(Status::Done)
 }
 
-/// Whether a listing tells bytes that begin no item.
+/// Whether a listing reports bytes that begin no item.
 fn has_bad(lines: &[ListingLine]) -> bool
     ensures { result ≡ list_any is_bad lines.now }
 {
@@ -109,7 +109,7 @@ fn has_bad(lines: &[ListingLine]) -> bool
 }
 
 /// The listing of a stream: its items, the last of which may say that what follows begins none, and the number of
-/// bytes behind them.
+/// bytes after them.
 fn list_stream(alloc: Global, stream: &[u8]) -> Result<Vec<ListingLine>, AllocError>
     ensures { IfOk result (λ lines. IsListing stream.now lines.items) }
 {
@@ -128,7 +128,7 @@ fn list_stream(alloc: Global, stream: &[u8]) -> Result<Vec<ListingLine>, AllocEr
     finish(lines, &reader, behind)
 }
 
-/// Adds the line of what stands behind the items: what the reader keeps, and bytes that it did not take.
+/// Adds the line of the bytes after the items: those that the reader keeps, and those that it did not take.
 fn finish(
     mut lines: Vec<ListingLine>,
     reader: &FrameReader,
@@ -181,7 +181,7 @@ fn line_of(item: &Item) -> ListingLine
     }
 }
 
-/// What a performative or a SASL body is.
+/// The descriptor of a performative or a SASL body.
 fn descriptor_of(perf: &Perf) -> Descriptor
     ensures { result ≡ descriptor_of perf.now }
 {

@@ -8,7 +8,7 @@ use crate::status::{Refusal, Status};
 use std::fmt::Display;
 use std::io::{self, Write};
 
-/// Writes each line and a line feed behind it, and nothing else.
+/// Writes each line and a line feed after it, and nothing else.
 pub fn print_lines<W: Write, L: Display>(output: &mut W, lines: &[L]) -> io::Result<()>
     ensures { OnOk result (IfSome (printed L.output lines.now) (Appends (W.contents output.old) (W.contents output.new))) }
 {

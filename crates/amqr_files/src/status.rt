@@ -13,14 +13,14 @@ pub enum Status {
     Done,
     /// Its input was bad.
     BadInput,
-    /// Its words were bad.
+    /// Its arguments were bad.
     BadWords,
     /// The journal or memory failed, or the output could not be written.
     Failed,
 }
 
 impl Status {
-    /// The number that the process ends with: 0 to 3, in the order above.
+    /// The exit code of the process: 0 to 3, in the order above.
     pub fn code(self) -> u8
         ensures { result ≡ code_of self }
     {
@@ -54,7 +54,7 @@ pub enum Refusal {
     Exists,
     /// A file is no journal: `no journal`.
     NoJournal,
-    /// An open gate of a journal has no batch behind it: `damaged PLACE`.
+    /// An open gate of a journal has no batch after it: `damaged PLACE`.
     Damaged {
         /// The place of the gate, in bytes from the file's beginning.
         place: usize,
@@ -100,7 +100,7 @@ impl From<DiskFault> for Refusal {
 }
 
 impl Refusal {
-    /// How the program ends with it.
+    /// The status with which the program ends then.
     pub fn status(self) -> Status
         ensures { result ≡ status_of self }
     {

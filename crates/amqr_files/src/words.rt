@@ -1,4 +1,4 @@
-//! The words that the program is called with.
+//! The program's arguments.
 ghost use Rattle.std.specs.Prelude.{◌≡◌, ◌<◌, length, IfOk};
 
 use clap::error::ErrorKind;
@@ -6,17 +6,17 @@ use clap::{Arg, ArgAction, Command, Error};
 use std::alloc::{AllocError, Global};
 use std::convert::AsStr;
 
-/// The version that `--version` tells.
+/// The version that `--version` prints.
 const VERSION: &str = "0.1.0";
 
-/// What the words ask for.
+/// What the arguments ask for.
 #[derive(Clone, Copy, Debug)]
 pub enum Task<'a> {
     /// To play the script that comes on standard input.
     PlayInput,
     /// To play the script in a file.
     Play {
-        /// The file of the router's configuration; the standard one where none is named.
+        /// The file of the router's configuration; the standard configuration where none is named.
         config: Option<&'a str>,
         /// The file of the script.
         script: &'a str,
@@ -43,19 +43,19 @@ pub enum Task<'a> {
 /// How clients are to be served.
 #[derive(Clone, Copy, Debug)]
 pub struct Serving<'a> {
-    /// The file of the router's configuration; the standard one where none is named.
+    /// The file of the router's configuration; the standard configuration where none is named.
     pub config: Option<&'a str>,
-    /// After so many connections the program ends, at least 1; it doesn't where none is named.
+    /// The number of connections after which the program ends, at least 1; without it the program doesn't end.
     pub connections: Option<u64>,
-    /// Whether nothing is told of connections on standard error.
+    /// Whether nothing is reported of connections on standard error.
     pub quiet: bool,
 }
 
-/// What these words ask for; the first is the program's name. With no word behind it the script comes on standard input.
+/// What these arguments ask for; the first is the program's name. Without others the script comes on standard input.
 ///
 /// # Errors
 ///
-/// A text for the user: what is wrong with the words, or the help that they ask for.
+/// A text for the user: what is wrong with the arguments, or the help that they ask for.
 pub fn read_words<'a, S: AsStr>(alloc: Global, words: &'a [S]) -> Result<Task<'a>, Error>
     ensures none { length words.entry.now < 2 → result ≡ Ok Task.PlayInput }
     ensures some { IfOk result (λ task. task ≡ Task.PlayInput → length words.entry.now < 2) }
@@ -104,7 +104,7 @@ pub fn read_words<'a, S: AsStr>(alloc: Global, words: &'a [S]) -> Result<Task<'a
     Err(program(alloc)?.error(ErrorKind::MissingSubcommand, "a command is missing")?)
 }
 
-/// The program and its commands, as the help tells them.
+/// The program and its commands, as the help shows them.
 fn program<'a>(alloc: Global) -> Result<Command<'a>, AllocError> {
     Command::new(alloc, "amqr")
         .version(VERSION)
@@ -165,7 +165,7 @@ fn serve<'a>(alloc: Global) -> Result<Command<'a>, AllocError> {
         .arg(quiet)
 }
 
-/// The number of connections that a word tells, where one is there: digits alone, and not 0. None where it is no such number.
+/// The number of connections in a word, if there is a word: digits alone, and not 0. None where it is no such number.
 fn connections_in(word: Option<&str>) -> Option<Option<u64>> {
     let Some(word) = word else {
         return Some(None);

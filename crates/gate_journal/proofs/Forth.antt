@@ -1,4 +1,4 @@
--- What is read is spelled so.
+-- What is read is encoded that way.
 use Rattle.std.proofs.Common.{◌≡◌, ℕ, ◌<◌, ◌≤◌, ◌^◌, Bool, true, false, List, [], ◌∷◌, ◌++◌, length, Result, Ok, Err, refl, sym, ap, ◌∙◌, subst, arith, append_assoc}
 use Rattle.std.specs.Prelude.{nat_lt, ◌==◌, ◌&&◌}
 use Rattle.std.specs.Int.{w16, w32, w64}
@@ -24,7 +24,7 @@ use Rattle.gate_journal.specs.Reading.{number_at, chunk_at, sized_at, text_by, t
 use Rattle.gate_journal.proofs.Joins.{split_4, split_7}
 use Rattle.gate_journal.proofs.Tools.{done, bind_ok, same_both, same_read, same_rest, AreBytes, bytes_behind, forth_2, forth_4, forth_8, chunk_forth, by_test}
 
--- some bytes are spelled first, then come others
+-- some bytes are an encoding first, then others follow
 pub record Leads (bytes spelled rest : List ℕ) : Type 0 where
   pub is : bytes ≡ spelled ++ rest
   pub bytes_left : AreBytes rest
@@ -87,7 +87,7 @@ role_forth (byte ∷ behind) rest role h e =
     by_role Producer r = by_test (byte == 0) (λ t. equal byte 0 t) (λ t. by_test (byte == 1) (λ u. absurd (let no = rw (t, u) at r in cc)) (λ u. absurd (let no = rw (t, u) at r in cc)))
     by_role Consumer r = by_test (byte == 0) (λ t. absurd (let no = rw t at r in cc)) (λ t. by_test (byte == 1) (λ u. equal byte 1 u) (λ u. absurd (let no = rw (t, u) at r in cc)))
 
--- A terminus, behind its kind.
+-- A terminus, after its kind.
 record IsTerminusRead (bytes : List ℕ) (t : Terminus) (rest : List ℕ) : Type 0 where
   pub is : 1 ∷ bytes ≡ make_bytes t ++ rest
   pub bytes_left : AreBytes rest
@@ -127,7 +127,7 @@ make_forth bytes rest t h e =
     } in
     subst P (same_both made t k.read.1 rest k.gives) whole
 
--- An admission, behind its kind.
+-- An admission, after its kind.
 record IsTagRead (bytes tag rest : List ℕ) : Type 0 where
   pub leads : Leads bytes (length tag ∷ tag) rest
   pub short : length tag ≤ 32
@@ -213,7 +213,7 @@ admission_forth bytes rest a h e =
     } in
     subst P (same_both made a k.read.1 rest k.gives) whole
 
--- A decision, behind its kind.
+-- A decision, after its kind.
 terminal_forth : (s : DeliveryState) → is_terminal s ≡ true → IsTerminal s
 terminal_forth (states.Received r) h = absurd cc
 terminal_forth states.Accepted h = tt

@@ -1,4 +1,4 @@
--- One batch more.
+-- One more batch.
 use Rattle.std.proofs.Common.{◌≡◌, ℕ, List, [], ◌∷◌, ◌++◌, None, refl, sym, ap, ◌∙◌, append_assoc, arith}
 use Rattle.std.proofs.lemmas.List.{append-nil}
 use Rattle.book_core.specs.declared.act.Act.{Act}

@@ -1,4 +1,4 @@
--- Of a file one thing is true: it holds batches, it is damaged at a place, or it is no journal.
+-- For a file one thing is true: it holds batches, it is damaged at a place, or it is no journal.
 use Rattle.std.proofs.Common.{◌≡◌, ◌≢◌, ◌⊎◌, ⊎_elim, ℕ, ◌<◌, List, [], ◌∷◌, ◌++◌, length, take, refl, sym, ap, ◌∙◌, subst, arith, append_assoc, length-append}
 use Rattle.std.proofs.lemmas.List.{append_cancel_left}
 use Rattle.book_core.specs.declared.act.Act.{Act}
@@ -15,7 +15,7 @@ byte_same a b r s e = cc
 rest_same : (a b : ℕ) (r s : List ℕ) → a ∷ r ≡ b ∷ s → r ≡ s
 rest_same a b r s e = cc
 
--- Behind batches and a gate something stands.
+-- Something follows batches and a gate.
 record Parts (bytes : List ℕ) : Type 0 where
   gate : ℕ
   rest : List ℕ

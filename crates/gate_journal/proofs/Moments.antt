@@ -1,4 +1,4 @@
--- What a crash leaves while a disk is synced and read: what it might have left before.
+-- What a crash leaves while a disk is synced and read: something that it might have left before.
 use Rattle.std.proofs.Common.{ℕ, List}
 use Rattle.disk_core.specs.Disk.{NoMore, Elapses, LeavesOnly}
 use Rattle.disk_core.specs.DiskLaws.{started, goes_on}

@@ -1,4 +1,4 @@
--- What a crash leaves of a batch that goes to the disk.
+-- What a crash leaves of a batch that is being written.
 use Rattle.std.proofs.Common.{◌≡◌, ◌≢◌, ◌⊎◌, inl, inr, ℕ, zero, suc, ◌+◌, ◌<◌, List, [], ◌∷◌, ◌++◌, length, take, drop, None, refl, sym, ap, ◌∙◌, append_assoc, length-append, arith}
 use Rattle.std.proofs.lemmas.List.{take_at, drop_at}
 use Rattle.disk_core.specs.Disk.{Spoilt, between, Agrees, overwritten, Only}
@@ -11,7 +11,7 @@ use Rattle.gate_journal.specs.Batches.{Holds, IsBatch, AllApply, book_after}
 use Rattle.gate_journal.specs.Stands.{IsAt}
 use Rattle.gate_journal.proofs.Fronts.{front_more, all_more}
 
--- a file up to and with the gate behind a front
+-- a file up to the gate after a front, the gate included
 up_to_gate : (front rest : List ℕ) (gate place : ℕ) → place ≡ length front → take (place + 1) (front ++ gate ∷ rest) ≡ front ++ gate ∷ []
 up_to_gate front rest gate place e =
     ap (take (place + 1)) (sym (append_assoc front (gate ∷ []) rest)) ∙ take_at (front ++ gate ∷ []) rest (place + 1) (omega (arith, e, length-append front (gate ∷ [])))
@@ -20,7 +20,7 @@ behind_gate : (front rest : List ℕ) (gate place : ℕ) → place ≡ length fr
 behind_gate front rest gate place e =
     ap (drop (place + 1)) (sym (append_assoc front (gate ∷ []) rest)) ∙ drop_at (front ++ gate ∷ []) rest (place + 1) (omega (arith, e, length-append front (gate ∷ [])))
 
--- Behind the gate anything may stand.
+-- Anything may follow the gate.
 spoilt_behind : (bs : List (List Act)) (seen c : List ℕ) (place end : ℕ) → Holds seen bs → place ≡ length (front bs) → Spoilt (place + 1) end seen c → Holds c bs
 spoilt_behind bs seen c place end h e s = record {
   gate = h.gate;
@@ -35,7 +35,7 @@ spoilt_behind bs seen c place end h e s = record {
   valid = h.valid;
 }
 
--- a file with the batch behind a gate, and a closed gate behind it
+-- a file with the batch after a gate, and a closed gate after the batch
 pub record IsStaged (file : List ℕ) (bs : List (List Act)) (acts : List Act) : Type 0 where
   pub gate : ℕ
   pub rest : List ℕ
@@ -58,7 +58,7 @@ staged bs acts seen file block place h e is written = record {
       ∙ ap (λ (l : List ℕ). front bs ++ h.gate ∷ l) (append_assoc (batch acts) (0 ∷ []) (drop (place + 1 + length block) seen));
 }
 
--- The gate of a staged batch: whatever byte stands there, the batch is there or it isn't.
+-- The gate of a staged batch: whatever byte is there, the file has the batch or it hasn't.
 by_gate : (bs : List (List Act)) (acts : List Act) (c rest : List ℕ) (gate : ℕ) → AllApply empty_book bs → IsBatch acts → first_fault (book_after empty_book bs) acts ≡ None
     → c ≡ front bs ++ gate ∷ (batch acts ++ 0 ∷ rest) → Holds c bs ⊎ Holds c (bs ++ acts ∷ [])
 by_gate bs acts c rest zero valid is applies e = inl (record { gate = 0; rest = batch acts ++ 0 ∷ rest; shut = λ i. absurd (omega (arith, i)); is = e; valid = valid })
@@ -109,7 +109,7 @@ opened bs acts file new place valid is applies st e written = record {
   valid = all_more empty_book bs acts valid is applies;
 }
 
--- The four calls, on what a crash may leave.
+-- The four calls, and what a crash may leave after them.
 module _ (seen : List ℕ) (may_leave : List ℕ → Type 0) (place : ℕ) (bs : List (List Act)) (acts : List Act) (block : List ℕ)
     (at : IsAt seen may_leave place bs) (is_block : block ≡ batch acts ++ 0 ∷ []) (is : IsBatch acts) (applies : first_fault (book_after empty_book bs) acts ≡ None) where
   pub first_leaves : (c : List ℕ) → Agrees (between (place + 1) (place + 1 + length block)) seen c → Holds c bs

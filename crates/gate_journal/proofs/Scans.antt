@@ -29,7 +29,7 @@ nonempty act h = by_length (act_bytes act) refl
     by_length [] e = absurd (let no : act_at [] ≡ done act [] = ap (λ (l : List ℕ). act_at (l ++ [])) (sym e) ∙ act_back act [] h in let none = none_at_all in cc)
     by_length (b ∷ l) e = omega arith
 
--- one act more
+-- one more act
 pub record Step (bytes : List ℕ) (acts : List Act) (rest : List ℕ) : Type 0 where
   pub spelled : bytes ≡ acts_bytes acts ++ rest
   pub writable : AreWritable acts
@@ -53,7 +53,7 @@ read_shorter bytes acts rest act behind are e read =
     let step = act_forth rest behind act (left (acts_bytes acts) rest bytes e are) read in
     omega (arith, ap length step.is, length-append (act_bytes act) behind, nonempty act step.writable)
 
--- what is left is no act
+-- the rest is no act
 pub no_more : (bytes : List ℕ) (acts : List Act) (rest : List ℕ) (fault : ReadFault) → 0 < length rest → bytes ≡ acts_bytes acts ++ rest → AreWritable acts → act_at rest ≡ Err fault → NoActs bytes
 no_more bytes acts rest fault some e h none whole writable f =
     let p = acts_prefix whole acts rest writable h (sym f ∙ e) in
@@ -144,7 +144,7 @@ is_batch bytes inside behind acts h e writable = record {
 not_empty : (bytes : List ℕ) → (length bytes == 0) ≡ false → 0 < length bytes
 not_empty bytes e = grind (arith, nat_tests)
 
--- what is left is no act, and something
+-- the rest is no act, and not empty
 pub none_left : (bytes : List ℕ) (acts : List Act) (rest : List ℕ) (fault : ReadFault) → (length rest == 0) ≡ false → bytes ≡ acts_bytes acts ++ rest → AreWritable acts
     → ((fault ≡ Memory → ⊥) → act_at rest ≡ Err fault) → fault ≡ Misspelt → NoActs bytes
 none_left bytes acts rest fault some e h read is =

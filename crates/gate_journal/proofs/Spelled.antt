@@ -1,4 +1,4 @@
--- Acts spelled one after the other.
+-- Acts encoded one after another.
 use Rattle.std.proofs.Common.{◌≡◌, ℕ, ◌+◌, ◌-◌, ◌<◌, List, [], ◌∷◌, ◌++◌, length, take, drop, get_or, refl, sym, ap, ◌∙◌, subst, length-append, arith}
 use Rattle.std.proofs.lemmas.List.{take_more, flat_map_more, take_at, drop_at}
 use Rattle.book_core.specs.declared.act.Act.{Act}
@@ -17,7 +17,7 @@ pub length-in_8 : (n : ℕ) → length (in_8 n) ≡ 8
 unfolding in_8
 length-in_8 n = refl
 
--- one act more of a list
+-- one more act of a list
 one_more : (acts : List Act) (i : ℕ) (item : Act) → i < length acts → item ≡ get_or acts i item → take (i + 1) acts ≡ take i acts ++ item ∷ []
 one_more acts i item l e = take_more acts i item l ∙ ap (λ a. take i acts ++ a ∷ []) (sym e)
 

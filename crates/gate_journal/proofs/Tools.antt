@@ -10,7 +10,7 @@ use Rattle.gate_journal.specs.Format.{in_2, in_4, in_8}
 use Rattle.gate_journal.specs.Reading.{◌>>=◌, number_at, chunk_at}
 use Rattle.gate_journal.proofs.Spelled.{length-in_2, length-in_4, length-in_8}
 
--- what was read, and what stands behind it
+-- what was read, and what follows it
 abbrev pub done : {A : Type 0} → A → List ℕ → Result (A × List ℕ) ReadFault
 done x rest = Ok (x, rest)
 
@@ -57,7 +57,7 @@ is_less a b h = grind (arith, nat_tests)
 pub is_not_less : (a b : ℕ) → nat_lt a b ≡ false → b ≤ a
 is_not_less a b h = grind (arith, nat_tests)
 
--- Back from their spelling.
+-- Back from their encoding.
 pub chunk_back : (chunk rest : List ℕ) → chunk_at (length chunk) (chunk ++ rest) ≡ Ok (chunk, rest)
 chunk_back chunk rest =
     rw (not_less (length (chunk ++ rest)) (length chunk) (omega (arith, length-append chunk rest)), take_at chunk rest (length chunk) refl, drop_at chunk rest (length chunk) refl) refl
@@ -86,7 +86,7 @@ pub back_8 : (n : ℕ) (rest : List ℕ) → n < 2 ^ 64 → number_at w64 (in_8 
 back_8 n rest l =
     rw (not_less (length (in_8 n ++ rest)) 8 (omega (arith, length-append (in_8 n) rest, length-in_8 n)), take_at (in_8 n) rest 8 (length-in_8 n), drop_at (in_8 n) rest 8 (length-in_8 n)) (ap (λ (m : ℕ). Ok (m, rest)) (number_8 n l))
 
--- Forth: what is read is spelled so.
+-- Forth: what is read is encoded that way.
 pub record AreBytes (bytes : List ℕ) : Type 0 where
   pub each : (i : ℕ) → get_or bytes i 0 < 256
 

@@ -1,4 +1,4 @@
--- One spelling: a file holds one list of batches only.
+-- One encoding: a file holds only one list of batches.
 use Rattle.std.proofs.Common.{◌≡◌, ◌≢◌, ℕ, ◌<◌, ◌≤◌, ◌^◌, List, [], ◌∷◌, ◌++◌, length, Err, refl, sym, ap, ◌∙◌, subst, arith, append_assoc}
 use Rattle.std.specs.Int.{w32}
 use Rattle.std.proofs.lemmas.List.{append_cancel_left, append-nil}
@@ -49,7 +49,7 @@ acts_unique xs ys h i e =
     let p = acts_prefix xs ys [] h i (e ∙ sym (append-nil (acts_bytes ys))) in
     p.is ∙ ap (λ (l : List Act). ys ++ l) (no_acts p.others p.writable p.spelled) ∙ append-nil ys
 
--- Bytes behind their length.
+-- Bytes after their length.
 pub record SameBatch (a b : List Act) (r s : List ℕ) : Type 0 where
   pub acts : a ≡ b
   pub rests : r ≡ s

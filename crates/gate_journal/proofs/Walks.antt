@@ -27,7 +27,7 @@ walk_none bytes behind e some = record {
   count_is = refl;
 }
 
--- one batch more, over these batches
+-- one more batch, after these batches
 pub record Over (batches : List (List Act)) (bytes rest : List ℕ) (book : BookView) (count : ℕ) : Type 0 where
   pub is : bytes ≡ front batches ++ rest
   pub valid : AllApply empty_book batches

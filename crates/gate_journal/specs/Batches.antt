@@ -1,4 +1,4 @@
--- Which batches a file holds, and the book that they leave.
+-- Which batches a file holds, and the book that they give.
 use Rattle.std.specs.Prelude.{◌≡◌, ◌≢◌, ℕ, ◌<◌, ◌≤◌, ◌^◌, List, [], ◌∷◌, ◌++◌, length, Option, Some, None, Ok}
 use Rattle.std.specs.Str.{IsUtf8}
 use Rattle.amqp_perf.specs.declared.state.DeliveryState.{DeliveryState}
@@ -13,7 +13,7 @@ use Rattle.book_core.specs.declared.terminus.TerminusNumber.{TerminusNumber}
 use Rattle.book_core.specs.Book.{BookView, empty_book, first_fault, effects}
 use Rattle.gate_journal.specs.Format.{acts_bytes, front, or_zero}
 
--- a text whose length two bytes can tell
+-- a text whose length fits into two bytes
 pub record IsText (text : List ℕ) : Type 0 where
   pub utf8 : IsUtf8 text
   pub short : length text < 2 ^ 16
@@ -27,12 +27,12 @@ IsTerminal states.Released = Unit {0}
 IsTerminal (states.Modified m) = Unit {0}
 IsTerminal (states.Other v) = ⊥
 
--- an outcome: a terminal state that its canonical spelling gives back
+-- an outcome: a terminal state that its canonical encoding gives back
 pub record IsOutcome (outcome : DeliveryState) : Type 0 where
   pub terminal : IsTerminal outcome
   pub reads_back : state_at (state_spelling outcome) ≡ Ok (outcome, length (state_spelling outcome))
 
--- a terminus has a number above 0, which stands for none
+-- a terminus has a number above 0, since 0 stands for none
 abbrev pub IsAboveZero : Option TerminusNumber → Type 0
 IsAboveZero None = Unit {0}
 IsAboveZero (Some n) = 0 < n.0
@@ -53,7 +53,7 @@ pub record IsAdmission (a : Admission) : Type 0 where
   pub format : a.format < 2 ^ 32
   pub payload : length a.payload < 2 ^ 32
 
--- an act whose numbers and lengths have room in its bytes
+-- an act whose numbers and lengths fit into their bytes
 abbrev pub IsWritable : Act → Type 0
 IsWritable (Make t) = IsMake t
 IsWritable (Admit a) = IsAdmission a
@@ -72,12 +72,12 @@ pub record IsBatch (acts : List Act) : Type 0 where
   pub small : length (acts_bytes acts) ≤ 4194304
   pub writable : AreWritable acts
 
--- batches, each of which applies to the book that those before it leave
+-- batches, each of which applies to the book after those before it
 unfoldable pub AllApply : BookView → List (List Act) → Type 0
 AllApply b [] = Unit {0}
 AllApply b (acts ∷ bs) = IsBatch acts × (first_fault b acts ≡ None) × AllApply (effects b acts) bs
 
--- the book that batches leave
+-- the book after these batches
 unfoldable pub book_after : BookView → List (List Act) → BookView
 book_after b [] = b
 book_after b (acts ∷ bs) = book_after (effects b acts) bs
@@ -90,7 +90,7 @@ pub record Holds (file : List ℕ) (bs : List (List Act)) : Type 0 where
   pub is : file ≡ front bs ++ gate ∷ rest
   pub valid : AllApply empty_book bs
 
--- Of what a batch needs, what isn't seen from its acts' numbers and lengths: that an outcome is one, and that a
+-- Of what a batch needs, the part that the acts' numbers and lengths don't show: that an outcome is one, and that a
 -- terminus has a number above 0.
 abbrev pub HasOutcome : Act → Type 0
 HasOutcome (Decide d) = IsOutcome d.outcome
@@ -110,7 +110,7 @@ abbrev pub HaveTermini : List Act → Type 0
 HaveTermini [] = Unit {0}
 HaveTermini (act ∷ acts) = HasTerminus act × HaveTermini acts
 
--- a batch that applies behind these batches
+-- a batch that applies after these batches
 pub record IsNext (bs : List (List Act)) (acts : List Act) : Type 0 where
   pub some : acts ≢ []
   pub small : length (acts_bytes acts) ≤ 4194304

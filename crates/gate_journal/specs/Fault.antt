@@ -1,4 +1,4 @@
--- What a disk's fault is to a journal.
+-- How a journal reports a disk's fault.
 use Rattle.disk_core.specs.declared.fault.DiskFault.{DiskFault}
 use Rattle.disk_core.specs.declared.fault.DiskFault.TheVariants as disk
 use Rattle.gate_journal.specs.declared.fault.JournalFault.{JournalFault}

@@ -1,4 +1,4 @@
--- The bytes of a journal, format 1: the magic, then a gate, and behind each open gate a batch and the next gate.
+-- The bytes of a journal, format 1: the magic, then a gate, and after each open gate a batch and the next gate.
 use Rattle.std.specs.Prelude.{ℕ, List, [], ◌∷◌, ◌++◌, length, Option, Some, None}
 use Rattle.std.specs.List.{flat_map}
 use Rattle.std.specs.Int.{w16, w32, w64, to_be_bytes}
@@ -59,11 +59,11 @@ act_bytes (Drop n) = (5 ∷ []) ++ in_8 n.0
 abbrev pub acts_bytes : List Act → List ℕ
 acts_bytes = flat_map act_bytes
 
--- a batch: the length of its acts, then they
+-- a batch: the length of its acts, then the acts
 unfoldable pub batch : List Act → List ℕ
 batch acts = in_4 (length (acts_bytes acts)) ++ acts_bytes acts
 
--- batches behind open gates
+-- batches after open gates
 unfoldable pub blocks : List (List Act) → List ℕ
 blocks [] = []
 blocks (acts ∷ bs) = 1 ∷ (batch acts ++ blocks bs)

@@ -15,7 +15,7 @@ disk_of j = j.disk
 abbrev pub batch_count : {D : Type 0} → Journal D → ℕ
 batch_count j = j.figures.count
 
--- its length in bytes, up to and with the gate that ends it
+-- its length in bytes, including the gate that ends it
 abbrev pub used_bytes : {D : Type 0} → Journal D → ℕ
 used_bytes j = j.figures.place + 1
 
@@ -27,7 +27,7 @@ kept_bytes j = j.figures.reserve
 abbrev pub has_failed : {D : Type 0} → Journal D → Bool
 has_failed j = j.failed
 
--- The disk holds these batches and nothing else is left by a crash, and the figures are theirs.
+-- The disk holds these batches, a crash leaves nothing else, and the figures are those of the batches.
 pub record Keeps {D : Type 0} (seen : D → List ℕ) (may_leave : D → List ℕ → Type 0) (j : Journal D) (bs : List (List Act)) : Type 0 where
   pub at : IsAt (seen j.disk) (may_leave j.disk) j.figures.place bs
   pub kept : j.figures.reserve ≡ reserve (book_after empty_book bs)

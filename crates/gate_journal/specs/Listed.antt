@@ -1,4 +1,4 @@
--- What a list of a journal has.
+-- The contents of a journal's list.
 use Rattle.std.specs.Prelude.{◌≡◌, ℕ, List, length}
 use Rattle.book_core.specs.declared.act.Act.{Act}
 use Rattle.book_core.specs.Book.{BookView, empty_book}
@@ -7,7 +7,7 @@ use Rattle.gate_journal.specs.Format.{front}
 use Rattle.gate_journal.specs.Batches.{Holds, book_after}
 use Rattle.gate_journal.specs.Listing.{entries_of}
 
--- the acts of the batches of a file with their places, the place of the gate that ends them, and the book that they leave
+-- the acts of the batches of a file with their places, the place of the gate that ends them, and the book after them
 pub record IsListed (file : List ℕ) (entries : List Entry) (place : ℕ) (book : BookView) : Type 0 where
   pub batches : List (List Act)
   pub holds : Holds file batches

@@ -1,4 +1,4 @@
--- What a file stands for that is opened, and why none is.
+-- What an opened file stands for, and why a file can't be opened.
 use Rattle.std.specs.Prelude.{◌≡◌, ◌≢◌, ◌⊎◌, ℕ, ◌<◌, List, ◌∷◌, ◌++◌, length, take, None}
 use Rattle.book_core.specs.declared.act.Act.{Act}
 use Rattle.book_core.specs.Book.{BookView, empty_book, first_fault}
@@ -7,7 +7,7 @@ use Rattle.gate_journal.specs.declared.fault.OpenFault.TheVariants.{NotAJournal,
 use Rattle.gate_journal.specs.Format.{magic, batch, front}
 use Rattle.gate_journal.specs.Batches.{IsBatch, AllApply, Holds, book_after}
 
--- a batch that applies to this book stands at the front, and a gate behind it
+-- the bytes begin with a batch that applies to this book, and a gate after it
 pub record Begins (b : BookView) (bytes : List ℕ) (acts : List Act) : Type 0 where
   pub gate : ℕ
   pub rest : List ℕ
@@ -15,11 +15,11 @@ pub record Begins (b : BookView) (bytes : List ℕ) (acts : List Act) : Type 0 w
   pub is_batch : IsBatch acts
   pub applies : first_fault b acts ≡ None
 
--- none does
+-- they don't
 abbrev pub NoBatch : BookView → List ℕ → Type 0
 NoBatch b bytes = (acts : List Act) → Begins b bytes acts → ⊥
 
--- Behind good batches stands an open gate at this place, and no batch behind it.
+-- After good batches there is an open gate at this place, and no batch after it.
 pub record IsDamagedAt (file : List ℕ) (place : ℕ) : Type 0 where
   pub batches : List (List Act)
   pub rest : List ℕ
@@ -28,14 +28,14 @@ pub record IsDamagedAt (file : List ℕ) (place : ℕ) : Type 0 where
   pub is_place : place ≡ length (front batches)
   pub no_batch : NoBatch (book_after empty_book batches) rest
 
--- what a file is at which opening answers a fault
+-- why opening a file answers a fault
 abbrev pub Explains : List ℕ → OpenFault → Type 0
 Explains file NotAJournal = (length file < 9) ⊎ (take 8 file ≢ magic)
 Explains file (Damaged place) = IsDamagedAt file place
 Explains file Disk = Unit {0}
 Explains file Memory = Unit {0}
 
--- what was found in a file: its batches, the book that they leave, the place of the gate that ends them, and their number
+-- what was found in a file: its batches, the book after them, the place of the gate that ends them, and their number
 pub record IsFound (file : List ℕ) (book : BookView) (place count : ℕ) : Type 0 where
   pub batches : List (List Act)
   pub holds : Holds file batches

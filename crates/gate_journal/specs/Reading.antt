@@ -1,4 +1,4 @@
--- How the bytes of an act are read, from front to back. Laws of proofs/ tie it to the spelling of Format, which is what the
+-- How the bytes of an act are read, from front to back. Laws of proofs/ relate it to the encoding of Format, which is what the
 -- contracts of the journal speak of.
 use Rattle.std.specs.Prelude.{◌≡◌, ℕ, Bool, true, false, List, [], ◌∷◌, length, take, drop, Option, Some, None, Result, Ok, Err, nat_lt, ◌==◌, ◌&&◌, if◌then◌else◌}
 use Rattle.std.specs.Int.{Width, w16, w32, w64, byte_len, from_be_bytes}
@@ -43,7 +43,7 @@ number_at w bytes = if nat_lt (length bytes) (byte_len w) then Err Misspelt else
 abbrev pub chunk_at : ℕ → Reads (List ℕ)
 chunk_at n bytes = if nat_lt (length bytes) n then Err Misspelt else Ok (take n bytes, drop n bytes)
 
--- bytes behind a length of two bytes
+-- bytes after a length of two bytes
 unfoldable pub sized_at : Reads (List ℕ)
 sized_at bytes = do
   size ← number_at w16 bytes
@@ -79,7 +79,7 @@ tag_at bytes = byte_at bytes >>= λ size. if nat_lt 32 size.0 then Err Misspelt 
 abbrev pub terminus_or_none : ℕ → Option TerminusNumber
 terminus_or_none n = if n == 0 then None else Some (record { 0 = n })
 
--- bytes behind a length of four bytes
+-- bytes after a length of four bytes
 unfoldable pub payload_at : Reads (List ℕ)
 payload_at bytes = do
   size ← number_at w32 bytes
@@ -100,7 +100,7 @@ is_terminal (states.Received r) = false
 is_terminal (states.Other v) = false
 is_terminal _ = true
 
--- an outcome is one terminal state in its canonical spelling, to the last byte
+-- an outcome is one terminal state in its canonical encoding, to the last byte
 abbrev pub outcome_by : List ℕ → Result (DeliveryState × ℕ) PerfFault → Result DeliveryState ReadFault
 outcome_by bytes (Err e) = Err Misspelt
 outcome_by bytes (Ok read) = if read.1 == length bytes && is_terminal read.0 && pointwise ◌==◌ (state_spelling read.0) bytes then Ok read.0 else Err Misspelt
@@ -115,7 +115,7 @@ decision_at bytes = do
   outcome ← outcome_of spelled.0
   Ok (record { row = record { 0 = row.0 }; outcome = outcome }, spelled.1)
 
--- an act behind its kind
+-- an act after its kind
 unfoldable pub act_behind : ℕ → Reads Act
 act_behind kind bytes =
     if kind == 1 then (make_at bytes >>= λ terminus. Ok (Make terminus.0, terminus.1))
@@ -128,7 +128,7 @@ act_behind kind bytes =
 unfoldable pub act_at : Reads Act
 act_at bytes = byte_at bytes >>= λ kind. act_behind kind.0 kind.1
 
--- the acts' bytes of a batch, and what stands behind it: a gate at least
+-- the acts' bytes of a batch, and what follows it: at least a gate
 unfoldable pub inside_at : Reads (List ℕ)
 inside_at bytes =
     number_at w32 bytes >>= λ size.

@@ -1,5 +1,5 @@
--- The room that a journal keeps free, so that what is begun can be ended: an undecided row can be decided, an unforgotten one
--- forgotten, and a terminus dropped, each in a batch of its own.
+-- The room that a journal keeps free, so that what is begun can be finished: an undecided row can be decided, an unforgotten
+-- row forgotten, and a terminus dropped, each in a batch of its own.
 use Rattle.amqp_perf.specs.Spelling.{state_spelling}
 use Rattle.std.specs.Prelude.{ℕ, ◌+◌, ◌*◌, ◌≤◌, List, [], ◌∷◌, length, sum_by, if◌then◌else◌, ◌<◌}
 use Rattle.book_core.specs.declared.act.Act.{Act}
@@ -32,15 +32,15 @@ release (Forget n) = 14
 release (Drop n) = 14
 release _ = 0
 
--- What a batch costs is five bytes, those of its acts, and what the reserve gains: it is above 0 where this holds.
+-- A batch costs five bytes, those of its acts, and the growth of the reserve: this is above 0 where Costs holds.
 abbrev pub Costs : List Act → Type 0
 Costs acts = sum_by release acts < 5 + length (acts_bytes acts) + sum_by growth acts
 
--- The batch costs more than there is room in a journal of so many bytes with so large a reserve.
+-- The batch costs more than the room in a journal that is this long and keeps this much free.
 abbrev pub Exceeds : ℕ → ℕ → List Act → Type 0
 Exceeds used kept acts = journal_limit + sum_by release acts < 5 + length (acts_bytes acts) + sum_by growth acts + used + kept
 
--- a batch costs more than nothing, and more than there is room
+-- a batch costs more than nothing, and more than the room
 abbrev pub IsFull : ℕ → ℕ → List Act → Type 0
 IsFull used kept acts = Costs acts × Exceeds used kept acts
 

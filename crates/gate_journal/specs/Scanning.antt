@@ -1,4 +1,4 @@
--- What a scan of a file finds on its way.
+-- What a scan of a file finds on the way.
 use Rattle.std.specs.Prelude.{◌≡◌, ◌≢◌, ℕ, List, [], ◌∷◌, ◌++◌, length}
 use Rattle.book_core.specs.declared.act.Act.{Act}
 use Rattle.book_core.specs.declared.fault.BookFault.{BookFault}
@@ -14,11 +14,11 @@ use Rattle.gate_journal.specs.Batches.{AreWritable, IsBatch, AllApply, book_afte
 abbrev pub NoActs : List ℕ → Type 0
 NoActs bytes = (acts : List Act) → AreWritable acts → bytes ≡ acts_bytes acts → ⊥
 
--- no batch stands at the front with a gate behind it
+-- the bytes don't begin with a batch and a gate after it
 abbrev pub NoneBegins : List ℕ → Type 0
 NoneBegins bytes = (acts : List Act) (gate : ℕ) (rest : List ℕ) → IsBatch acts → bytes ≡ batch acts ++ gate ∷ rest → ⊥
 
--- Good batches stand before what is left, and leave this book.
+-- Good batches come before the rest, and give this book.
 pub record Walked (bytes rest : List ℕ) (book : BookView) (count : ℕ) : Type 0 where
   pub batches : List (List Act)
   pub is : bytes ≡ front batches ++ rest
@@ -32,7 +32,7 @@ abbrev pub refused_as : BookFault → ℕ → OpenFault
 refused_as books.Memory at = opening.Memory
 refused_as _ at = opening.Damaged at
 
--- why no batch behind an open gate at this place is applied to this book
+-- why no batch after an open gate at this place is applied to this book
 abbrev pub IsNoNext : BookView → List ℕ → ℕ → OpenFault → Type 0
 IsNoNext book inside at opening.Memory = Unit {0}
 IsNoNext book inside at (opening.Damaged place) = (place ≡ at) × NoBatch book inside

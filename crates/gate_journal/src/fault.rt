@@ -11,10 +11,10 @@ use thiserror::Error;
 /// Why a journal can't be opened.
 #[derive(Clone, Copy, Debug, PartialEq, Eq, Error)]
 pub enum OpenFault {
-    /// The file is shorter than 9 bytes, or begins otherwise than a journal does.
+    /// The file is shorter than 9 bytes, or doesn't begin with a journal's magic.
     #[error("not a journal")]
     NotAJournal,
-    /// The gate at this place is open, and behind it no batch stands that reads and that the book takes.
+    /// The gate at this place is open, and no batch follows it that can be read and that applies to the book.
     #[error("damaged at {at}")]
     Damaged {
         /// The place of the gate, in bytes from the file's beginning.
@@ -31,13 +31,13 @@ pub enum OpenFault {
 /// Why a batch isn't appended.
 #[derive(Clone, Copy, Debug, PartialEq, Eq, Error)]
 pub enum JournalFault {
-    /// The batch costs more than there is room. Nothing is changed.
+    /// The batch costs more than the room. Nothing is changed.
     #[error("the journal is full")]
     Full,
-    /// The disk failed. The journal is to be opened again.
+    /// The disk failed. The journal has to be opened again.
     #[error("the disk failed")]
     Disk,
-    /// Memory was refused. The journal is to be opened again.
+    /// Memory was refused. The journal has to be opened again.
     #[error("out of memory")]
     Memory,
     /// An earlier call answered `Disk` or `Memory`.

@@ -15,7 +15,7 @@ pub(crate) struct Figures {
     pub(crate) count: u64,
 }
 
-/// A sum, where it has a number.
+/// A sum; none where it is too large for its type.
 pub(crate) fn total(parts: &[u64]) -> Option<u64>
     ensures { IfSome result (λ n. n ≡ sum parts.now) }
 {
@@ -98,7 +98,7 @@ pub(crate) fn release_by(acts: &[Act]) -> Option<u64>
 }
 
 impl Figures {
-    /// The figures with a batch more, of so many bytes from its length up to and with the gate behind it.
+    /// The figures after one more batch, by its bytes from its length to the gate after it, the gate included.
     pub(crate) fn after(self, bytes: usize, growth: u64, release: u64) -> Option<Figures>
         ensures place { IfSome result (λ f. f.place ≡ self.place + bytes) }
         ensures reserve { IfSome result (λ f. f.reserve ≡ self.reserve + growth - release) }

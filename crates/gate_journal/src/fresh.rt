@@ -7,8 +7,8 @@ ghost use Rattle.gate_journal.specs.Stands.{IsAt};
 
 use disk_core::{Disk, DiskFault};
 
-/// Makes the journal of no batches on a disk, whatever stood there: nine bytes, on the disk at `Ok`. It begins with a cut
-/// of all, so a crash within it, or behind it where it fails, may leave any bytes.
+/// Makes the journal of no batches on a disk, whatever it held: nine bytes, synced at `Ok`. It begins with a cut
+/// of all, so a crash during it, or after it where it fails, may leave any bytes.
 pub fn format<D: Disk>(disk: &mut D) -> Result<(), DiskFault>
     ensures formatted { OnOk result (D.seen disk.new ≡ fresh) }
     ensures durable { OnOk result (Only (D.seen disk.new) (D.may_leave disk.new)) }

@@ -20,7 +20,7 @@ use book_core::{Act, Book};
 use disk_core::{Crash, Disk};
 use std::alloc::Global;
 
-/// The most bytes of a journal, what it keeps free among them.
+/// The most bytes of a journal, including what it keeps free.
 const JOURNAL_LIMIT: u64 = 67_108_864;
 
 /// A journal on a disk.
@@ -32,7 +32,7 @@ pub struct Journal<D: Disk> {
     failed: bool,
 }
 
-/// Whether a batch of acts with so many bytes costs more than there is room.
+/// Whether a batch with this many bytes of acts costs more than the room.
 fn is_full(figures: Figures, bytes: u64, growth: u64, release: u64) -> Option<bool>
     ensures { IfSome result (λ b. IsTrue b ↔ ((release < 5 + bytes + growth) × (67108864 + release < 5 + bytes + growth + (figures.place + 1) + figures.reserve))) }
 {
@@ -42,7 +42,7 @@ fn is_full(figures: Figures, bytes: u64, growth: u64, release: u64) -> Option<bo
     Some(release < gain && limit < all)
 }
 
-/// Adds a batch on the disk, and gives the figures with it.
+/// Writes a batch to the disk, and gives the figures with it.
 fn added<D: Disk>(
     alloc: Global,
     disk: &mut D,
@@ -84,10 +84,10 @@ fn added<D: Disk>(
 
 impl<D: Disk> Journal<D> {
     /// Appends a batch to the journal of this book, and gives its number, from 1 on. The acts apply to the book; each outcome
-    /// that they decide is a terminal state that its spelling gives back.
+    /// that they decide is a terminal state that its encoding gives back.
     ///
-    /// At `Ok` the batch stands: a crash leaves it. At `Full` nothing is changed. At `Disk` and `Memory` the journal
-    /// answers `Failed` from then on, and is to be opened again: at `Failed` nothing is changed either, its disk neither.
+    /// At `Ok` the batch is durable: a crash leaves it. At `Full` nothing is changed. At `Disk` and `Memory` the journal
+    /// answers `Failed` from then on, and has to be opened again. At `Failed` nothing is changed, on the disk neither.
     pub fn append(&mut self, book: &Book, acts: &[Act]) -> Result<u64, JournalFault>
         requires some { acts.now ≢ [] }
         requires small { length (acts_bytes acts.now) ≤ 4194304 }
@@ -134,7 +134,7 @@ impl<D: Disk> Journal<D> {
         }
     }
 
-    /// Opens the journal on a disk, and gives the book that its batches leave. It begins with a sync, so that a crash leaves
+    /// Opens the journal on a disk, and gives the book after its batches. It begins with a sync, so that a crash leaves
     /// what was read. At an `Err` the disk is dropped: `Disk` comes where it failed, `Memory` where memory was refused.
     pub fn open(alloc: Global, disk: D) -> Result<(Journal<D>, Book), OpenFault>
         ensures opened { IfOk result (λ r. (bs : List (List Act)) × Keeps D.seen D.may_leave r.0 bs × (r.1 ≡ book_after empty_book bs)) }
@@ -171,7 +171,7 @@ impl<D: Disk> Journal<D> {
         ))
     }
 
-    /// The bytes that are left: the limit less the journal's length and what it keeps free. Below 0 only in a file that
+    /// The bytes that are left: the limit less the journal's length and what it keeps free. Below 0 only for a file that
     /// `format` and `append` didn't make.
     pub fn room(&self) -> i128
         ensures { result ≡ pos 67108864 -ℤ pos (used_bytes self.now + kept_bytes self.now) }
@@ -187,14 +187,14 @@ impl<D: Disk> Journal<D> {
         self.figures.count
     }
 
-    /// How many batches the file has that no longer stand in it: none in this format.
+    /// How many of its batches are no longer in the file: none in this format.
     pub fn base(&self) -> u64
         ensures { result ≡ 0 }
     {
         0
     }
 
-    /// The disk, which the journal lets go.
+    /// The disk, after the journal is given up.
     pub fn into_disk(self) -> D
         ensures { result ≡ disk_of self }
     {
@@ -203,7 +203,7 @@ impl<D: Disk> Journal<D> {
 }
 
 impl<D: Crash> Journal<D> {
-    /// After so many calls of the disk more every call fails, on a disk that has a fuse.
+    /// After this many more calls of the disk every call fails, on a disk that has a fuse.
     pub fn fuse(&mut self, calls: u64)
         ensures seen { D.Disk.seen (disk_of self.new) ≡ D.Disk.seen (disk_of self.old) }
         ensures crash { NoMore (D.Disk.may_leave (disk_of self.old)) (D.Disk.may_leave (disk_of self.new)) }

@@ -9,13 +9,13 @@ ghost use Rattle.gate_journal.specs.Opening.{Explains, IsDamagedAt};
 ghost use Rattle.gate_journal.specs.Reserve.{OnlyRelease, Costs, reserve, growth, release};
 ghost use Rattle.gate_journal.specs.declared.fault.OpenFault.TheVariants.{NotAJournal};
 
-/// A file holds one list of batches only.
+/// A file holds only one list of batches.
 pub fn one_list()
     ensures { (file : List ℕ) (first second : List (List Act)) → Holds file first → Holds file second → first ≡ second }
 {}
 
-/// Of a file exactly one is true: it holds batches, it is damaged at a place, it is no journal. And it is damaged at one
-/// place only.
+/// For a file exactly one is true: it holds batches, it is damaged at a place, it is no journal. And it is damaged at only
+/// one place.
 pub fn one_judgement()
     ensures some { (file : List ℕ) → ((place : ℕ) → get_or file place 0 < 256)
         → ((bs : List (List Act)) × Holds file bs) ⊎ (((place : ℕ) × IsDamagedAt file place) ⊎ Explains file NotAJournal) }
@@ -25,21 +25,21 @@ pub fn one_judgement()
     ensures one_place { (file : List ℕ) (first second : ℕ) → IsDamagedAt file first → IsDamagedAt file second → first ≡ second }
 {}
 
-/// What a batch makes of the room that a journal keeps free is the formula of it: what the book's rows and termini ask for
-/// afterwards is what they asked for before, and what the acts grow it by, less what they release.
+/// A batch changes what a journal keeps free by its formula: what the book's rows and termini need
+/// afterwards is what they needed before, and the growth of the acts, less what they release.
 pub fn reserve_follows()
     ensures { (bs : List (List Act)) (acts : List Act) → AllApply empty_book bs → first_fault (book_after empty_book bs) acts ≡ None
         → reserve (effects (book_after empty_book bs) acts) + sum_by release acts ≡ reserve (book_after empty_book bs) + sum_by growth acts }
 {}
 
-/// A batch that only decides, forgets and drops, with outcomes of at most 400 bytes, costs nothing: it is never refused for
-/// want of room.
+/// A batch that only decides, forgets and drops, with outcomes of at most 400 bytes, costs nothing: it is never refused as
+/// `Full`.
 pub fn releases_fit()
     ensures { (acts : List Act) → acts ≢ [] → OnlyRelease acts → Costs acts → ⊥ }
 {}
 
-/// A terminal state whose numbers, texts and sizes are within the limits of their types is an outcome, as `append` wants
-/// it: its canonical spelling gives it back.
+/// A terminal state whose numbers, texts and sizes are within the limits of their types is an outcome, as `append` needs
+/// it: its canonical encoding gives it back.
 pub fn terminal_states_are_outcomes()
     ensures { (state : DeliveryState) → IsTerminal state → FitsState 32 state → IsOutcome state }
 {}

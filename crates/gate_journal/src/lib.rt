@@ -1,5 +1,5 @@
-//! The journal of a book: batches of acts in a file, each behind a gate that is opened once the batch is on the disk. So a
-//! crash at any moment leaves the book before a batch or after it. `docs/journal.md` tells the format.
+//! The journal of a book: batches of acts in a file, each after a gate that is opened once the batch is on the disk. So a
+//! crash at any moment leaves the book before a batch or after it. `docs/journal.md` describes the format.
 #![tactic(auto)]
 
 mod device;

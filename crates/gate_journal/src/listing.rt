@@ -12,7 +12,7 @@ use book_core::{Act, Book};
 use disk_core::Disk;
 use std::alloc::{AllocError, Global};
 
-/// An act, and where it stands.
+/// An act, and its place.
 #[derive(Debug, Drop)]
 pub struct Entry {
     /// The place of its batch's gate, in bytes from the file's beginning.
@@ -28,7 +28,7 @@ pub struct Listing {
     pub entries: Vec<Entry>,
     /// The place of the gate that ends the journal.
     pub place: usize,
-    /// The book that the batches leave.
+    /// The book after the batches.
     pub book: Book,
 }
 
@@ -82,7 +82,7 @@ pub fn list<D: Disk>(alloc: Global, disk: &mut D) -> Result<Listing, OpenFault>
     // A crash at any moment of the call leaves what it might have left before.
     ensures any_moment { LeavesOnly D.moment D.left_since disk.old disk.new (D.may_leave disk.old) }
 
-    // Whatever is told of the file, it was synced, and a read gives what it gave.
+    // Whatever is answered for the file, it was synced, and a read gives what it gave.
     ensures durable { (IsErrOf result OpenFault.Disk → ⊥) → (IsErrOf result OpenFault.Memory → ⊥)
         → Only (D.seen disk.new) (D.may_leave disk.new) }
     ensures unchanged { (IsErrOf result OpenFault.Disk → ⊥) → (IsErrOf result OpenFault.Memory → ⊥)

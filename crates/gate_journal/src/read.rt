@@ -1,4 +1,4 @@
-//! Acts from their bytes.
+//! Decoding acts.
 ghost use Rattle.std.specs.Prelude.{◌≡◌, ◌==◌, IfOk};
 ghost use Rattle.std.specs.Cmp.Lexicographic.{pointwise};
 ghost use Rattle.amqp_perf.specs.Spelling.{state_spelling};
@@ -16,7 +16,7 @@ const BATCH_LIMIT: u32 = 4_194_304;
 /// Why no act is read.
 #[derive(Clone, Copy, Debug, PartialEq, Eq)]
 pub(crate) enum ReadFault {
-    /// The bytes spell no act.
+    /// The bytes encode no act.
     Misspelt,
     /// Memory was refused.
     Memory,
@@ -209,7 +209,7 @@ fn ends(state: &DeliveryState) -> bool
     !matches!(state, DeliveryState::Received(_) | DeliveryState::Other(_))
 }
 
-/// Whether bytes are the canonical spelling of a state.
+/// Whether bytes are the canonical encoding of a state.
 fn spells(alloc: Global, state: &DeliveryState, bytes: &[u8]) -> Result<bool, AllocError>
     ensures { IfOk result (λ b. b ≡ pointwise ◌==◌ (state_spelling state.now) bytes.now) }
 {
@@ -278,7 +278,7 @@ fn behind_kind(alloc: Global, kind: u8, bytes: &[u8]) -> Result<(Act, &[u8]), Re
     }
 }
 
-/// The act at the front, and what stands behind it.
+/// The act at the front, and what follows it.
 #[tactic(auto, unfolding(crate::specs::Reading::act_at))]
 pub(crate) fn act(alloc: Global, bytes: &[u8]) -> Result<(Act, &[u8]), ReadFault>
     ensures { Gives (λ x. (x.0, x.1.now)) result (act_at bytes.now) }
@@ -287,7 +287,7 @@ pub(crate) fn act(alloc: Global, bytes: &[u8]) -> Result<(Act, &[u8]), ReadFault
     behind_kind(alloc, kind, rest)
 }
 
-/// The bytes of the acts of the batch at the front, and what stands behind it, which is something.
+/// The bytes of the acts of the batch at the front, and what follows it, which isn't empty.
 #[tactic(auto, unfolding(crate::specs::Reading::inside_at))]
 pub(crate) fn inside(bytes: &[u8]) -> Result<(&[u8], &[u8]), ReadFault>
     ensures { Gives (λ x. (x.0.now, x.1.now)) result (inside_at bytes.now) }

@@ -1,4 +1,4 @@
-//! The batches of a file, one behind the other.
+//! The batches of a file, one after another.
 ghost use Rattle.std.specs.Prelude.{◌≡◌, ◌≢◌, ◌++◌, [], ◌∷◌, List, ℕ, ◌<◌, ◌⊎◌, length, take, None, IfNone, IfSome, IfOk, IfErr, IsErrOf};
 ghost use Rattle.book_core.specs.declared.act.Act.{Act};
 ghost use Rattle.book_core.specs.Book.{first_fault, effects};
@@ -12,10 +12,10 @@ use crate::read::{ReadFault, act, inside};
 use book_core::{Act, Book, BookFault};
 use std::alloc::Global;
 
-/// What begins each journal of this format.
+/// The first bytes of each journal of this format.
 pub(crate) const MAGIC: [u8; 8] = *b"AMQRJ001";
 
-/// The acts that all of these bytes are.
+/// The acts that make up all of these bytes.
 fn read_acts(alloc: Global, bytes: &[u8]) -> Result<Vec<Act>, ReadFault>
     ensures spelled { IfOk result (λ v. bytes.now ≡ acts_bytes v.items) }
     ensures writable { IfOk result (λ v. AreWritable v.items) }
@@ -35,7 +35,7 @@ fn read_acts(alloc: Global, bytes: &[u8]) -> Result<Vec<Act>, ReadFault>
     Ok(acts)
 }
 
-/// The batch at the front, and what stands behind it, which is something.
+/// The batch at the front, and what follows it, which isn't empty.
 fn read_batch(alloc: Global, bytes: &[u8]) -> Result<(Vec<Act>, &[u8]), ReadFault>
     ensures spelled { IfOk result (λ x. bytes.now ≡ batch x.0.items ++ x.1.now) }
     ensures is_batch { IfOk result (λ x. IsBatch x.0.items) }
@@ -51,7 +51,7 @@ fn read_batch(alloc: Global, bytes: &[u8]) -> Result<(Vec<Act>, &[u8]), ReadFaul
     }
 }
 
-/// What stands behind an open gate.
+/// What follows an open gate.
 pub(crate) fn behind_gate(rest: &[u8]) -> Option<&[u8]>
     ensures open_gate { IfSome result (λ inside. rest.now ≡ 1 ∷ inside.now) }
     ensures shut_gate { IfNone result ((gate : ℕ) (behind : List ℕ) → rest.now ≡ gate ∷ behind → gate ≢ 1) }
@@ -62,7 +62,7 @@ pub(crate) fn behind_gate(rest: &[u8]) -> Option<&[u8]>
     }
 }
 
-/// Why a file isn't opened whose book refuses a batch.
+/// Why a file can't be opened when its book refuses a batch.
 fn refused(fault: BookFault, at: usize) -> OpenFault
     ensures { result ≡ refused_as fault at }
 {
@@ -72,7 +72,7 @@ fn refused(fault: BookFault, at: usize) -> OpenFault
     }
 }
 
-/// Applies the batch behind an open gate at a place, and gives it with what stands behind it.
+/// Applies the batch after an open gate at a place, and gives it with what follows it.
 pub(crate) fn next_batch<'a>(
     alloc: Global,
     book: &mut Book,
@@ -96,7 +96,7 @@ pub(crate) fn next_batch<'a>(
     }
 }
 
-/// What stands behind the head of a file.
+/// What follows the head of a file.
 pub(crate) fn behind_head(bytes: &[u8]) -> Option<&[u8]>
     ensures head { IfSome result (λ rest. bytes.now ≡ magic ++ rest.now) }
     ensures behind { IfSome result (λ rest. rest.now ≢ []) }
@@ -115,7 +115,7 @@ pub(crate) fn behind_head(bytes: &[u8]) -> Option<&[u8]>
 /// What was found in a file.
 #[derive(Drop)]
 pub(crate) struct Found {
-    /// The book that the batches leave.
+    /// The book after the batches.
     pub(crate) book: Book,
     /// The place of the gate that ends them.
     pub(crate) place: usize,

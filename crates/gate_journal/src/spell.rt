@@ -1,4 +1,4 @@
-//! The bytes of acts.
+//! Encoding acts.
 ghost use Rattle.std.specs.Prelude.{◌≡◌, ◌+◌, ◌++◌, [], ◌∷◌, ◌<◌, ◌≤◌, ◌^◌, drop, length, vec_len, OnOk, OnErr, IfOk};
 ghost use Rattle.std.specs.List.{flat_map};
 ghost use Rattle.amqp_perf.specs.Spelling.{state_spelling};
@@ -37,7 +37,7 @@ fn put_8(out: &mut Vec<u8>, number: u64) -> Result<(), AllocError>
     out.extend_from_slice(&number.to_be_bytes())
 }
 
-/// A text, or any bytes, behind their length.
+/// A text, or any bytes, after their length.
 fn put_text(out: &mut Vec<u8>, text: &[u8]) -> Result<(), AllocError>
     ensures put { OnOk result (out.new.items ≡ out.old.items ++ text_bytes text.now) }
     ensures short { OnOk result (length text.now < 2 ^ 16) }
@@ -100,7 +100,7 @@ fn put_admit(out: &mut Vec<u8>, admission: &Admission) -> Result<(), AllocError>
     out.extend_from_slice(admission.payload.as_slice())
 }
 
-/// The canonical spelling of an outcome.
+/// The canonical encoding of an outcome.
 fn spelling_of(alloc: Global, outcome: &DeliveryState) -> Result<Vec<u8>, AllocError>
     ensures { IfOk result (λ v. v.items ≡ state_spelling outcome.now) }
 {
@@ -164,7 +164,7 @@ fn seal(block: &mut [u8], len: u32)
     block[..4].copy_from_slice(&len.to_be_bytes());
 }
 
-/// The bytes of a batch, with a closed gate behind it.
+/// The bytes of a batch, with a closed gate after it.
 pub(crate) fn block_of(alloc: Global, acts: &[Act]) -> Result<Vec<u8>, AllocError>
     ensures block { IfOk result (λ v. v.items ≡ batch acts.now ++ 0 ∷ []) }
     ensures len { IfOk result (λ v. vec_len v ≡ 5 + length (acts_bytes acts.now)) }
@@ -185,7 +185,7 @@ pub(crate) fn block_of(alloc: Global, acts: &[Act]) -> Result<Vec<u8>, AllocErro
 ///
 /// # Errors
 ///
-/// `AllocError` where memory is refused, or an act can't be spelt.
+/// `AllocError` where memory is refused, or an act can't be encoded.
 pub fn acts_len(alloc: Global, acts: &[Act]) -> Result<usize, AllocError>
     ensures { IfOk result (λ len. len ≡ length (acts_bytes acts.now)) }
 {

@@ -1,4 +1,4 @@
-//! A batch goes to the disk: its bytes behind a closed gate first, then the gate is opened.
+//! Writes a batch to the disk: its bytes with a closed gate first, then the gate before it is opened.
 ghost use Rattle.std.specs.Prelude.{◌≡◌, ◌⊎◌, ◌+◌, ◌++◌, [], ◌∷◌, ℕ, List, OnOk, length, None};
 ghost use Rattle.disk_core.specs.Disk.{LeavesOnly, HasCause};
 ghost use Rattle.book_core.specs.declared.act.Act.{Act};
@@ -10,7 +10,7 @@ ghost use Rattle.gate_journal.specs.Stands.{IsAt};
 use crate::device::put;
 use disk_core::{Disk, DiskFault};
 
-/// Stores a batch, which these bytes are with a closed gate behind it, behind the gate at a place.
+/// Stores a batch, given as these bytes with a closed gate after it, after the gate at a place.
 pub(crate) fn store<D: Disk>(disk: &mut D, place: usize, block: &[u8]) -> Result<(), DiskFault>
     ensures done { OnOk result ((bs : List (List Act)) (acts : List Act) → IsAt (D.seen disk.old) (D.may_leave disk.old) place bs
         → block.now ≡ batch acts ++ 0 ∷ [] → IsBatch acts → first_fault (book_after empty_book bs) acts ≡ None

@@ -1,4 +1,4 @@
-//! The whole of a disk.
+//! All bytes of a disk.
 ghost use Rattle.std.specs.Prelude.{◌≡◌, ◌<◌, ◌⊎◌, OnOk, IfOk, IfErr, IsErrOf};
 ghost use Rattle.disk_core.specs.Disk.{Only, NoMore, LeavesOnly};
 
@@ -6,7 +6,7 @@ use crate::fault::OpenFault;
 use disk_core::Disk;
 use std::alloc::Global;
 
-/// Waits until what was written is on the disk, and reads all of it.
+/// Syncs what was written, and reads all of it.
 pub(crate) fn read_all<D: Disk>(alloc: Global, disk: &mut D) -> Result<Vec<u8>, OpenFault>
     ensures bytes { IfOk result (λ v. v.items ≡ D.seen disk.old) }
     ensures seen { OnOk result (D.seen disk.new ≡ D.seen disk.old) }

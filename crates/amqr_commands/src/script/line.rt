@@ -1,4 +1,4 @@
-//! What one line of a script says.
+//! What one line of a script means.
 ghost use Rattle.std.specs.Prelude.{◌≡◌, ◌==◌, ◌||◌, IfOk, Some, OnErr};
 ghost use Rattle.amqr_commands.specs.Lines.{Says, saying_of, is_blank, is_comment, step_by, with_number, with_word, with_role, with_bytes};
 ghost use Rattle.amqr_commands.specs.Words.{cut_at, number_of, bytes_of};
@@ -10,7 +10,7 @@ use std::alloc::{AllocError, Global};
 /// Why a line gives no step.
 #[derive(Clone, Copy, Debug, PartialEq, Eq)]
 pub(crate) enum LineFault {
-    /// It says nothing that a script may say.
+    /// It says something that a script may not say.
     Wrong,
     /// Memory was refused.
     Memory,
@@ -38,7 +38,7 @@ fn is_comment(line: &str) -> bool
     line.starts_with('#')
 }
 
-/// Whether a line is spaces and tabs alone.
+/// Whether a line has only spaces and tabs.
 fn is_blank(line: &str) -> bool
     ensures { result ≡ is_blank line.now }
 {
@@ -94,7 +94,7 @@ fn step_with_word(
     step_with_bytes(alloc, verb, word, third)
 }
 
-/// The step that a connection is made in this role.
+/// The step for a connection that is made in this role.
 fn step_with_role(word: &str, role: &str) -> Option<Step>
     ensures { result ≡ with_role (number_of word.now) role.now }
 {

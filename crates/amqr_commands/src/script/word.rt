@@ -7,7 +7,7 @@ use amqp_perf::Binary;
 use hex::FromHexError;
 use std::alloc::{AllocError, Global};
 
-/// The text before the first such mark and, where there is one, the text behind it.
+/// The text before the first such mark and, if there is one, the text after it.
 pub(crate) fn cut(text: &str, mark: char) -> (&str, Option<&str>)
     requires { mark < 128 }
     ensures { cut_at mark text.now ≡ parts mark result }

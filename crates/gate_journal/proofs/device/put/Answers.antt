@@ -5,7 +5,7 @@ use Rattle.disk_core.specs.DiskLaws.{started, goes_on}
 use Rattle.disk_core.specs.ImageLaws.{opens_whole}
 use Rattle.gate_journal.proofs.device.put.Goals as goal
 
--- what the write leaves at each moment
+-- what a crash leaves of the write at each moment
 pub returns-in_err-write_at-clause-moments : goal.returns-in_err-write_at-clause-moments
 returns-in_err-write_at-clause-moments g c file only =
     let disk = c.args.disk.now in
