@@ -16,12 +16,12 @@ struct Next {
     terminus: u64,
 }
 
-/// The acts of a text, one a line, on a book: `make NUMBER ROLE USER CONTAINER NAME ADDRESS`,
+/// The acts of a text, one on each line, on a book: `make NUMBER ROLE USER CONTAINER NAME ADDRESS`,
 /// `admit ROW PRODUCER TAG CONSUMER FORMAT PAYLOAD`, `decide ROW STATE`, `forget ROW` and `drop NUMBER`.
 ///
 /// # Errors
 ///
-/// `Word` and `Bytes` where a line isn't written so; `Memory`.
+/// `Word` and `Bytes` where a line isn't in the form; `Memory`.
 pub fn acts_of(alloc: Global, book: &Book, text: &str) -> Result<Vec<Act>, CaseFault> {
     let mut next = Next {
         row: book.next_row().0,
@@ -47,7 +47,7 @@ fn act_of(alloc: Global, next: &mut Next, line: &str) -> Result<Act, CaseFault> 
     }
 }
 
-/// A number, or the next one where `next` stands; the one behind it is then the next.
+/// A number, or the next one for the word `next`; the number after it is then the next.
 fn rising(next: &mut u64, word: Option<&str>) -> Result<u64, CaseFault> {
     let number = match word {
         Some("next") => *next,

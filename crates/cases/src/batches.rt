@@ -1,4 +1,4 @@
-//! Batches of acts, as a journal takes them: not empty, of outcomes, within the limit, and applying to its book.
+//! Batches of acts, as a journal accepts them: not empty, of outcomes, within the limit, and applying to its book.
 ghost use Rattle.std.specs.Prelude.{◌≡◌, true, OnOk, IfOk};
 ghost use Rattle.gate_journal.specs.Batches.{HasOutcome, HaveOutcomes};
 
@@ -16,10 +16,10 @@ use std::slice;
 /// The most bytes of a batch's acts.
 const MOST_BYTES: usize = 4_194_304;
 
-/// What became of a batch.
+/// The outcome of appending a batch.
 #[derive(Clone, Copy, Debug, PartialEq, Eq)]
 enum Outcome {
-    /// It is the journal's batch of this number.
+    /// It was appended as the journal's batch of this number.
     Stored(u64),
     /// The journal refused it.
     Refused(JournalFault),
@@ -27,7 +27,7 @@ enum Outcome {
     Inapplicable(BookFault),
 }
 
-/// Two books that are the same, of all acts of a journal: the one is the journal's, the other tries whether a batch applies.
+/// Two equal books, after all acts of a journal: one is the journal's, the other is for trying whether a batch applies.
 ///
 /// # Errors
 ///
@@ -43,7 +43,7 @@ pub fn twins(alloc: Global, entries: &[Entry]) -> Result<(Book, Book), CaseFault
     Ok((book, trial))
 }
 
-/// Applies acts to both of two books that are the same.
+/// Applies acts to both of two equal books.
 fn apply_both(book: &mut Book, trial: &mut Book, acts: &[Act]) -> Result<(), CaseFault>
     requires { book.old ≡ trial.old }
     ensures { OnOk result (book.new ≡ trial.new) }
@@ -54,12 +54,12 @@ fn apply_both(book: &mut Book, trial: &mut Book, acts: &[Act]) -> Result<(), Cas
     Ok(())
 }
 
-/// Appends the batches of a text, parted by empty lines, each to the books, too: a line for each, the number that it has in
-/// the journal or why it isn't appended, which is the last. The two books are the same.
+/// Appends the batches of a text, separated by empty lines, and applies each to the books: a line for each, with its number in
+/// the journal or why it isn't appended, which is the last line. The two books are equal.
 ///
 /// # Errors
 ///
-/// `Word` and `Bytes` where the text isn't written so, or a batch is empty, too long, or decides by a state that the
+/// `Word` and `Bytes` where the text isn't in the form, or a batch is empty, too long, or decides by a state that the
 /// journal's callers have to prove an outcome; `Memory`.
 pub fn append_batches<D: Disk>(
     alloc: Global,
@@ -82,7 +82,7 @@ pub fn append_batches<D: Disk>(
     Ok(lines)
 }
 
-/// Appends a batch to the journal, and applies it to its book and to the other, which tells whether it applies.
+/// Appends a batch to the journal, and applies it to its book and to the other, which shows whether it applies.
 fn store<D: Disk>(
     alloc: Global,
     journal: &mut Journal<D>,
@@ -109,7 +109,7 @@ fn store<D: Disk>(
     }
 }
 
-/// Appends the line of what became of a batch.
+/// Appends the line for the outcome of a batch.
 fn put_outcome(lines: &mut String, outcome: Outcome) -> Result<(), CaseFault> {
     match outcome {
         Outcome::Stored(number) => writeln!(lines, "{number}")?,

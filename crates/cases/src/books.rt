@@ -12,7 +12,7 @@ use std::fmt::Write;
 enum Question {
     /// To apply acts.
     Apply,
-    /// What acts are called.
+    /// The kinds and numbers of acts.
     Kinds,
     /// How much it has, and which numbers come next.
     Counts,
@@ -50,7 +50,7 @@ fn question_of(case: &Case<'_>) -> Result<Question, CaseFault> {
 ///
 /// # Errors
 ///
-/// `Question`, `Word` and `Bytes` where the case isn't written so; `Memory`.
+/// `Question`, `Word` and `Bytes` where the case isn't in the form; `Memory`.
 pub fn answer(alloc: Global, book: &mut Book, case: &Case<'_>) -> Result<String, CaseFault> {
     match question_of(case)? {
         Question::Apply => apply(alloc, book, case),
@@ -59,7 +59,7 @@ pub fn answer(alloc: Global, book: &mut Book, case: &Case<'_>) -> Result<String,
     }
 }
 
-/// Applies acts: nothing, or the number of the fault.
+/// Applies acts: nothing, or the fault's number.
 fn apply(alloc: Global, book: &mut Book, case: &Case<'_>) -> Result<String, CaseFault> {
     let text = case.input_text(alloc)?;
     let acts = acts_of(alloc, book, text.as_str())?;
@@ -84,7 +84,7 @@ fn kinds(alloc: Global, book: &Book, case: &Case<'_>) -> Result<String, CaseFaul
     Ok(lines)
 }
 
-/// What a book has.
+/// The answer to a question on a book's contents.
 fn told(alloc: Global, book: &Book, question: Question, words: &str) -> Result<String, CaseFault> {
     match question {
         Question::Row => row(alloc, book.row(RowNumber(number_of(Some(words))?))),

@@ -1,4 +1,4 @@
-//! Case files: questions, each with its input and the answer that is wanted. `docs/cases.md` tells the form.
+//! Case files: questions, each with its input and the answer that is wanted. `docs/cases.md` describes the form.
 use crate::fault::CaseFault;
 use crate::text::put_input;
 use std::alloc::Global;
@@ -8,11 +8,11 @@ use std::alloc::Global;
 pub struct Case<'a> {
     /// The line of the question in its file, from 1.
     pub line: usize,
-    /// Whether it begins a scene: nothing is left of the questions above it.
+    /// Whether it begins a scene: nothing is kept from the questions before it.
     pub begins: bool,
     /// What is asked.
     pub question: &'a str,
-    /// The words behind the question.
+    /// The words after the question.
     pub words: &'a str,
     /// The lines of input, each with its mark.
     pub input: Vec<&'a str>,
@@ -42,11 +42,11 @@ impl<'a> Case<'a> {
         })
     }
 
-    /// The bytes of the input: the words, and behind them its lines.
+    /// The bytes of the input: the words, and after them its lines.
     ///
     /// # Errors
     ///
-    /// `Escape` and `Word` where a line isn't written as `docs/cases.md` says; `Memory`.
+    /// `Escape` and `Word` where a line isn't in the form of `docs/cases.md`; `Memory`.
     pub fn input_bytes(&self, alloc: Global) -> Result<Vec<u8>, CaseFault> {
         let mut bytes = Vec::new(alloc);
         put_input(alloc, &mut bytes, self.words, self.input.as_slice())?;
@@ -84,7 +84,7 @@ impl<'a> Case<'a> {
         String::from_utf8(bytes).or(Err(CaseFault::Text))
     }
 
-    /// The answer that is wanted, its lines parted by LF.
+    /// The answer that is wanted, its lines separated by LF.
     pub fn wanted_text(&self, alloc: Global) -> Result<String, CaseFault> {
         let mut text = String::new(alloc);
         for (at, line) in self.wanted.iter().enumerate() {

@@ -10,7 +10,7 @@ use std::fmt::Write;
 enum Question {
     /// To read the input as a configuration.
     Read,
-    /// To take the configuration that stands without a file.
+    /// To take the standard configuration.
     Standard,
     /// The place of an address.
     Find,
@@ -48,7 +48,7 @@ fn question_of(case: &Case<'_>) -> Result<Question, CaseFault> {
 ///
 /// # Errors
 ///
-/// `Question` and `Missing` where the case isn't written so; `Memory`.
+/// `Question` and `Missing` where the case isn't in the form; `Memory`.
 pub fn answer(
     alloc: Global,
     scene: &mut Option<Config>,
@@ -82,7 +82,7 @@ fn read(alloc: Global, scene: &mut Option<Config>, case: &Case<'_>) -> Result<St
     }
 }
 
-/// What a configuration says to a question.
+/// The answer of a configuration to a question.
 fn told(
     alloc: Global,
     config: &Config,

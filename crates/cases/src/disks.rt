@@ -1,4 +1,4 @@
-//! Questions on disks: what is read behind writes, cuts, syncs and stops.
+//! Questions on disks: what is read after writes, cuts, syncs and stops.
 use crate::case::Case;
 use crate::fault::CaseFault;
 use crate::text::{bytes_of, digits_of, number_of, size_of};
@@ -7,7 +7,7 @@ use std::alloc::Global;
 use std::fs;
 use std::str::Split;
 
-/// What the bytes of a buffer are before a read.
+/// The bytes of a buffer before a read.
 const UNREAD: u8 = 0xEE;
 
 /// The most bytes that a question reads.
@@ -18,7 +18,7 @@ const MOST_READ: usize = 65_536;
 pub enum AnyDisk {
     /// A disk in memory.
     Memory(MemDisk),
-    /// A disk in memory, whose calls may fail from one on.
+    /// A disk in memory, whose calls may fail after a number of them.
     Fused(FuseDisk<MemDisk>),
     /// A file.
     File(FileDisk),
@@ -29,7 +29,7 @@ pub enum AnyDisk {
 enum Call {
     /// The number of bytes.
     Length,
-    /// A read: from a place, so many bytes.
+    /// A read: from a place, this many bytes.
     Read,
     /// A write: at a place, these bytes.
     Write,
@@ -44,9 +44,9 @@ enum Call {
 enum Taken {
     /// A disk in memory with these bytes.
     Memory,
-    /// The same behind a fuse.
+    /// The same with a fuse.
     Fused,
-    /// The file of this name, which is made where it isn't there.
+    /// The file of this name, which is made if it isn't there.
     Create,
     /// The file of this name.
     Open,
@@ -99,7 +99,7 @@ fn question_of(case: &Case<'_>) -> Result<Question, CaseFault> {
 ///
 /// # Errors
 ///
-/// `Question`, `Word`, `Bytes` and `Missing` where the case isn't written so, `File`; `Memory`.
+/// `Question`, `Word`, `Bytes` and `Missing` where the case isn't in the form, `File`; `Memory`.
 pub fn answer(
     rt: &HostRuntime,
     scene: &mut Option<AnyDisk>,
@@ -149,7 +149,7 @@ fn disk_of(alloc: Global, word: &str) -> Result<MemDisk, CaseFault> {
     Ok(MemDisk::holding(alloc, bytes)?)
 }
 
-/// The disk over a file, from here on; or the number of the fault.
+/// Sets the disk over a file as the scene's; gives nothing, or the fault's number.
 fn set_file(
     alloc: Global,
     scene: &mut Option<AnyDisk>,
@@ -267,7 +267,7 @@ fn read<D: Disk>(
     }
 }
 
-/// Nothing where a call went through, or the number of its fault.
+/// Nothing if a call succeeded, or the number of its fault.
 fn done(alloc: Global, outcome: Result<(), DiskFault>) -> Result<String, CaseFault> {
     match outcome {
         Ok(()) => Ok(String::new(alloc)),

@@ -6,19 +6,19 @@ use thiserror::Error;
 /// Why a case has no answer, or a case file isn't read.
 #[derive(Clone, Copy, Debug, PartialEq, Eq, Error)]
 pub enum CaseFault {
-    /// No question of the file's subject begins so.
+    /// No question of the file's subject begins like this.
     #[error("no such question")]
     Question,
-    /// A word behind the question is missing, or isn't what stands there.
+    /// A word after the question is missing or wrong.
     #[error("a word is missing or wrong")]
     Word,
-    /// Bytes are not spelled in hexadecimal digits.
+    /// Bytes are not in hexadecimal digits.
     #[error("bytes are not spelled in hexadecimal digits")]
     Bytes,
     /// A backslash begins no escape.
     #[error("a backslash begins no escape")]
     Escape,
-    /// A line of input or of an answer has no question above it.
+    /// A line of input or of an answer comes before any question.
     #[error("a line has no question above it")]
     Stray,
     /// A text isn't UTF-8.

@@ -1,4 +1,4 @@
-//! Questions on streams: which items their bytes are cut into, and how these are written.
+//! Questions on streams: which items their bytes are cut into, and how these are encoded.
 ghost use Rattle.std.specs.Prelude.{◌<◌};
 
 use crate::case::Case;
@@ -10,7 +10,7 @@ use amqp_perf::Perf;
 use std::alloc::Global;
 use std::fmt::Write;
 
-/// The largest pieces, beside the whole, that a stream is fed in.
+/// The largest pieces in which a stream is fed, other than the whole.
 const LARGEST_PIECE: usize = 64;
 
 /// What is asked of a stream.
@@ -20,13 +20,13 @@ enum Question {
     Feed,
     /// Its items, piece by piece.
     Pieces,
-    /// The bytes that its items are written as.
+    /// The encodings of its items.
     Rewrite,
     /// The payloads of its frames.
     Payloads,
-    /// What is wrong with what begins no item.
+    /// The fault of bytes that begin no item.
     Fault,
-    /// Whether it is answered, fed whole and in pieces of every size.
+    /// Whether it gets an answer, fed whole and in pieces of every size.
     Told,
 }
 
@@ -47,7 +47,7 @@ fn question_of(case: &Case<'_>) -> Result<Question, CaseFault> {
 ///
 /// # Errors
 ///
-/// `Question` and `Bytes` where the case isn't written so; `Memory`.
+/// `Question` and `Bytes` where the case isn't in the form; `Memory`.
 pub fn answer(alloc: Global, case: &Case<'_>) -> Result<String, CaseFault> {
     let question = question_of(case)?;
     if let Question::Pieces = question {
@@ -141,8 +141,8 @@ fn lines_of(alloc: Global, stream: &[u8], size: usize) -> Result<String, CaseFau
     Ok(lines)
 }
 
-/// The lines of a stream, where it has the same in pieces of every size, and its items are read again from what is written
-/// of them.
+/// The lines of a stream, where they are the same in pieces of every size, and its items are read again from their
+/// encodings.
 fn fed(alloc: Global, stream: &[u8]) -> Result<String, CaseFault> {
     let whole = lines_of(alloc, stream, usize::MAX)?;
     for below in 0..LARGEST_PIECE {
@@ -170,7 +170,7 @@ fn pieces(alloc: Global, words: &str) -> Result<String, CaseFault> {
     Ok(lines)
 }
 
-/// Feeds the piece that a word is, and appends its line.
+/// Feeds the piece in a word, and appends its line.
 fn feed_piece(
     alloc: Global,
     reader: &mut FrameReader,
@@ -209,7 +209,7 @@ fn items_of(alloc: Global, stream: &[u8]) -> Result<Vec<Item>, CaseFault> {
     reader.feed(stream).or(Err(CaseFault::Memory))
 }
 
-/// The bytes that items are written as.
+/// The encodings of items.
 fn written(alloc: Global, items: &[Item]) -> Result<Vec<u8>, CaseFault> {
     let mut bytes = Vec::new(alloc);
     for item in items {
@@ -218,7 +218,7 @@ fn written(alloc: Global, items: &[Item]) -> Result<Vec<u8>, CaseFault> {
     Ok(bytes)
 }
 
-/// `same` where the items of a stream are written as they came, else the digits of what is written.
+/// `same` where the items of a stream are encoded as they came, else the digits of the encodings.
 fn rewritten(alloc: Global, stream: &[u8]) -> Result<String, CaseFault> {
     let items = items_of(alloc, stream)?;
     let bytes = written(alloc, items.as_slice())?;
@@ -228,7 +228,7 @@ fn rewritten(alloc: Global, stream: &[u8]) -> Result<String, CaseFault> {
     digits_of(alloc, bytes.as_slice())
 }
 
-/// The items but what begins none, as text.
+/// The items as text, without a `Bad`.
 fn shown(alloc: Global, items: &[Item]) -> Result<String, CaseFault> {
     let mut text = String::new(alloc);
     for item in items {
@@ -239,7 +239,7 @@ fn shown(alloc: Global, items: &[Item]) -> Result<String, CaseFault> {
     Ok(text)
 }
 
-/// Whether the items of a stream are read again from what is written of them.
+/// Whether the items of a stream are read again from their encodings.
 fn is_read_again(alloc: Global, stream: &[u8]) -> Result<bool, CaseFault> {
     let items = items_of(alloc, stream)?;
     let bytes = written(alloc, items.as_slice())?;
@@ -261,7 +261,7 @@ fn payloads(alloc: Global, stream: &[u8]) -> Result<String, CaseFault> {
     Ok(lines)
 }
 
-/// The number of the fault of what begins no item, and behind it those of the performative's fault.
+/// The number of the fault of bytes that begin no item, and after it those of the performative's fault.
 fn fault(alloc: Global, stream: &[u8]) -> Result<String, CaseFault> {
     for item in &items_of(alloc, stream)? {
         match item {
@@ -279,7 +279,7 @@ fn fault(alloc: Global, stream: &[u8]) -> Result<String, CaseFault> {
     Ok(String::from_str(alloc, "none")?)
 }
 
-/// That a stream is answered by items and at most one that tells what begins none, the same in pieces of every size.
+/// Tests that a stream is answered by items and at most one `Bad`, the same in pieces of every size.
 fn told(alloc: Global, stream: &[u8]) -> Result<String, CaseFault> {
     let lines = fed(alloc, stream)?;
     let bad = lines.lines().filter(|line| line.starts_with("bad")).count();

@@ -58,7 +58,7 @@ fn question_of(case: &Case<'_>) -> Result<Question, CaseFault> {
 ///
 /// # Errors
 ///
-/// `Question`, `Word`, `Bytes` and `Missing` where the case isn't written so; `Memory`.
+/// `Question`, `Word`, `Bytes` and `Missing` where the case isn't in the form; `Memory`.
 pub fn answer(
     alloc: Global,
     scene: &mut Option<StopDisk>,
@@ -85,7 +85,7 @@ pub fn answer(
     Ok(text)
 }
 
-/// The answer to a question that the disk stays in the scene behind.
+/// The answer to a question after which the scene keeps the disk.
 fn told(
     alloc: Global,
     disk: &mut StopDisk,
@@ -141,7 +141,7 @@ fn opened(alloc: Global, disk: StopDisk) -> Result<(Option<StopDisk>, String), C
     }
 }
 
-/// Opens the journal and appends batches, of which the words say after how many calls each call on the disk fails: the
+/// Opens the journal and appends batches; the words say after how many calls each call on the disk fails. Gives the
 /// number of each batch, or why it isn't appended, which ends it.
 fn appended(
     alloc: Global,
@@ -173,7 +173,7 @@ fn append_text(
     }
 }
 
-/// Appends batches to the journal on a disk, with its book twice.
+/// Appends batches to the journal on a disk, with two copies of its book.
 fn append_with(
     alloc: Global,
     disk: StopDisk,
@@ -245,14 +245,14 @@ fn lines_of(alloc: Global, listing: &Listing) -> Result<String, CaseFault> {
     Ok(lines)
 }
 
-/// How a file that is no journal, or damaged, or one, is told.
+/// The answers of opening and listing for a file.
 #[derive(Clone, Copy, Debug, PartialEq, Eq)]
 enum Reading {
-    /// As no journal, by opening and listing alike.
+    /// No journal, by opening and listing alike.
     NoJournal,
-    /// As damaged at one place, or as a journal, by both alike.
+    /// Damaged at one place, or a journal, by both alike.
     Alike,
-    /// Not alike, or by a fault of the disk or of memory.
+    /// Different answers, or a fault of the disk or of memory.
     Otherwise,
 }
 
@@ -274,7 +274,7 @@ fn spoilt(alloc: Global, bytes: &[u8], words: &str) -> Result<String, CaseFault>
     Ok(format!(in alloc; "no journal {no_journal}, else told alike")?)
 }
 
-/// How a file is told whose byte at a place has its bits of the mask turned.
+/// The answers for a file after its byte at a place had the bits of the mask turned.
 fn spoilt_at(alloc: Global, bytes: &[u8], at: usize, mask: u8) -> Result<Reading, CaseFault> {
     let mut bytes = bytes.to_vec(alloc)?;
     if let Some(byte) = bytes.get_mut(at) {

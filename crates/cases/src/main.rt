@@ -1,4 +1,4 @@
-//! Tries cases that stand in plain files: what each asks, and what it wants. `docs/cases.md` tells their form.
+//! Tries cases in plain files: what each asks, and the answer that it wants. `docs/cases.md` describes their form.
 #![tactic(auto)]
 
 mod acts;
@@ -27,7 +27,7 @@ fn main(rt: HostRuntime) -> anyhow::Result<()> {
     Ok(())
 }
 
-/// Tries the case files that the words behind the program's name are; with no word, those of the folder that it runs in.
+/// Tries the case files that are the program's arguments; without any, those of the folder that it runs in.
 fn try_words(rt: &HostRuntime) -> Result<Tally, CaseFault> {
     let words: Vec<String> = env::args(rt)?.collect(rt.alloc())?;
     if words.len() < 2 {

@@ -1,4 +1,4 @@
-//! Questions on performatives, SASL bodies and delivery states: what bytes spell, and how it is written.
+//! Questions on performatives, SASL bodies and delivery states: what bytes encode, and how it is written.
 use crate::case::Case;
 use crate::fault::CaseFault;
 use crate::text::{bytes_of, digits_of};
@@ -23,12 +23,12 @@ fn question_of(case: &Case<'_>) -> Result<Question, CaseFault> {
     }
 }
 
-/// The answer to a question on performatives: the shortest spelling of what stands at the front, and the length of the
-/// spelling there.
+/// The answer to a question on performatives: the shortest encoding of what is at the front, and the length of the
+/// encoding there.
 ///
 /// # Errors
 ///
-/// `Question` and `Bytes` where the case isn't written so; `Memory`.
+/// `Question` and `Bytes` where the case isn't in the form; `Memory`.
 pub fn answer(alloc: Global, case: &Case<'_>) -> Result<String, CaseFault> {
     let question = question_of(case)?;
     let bytes = bytes_of(alloc, case.words)?;
@@ -38,7 +38,7 @@ pub fn answer(alloc: Global, case: &Case<'_>) -> Result<String, CaseFault> {
     }
 }
 
-/// How the performative at the front is written, and where its payload begins.
+/// How the performative at the front is encoded, and where its payload begins.
 fn performative(alloc: Global, bytes: &[u8]) -> Result<String, CaseFault> {
     let mut written = Vec::new(alloc);
     match read_perf(alloc, bytes) {
@@ -51,7 +51,7 @@ fn performative(alloc: Global, bytes: &[u8]) -> Result<String, CaseFault> {
     }
 }
 
-/// How the delivery state at the front is written, and its length there.
+/// How the delivery state at the front is encoded, and its length there.
 fn state(alloc: Global, bytes: &[u8]) -> Result<String, CaseFault> {
     let mut written = Vec::new(alloc);
     match read_state(alloc, bytes) {
@@ -64,7 +64,7 @@ fn state(alloc: Global, bytes: &[u8]) -> Result<String, CaseFault> {
     }
 }
 
-/// `same` where what was read is written as it stood, else the digits of what is written; and the length of what was read.
+/// `same` where what was read is encoded as it came, else the digits of the encoding; and the length of what was read.
 fn spelling(
     alloc: Global,
     bytes: &[u8],
@@ -78,7 +78,7 @@ fn spelling(
     Ok(format!(in alloc; "{digits} {length}")?)
 }
 
-/// A fault's number, and behind it that of the value's fault where a value is misspelt.
+/// A fault's number, and after it that of the value's fault where a value is encoded wrongly.
 pub fn fault_text(alloc: Global, fault: PerfFault) -> Result<String, CaseFault> {
     let number = fault.number();
     match fault {

@@ -1,4 +1,4 @@
-//! Runs case files: asks what they ask, and prints where an answer differs.
+//! Runs case files: asks their questions, and prints where an answer differs.
 use crate::case::{Case, read_cases};
 use crate::fault::CaseFault;
 use crate::scene::{Scene, Subject};
@@ -10,7 +10,7 @@ use std::fs;
 pub struct Tally {
     /// The cases that were tried.
     pub cases: u64,
-    /// Those with another answer than is wanted.
+    /// Those with another answer than the one that is wanted.
     pub differing: u64,
 }
 
@@ -81,7 +81,7 @@ fn try_cases(
     Ok(())
 }
 
-/// Whether a scene answers a case otherwise than is wanted.
+/// Whether a scene's answer to a case differs from the one that is wanted.
 fn is_wrong(
     rt: &HostRuntime,
     path: &str,

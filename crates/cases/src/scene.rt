@@ -1,4 +1,4 @@
-//! Scenes: what the questions of a case file are asked of.
+//! Scenes: what the questions of a case file are about.
 use crate::case::Case;
 use crate::disks::{self, AnyDisk};
 use crate::fault::CaseFault;
@@ -8,7 +8,7 @@ use book_core::Book;
 use route_table::Config;
 use std::alloc::Global;
 
-/// What the questions of a case file are on.
+/// The subject of a case file's questions.
 #[derive(Clone, Copy, Debug, PartialEq, Eq)]
 pub enum Subject {
     /// Values.
@@ -30,7 +30,7 @@ pub enum Subject {
 }
 
 impl Subject {
-    /// The subject of a file, by the ending of its name; `None` where it is no case file.
+    /// The subject of a file, by its extension; `None` if it is no case file.
     pub fn of_file(name: &str) -> Option<Subject> {
         let (_, ending) = name.rsplit_once('.')?;
         match ending {
@@ -47,7 +47,7 @@ impl Subject {
     }
 }
 
-/// What the questions behind an empty line are asked of, until the next one.
+/// What the questions after an empty line are about, until the next one.
 #[derive(Drop)]
 pub enum Scene {
     /// Nothing is kept between questions on values.
@@ -64,7 +64,7 @@ pub enum Scene {
     Disk(Option<AnyDisk>),
     /// The disk of a journal, where one was taken.
     Journal(Option<StopDisk>),
-    /// Nothing but files is kept between questions on the program.
+    /// Only files are kept between questions on the program.
     Scripts,
 }
 

@@ -1,4 +1,4 @@
-//! Questions on what the program does: scripts, listings, journals, and its words.
+//! Questions on what the program does: scripts, listings, journals, and its arguments.
 use crate::case::Case;
 use crate::fault::CaseFault;
 use crate::text::{bytes_of, digits_of, number_of};
@@ -16,15 +16,15 @@ enum Question {
     Play,
     /// To list the frames of bytes.
     Frames,
-    /// To list the journal that bytes are.
+    /// To list the journal in bytes.
     Journal,
     /// To make a journal on a disk with these bytes.
     Format,
     /// To put the input into a file.
     File,
-    /// To run the program with these words.
+    /// To run the program with these arguments.
     Run,
-    /// Whether the program, run with these words, prints each of the input's lines.
+    /// Whether the program, run with these arguments, prints each of the input's lines.
     Shows,
 }
 
@@ -42,11 +42,11 @@ fn question_of(case: &Case<'_>) -> Result<Question, CaseFault> {
     }
 }
 
-/// The answer to a question on the program: what it prints, and behind it `status` and the exit status where it isn't 0.
+/// The answer to a question on the program: what it prints, and after it `status` and the exit status where it isn't 0.
 ///
 /// # Errors
 ///
-/// `Question`, `Word` and `Bytes` where the case isn't written so, `File`; `Memory`.
+/// `Question`, `Word` and `Bytes` where the case isn't in the form, `File`; `Memory`.
 pub fn answer(rt: &HostRuntime, case: &Case<'_>) -> Result<String, CaseFault> {
     let alloc = rt.alloc();
     match question_of(case)? {
@@ -87,7 +87,7 @@ fn frames(alloc: Global, words: &str) -> Result<String, CaseFault> {
     answer_of(printed, status)
 }
 
-/// A disk with these bytes, each of whose calls fails behind so many: `BYTES CALLS`, or `BYTES` where none does.
+/// A disk with these bytes, where each call after a number of calls fails: `BYTES CALLS`, or `BYTES` where none does.
 fn disk_of(alloc: Global, words: &str) -> Result<FuseDisk<MemDisk>, CaseFault> {
     let (digits, calls) = words.split_once(' ').unwrap_or((words, ""));
     let bytes = bytes_of(alloc, digits)?;
@@ -133,7 +133,7 @@ struct Ending {
     status: Status,
 }
 
-/// Runs the program with words, whose input is the text `hello`.
+/// Runs the program with these arguments, whose input is the text `hello`.
 fn run_words(rt: &HostRuntime, words: &str) -> Result<Ending, CaseFault> {
     let mut parts = vec![in rt.alloc(); "amqr"]?;
     for word in words.split(' ') {
@@ -152,7 +152,7 @@ fn run_words(rt: &HostRuntime, words: &str) -> Result<Ending, CaseFault> {
     })
 }
 
-/// What the program prints with words, `errors` where it writes to its errors, and the status.
+/// What the program prints with these arguments, `errors` where it writes to its errors, and the status.
 fn ran(rt: &HostRuntime, case: &Case<'_>) -> Result<String, CaseFault> {
     let Ending {
         printed,
@@ -166,7 +166,7 @@ fn ran(rt: &HostRuntime, case: &Case<'_>) -> Result<String, CaseFault> {
     answer_of(printed, status)
 }
 
-/// The lines of input that aren't found in what the program prints with words.
+/// The lines of input that aren't in what the program prints with these arguments.
 fn shows(rt: &HostRuntime, case: &Case<'_>) -> Result<String, CaseFault> {
     let Ending {
         printed,

@@ -3,12 +3,12 @@ use crate::fault::CaseFault;
 use std::alloc::Global;
 use std::fmt::Write;
 
-/// The bytes that words of hexadecimal digits name: parts joined by `+` or on lines of their own, each `HEX` or `HEX*TIMES`;
+/// The bytes of words of hexadecimal digits: parts joined by `+` or on lines of their own, each `HEX` or `HEX*TIMES`;
 /// `-` is none.
 ///
 /// # Errors
 ///
-/// `Bytes` where a part isn't hexadecimal digits in pairs, or its times no number; `Memory`.
+/// `Bytes` where a part isn't pairs of hexadecimal digits, or its times is no number; `Memory`.
 pub fn bytes_of(alloc: Global, words: &str) -> Result<Vec<u8>, CaseFault> {
     let mut bytes = Vec::new(alloc);
     for part in words.split(['+', '\n']) {
@@ -19,7 +19,7 @@ pub fn bytes_of(alloc: Global, words: &str) -> Result<Vec<u8>, CaseFault> {
     Ok(bytes)
 }
 
-/// Appends the bytes of these digits so many times.
+/// Appends the bytes of these digits a number of times.
 fn put_times(alloc: Global, out: &mut Vec<u8>, digits: &str, times: &str) -> Result<(), CaseFault> {
     let bytes = hex::decode(alloc, digits).or(Err(CaseFault::Bytes))?;
     let times = times.parse::<u32>().or(Err(CaseFault::Bytes))?;
@@ -53,9 +53,9 @@ pub fn size_of(word: Option<&str>) -> Result<usize, CaseFault> {
     }
 }
 
-/// Appends the words of a question, and behind them its lines of input: `> TEXT` is the text and an LF, `* TIMES TEXT` the
-/// text so many times, where `{}` is the number of the time, from 0, and `{x}` the same in two hexadecimal digits. For TIMES
-/// `FROM..TO` may stand; the number is then from FROM, and TO isn't reached.
+/// Appends the words of a question, and after them its lines of input: `> TEXT` is the text and an LF, `* TIMES TEXT` the
+/// text repeated TIMES times, where `{}` is the repetition's number, from 0, and `{x}` the same in two hexadecimal digits.
+/// TIMES may be `FROM..TO`; the number is then from FROM, and TO is excluded.
 pub fn put_input(
     alloc: Global,
     out: &mut Vec<u8>,
@@ -76,7 +76,7 @@ pub fn put_input(
     Ok(())
 }
 
-/// Appends a text so many times: `TIMES TEXT`, or `FROM..TO TEXT`.
+/// Appends a text repeatedly: `TIMES TEXT`, or `FROM..TO TEXT`.
 fn put_repeated(alloc: Global, out: &mut Vec<u8>, rest: &str) -> Result<(), CaseFault> {
     let (times, text) = rest.split_once(' ').ok_or(CaseFault::Word)?;
     let (from, to) = times.split_once("..").unwrap_or(("0", times));
@@ -87,7 +87,7 @@ fn put_repeated(alloc: Global, out: &mut Vec<u8>, rest: &str) -> Result<(), Case
     Ok(())
 }
 
-/// A text with the number of the time in place of `{}` and `{x}`.
+/// A text with the repetition's number in place of `{}` and `{x}`.
 fn counted(alloc: Global, text: &str, time: u64) -> Result<String, CaseFault> {
     let mut counted = String::new(alloc);
     for (at, part) in text.split("{}").enumerate() {
@@ -131,7 +131,7 @@ fn put_escaped(alloc: Global, out: &mut Vec<u8>, behind: &[u8]) -> Result<(), Ca
     }
 }
 
-/// Appends a byte and the bytes behind it.
+/// Appends a byte and the bytes after it.
 fn put_both(out: &mut Vec<u8>, byte: u8, rest: &[u8]) -> Result<(), CaseFault> {
     out.push(byte)?;
     Ok(out.extend_from_slice(rest)?)

@@ -1,11 +1,11 @@
-//! Questions on values: which value bytes spell, and how it is written.
+//! Questions on values: which value bytes encode, and how it is written.
 use crate::case::Case;
 use crate::fault::CaseFault;
 use crate::text::{bytes_of, digits_of};
 use amqp_types::{decode, encode, front_of, opening_of, skip};
 use std::alloc::Global;
 
-/// Levels of values around one another (AMQP 1.0 sets no limit; this one is the router's).
+/// The most levels of nesting (AMQP 1.0 sets no limit; this one is the router's).
 const DEPTH: u32 = 32;
 
 /// What is asked of bytes.
@@ -13,13 +13,13 @@ const DEPTH: u32 = 32;
 enum Question {
     /// The value at their front, and its length.
     Decode,
-    /// The shortest spelling of the value that they are.
+    /// The shortest encoding of the value in the bytes.
     Rewrite,
-    /// The values that they are, one behind the other.
+    /// The values in the bytes, one after another.
     Each,
-    /// Whether they are answered.
+    /// Whether they get an answer.
     Told,
-    /// The plain value at their front, and what stands behind it.
+    /// The plain value at their front, and what follows it.
     Front,
     /// How the value at their front begins.
     Opening,
@@ -38,11 +38,11 @@ fn question_of(case: &Case<'_>) -> Result<Question, CaseFault> {
     }
 }
 
-/// The answer to a question on values. Whatever is decoded is skipped, too, with the same length or fault.
+/// The answer to a question on values. Whatever is decoded is skipped as well, with the same length or fault.
 ///
 /// # Errors
 ///
-/// `Question` and `Bytes` where the case isn't written so; `Memory`.
+/// `Question` and `Bytes` where the case isn't in the form; `Memory`.
 pub fn answer(alloc: Global, case: &Case<'_>) -> Result<String, CaseFault> {
     let question = question_of(case)?;
     let bytes = bytes_of(alloc, case.words)?;
@@ -56,7 +56,7 @@ pub fn answer(alloc: Global, case: &Case<'_>) -> Result<String, CaseFault> {
     }
 }
 
-/// Whether `skip` tells the length that `decode` tells, or its fault.
+/// Whether `skip` answers the length that `decode` answers, or its fault.
 fn is_skipped_alike(alloc: Global, bytes: &[u8]) -> bool {
     match (decode(alloc, bytes), skip(bytes)) {
         (Ok((_, length)), Ok(skipped)) => length == skipped,
@@ -79,7 +79,7 @@ fn decoded(alloc: Global, bytes: &[u8]) -> Result<String, CaseFault> {
     }
 }
 
-/// The shortest spelling of the value that the bytes are, and the value, which is decoded from it again.
+/// The shortest encoding of the value in the bytes, and the value, which is decoded from it again.
 fn rewritten(alloc: Global, bytes: &[u8]) -> Result<String, CaseFault> {
     let Ok((value, length)) = decode(alloc, bytes) else {
         return decoded(alloc, bytes);
@@ -98,7 +98,7 @@ fn rewritten(alloc: Global, bytes: &[u8]) -> Result<String, CaseFault> {
     Ok(format!(in alloc; "{digits} {value:?}")?)
 }
 
-/// A line for each value, and one for the fault of what begins none.
+/// A line for each value, and one for the fault of bytes that begin none.
 fn each(alloc: Global, bytes: &[u8]) -> Result<String, CaseFault> {
     let mut lines = String::new(alloc);
     let mut rest = bytes;
@@ -112,7 +112,7 @@ fn each(alloc: Global, bytes: &[u8]) -> Result<String, CaseFault> {
     Ok(lines)
 }
 
-/// Appends the line of the value at the front, which is decoded again from what is encoded of it, and answers its length;
+/// Appends the line of the value at the front, which is decoded again from its encoding, and answers its length;
 /// where none begins there, its fault, and the length of all.
 fn put_value(alloc: Global, lines: &mut String, bytes: &[u8]) -> Result<usize, CaseFault> {
     let length = skip(bytes).unwrap_or(bytes.len());
@@ -126,7 +126,7 @@ fn put_value(alloc: Global, lines: &mut String, bytes: &[u8]) -> Result<usize, C
     Ok(length)
 }
 
-/// That the bytes are answered, by a value or a fault, and `skip` answers alike.
+/// Tests that the bytes are answered, by a value or a fault, and that `skip` answers alike.
 fn told(alloc: Global, bytes: &[u8]) -> Result<String, CaseFault> {
     let answer = if is_skipped_alike(alloc, bytes) {
         "a value or a fault"
@@ -136,7 +136,7 @@ fn told(alloc: Global, bytes: &[u8]) -> Result<String, CaseFault> {
     Ok(String::from_str(alloc, answer)?)
 }
 
-/// The plain value at the front, where it is one, and the bytes behind it.
+/// The plain value at the front, if it is one, and the bytes after it.
 fn front(alloc: Global, bytes: &[u8]) -> Result<String, CaseFault> {
     match front_of(DEPTH, bytes) {
         Ok((value, rest)) => {
