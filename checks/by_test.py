@@ -1,7 +1,7 @@
 """Wrong bodies that no contract refuses: edits of wrong_bodies/by_test/, each of which a check must refuse.
 
-An edit has lines `file: PATH`, from the top of the repository, and behind each pairs of lines `old: TEXT` and `new: TEXT`; the old text stands in
-that file exactly once. A `*` in a path stands for the rest of a crate's name, and one file alone may fit it.
+An edit has lines `file: PATH`, from the top of the repository, and after each, pairs of lines `old: TEXT` and `new: TEXT`; the old text stands in
+that file exactly once. A `*` in a path stands for the rest of a crate's name, and only one file may fit it.
 """
 import glob
 import os
@@ -21,7 +21,7 @@ def file_of(pattern, top):
 
 
 def edited(edit, top):
-    """What the files that an edit changes have behind it, by their path; a ValueError where it can't be applied."""
+    """What the files that an edit changes contain after it, by their path; a ValueError where it can't be applied."""
     texts, path, old = {}, None, None
     for line in read(edit).splitlines():
         word, _, rest = line.partition(": ")

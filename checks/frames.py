@@ -1,4 +1,4 @@
-"""Frames of AMQP 1.0 as bytes (part 2, section 2.3), by an encoder of a few lines that has nothing of the program's."""
+"""Frames of AMQP 1.0 as bytes (part 2, section 2.3), by an encoder of a few lines that shares nothing with the program's."""
 NULL, TRUE, FALSE = b"\x40", b"\x41", b"\x42"
 
 
@@ -28,7 +28,7 @@ def begin(window=2_048):
 
 
 def consumer(handle, address, credit, window=2_048):
-    """An attach, and a flow that grants so much."""
+    """An attach, and a flow that grants this much."""
     attach = described(0x12, text(f"r{handle}"), number(handle), TRUE, NULL, NULL, described(0x28, text(address)), described(0x29))
     return frame(attach) + frame(described(0x13, number(0), number(window), number(0), number(2_048), number(handle), number(0), number(credit)))
 
@@ -53,7 +53,7 @@ def disposition(receiver, first, state=None):
 
 
 def read_transfers(s, count):
-    """Reads from a socket, header and all, until so many transfers have come."""
+    """Reads from a socket, the header included, until this many transfers have come."""
     data, at = b"", 8
     while count > 0:
         while len(data) < at + 4 or len(data) < at + int.from_bytes(data[at:at + 4], "big"):

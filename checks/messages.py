@@ -29,7 +29,7 @@ def presettled(served):
 
 
 def decided(served, address, change, state, settle=True):
-    """What the producer is told of a message that its consumer decides so."""
+    """What the producer is told of a message that its consumer decides this way."""
     consumer, receiver, producer, sender = pair(served, address)
     sent = producer.send(sender, "m")
     until(lambda: consumer.got["r"], consumer, producer)
@@ -88,7 +88,7 @@ def settled_without_outcome(served):
 
 
 def settled_by_the_producer(served):
-    """A producer may settle before it knows the outcome (part 2, section 2.6.12): the message goes on all the same."""
+    """A producer may settle before it knows the outcome (part 2, section 2.6.12): the message still goes on."""
     consumer, _, producer, sender = pair(served, "m.early")
     sent = producer.send(sender, "m")
     until(lambda: consumer.got["r"], consumer, producer)
@@ -154,7 +154,7 @@ def late_receiver(served):
 
 
 def drain(served):
-    """A drain uses all credit up (part 2, section 2.6.7): what is there comes, then the count says that no more will."""
+    """A drain uses all credit up (part 2, section 2.6.7): what is there comes, then the count says that no more will come."""
     consumer, receiver, producer, sender = pair(served, "m.drain", credit=10)
     for it in range(4):
         producer.send(sender, it, settled=True)
@@ -162,7 +162,7 @@ def drain(served):
     receiver.drain(0)
     until(lambda: not receiver.draining(), consumer, producer)
     expect((receiver.credit, receiver.drained()), (0, 6))
-    # no credit is there, so that nothing comes; then as much as is granted anew
+    # there is no credit, so nothing comes; then as much as is granted again
     receiver.drain_mode = False
     receiver.flow(2)
     until(lambda: sender.credit > 0, consumer, producer)
@@ -223,7 +223,7 @@ def sessions_of_a_connection(served):
         peer.decide(peer.got[f"r{it}"][0][0], (Delivery.ACCEPTED, Delivery.RELEASED)[it % 2])
     until(lambda: all(it.settled for it in sent), peer)
     expect([outcome(it) for it in sent], [("accepted", "released")[it % 2] for it in range(7)])
-    # a session that ends takes its links along, and no others
+    # a session that ends ends its links, and no others
     ours[0][1].close()
     until(lambda: ours[0][1].state & GONE, peer)
     sent = peer.send(links[1][1], "again")
@@ -267,7 +267,7 @@ def largest(served):
 
 
 def killed_consumer(served):
-    """What a consumer that is cut off had, and didn't decide, failed; and what comes then goes to another."""
+    """The deliveries that a lost consumer had and didn't decide failed; and what comes then goes to another."""
     consumer, _, producer, sender = pair(served, "m.killed", credit=10)
     sent = [producer.send(sender, it) for it in range(5)]
     until(lambda: len(consumer.got["r"]) == 5, consumer, producer)
@@ -541,7 +541,7 @@ def sixty_four():
 
 def refused_links(served):
     """A target without an address is no relay here, and an empty address is none (docs/DECISIONS.md): each is answered by an attach with no
-    terminus and a detach that tells why (part 2, section 2.6.3), and the session's other links stand."""
+    terminus and a detach with the reason (part 2, section 2.6.3), and the session's other links stay attached."""
     peer = Peer(served, "refused")
     good = peer.sender("q.a")
     bad = [peer.sender(None, "none"), peer.receiver("", "empty"), peer.receiver("x" * 1_025, "long")]

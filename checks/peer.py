@@ -91,7 +91,7 @@ class Peer:
         self.write()
 
     def write(self):
-        """Hands on what the events left to be written."""
+        """Writes what the events produced."""
         while not self.lost and (pending := self.transport.pending()) > 0:
             try:
                 self.transport.pop(self.socket.send(self.transport.peek(pending)))
@@ -129,7 +129,7 @@ class Peer:
             delivery.settle()
 
     def cut(self):
-        """Goes away without a word."""
+        """Vanishes without a close."""
         self.lost = True
         self.socket.close()
 
@@ -160,7 +160,7 @@ def until(test, *peers, seconds=10):
 
 
 def quiet(*peers, seconds=0.3):
-    """Drives the peers for so long, for what should not come."""
+    """Drives the peers for this long, for what should not come."""
     end = time.monotonic() + seconds
     while time.monotonic() < end:
         for peer in peers:
@@ -183,11 +183,11 @@ def outcome(delivery):
 
 
 def pair(served, address, credit=10, names=("c", "p"), **more):
-    """A consumer that grants so much, and a producer that has it."""
+    """A consumer that grants this much, and a producer that has it."""
     consumer, producer = Peer(served, names[0], **more), Peer(served, names[1])
     receiver = consumer.receiver(address, credit=credit)
     until(attached(receiver), consumer)
-    # the answer to an attach comes behind what came before it: so the grant was heard
+    # the answer to an attach comes after the answers to what came before it: so the grant was handled
     sender = producer.sender(address)
     until(lambda: sender.credit > 0 if credit else sender.state & ACTIVE, consumer, producer)
     return consumer, receiver, producer, sender

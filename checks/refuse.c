@@ -1,4 +1,4 @@
-// Refuses one allocation, or all from one on: REFUSE=N the Nth, REFUSE=N.. the Nth and all behind it. REFUSE=0 refuses none.
+// Refuses one allocation, or all from one on: REFUSE=N the Nth, REFUSE=N.. the Nth and all after it. REFUSE=0 refuses none.
 // With COUNT=FILE the number of allocations is written to that file at the end.
 #define _GNU_SOURCE
 #include <dlfcn.h>

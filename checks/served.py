@@ -1,4 +1,4 @@
-"""Starts `amqr serve` for checks: a configuration, a port, and what the program told."""
+"""Starts `amqr serve` for checks: a configuration, a port, and what the program printed."""
 import os
 import socket
 import subprocess
@@ -88,7 +88,7 @@ class Served:
 
 
 def read_bytes(s, count):
-    """So many bytes, or those that came before the end."""
+    """This many bytes, or those that came before the end."""
     data = b""
     while len(data) < count:
         piece = s.recv(count - len(data))
@@ -112,13 +112,13 @@ def read_end(s):
 
 
 class Rows:
-    """Tells a row each, and how many passed."""
+    """Prints each row, and how many passed."""
 
     def __init__(self):
         self.passed = self.failed = self.known = 0
 
     def row(self, name, body, known=None):
-        """A row: its name, and what its body says. `known` is a class of faults and why the row is known to fail with one: that is told as
+        """A row: its name, and what its body says. `known` is a class of faults and why the row is known to fail with one: that is printed as
         such, and not counted as failed."""
         started = time.monotonic()
         word = "FAILED"
@@ -150,7 +150,7 @@ class Rows:
                 self.passed += word == "ok"
                 self.failed += word == "FAILED"
         if told.wait() not in (0, 1) or not last.endswith(" failed"):
-            print(f"FAILED {whose}: it ended with status {told.returncode} behind {last!r}", flush=True)
+            print(f"FAILED {whose}: it ended with status {told.returncode} after {last!r}", flush=True)
             self.failed += 1
 
     def end(self):

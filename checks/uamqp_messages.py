@@ -1,5 +1,5 @@
-"""Rows of messages with uamqp (Debian's python3-uamqp), whose clients stand on Azure's C library. They speak TLS alone, so a proxy with a
-certificate of its own stands before the program. Wanted answers are those of uamqp's documents.
+"""Rows of messages with uamqp (Debian's python3-uamqp), whose clients use Azure's C library. They speak only TLS, so a proxy with a
+certificate of its own is in front of the program. Wanted answers are those of uamqp's documents.
 
 Its sender counts 10,000 credits as soon as it is attached, and again whenever it has used up what it was granted, whatever the receiver
 says; the router detaches such a link with transfer-limit-exceeded (part 2, section 2.6.7). So here the receiver comes first, and
@@ -24,7 +24,7 @@ except ImportError:
 
 
 class Tls:
-    """Takes TLS on a port of its own, and hands on what comes to the program."""
+    """Takes TLS on a port of its own, and passes on what comes to the program."""
 
     def __init__(self, to):
         self.folder = tempfile.TemporaryDirectory()
@@ -95,7 +95,7 @@ def sent(tls, address, bodies, **more):
 
 
 def received(tls, address, count, decide, **more):
-    """Receives so many messages in a thread of its own, once it is attached; its list fills."""
+    """Receives this many messages in a thread of its own, once it is attached; its list fills."""
     came, ready = [], threading.Event()
 
     def run():
@@ -146,7 +146,7 @@ def large(tls):
 
 
 def beyond_credit(tls):
-    """No receiver is there, so nothing is granted."""
+    """There is no receiver, so nothing is granted."""
     expect(sent(tls, "u.nobody", [b"m"]), ["SendFailed"])
 
 
