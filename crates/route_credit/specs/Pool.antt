@@ -49,7 +49,8 @@ free pool = total (λ offer. offer.free) pool.consumers
 abbrev pub lent : Sharing → ℕ
 lent pool = total (λ demand. demand.lent) pool.producers
 
--- What a consumer with free credit is chosen by. Balanced: its undecided deliveries. Closest: those after the one last chosen come first, then the others. Multicast chooses nobody.
+-- What a consumer with free credit is chosen by. Balanced: its undecided deliveries. Closest: those after the one last chosen come first,
+-- then the others. Multicast chooses nobody.
 abbrev pub turn_of : Distribution → ℕ → ℕ → Offer → Option ℕ
 turn_of Balanced last id offer = if nat_lt 0 offer.free then Some offer.undecided else None
 turn_of Closest last id offer = if nat_lt 0 offer.free then Some (if nat_lt last id then 0 else 1) else None
@@ -77,7 +78,8 @@ remembered Multicast last = 0
 abbrev pub remembering : Sharing → Sharing
 remembering pool = record pool { last = remembered pool.distribution pool.last }
 
--- What a producer in need of credit is chosen by: its lent credit. It is in need while its lent credit and what it holds are below 64; on a multicast address where its unused credit is 32 or less.
+-- What a producer in need of credit is chosen by: its lent credit. It is in need while its lent credit and what it holds are below 64;
+-- on a multicast address where its unused credit is 32 or less.
 abbrev pub need_of : Distribution → Demand → Option ℕ
 need_of Balanced demand = if nat_lt (demand.lent + demand.held) 64 then Some demand.lent else None
 need_of Closest demand = if nat_lt (demand.lent + demand.held) 64 then Some demand.lent else None
