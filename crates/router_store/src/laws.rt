@@ -1,0 +1,27 @@
+//! Laws of the store's definitions. Each is the clause of a function that does nothing.
+ghost use Rattle.std.specs.Prelude.{◌≡◌, ◌≢◌, ◌≤◌, [], List, ℕ, None, length};
+ghost use Rattle.book_core.specs.Book.{BookView, first_fault};
+ghost use Rattle.gate_journal.specs.Batches.{HaveOutcomes};
+ghost use Rattle.gate_journal.specs.Format.{acts_bytes};
+ghost use Rattle.gate_journal.specs.Opening.{Explains};
+ghost use Rattle.gate_journal.specs.Reserve.{IsFull};
+ghost use Rattle.gate_journal.specs.declared.fault.OpenFault.TheVariants.{NotAJournal, Damaged};
+ghost use Rattle.router_store.specs.Store.{OpensTo};
+ghost use Rattle.router_store.specs.Lost.{start_acts};
+
+/// A file opens to one book only, and then it is a journal without damage: opening it answers that book, or that the disk
+/// failed or memory was refused.
+pub fn opens_to_one_book()
+    ensures one { (file : List ℕ) (first second : BookView) → OpensTo file first → OpensTo file second → first ≡ second }
+    ensures is_journal { (file : List ℕ) (book : BookView) → OpensTo file book → Explains file NotAJournal → ⊥ }
+    ensures is_whole { (file : List ℕ) (book : BookView) (place : ℕ) → OpensTo file book → Explains file (Damaged place) → ⊥ }
+{}
+
+/// What a router decides at its start can be written: the acts apply to the book that a file opens to, they fit one batch,
+/// and each outcome is one that its encoding gives back; and a journal is never too full for them.
+pub fn start_can_be_written()
+    ensures applies { (file : List ℕ) (book : BookView) → OpensTo file book → first_fault book (start_acts book) ≡ None }
+    ensures small { (file : List ℕ) (book : BookView) → OpensTo file book → length (acts_bytes (start_acts book)) ≤ 4194304 }
+    ensures outcomes { (book : BookView) → HaveOutcomes (start_acts book) }
+    ensures never_full { (book : BookView) (used kept : ℕ) → start_acts book ≢ [] → IsFull used kept (start_acts book) → ⊥ }
+{}

@@ -1,0 +1,10 @@
+//! The delivery store of a router: the book of its durable deliveries, and the journal that keeps it on a disk. What is
+//! written to the store is on the disk, whole or not at all, wherever a crash comes.
+#![tactic(auto)]
+
+pub mod laws;
+mod lost;
+mod store;
+
+pub use lost::start_acts;
+pub use store::Store;
