@@ -65,7 +65,7 @@ few_step b (Decide d) few r = omega (arith, few, no_longer (λ (r : Row). cond (
 few_step b (Forget n) few r = omega (arith, few, no_longer (λ (r : Row). cond (r.number.0 == n.0) (forgotten r) (Some r)) b.rows)
 few_step b (Drop n) few r = few
 
-few_acts : (acts : List Act) (b : BookView) → length b.rows ≤ 4096 → first_fault b acts ≡ None → length (effects b acts).rows ≤ 4096
+pub few_acts : (acts : List Act) (b : BookView) → length b.rows ≤ 4096 → first_fault b acts ≡ None → length (effects b acts).rows ≤ 4096
 unfolding first_fault effects
 few_acts [] b few f = few
 few_acts (act ∷ acts) b few f = few_acts acts (effect b act) (few_step b act few (first_applies _ _ f)) (rest_applies (refusal b act) _ f)

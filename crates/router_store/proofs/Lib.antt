@@ -1,3 +1,4 @@
+pub mod Makes
 pub mod Few
 pub mod Opened
 pub mod Started

@@ -1,2 +1,3 @@
 pub mod Lost
+pub mod Made
 pub mod Store

@@ -15,7 +15,7 @@ abbrev pub disk_of : {D : Type 0} → Store D → D
 disk_of s = s.journal.disk
 
 abbrev pub book_of : {D : Type 0} → Store D → BookView
-book_of s = s.book
+book_of s = s.kept.book
 
 -- A file opens to a book: it holds batches, and they leave that book.
 pub record OpensTo (file : List ℕ) (book : BookView) : Type 0 where
@@ -27,4 +27,4 @@ pub record OpensTo (file : List ℕ) (book : BookView) : Type 0 where
 pub record Stands {D : Type 0} (seen : D → List ℕ) (may_leave : D → List ℕ → Type 0) (s : Store D) : Type 0 where
   pub batches : List (List Act)
   pub keeps : Keeps seen may_leave s.journal batches
-  pub leaves : s.book ≡ book_after empty_book batches
+  pub leaves : s.kept.book ≡ book_after empty_book batches

@@ -2,6 +2,7 @@
 //! written to the store is on the disk, whole or not at all, wherever a crash comes.
 #![tactic(auto)]
 
+mod kept;
 pub mod laws;
 mod lost;
 mod store;

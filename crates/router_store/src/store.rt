@@ -1,5 +1,5 @@
 //! The store.
-ghost use Rattle.std.specs.Prelude.{◌≡◌, ◌≢◌, ◌⊎◌, ◌+◌, ◌-ℤ◌, ◌<◌, ◌≤◌, pos, [], ℕ, None, false, true, length, IfOk, IfErr, OnOk, OnErr, IsErrOf};
+ghost use Rattle.std.specs.Prelude.{◌≡◌, ◌≢◌, ◌⊎◌, ◌+◌, ◌-ℤ◌, ◌<◌, ◌≤◌, pos, [], ℕ, None, false, true, length, IfOk, IfErr, IfSome, IfNone, OnOk, OnErr, IsErrOf};
 ghost use Rattle.disk_core.specs.Disk.{LeavesOnly, NoMore};
 ghost use Rattle.book_core.specs.Book.{first_fault, effects};
 ghost use Rattle.gate_journal.specs.Batches.{HaveOutcomes};
@@ -7,8 +7,10 @@ ghost use Rattle.gate_journal.specs.Format.{acts_bytes};
 ghost use Rattle.gate_journal.specs.Journal.{batch_count, used_bytes, kept_bytes, has_failed};
 ghost use Rattle.gate_journal.specs.Opening.{Explains};
 ghost use Rattle.gate_journal.specs.Reserve.{IsFull};
+ghost use Rattle.router_store.specs.Lost.{start_acts};
 ghost use Rattle.router_store.specs.Store.{OpensTo, Stands, journal_of, disk_of, book_of};
 
+use crate::kept::Kept;
 use book_core::{Act, Book};
 use disk_core::{Crash, Disk};
 use gate_journal::{Journal, JournalFault, OpenFault};
@@ -18,7 +20,7 @@ use std::alloc::Global;
 #[derive(Drop)]
 pub struct Store<D: Disk> {
     journal: Journal<D>,
-    book: Book,
+    kept: Kept,
 }
 
 impl<D: Disk> Store<D> {
@@ -37,7 +39,10 @@ impl<D: Disk> Store<D> {
         ensures fault { IfErr result (Explains (D.seen disk)) }
     {
         let (journal, book) = Journal::open(alloc, disk)?;
-        Ok(Store { journal, book })
+        Ok(Store {
+            journal,
+            kept: Kept::new(book),
+        })
     }
 
     /// Writes acts to the store as one batch, and gives its number: the first of a journal is 1. The acts apply to the book,
@@ -71,10 +76,44 @@ impl<D: Disk> Store<D> {
         ensures failed { IsErrOf result JournalFault.Failed → has_failed (journal_of self.old) ≡ true }
         ensures works { OnOk result (has_failed (journal_of self.new) ≡ false) }
     {
-        let number = self.journal.append(&self.book, acts)?;
-        match self.book.apply(acts) {
+        let number = self.journal.append(self.kept.book(), acts)?;
+        match self.kept.apply(acts) {
             Ok(()) => Ok(number),
             Err(_) => Err(JournalFault::Memory),
+        }
+    }
+
+    /// Writes what a router decides when it starts on this store, as one batch, and gives it with its number; where there is nothing
+    /// to decide, nothing is written. Faults are as with `write`, but for `Full`, which never comes.
+    pub fn start(&mut self, alloc: Global) -> Result<Option<(u64, Vec<Act>)>, JournalFault>
+        ensures stands { OnOk result (Stands D.seen D.may_leave self.old → Stands D.seen D.may_leave self.new) }
+        ensures book { OnOk result (book_of self.new ≡ effects (book_of self.old) (start_acts (book_of self.old))) }
+        ensures written { IfOk result (λ w. IfSome w (λ batch. (batch.0 ≡ batch_count (journal_of self.old) + 1) × (batch.1.items ≡ start_acts (book_of self.old)))) }
+        ensures silent { IfOk result (λ w. IfNone w (start_acts (book_of self.old) ≡ [])) }
+
+        // Whatever is answered, a crash at any moment of the call leaves the book before these acts or the book after them.
+        ensures any_moment { Stands D.seen D.may_leave self.old → LeavesOnly D.moment D.left_since (disk_of self.old) (disk_of self.new)
+            (λ c. OpensTo c (book_of self.old) ⊎ OpensTo c (effects (book_of self.old) (start_acts (book_of self.old)))) }
+
+        ensures never_full { IsErrOf result JournalFault.Full → ⊥ }
+        ensures kept { OnErr result (book_of self.new ≡ book_of self.old) }
+        ensures disk { IsErrOf result JournalFault.Disk → D.failures (disk_of self.old) < D.failures (disk_of self.new) }
+        ensures failed { IsErrOf result JournalFault.Failed → has_failed (journal_of self.old) ≡ true }
+        ensures works { has_failed (journal_of self.old) ≡ false → OnOk result (has_failed (journal_of self.new) ≡ false) }
+    {
+        let Ok(acts) = self.kept.start_acts(alloc) else {
+            return Err(JournalFault::Memory);
+        };
+        if acts.is_empty() {
+            drop(acts);
+            return Ok(None);
+        }
+        match self.write(&acts) {
+            Ok(number) => Ok(Some((number, acts))),
+            Err(fault) => {
+                drop(acts);
+                Err(fault)
+            }
         }
     }
 
@@ -82,7 +121,7 @@ impl<D: Disk> Store<D> {
     pub fn book(&self) -> &Book
         ensures { result.now ≡ book_of self.now }
     {
-        &self.book
+        self.kept.book()
     }
 
     /// The number of the last batch; 0 where there is none.
@@ -110,8 +149,8 @@ impl<D: Disk> Store<D> {
     pub fn into_disk(self) -> D
         ensures { result ≡ disk_of self }
     {
-        let Store { journal, book } = self;
-        drop(book);
+        let Store { journal, kept } = self;
+        drop(kept);
         journal.into_disk()
     }
 }

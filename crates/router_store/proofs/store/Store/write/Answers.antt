@@ -5,22 +5,22 @@ use Rattle.router_store.proofs.store.Store.write.Goals as goal
 
 pub returns-in_err-number-clause-any_moment : goal.returns-in_err-number-clause-any_moment
 returns-in_err-number-clause-any_moment g c stands =
-    widened g.D.Disk.moment g.D.Disk.left_since _ _ _ _ (c.append.ensures.any_moment stands.batches stands.keeps (sym stands.leaves))
+    widened g.D.Disk.moment g.D.Disk.left_since _ _ _ _ (c.append.ensures.any_moment stands.batches stands.keeps (sym stands.leaves ∙ sym c.book.ensures))
     (before_or_after _ stands.batches _ stands.leaves)
 
 pub returns-in-Ok-clause-stands : goal.returns-in-Ok-clause-stands
 returns-in-Ok-clause-stands g c stands = record {
   batches = stands.batches ++ c.args.acts.now ∷ [];
-  keeps = c.in_ok-number.ensures.done stands.batches stands.keeps (sym stands.leaves);
+  keeps = c.in_ok-number.ensures.done stands.batches stands.keeps (sym stands.leaves ∙ sym c.book.ensures);
   leaves = c.in-Ok.ensures.applied ∙ leaves_more _ stands.batches _ stands.leaves;
 }
 
 pub returns-in-Ok-clause-any_moment : goal.returns-in-Ok-clause-any_moment
 returns-in-Ok-clause-any_moment g c stands =
-    widened g.D.Disk.moment g.D.Disk.left_since _ _ _ _ (c.append.ensures.any_moment stands.batches stands.keeps (sym stands.leaves))
+    widened g.D.Disk.moment g.D.Disk.left_since _ _ _ _ (c.append.ensures.any_moment stands.batches stands.keeps (sym stands.leaves ∙ sym c.book.ensures))
     (before_or_after _ stands.batches _ stands.leaves)
 
 pub returns-in-Err-clause-any_moment : goal.returns-in-Err-clause-any_moment
 returns-in-Err-clause-any_moment g c stands =
-    widened g.D.Disk.moment g.D.Disk.left_since _ _ _ _ (c.append.ensures.any_moment stands.batches stands.keeps (sym stands.leaves))
+    widened g.D.Disk.moment g.D.Disk.left_since _ _ _ _ (c.append.ensures.any_moment stands.batches stands.keeps (sym stands.leaves ∙ sym c.book.ensures))
     (before_or_after _ stands.batches _ stands.leaves)
