@@ -8,6 +8,8 @@ pub mod Linked
 pub mod RowOrder
 pub mod ItemRows
 pub mod Following
+pub mod Books
+pub mod Written
 pub mod Granting
 pub mod Due
 pub mod Ordered

@@ -9,6 +9,7 @@ use Rattle.router_trace.specs.Refusing.{refuses}
 use Rattle.router_core.specs.Replies.{answered}
 use Rattle.router_core.specs.Runs.{Taking, took_one, took_all, MayStep, Run}
 use Rattle.router_core.specs.Moves.{Move, handles, takes, Goes, IsTrace}
+use Rattle.router_core.proofs.Books.{not_refused}
 
 -- moves, then more of them
 pub goes_on : (id : List ℕ) (ms ns : List Move) (t u v : List Entry) → Goes id ms t u → Goes id ns u v → Goes id (ms ++ ns) t v
@@ -40,7 +41,7 @@ leads_takes id (x ∷ xs) t = leads_on id t (took_one x t) (took_all xs (took_on
 
 step_leads : (id : List ℕ) (t : List Entry) (e : Event) (u : List Entry) → MayStep id t e u → Leads id t u
 step_leads id t e u (inl is_refused) = leads_same id t u is_refused.1
-step_leads id t e u (inr taken) = (handles (step_of e) ∷ [], (taken.0, taken.1.answers))
+step_leads id t e u (inr taken) = (handles (step_of e) ∷ [], (not_refused t e taken.0, taken.1.answers))
 
 pub run_leads : (id : List ℕ) (place : ℕ) (t : List Entry) (es : List Event) (xs : List Sent) (u : List Entry) → Run id place t es xs u → Leads id t u
 run_leads id place t [] xs u run = leads_same id t u run.0

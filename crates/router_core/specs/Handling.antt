@@ -1,29 +1,56 @@
 -- The router as a whole against a trace.
-use Rattle.std.specs.Prelude.{ℕ, Bool, List, Option, Some, None}
+use Rattle.std.specs.Prelude.{◌≡◌, ◌⊎◌, ℕ, Bool, List, Option, Some, None}
+use Rattle.book_core.specs.Book.{BookView}
+use Rattle.router_store.specs.declared.store.Store.{Store}
+use Rattle.router_store.specs.Store.{OpensTo, Stands, book_of}
 use Rattle.router_core.specs.declared.router.Core.{Core}
 use Rattle.router_core.specs.declared.router.Batch.{Batch}
 use Rattle.router_core.specs.declared.counts.Counts.{Counts}
+use Rattle.router_trace.specs.declared.event.Event.{Event}
 use Rattle.router_trace.specs.Trace.{Trace}
 use Rattle.router_trace.specs.Connection.{Connection, Batched}
+use Rattle.router_state.specs.declared.tables.State.{State}
 use Rattle.router_state.specs.Tables.{TablesFit}
+use Rattle.router_core.specs.Books.{book_behind, book_since, is_started}
 
--- the router's tables agree with the trace
-pub record Fits (core : Core) (t : Trace) : Type 0 where
+-- the router agrees with the trace, which began with this book: its tables, whether it was started, and its book
+pub record Fits {D : Type 0} (core : Core D) (b : BookView) (t : Trace) : Type 0 where
   pub tables : TablesFit core.state t
+  pub started : core.started ≡ is_started t
+  pub book : book_of core.store ≡ book_since b t
 
 -- it failed with a fault of the disk or of memory, and answers nothing else
-abbrev pub is_failed : Core → Bool
+abbrev pub is_failed : {D : Type 0} → Core D → Bool
 is_failed core = core.failed
 
 -- its container-id
-abbrev pub id_of : Core → List ℕ
+abbrev pub id_of : {D : Type 0} → Core D → List ℕ
 id_of core = core.id
 
+-- its store, the book of that, and its tables
+abbrev pub store_of : {D : Type 0} → Core D → Store D
+store_of core = core.store
+
+abbrev pub kept_book : {D : Type 0} → Core D → BookView
+kept_book core = book_of core.store
+
+abbrev pub state_of : {D : Type 0} → Core D → State
+state_of core = core.state
+
 -- how many events it handled, and how many batches it returned
-abbrev pub counts_of : Core → Counts
+abbrev pub counts_of : {D : Type 0} → Core D → Counts
 counts_of core = core.counts
 
 -- a batch of a known connection: at most this many first items of its outbox
 abbrev pub IsBatchOf : Option Connection → ℕ → Batch → Type 0
 IsBatchOf None most b = ⊥
 IsBatchOf (Some v) most b = Batched v most b.first b.items.items b.ended
+
+-- a file opens to the book before an event, or to the book after it
+abbrev pub BeforeOrBehind : BookView → Event → List ℕ → Type 0
+BeforeOrBehind b e file = OpensTo file b ⊎ OpensTo file (book_behind b e)
+
+-- the store keeps this book, and a crash leaves just that
+pub record IsToldBehind {D : Type 0} (seen : D → List ℕ) (may_leave : D → List ℕ → Type 0) (core : Core D) (b : BookView) : Type 0 where
+  pub stands : Stands seen may_leave core.store
+  pub kept : book_of core.store ≡ b

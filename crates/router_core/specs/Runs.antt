@@ -6,8 +6,8 @@ use Rattle.router_trace.specs.declared.event.ConnectionId.{ConnectionId}
 use Rattle.router_core.specs.declared.driving.Sent.{Sent}
 use Rattle.router_trace.specs.Trace.{Trace, Took, step_of}
 use Rattle.router_trace.specs.Connection.{Connection, conn, is_ready}
-use Rattle.router_trace.specs.Refusing.{refuses}
 use Rattle.router_conns.specs.Fits.{IsLeast}
+use Rattle.router_core.specs.Books.{declines}
 use Rattle.router_core.specs.Replies.{Replies}
 
 -- the items waiting in an outbox
@@ -61,9 +61,9 @@ pub record Emptied (place : ℕ) (t : Trace) (ys : List Sent) (u : Trace) : Type
   pub items : ys ≡ sent place takes t
   pub empty : (c : ℕ) → is_ready (conn u c) ≡ false
 
--- an event is refused, and isn't in the trace, or its replies come after it
+-- an event is declined, and isn't in the trace, or its replies come after it
 abbrev pub MayStep : List ℕ → Trace → Event → Trace → Type 0
-MayStep id t e u = ((refuses t e ≡ true) × (u ≡ t)) ⊎ ((refuses t e ≡ false) × Replies id t (step_of e) u)
+MayStep id t e u = ((declines t e ≡ true) × (u ≡ t)) ⊎ ((declines t e ≡ false) × Replies id t (step_of e) u)
 
 -- an event, and then the outboxes emptied
 pub record Steps (id : List ℕ) (place : ℕ) (t : Trace) (e : Event) (ys : List Sent) (u : Trace) : Type 0 where

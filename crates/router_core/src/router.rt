@@ -1,30 +1,43 @@
 //! The router: one event or one take at a time.
-ghost use Rattle.std.specs.Prelude.{◌≡◌, ◌≤◌, ◌∷◌, ◌&&◌, nat_lt, ℕ, List, [], length, true, false, Ok, Err, None, option_map, is_some, OnOk, OnErr, IfOk, IfErr};
+ghost use Rattle.std.specs.Prelude.{◌≡◌, ◌≢◌, ◌⊎◌, ◌+◌, ◌<◌, ◌≤◌, ◌∷◌, ◌&&◌, nat_lt, ℕ, List, [], length, true, false, Ok, Err, None, option_map, is_some, OnOk, OnErr, IfOk, IfErr, IfSome, IfNone, IsErrOf};
+ghost use Rattle.disk_core.specs.Disk.{LeavesOnly, NoMore};
+ghost use Rattle.book_core.specs.Book.{BookView};
+ghost use Rattle.gate_journal.specs.Journal.{batch_count};
+ghost use Rattle.gate_journal.specs.Opening.{Explains};
+ghost use Rattle.router_store.specs.Store.{OpensTo, Stands, journal_of, disk_of};
 ghost use Rattle.route_table.specs.Places.{routing_of};
 ghost use Rattle.router_trace.specs.Configuration.{configured};
 ghost use Rattle.router_trace.specs.Trace.{Entry, Took, step_of};
 ghost use Rattle.router_trace.specs.Connection.{conn as known, is_ready, is_live};
 ghost use Rattle.router_trace.specs.Refusing.{refuses};
 ghost use Rattle.router_conns.specs.Fits.{IsLeast};
+ghost use Rattle.router_core.specs.Books.{acts_of, book_behind, declines};
 ghost use Rattle.router_core.specs.Replies.{Replies, answered};
 ghost use Rattle.router_state.specs.Tables.{TablesFit};
-ghost use Rattle.router_core.specs.Handling.{Fits, is_failed, id_of, counts_of, IsBatchOf};
+ghost use Rattle.router_core.specs.Handling.{Fits, is_failed, id_of, store_of, kept_book, state_of, counts_of, IsBatchOf, BeforeOrBehind, IsToldBehind};
 ghost use Rattle.router_core.specs.Counting.{uncounted, with_event, with_batch};
-ghost use Rattle.router_core.specs.declared.fault.CoreFault.TheVariants.{Disk, Memory, Failed, NoConnection};
+ghost use Rattle.router_core.specs.declared.fault.CoreFault.TheVariants.{Disk as DiskFailed, Memory, Failed, NoConnection};
 
 use crate::counts::Counts;
 use crate::fault::CoreFault;
 use amqp_frames::Item;
+use book_core::{Act, Book};
+use disk_core::{Crash, Disk};
+use gate_journal::{JournalFault, OpenFault};
 use route_table::{Config, Table};
 use router_after::after;
 use router_reply::reply;
 use router_state::State;
+use router_store::Store;
 use router_trace::{ConnectionId, Event, RouterId};
 use std::alloc::{AllocError, Global};
 
 /// An event was handled.
-#[derive(Clone, Copy, Debug, PartialEq, Eq)]
-pub struct Done {}
+#[derive(Debug, Drop)]
+pub struct Done {
+    /// The batch that the event wrote to the journal: its number, from 1 on, and its acts. None where it wrote nothing.
+    pub journal: Option<(u64, Vec<Act>)>,
+}
 
 /// Items that were taken from an outbox. Only `Core::take` makes one.
 #[derive(Debug, Drop)]
@@ -72,28 +85,54 @@ impl Batch {
     }
 }
 
-/// The router. It handles one event at a time; the items that it puts out are fetched with `take`.
+/// The router. It handles one event at a time; the items that it puts out are fetched with `take`. Its durable deliveries
+/// are kept by a journal on a disk.
 #[derive(Drop)]
-pub struct Core {
+pub struct Core<D: Disk> {
+    alloc: Global,
     id: RouterId,
     state: State,
+    store: Store<D>,
     counts: Counts,
+    started: bool,
     failed: bool,
 }
 
-impl Core {
-    /// A new router, opened with a configuration.
-    pub fn open(alloc: Global, config: &Config) -> Result<Core, AllocError>
-        ensures fits { IfOk result (λ core. Fits core (configured (routing_of config.now))) }
+impl<D: Disk> Core<D> {
+    /// A new router, opened with a configuration on the journal that a disk keeps. At an `Err` the disk is dropped: `Disk`
+    /// comes where it failed, `Memory` where memory was refused, and the others where the disk holds no journal, or a
+    /// damaged one.
+    pub fn open(alloc: Global, disk: D, config: &Config) -> Result<Core<D>, OpenFault>
+        ensures fits { IfOk result (λ core. Fits core (kept_book core) (configured (routing_of config.now))) }
         ensures works { IfOk result (λ core. is_failed core ≡ false) }
         ensures named { IfOk result (λ core. id_of core ≡ config.now.router_id) }
         ensures counts { IfOk result (λ core. counts_of core ≡ uncounted) }
+
+        // Its book is the one that the disk opens to, and a crash leaves just that.
+        ensures stands { IfOk result (λ core. Stands D.seen D.may_leave (store_of core)) }
+        ensures book { IfOk result (λ core. OpensTo (D.seen disk) (kept_book core)) }
+        ensures any_moment { IfOk result (λ core. LeavesOnly D.moment D.left_since disk (disk_of (store_of core)) (D.may_leave disk)) }
+        ensures crash { IfOk result (λ core. NoMore (D.may_leave disk) (D.may_leave (disk_of (store_of core)))) }
+
+        ensures fault { IfErr result (Explains (D.seen disk)) }
     {
-        let table = Table::new(alloc, config)?;
+        let store = Store::open(alloc, disk)?;
+        let Ok(table) = Table::new(alloc, config) else {
+            drop(store);
+            return Err(OpenFault::Memory);
+        };
+        let Ok(id) = RouterId::new(alloc, config.router_id()) else {
+            drop(store);
+            drop(table);
+            return Err(OpenFault::Memory);
+        };
         Ok(Core {
-            id: RouterId::new(alloc, config.router_id())?,
+            alloc,
+            id,
             state: State::new(alloc, table),
+            store,
             counts: Counts::none(),
+            started: false,
             failed: false,
         })
     }
@@ -112,51 +151,147 @@ impl Core {
         self.counts
     }
 
-    /// Handles an event. It answers `NoConnection` exactly if the event is about a connection that isn't live, or about
-    /// a new one whose number doesn't rise, and `Failed` exactly if an earlier call answered `Memory`;
-    /// both change nothing. After `Memory` the router is failed.
+    /// The book of its durable deliveries.
+    pub fn book(&self) -> &Book
+        ensures { result.now ≡ kept_book self.now }
+    {
+        self.store.book()
+    }
+
+    /// The number of the last batch in its journal; 0 where there is none.
+    pub fn batch(&self) -> u64
+        ensures { result ≡ batch_count (journal_of (store_of self.now)) }
+    {
+        self.store.batch()
+    }
+
+    /// How many batches its journal has that no longer stand in it: none in the journal's format 1.
+    pub fn base(&self) -> u64
+        ensures { result ≡ 0 }
+    {
+        self.store.base()
+    }
+
+    /// The disk, after the router is given up.
+    pub fn into_disk(self) -> D
+        ensures { result ≡ disk_of (store_of self) }
+    {
+        let Core {
+            id, state, store, ..
+        } = self;
+        drop(id);
+        drop(state);
+        store.into_disk()
+    }
+
+    /// Handles an event. `Start` comes first, and once. It answers `NoConnection` exactly if the event comes out of this
+    /// turn, is about a connection that isn't live, or about a new one whose number doesn't rise, and `Failed` exactly if an
+    /// earlier call answered `Disk` or `Memory`; both change nothing. After `Disk` and `Memory` the router is failed, and is to
+    /// be opened again.
+    ///
+    /// What the event does to the book is written to the journal, as one batch, before any of its items is put out.
     pub fn handle(&mut self, event: Event) -> Result<Done, CoreFault>
         // The trace continues with the event and its replies.
-        ensures fits { OnOk result ((t : List Entry) → Fits self.old t → (u : List Entry) × Replies (id_of self.old) t (step_of event) u × Fits self.new u) }
-        ensures taken { OnOk result ((t : List Entry) → Fits self.old t → refuses t event ≡ false) }
+        ensures fits { OnOk result ((b : BookView) (t : List Entry) → Fits self.old b t → (u : List Entry) × Replies (id_of self.old) t (step_of event) u × Fits self.new b u) }
+        ensures taken { OnOk result ((b : BookView) (t : List Entry) → Fits self.old b t → declines t event ≡ false) }
         ensures works { OnOk result (is_failed self.new ≡ false) }
         ensures named { id_of self.new ≡ id_of self.old }
+
+        // The event's acts are done to the book, and written as one batch; where there are none, nothing is written.
+        ensures stands { OnOk result (Stands D.seen D.may_leave (store_of self.old) → Stands D.seen D.may_leave (store_of self.new)) }
+        ensures book { OnOk result (kept_book self.new ≡ book_behind (kept_book self.old) event) }
+        ensures written { IfOk result (λ done. IfSome done.journal (λ batch.
+            (batch.0 ≡ batch_count (journal_of (store_of self.old)) + 1) × (batch.1.items ≡ acts_of (kept_book self.old) event))) }
+        ensures silent { IfOk result (λ done. IfNone done.journal (acts_of (kept_book self.old) event ≡ [])) }
+
+        // Whatever is answered, a crash at any moment of the call leaves the book before the event or the book after it; and after
+        // a fault either no item was put out, or it leaves the book after it.
+        ensures any_moment { Stands D.seen D.may_leave (store_of self.old) → LeavesOnly D.moment D.left_since (disk_of (store_of self.old)) (disk_of (store_of self.new))
+            (BeforeOrBehind (kept_book self.old) event) }
+        ensures told { OnErr result (Stands D.seen D.may_leave (store_of self.old)
+            → (state_of self.new ≡ state_of self.old) ⊎ IsToldBehind D.seen D.may_leave self.new (book_behind (kept_book self.old) event)) }
 
         // One more event is counted exactly if the call answers Ok.
         ensures counted { OnOk result (counts_of self.new ≡ with_event event (counts_of self.old)) }
         ensures uncounted { OnErr result (counts_of self.new ≡ counts_of self.old) }
 
         // Which fault occurs, and what it leaves.
-        ensures refused { IfErr result (λ f. f ≡ NoConnection → (self.new ≡ self.old) × ((t : List Entry) → Fits self.old t → refuses t event ≡ true)) }
-        ensures refuses { (t : List Entry) → Fits self.old t → is_failed self.old ≡ false → refuses t event ≡ true → result ≡ Err NoConnection }
+        ensures refused { IfErr result (λ f. f ≡ NoConnection → (self.new ≡ self.old) × ((b : BookView) (t : List Entry) → Fits self.old b t → declines t event ≡ true)) }
+        ensures refuses { (b : BookView) (t : List Entry) → Fits self.old b t → is_failed self.old ≡ false → declines t event ≡ true → result ≡ Err NoConnection }
         ensures failed { is_failed self.old ≡ true → result ≡ Err Failed }
         ensures unchanged { IfErr result (λ f. f ≡ Failed → (self.new ≡ self.old) × (is_failed self.old ≡ true)) }
         ensures memory { IfErr result (λ f. f ≡ Memory → is_failed self.new ≡ true) }
-        ensures no_disk { IfErr result (λ f. f ≡ Disk → ⊥) }
+        ensures disk { IfErr result (λ f. f ≡ DiskFailed → is_failed self.new ≡ true) }
+        ensures cause { IfErr result (λ f. f ≡ DiskFailed → D.failures (disk_of (store_of self.old)) < D.failures (disk_of (store_of self.new))) }
     {
         if self.failed {
             drop(event);
             return Err(CoreFault::Failed);
         }
-        if self.state.refuses(&event) {
+        if self.declines(&event) {
             drop(event);
             return Err(CoreFault::NoConnection);
         }
-        match self.answer(event) {
-            Ok(()) => Ok(Done {}),
-            Err(AllocError) => {
+        let journal = match self.write(&event) {
+            Ok(journal) => journal,
+            Err(fault) => {
+                drop(event);
                 self.failed = true;
-                Err(CoreFault::Memory)
+                return Err(fault);
             }
+        };
+        let Ok(()) = self.answer(event) else {
+            drop(journal);
+            self.failed = true;
+            return Err(CoreFault::Memory);
+        };
+        Ok(Done { journal })
+    }
+
+    /// Whether an event comes out of turn, or is refused.
+    fn declines(&self, event: &Event) -> bool
+        ensures { (b : BookView) (t : List Entry) → Fits self.now b t → result ≡ declines t event.now }
+    {
+        let out_of_turn = match event {
+            Event::Start => self.started,
+            _ => !self.started,
+        };
+        out_of_turn || self.state.refuses(event)
+    }
+
+    /// Does an event's acts to the book, and writes them as one batch; where there are none, nothing is written.
+    #[tactic(auto, unfolding(book_core::specs::Book::effects))]
+    fn write(&mut self, event: &Event) -> Result<Option<(u64, Vec<Act>)>, CoreFault>
+        ensures rest { self.new ≡ record self.old { store = store_of self.new } }
+        ensures stands { OnOk result (Stands D.seen D.may_leave (store_of self.old) → Stands D.seen D.may_leave (store_of self.new)) }
+        ensures book { OnOk result (kept_book self.new ≡ book_behind (kept_book self.old) event.now) }
+        ensures written { IfOk result (λ w. IfSome w (λ batch.
+            (batch.0 ≡ batch_count (journal_of (store_of self.old)) + 1) × (batch.1.items ≡ acts_of (kept_book self.old) event.now))) }
+        ensures silent { IfOk result (λ w. IfNone w (acts_of (kept_book self.old) event.now ≡ [])) }
+        ensures any_moment { Stands D.seen D.may_leave (store_of self.old) → LeavesOnly D.moment D.left_since (disk_of (store_of self.old)) (disk_of (store_of self.new))
+            (BeforeOrBehind (kept_book self.old) event.now) }
+        ensures not_refused { IfErr result (λ f. f ≢ NoConnection) }
+        ensures not_failed { IfErr result (λ f. f ≢ Failed) }
+        ensures cause { IfErr result (λ f. f ≡ DiskFailed → D.failures (disk_of (store_of self.old)) < D.failures (disk_of (store_of self.new))) }
+    {
+        match event {
+            Event::Start => match self.store.start(self.alloc) {
+                Ok(batch) => Ok(batch),
+                Err(JournalFault::Disk) => Err(CoreFault::Disk),
+                Err(_) => Err(CoreFault::Memory),
+            },
+            _ => Ok(None),
         }
     }
 
-    /// Answers an event that is not refused, and counts it.
+    /// Answers an event that is not declined, and counts it.
     fn answer(&mut self, event: Event) -> Result<(), AllocError>
-        ensures tables { OnOk result ((t : List Entry) → Fits self.old t → refuses t event ≡ false → Fits self.new (answered (id_of self.old) t (step_of event))) }
+        ensures tables { OnOk result ((t : List Entry) → TablesFit (state_of self.old) t → refuses t event ≡ false → TablesFit (state_of self.new) (answered (id_of self.old) t (step_of event))) }
+        ensures started { OnOk result (self.new.started ≡ true) }
         ensures counted { OnOk result (counts_of self.new ≡ with_event event (counts_of self.old)) }
         ensures uncounted { OnErr result (counts_of self.new ≡ counts_of self.old) }
         ensures named { id_of self.new ≡ id_of self.old }
+        ensures store { store_of self.new ≡ store_of self.old }
         ensures works { is_failed self.new ≡ is_failed self.old }
     {
         let Ok(counts) = self.counts.with_event(&event) else {
@@ -165,32 +300,34 @@ impl Core {
         };
         answer(&mut self.state, &self.id, event)?;
         self.counts = counts;
+        self.started = true;
         Ok(())
     }
 
     /// Takes up to `most` items from the outbox of a connection, in order. It answers `NoConnection`
-    /// exactly if the connection is unknown, and `Failed` exactly if an earlier call answered `Memory`;
+    /// exactly if the connection is unknown, and `Failed` exactly if an earlier call answered `Disk` or `Memory`;
     /// both change nothing. After `Memory` the router is failed.
     pub fn take(&mut self, conn: ConnectionId, most: usize) -> Result<Batch, CoreFault>
         // The trace continues with the items taken.
-        ensures fits { IfOk result (λ b. (t : List Entry) → Fits self.old t → Fits self.new (Took conn.0 (length b.items.items) ∷ t)) }
-        ensures batch { IfOk result (λ b. (t : List Entry) → Fits self.old t → IsBatchOf (known t conn.0) most b) }
+        ensures fits { IfOk result (λ batch. (b : BookView) (t : List Entry) → Fits self.old b t → Fits self.new b (Took conn.0 (length batch.items.items) ∷ t)) }
+        ensures batch { IfOk result (λ batch. (b : BookView) (t : List Entry) → Fits self.old b t → IsBatchOf (known t conn.0) most batch) }
         ensures whose { IfOk result (λ b. b.conn ≡ conn) }
         ensures most { IfOk result (λ b. length b.items.items ≤ most) }
         ensures works { OnOk result (is_failed self.new ≡ false) }
         ensures named { id_of self.new ≡ id_of self.old }
+        ensures store { store_of self.new ≡ store_of self.old }
 
         // One more batch is counted exactly if the call answers Ok.
         ensures counted { OnOk result (counts_of self.new ≡ with_batch (counts_of self.old)) }
         ensures uncounted { OnErr result (counts_of self.new ≡ counts_of self.old) }
 
         // Which fault occurs, and what it leaves.
-        ensures refused { IfErr result (λ f. f ≡ NoConnection → (self.new ≡ self.old) × ((t : List Entry) → Fits self.old t → known t conn.0 ≡ None)) }
-        ensures refuses { (t : List Entry) → Fits self.old t → is_failed self.old ≡ false → known t conn.0 ≡ None → result ≡ Err NoConnection }
+        ensures refused { IfErr result (λ f. f ≡ NoConnection → (self.new ≡ self.old) × ((b : BookView) (t : List Entry) → Fits self.old b t → known t conn.0 ≡ None)) }
+        ensures refuses { (b : BookView) (t : List Entry) → Fits self.old b t → is_failed self.old ≡ false → known t conn.0 ≡ None → result ≡ Err NoConnection }
         ensures failed { is_failed self.old ≡ true → result ≡ Err Failed }
         ensures unchanged { IfErr result (λ f. f ≡ Failed → (self.new ≡ self.old) × (is_failed self.old ≡ true)) }
         ensures memory { IfErr result (λ f. f ≡ Memory → is_failed self.new ≡ true) }
-        ensures no_disk { IfErr result (λ f. f ≡ Disk → ⊥) }
+        ensures no_disk { IfErr result (λ f. f ≡ DiskFailed → ⊥) }
     {
         if self.failed {
             return Err(CoreFault::Failed);
@@ -221,7 +358,7 @@ impl Core {
 
     /// The lowest ready connection: an item is waiting in its outbox, or the router ended it.
     pub fn ready(&self) -> Option<ConnectionId>
-        ensures { (t : List Entry) → Fits self.now t → IsLeast (λ c. is_ready (known t c)) (option_map (λ c. c.0) result) }
+        ensures { (b : BookView) (t : List Entry) → Fits self.now b t → IsLeast (λ c. is_ready (known t c)) (option_map (λ c. c.0) result) }
     {
         match self.state.ready() {
             None => None,
@@ -231,7 +368,7 @@ impl Core {
 
     /// The lowest ready connection above another.
     pub fn ready_behind(&self, conn: ConnectionId) -> Option<ConnectionId>
-        ensures { (t : List Entry) → Fits self.now t → IsLeast (λ c. nat_lt conn.0 c && is_ready (known t c)) (option_map (λ c. c.0) result) }
+        ensures { (b : BookView) (t : List Entry) → Fits self.now b t → IsLeast (λ c. nat_lt conn.0 c && is_ready (known t c)) (option_map (λ c. c.0) result) }
     {
         match self.state.ready_behind(conn.0) {
             None => None,
@@ -241,23 +378,36 @@ impl Core {
 
     /// Whether a connection is known: it is live, or it is over and its outbox isn't empty.
     pub fn knows(&self, conn: ConnectionId) -> bool
-        ensures { (t : List Entry) → Fits self.now t → result ≡ is_some (known t conn.0) }
+        ensures { (b : BookView) (t : List Entry) → Fits self.now b t → result ≡ is_some (known t conn.0) }
     {
         self.state.phase(conn.0).is_some()
     }
 
     /// Whether a connection is live: it is up, and the router didn't end it.
     pub fn is_live(&self, conn: ConnectionId) -> bool
-        ensures { (t : List Entry) → Fits self.now t → result ≡ is_live (known t conn.0) }
+        ensures { (b : BookView) (t : List Entry) → Fits self.now b t → result ≡ is_live (known t conn.0) }
     {
         self.state.standing(conn.0).is_some()
     }
 
     /// Whether a connection is ready: an item is waiting in its outbox, or the router ended it.
     pub fn is_ready(&self, conn: ConnectionId) -> bool
-        ensures { (t : List Entry) → Fits self.now t → result ≡ is_ready (known t conn.0) }
+        ensures { (b : BookView) (t : List Entry) → Fits self.now b t → result ≡ is_ready (known t conn.0) }
     {
         self.state.is_ready(conn.0)
+    }
+}
+
+impl<D: Crash> Core<D> {
+    /// After so many calls of the disk more every call fails, on a disk that has a fuse.
+    pub fn fuse(&mut self, calls: u64)
+        ensures rest { self.new ≡ record self.old { store = store_of self.new } }
+        ensures stands { Stands D.Disk.seen D.Disk.may_leave (store_of self.old) → Stands D.Disk.seen D.Disk.may_leave (store_of self.new) }
+        ensures book { kept_book self.new ≡ kept_book self.old }
+        ensures set { D.lets_through (disk_of (store_of self.new)) ≡ D.fused calls }
+        ensures failures { D.Disk.failures (disk_of (store_of self.new)) ≡ D.Disk.failures (disk_of (store_of self.old)) }
+    {
+        self.store.fuse(calls);
     }
 }
 

@@ -7,8 +7,8 @@ use Rattle.router_core.proofs.RunLemmas.{all_run, past_more}
 use Rattle.router_core.proofs.driving.drive.Goals as goal
 
 pub returns-clause-ran : goal.returns-clause-ran
-returns-clause-ran c = λ none t f.
-    let w = c.loop-event.invariant.past t f
+returns-clause-ran g c = λ none b t f.
+    let w = c.loop-event.invariant.past b t f
     in (
       w.1,
       all_run (id_of c.args.core.now) t c.args.events.items w.0 (into_iter_items c.loop-event.event-iterator) c.loop-event.taken.items w.1
@@ -17,10 +17,10 @@ returns-clause-ran c = λ none t f.
     )
 
 pub loop-event-preserved : goal.loop-event-preserved
-loop-event-preserved c = record {
-  past = λ t f.
-      let w = c.loop-event.invariant.past t f in
-      let s = c.in-Ok.ensures.fits w.1 w.5 in
+loop-event-preserved g c = record {
+  past = λ b t f.
+      let w = c.loop-event.invariant.past b t f in
+      let s = c.in-Ok.ensures.fits b w.1 w.5 in
       let p = past_more (id_of c.args.core.now) (id_of c.loop-event.core) c.loop-event.handled t w.1 s.1 c.args.events.items w.0
       (into_iter_items c.loop-event.event-iterator) (into_iter_items c.next.new.self) c.in-Some.event c.loop-event.taken.items s.0 c.step.new.taken.items
       c.loop-event.invariant.named c.in-Some.ensures.steps.0 s.4 w.2 w.3 w.4 s.2
@@ -31,9 +31,9 @@ loop-event-preserved c = record {
 }
 
 pub returns-in-Err-clause-stopped : goal.returns-in-Err-clause-stopped
-returns-in-Err-clause-stopped c = λ t f.
-    let w = c.loop-event.invariant.past t f in
-    let b = c.in-Err.ensures.broken w.1 w.5 in
+returns-in-Err-clause-stopped g c = λ b t f.
+    let w = c.loop-event.invariant.past b t f in
+    let left = c.in-Err.ensures.broken b w.1 w.5 in
     record {
       first = w.0;
       event = c.in-Some.event;
@@ -43,7 +43,7 @@ returns-in-Err-clause-stopped c = λ t f.
       mid = w.1;
       before = c.loop-event.taken.items;
       run = w.4;
-      last = b.0;
-      broken = subst (λ (i : List ℕ). Broken i c.loop-event.handled w.1 c.in-Some.event b.0) c.loop-event.invariant.named b.1;
-      items = b.2;
+      last = left.0;
+      broken = subst (λ (i : List ℕ). Broken i c.loop-event.handled w.1 c.in-Some.event left.0) c.loop-event.invariant.named left.1;
+      items = left.2;
     }
