@@ -19,6 +19,10 @@ use Rattle.router_play.specs.Script.{Scene, with_socket, say_all, say, out_line,
 use Rattle.router_play.specs.Asking.{IsAskedAt, IsVerdict, AsksAt, behind, follow}
 use Rattle.router_core.specs.declared.router.Core.{Core}
 use Rattle.router_trace.specs.Trace.{Trace}
+use Rattle.book_core.specs.Book.{empty_book}
+use Rattle.disk_core.specs.declared.fuse.FuseDisk.{FuseDisk}
+use Rattle.disk_core.specs.declared.memory.MemDisk.{MemDisk}
+use Rattle.router_core.specs.Books.{is_started}
 use Rattle.router_core.specs.Handling.{Fits, id_of}
 use Rattle.router_play.specs.Playing.{Follows}
 use Rattle.router_conns.proofs.Lists.{by_test}
@@ -137,7 +141,8 @@ asked_scene p q c i a s asks core config newest lines follows =
     in (
       w.after,
       record {
-        core = subst (λ (k : Core). Fits k w.after.trace) (sym core) (subst (λ (t : Trace). Fits p.core t) (sym w.trace) follows.core);
+        core = subst (λ (k : Core (FuseDisk MemDisk)). Fits k empty_book w.after.trace) (sym core) (subst (λ (t : Trace). Fits p.core empty_book t) (sym w.trace) follows.core);
+        started = ap is_started w.trace ∙ follows.started;
         named = ap id_of core ∙ follows.named ∙ sym w.id;
         config = ap (λ r. r.now) config ∙ follows.config ∙ sym w.config;
         last = newest ∙ follows.last ∙ sym w.last;

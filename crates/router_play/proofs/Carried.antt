@@ -139,7 +139,7 @@ play_unmade (step.Tick ms ∷ xs) s u c f h plays =
 
 pub play_carries : (config : Settings) (steps : List Step) (u : Scene) (c : ℕ) → Plays steps (opening config) u → Carries (door_in config c steps) (bytes_in c steps) u.trace u.lines c
 play_carries config steps u c plays = play_unmade steps (opening config) u c (λ n. refl) (record {
-  entered = record { real = ([], refl); said = []; balance = refl; stands = (record { silent = λ m. refl; begins = λ m. ([], refl); whole = λ l m. absurd (true≢false (sym l)) }, refl) };
+  entered = record { real = began config.router_id (routing_of config); said = []; balance = refl; stands = (record { silent = λ m. refl; begins = λ m. ([], refl); whole = λ l m. absurd (true≢false (sym l)) }, refl) };
   socket = refl;
   unknown = refl;
   silent = refl;

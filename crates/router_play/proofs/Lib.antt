@@ -1,6 +1,7 @@
 mod Asks
 mod Bytes
 mod Scenes
+mod Beginning
 mod PlayMoves
 mod Alike
 mod Doored

@@ -22,6 +22,7 @@ use Rattle.router_play.specs.Script.{Scene, opening, refused, say, say_all, out_
 use Rattle.router_core.specs.Moves.{IsTrace}
 use Rattle.router_core.proofs.Moves.{Leads, leads_on, leads_same, leads_event, leads_take}
 use Rattle.router_trace.specs.Trace.{step_of}
+use Rattle.router_play.proofs.Beginning.{began}
 
 -- a scene of the same router, to whose trace moves lead
 pub record Onward (s u : Scene) : Type 0 where
@@ -155,4 +156,5 @@ plays_onward (x ∷ xs) s u plays =
     in onward_on s plays.0 u (takes_onward x s plays.0 plays.2) (onward_on plays.0 plays.1 u emptied (plays_onward xs plays.1 u plays.4))
 
 pub play_is_trace : (config : Settings) (steps : List Step) (u : Scene) → Plays steps (opening config) u → IsTrace config.router_id (routing_of config) u.trace
-play_is_trace config steps u plays = (plays_onward steps (opening config) u plays).leads
+play_is_trace config steps u plays =
+    leads_on config.router_id (configured (routing_of config)) (opening config).trace u.trace (began config.router_id (routing_of config)) (plays_onward steps (opening config) u plays).leads

@@ -17,7 +17,7 @@ use Rattle.router_play.specs.declared.line.Line.TheVariants as line
 use Rattle.router_play.specs.declared.socket.Socket.{Socket}
 use Rattle.router_play.specs.declared.script.Step.{Step}
 use Rattle.router_play.specs.declared.script.Step.TheVariants as step
-use Rattle.router_trace.specs.Trace.{Trace, step_of}
+use Rattle.router_trace.specs.Trace.{Trace, did, step_of}
 use Rattle.router_trace.specs.Connection.{Connection, conn, took, is_ready}
 use Rattle.router_trace.specs.Refusing.{refuses, rises}
 use Rattle.router_core.specs.Replies.{answered}
@@ -35,9 +35,9 @@ pub record Scene : Type 0 where
   pub sockets : ℕ → Option Socket
   pub lines : List Line
 
--- before the first step
+-- before the first step: the router is started, which puts nothing out
 abbrev pub opening : Settings → Scene
-opening config = record { id = config.router_id; config = config; trace = configured (routing_of config); last = None; sockets = λ c. None; lines = [] }
+opening config = record { id = config.router_id; config = config; trace = did event.Start ∷ configured (routing_of config); last = None; sockets = λ c. None; lines = [] }
 
 -- more lines
 abbrev pub say_all : List Line → Scene → Scene

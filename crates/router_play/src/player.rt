@@ -1,6 +1,11 @@
 //! Plays a script.
 ghost use Rattle.std.specs.Prelude.{◌≡◌, ◌==◌, ◌∷◌, ◌++◌, ℕ, List, [], None, Some, map, option_map, true, false, if◌then◌else◌, OnOk, IfOk};
-ghost use Rattle.router_core.specs.Handling.{is_failed};
+ghost use Rattle.book_core.specs.Book.{empty_book};
+ghost use Rattle.route_table.specs.Places.{routing_of};
+ghost use Rattle.route_table.specs.Settings.{Settings};
+ghost use Rattle.router_trace.specs.Configuration.{configured};
+ghost use Rattle.router_core.specs.Books.{is_start};
+ghost use Rattle.router_core.specs.Handling.{Fits, id_of, is_failed};
 ghost use Rattle.router_play.specs.Script.{Scene, opening, PlaysAll, book, refused, out_line, say_all, hand, enter, enter_all, BytesCome, make, lose, Takes, take_one, close_if, Flushes, Plays};
 ghost use Rattle.router_play.specs.Carrying.{RunsCarry};
 ghost use Rattle.router_trace.specs.Connection.{conn as known, is_ready};
@@ -9,7 +14,7 @@ ghost use Rattle.router_play.specs.Asking.{follow};
 ghost use Rattle.router_trace.specs.declared.event.Event.TheVariants as event;
 ghost use Rattle.router_play.specs.declared.line.Line.TheVariants as line;
 ghost use Rattle.router_play.specs.declared.line.Line.{Line as ALine};
-ghost use Rattle.router_play.specs.Playing.{Follows, Said, IsRead, part_by};
+ghost use Rattle.router_play.specs.Playing.{Begun, Follows, Said, IsRead, part_by};
 
 use crate::line::Line;
 use crate::listening::door_for;
@@ -18,6 +23,8 @@ use crate::socket::{Asked, Socket};
 use crate::sockets::{Parted, add, ask_in, close, part_in, read_in};
 use amqp_frames::{Item, write_item};
 use amqp_perf::Binary;
+use disk_core::{FuseDisk, MemDisk};
+use gate_journal::format;
 use router_core::{Batch, Config, Core, CoreFault};
 use router_trace::{ConnectionId, Event, Peer, PeerRole};
 use std::alloc::{AllocError, Global};
@@ -31,7 +38,7 @@ const MOST: usize = 64;
 struct Player<'a> {
     alloc: Global,
     config: &'a Config,
-    core: Core,
+    core: Core<FuseDisk<MemDisk>>,
     sockets: BTreeMap<u64, Socket>,
     newest: Option<u64>,
     lines: Vec<Line>,
@@ -87,13 +94,39 @@ fn play_run(
 ) -> Result<bool, AllocError>
     ensures { IfOk result (λ works. works ≡ true → (u : Scene) × Plays run.now.steps.items (opening config.now) u × (lines.new.items ≡ lines.old.items ++ u.lines)) }
 {
-    let mut player = Player::new(alloc, config)?;
+    let mut player = begun(alloc, config)?;
     let played = player.play(&run.steps);
     let works = !player.core.is_failed();
     let Player { lines: told, .. } = player;
     append(lines, told)?;
     played?;
     Ok(works)
+}
+
+/// A router in memory, with a new journal.
+fn opened(alloc: Global, config: &Config) -> Result<Core<FuseDisk<MemDisk>>, AllocError>
+    ensures fits { IfOk result (λ core. Fits core empty_book (configured (routing_of config.now))) }
+    ensures works { IfOk result (λ core. is_failed core ≡ false) }
+    ensures named { IfOk result (λ core. id_of core ≡ config.now.router_id) }
+{
+    let mut disk = FuseDisk::new(MemDisk::new(alloc));
+    let Ok(()) = format(&mut disk) else {
+        drop(disk);
+        return Err(AllocError);
+    };
+    match Core::open(alloc, disk, config) {
+        Ok(core) => Ok(core),
+        Err(_) => Err(AllocError),
+    }
+}
+
+/// A player before the first step, its router started.
+fn begun<'a>(alloc: Global, config: &'a Config) -> Result<Player<'a>, AllocError>
+    ensures follows { IfOk result (λ p. is_failed p.core ≡ false → Follows p (opening config.now)) }
+{
+    let mut player = Player::new(alloc, config)?;
+    player.start()?;
+    Ok(player)
 }
 
 /// Appends lines.
@@ -124,14 +157,14 @@ fn say_book(lines: &mut Vec<Line>) -> Result<(), AllocError>
 }
 
 impl<'a> Player<'a> {
-    /// A player before the first step.
+    /// A player whose router isn't started yet.
     fn new(alloc: Global, config: &'a Config) -> Result<Player<'a>, AllocError>
-        ensures follows { IfOk result (λ p. Follows p (opening config.now)) }
+        ensures begun { IfOk result (λ p. Begun p config.now) }
     {
         Ok(Player {
             alloc,
             config,
-            core: Core::open(alloc, config)?,
+            core: opened(alloc, config)?,
             sockets: BTreeMap::new(alloc),
             newest: None,
             lines: Vec::new(alloc),
@@ -173,13 +206,30 @@ impl<'a> Player<'a> {
         Ok(())
     }
 
-    /// Hands an event to the router.
+    /// Starts the router.
+    fn start(&mut self) -> Result<(), AllocError>
+        ensures follows { OnOk result (is_failed self.new.core ≡ false → (config : Settings) → Begun self.old config → Follows self.new (opening config)) }
+    {
+        match self.core.handle(Event::Start) {
+            Ok(done) => {
+                drop(done);
+                Ok(())
+            }
+            Err(fault) => self.say(Line::Failed(fault)),
+        }
+    }
+
+    /// Hands an event to the router, which is started.
     fn hand(&mut self, event: Event) -> Result<(), AllocError>
+        requires not_start { is_start event ≡ false }
         ensures follows { OnOk result (is_failed self.new.core ≡ false → (s : Scene) → Follows self.old s → Follows self.new (hand event s)) }
         ensures stays { is_failed self.old.core ≡ true → is_failed self.new.core ≡ true }
     {
         match self.core.handle(event) {
-            Ok(_) => Ok(()),
+            Ok(done) => {
+                drop(done);
+                Ok(())
+            }
             Err(fault) => self.say(Line::Failed(fault)),
         }
     }
