@@ -1,5 +1,6 @@
 //! What the threads of a serving program share.
 use crate::lines::Lines;
+use disk_core::MemDisk;
 use route_table::Config;
 use router_core::{ConnectionId, CoreFault, Event, Peer};
 use router_serve::{Ledgers, NoLog, Seat, Shared};
@@ -39,7 +40,7 @@ pub struct Hub<G: Ledgers> {
     /// For everything that grows.
     pub alloc: Global,
     /// The router.
-    pub shared: Shared<NoLog, G>,
+    pub shared: Shared<MemDisk, NoLog, G>,
     /// The configuration.
     pub config: Config,
     /// The lines on standard error.
@@ -55,6 +56,15 @@ pub struct Hub<G: Ledgers> {
 }
 
 impl<G: Ledgers> Hub<G> {
+    /// Starts the router. Where it answers a fault it fails, and every later call tells so.
+    pub fn start<R: Wait>(&self, rt: &R) {
+        let Some(mut seat) = self.seat(rt) else {
+            return;
+        };
+        let _ = self.shared.submit(rt, &mut seat, Event::Start);
+        self.put_back(rt, seat);
+    }
+
     /// A seat, to be put back later.
     pub fn seat<R: Wait>(&self, rt: &R) -> Option<Seat<G>> {
         let free = self.bench.lock(rt).pop();

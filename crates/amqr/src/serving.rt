@@ -9,6 +9,8 @@ use crate::lines::Lines;
 use crate::listening::listen;
 use amqr_commands::{Refusal, Serving, Status, config_at, refuse};
 use route_table::{Config, Listener, Role};
+use disk_core::MemDisk;
+use gate_journal::format;
 use router_core::Core;
 use router_serve::{Blanks, Hall, NoLog, SEATS, Shared, Six};
 use std::alloc::{AllocError, Global};
@@ -94,6 +96,22 @@ fn bind_all<R: Net<Listener = TcpListener, Stream = TcpStream>>(
     Ok(sockets)
 }
 
+/// A router with a new journal in memory; none if memory is refused.
+fn opened(alloc: Global, config: &Config) -> Option<Core<MemDisk>>
+    ensures opened { IfSome result IsOpened }
+    ensures counts { IfSome result (λ core. counts_of core ≡ uncounted) }
+{
+    let mut disk = MemDisk::new(alloc);
+    let Ok(()) = format(&mut disk) else {
+        drop(disk);
+        return None;
+    };
+    match Core::open(alloc, disk, config) {
+        Ok(core) => Some(core),
+        Err(_) => None,
+    }
+}
+
 /// Opens the router and serves, with ledgers that are made for it.
 fn start<
     R: Net<Listener = TcpListener, Stream = TcpStream> + Threads + Wait + Sync + Clock + Eprint,
@@ -105,7 +123,9 @@ fn start<
     sockets: &[TcpListener],
     serving: Serving<'_>,
 ) -> Result<Status, AllocError> {
-    let core = Core::open(alloc, &config)?;
+    let Some(core) = opened(alloc, &config) else {
+        return Err(AllocError);
+    };
     let blanks = Blanks {
         ups: Blank::new(SEATS),
         items: Blank::new(SEATS),
@@ -135,7 +155,7 @@ fn counted<
     own: &[Listener],
     sockets: &[TcpListener],
     serving: Serving<'_>,
-    core: Core,
+    core: Core<MemDisk>,
     blanks: Blanks,
 ) -> Result<Status, AllocError>
     requires opened { IsOpened core }
@@ -147,7 +167,7 @@ fn counted<
     requires starts { (blanks.starts.name ≡ S.name) × (blanks.starts.parts ≡ S.parts) × (S.seats ≡ S.parts) × (S.seats ≡ 4611686018427387904) }
     requires batches { (blanks.batches.name ≡ B.name) × (blanks.batches.parts ≡ B.parts) × (B.seats ≡ B.parts) × (B.seats ≡ 4611686018427387904) }
 {
-    let shared: Shared<NoLog, Six<U, I, D, T, S, B>> = Shared::new(
+    let shared: Shared<MemDisk, NoLog, Six<U, I, D, T, S, B>> = Shared::new(
         alloc,
         core,
         NoLog {},
@@ -168,6 +188,7 @@ fn counted<
         }),
         over: Condvar::new(),
     };
+    hub.start(rt);
     listen(rt, &hub, listeners_of(&hub.config, own), sockets);
     let Hub { shared, bench, .. } = hub;
     let closed = shared.close(bench.into_inner(), Vec::new(alloc));

@@ -14,6 +14,8 @@ use Rattle.router_play.specs.Listening.{door_for}
 use Rattle.router_play.specs.Script.{Scene, opening, say, refused, hand, made, lose, Takes, Flushes, Plays, PlaysAll}
 use Rattle.router_play.specs.Carrying.{behind_up, role_in, door_in, bytes_of, bytes_in, door_says, passed, Carries, RunsCarry}
 use Rattle.router_conns.proofs.Lists.{by_test}
+use Rattle.route_table.specs.Places.{routing_of}
+use Rattle.router_play.proofs.Beginning.{began}
 use Rattle.router_play.proofs.PlayMoves.{play_is_trace, takes_onward, take_all_onward}
 use Rattle.router_play.proofs.Entering.{Quiet}
 use Rattle.router_play.proofs.Passing.{take_all_last}

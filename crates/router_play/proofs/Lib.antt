@@ -1,6 +1,7 @@
 mod Asks
 mod Bytes
 mod Scenes
+mod Empty
 mod Beginning
 mod PlayMoves
 mod Alike

@@ -11,13 +11,14 @@ use Rattle.router_trace.specs.declared.event.ConnectionId.{ConnectionId}
 use Rattle.router_trace.specs.declared.event.PeerRole.{PeerRole}
 use Rattle.router_trace.specs.declared.event.Event.{Event}
 use Rattle.router_trace.specs.declared.event.Event.TheVariants as event
-use Rattle.router_trace.specs.Trace.{Entry, Took}
+use Rattle.router_trace.specs.Trace.{Entry, Took, did}
 use Rattle.router_trace.specs.Connection.{Connection, conn, is_live}
 use Rattle.router_trace.specs.Refusing.{rises}
 use Rattle.router_core.specs.declared.door.Door.{Door as DoorState}
 use Rattle.router_core.specs.Runs.{Taking, items_of, took_one}
 use Rattle.router_core.specs.Laws.{untaken}
 use Rattle.router_core.proofs.Plain.{Calm}
+use Rattle.router_play.proofs.Beginning.{began}
 use Rattle.router_play.specs.declared.socket.Socket.{Socket}
 use Rattle.router_play.specs.declared.script.Step.{Step}
 use Rattle.router_play.specs.declared.script.Step.TheVariants as step

@@ -5,6 +5,7 @@ ghost use Rattle.router_serve.specs.Submitting.{with_items, needs_down, Submitte
 use crate::end::ReadEnd;
 use crate::gate::{Gate, Side};
 use amqp_frames::{FrameFault, FrameReader, Item};
+use disk_core::Disk;
 use router_core::{ConnectionId, CoreFault, Event};
 use router_shared::{Ledgers, Log, Receipt, Seat, Shared};
 use std::alloc::Global;
@@ -17,10 +18,10 @@ pub const PIECE: usize = 65_536;
 /// Submits what a peer sends: the items left over from the door, then those of the input, and at the end one loss of the
 /// connection, unless the router answered `Failed` or `NoConnection`. It returns the seat, the receipts if any, and
 /// why it ended.
-pub fn serve_reader<L: Log, G: Ledgers, R: Wait, I: Read, P: Gate>(
+pub fn serve_reader<D: Disk, L: Log, G: Ledgers, R: Wait, I: Read, P: Gate>(
     rt: &R,
     alloc: Global,
-    shared: &Shared<L, G>,
+    shared: &Shared<D, L, G>,
     seat: Seat<G>,
     conn: ConnectionId,
     left: Vec<Item>,
@@ -51,10 +52,10 @@ fn needs_down(end: ReadEnd) -> bool
 }
 
 /// Submits the items left over and those of the input, until one of them is refused or the input ends.
-fn hand_in_all<L: Log, G: Ledgers, R: Wait, I: Read, P: Gate>(
+fn hand_in_all<D: Disk, L: Log, G: Ledgers, R: Wait, I: Read, P: Gate>(
     rt: &R,
     alloc: Global,
-    shared: &Shared<L, G>,
+    shared: &Shared<D, L, G>,
     seat: &mut Seat<G>,
     conn: ConnectionId,
     left: Vec<Item>,
@@ -86,9 +87,9 @@ fn hand_in_all<L: Log, G: Ledgers, R: Wait, I: Read, P: Gate>(
 /// # Errors
 ///
 /// Why the reader ends: the router's fault, or `End` after an item `Bad`.
-fn hand_in<L: Log, G: Ledgers, R: Wait, P: Gate>(
+fn hand_in<D: Disk, L: Log, G: Ledgers, R: Wait, P: Gate>(
     rt: &R,
-    shared: &Shared<L, G>,
+    shared: &Shared<D, L, G>,
     seat: &mut Seat<G>,
     conn: ConnectionId,
     items: Vec<Item>,

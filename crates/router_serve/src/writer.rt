@@ -7,6 +7,7 @@ use crate::end::WriteEnd;
 use crate::gate::{Gate, Side};
 use crate::writing::write_beginning;
 use amqp_frames::{Item, write_item};
+use disk_core::Disk;
 use router_core::{Batch, ConnectionId};
 use router_shared::{Ledgers, Log, Seat, Shared};
 use std::alloc::{AllocError, Global};
@@ -15,10 +16,10 @@ use std::sync::Wait;
 
 /// Writes a connection's outgoing items, batch by batch, each in one write if the output takes it whole, until
 /// the router ends the connection or something fails. It returns the seat, and why it ended.
-pub fn serve_writer<L: Log, G: Ledgers, R: Wait, W: Write, P: Gate>(
+pub fn serve_writer<D: Disk, L: Log, G: Ledgers, R: Wait, W: Write, P: Gate>(
     rt: &R,
     alloc: Global,
-    shared: &Shared<L, G>,
+    shared: &Shared<D, L, G>,
     seat: Seat<G>,
     conn: ConnectionId,
     output: &mut W,

@@ -7,7 +7,9 @@ use Rattle.router_trace.specs.declared.event.Event.{Event}
 use Rattle.router_trace.specs.declared.event.ConnectionId.{ConnectionId}
 use Rattle.router_trace.specs.Configuration.{configured}
 use Rattle.router_trace.specs.Trace.{Entry, Took, step_of}
-use Rattle.router_trace.specs.Refusing.{refuses}
+use Rattle.book_core.specs.Book.{BookView}
+use Rattle.router_core.specs.Books.{declines}
+use Rattle.router_core.proofs.Books.{not_refused}
 use Rattle.router_trace.specs.Connection.{Connection, conn}
 use Rattle.router_core.specs.declared.router.Core.{Core}
 use Rattle.router_core.specs.declared.router.Batch.{Batch}
@@ -27,23 +29,24 @@ tally_more (handles s ∷ ms) ns n = tally_more ms ns (with_event s.event n)
 tally_more (takes x ∷ ms) ns n = tally_more ms ns (with_batch n)
 
 -- one more event
-pub event_more : (old new : Core) (e : Event) → HasHistory old → is_failed old ≡ false
-    → ((t : List Entry) → Fits old t → (u : List Entry) × Replies (id_of old) t (step_of e) u × Fits new u)
-    → ((t : List Entry) → Fits old t → refuses t e ≡ false)
+pub event_more : {D : Type 0} (old new : Core D) (e : Event) → HasHistory old → is_failed old ≡ false
+    → ((b : BookView) (t : List Entry) → Fits old b t → (u : List Entry) × Replies (id_of old) t (step_of e) u × Fits new b u)
+    → ((b : BookView) (t : List Entry) → Fits old b t → declines t e ≡ false)
     → counts_of new ≡ with_event e (counts_of old) → id_of new ≡ id_of old → HasHistory new
 event_more old new e lived works fits taken counted named = λ _.
     let h = lived works in
     let id = id_of old in
-    let f = fits h.2 h.3.fits in
-    let last : Goes id (handles (step_of e) ∷ []) h.2 f.0 = (taken h.2 h.3.fits, f.1.answers) in
-    let all : Goes id (h.1 ++ handles (step_of e) ∷ []) (configured h.0) f.0 = goes_on id h.1 (handles (step_of e) ∷ []) (configured h.0) h.2 f.0 h.3.goes last in (
+    let f = fits h.0 h.3 h.4.fits in
+    let last : Goes id (handles (step_of e) ∷ []) h.3 f.0 = (not_refused h.3 e (taken h.0 h.3 h.4.fits), f.1.answers) in
+    let all : Goes id (h.2 ++ handles (step_of e) ∷ []) (configured h.1) f.0 = goes_on id h.2 (handles (step_of e) ∷ []) (configured h.1) h.3 f.0 h.4.goes last in (
       h.0,
-      h.1 ++ handles (step_of e) ∷ [],
+      h.1,
+      h.2 ++ handles (step_of e) ∷ [],
       f.0,
       record {
-        goes = subst (λ (i : List ℕ). Goes i (h.1 ++ handles (step_of e) ∷ []) (configured h.0) f.0) (sym named) all;
+        goes = subst (λ (i : List ℕ). Goes i (h.2 ++ handles (step_of e) ∷ []) (configured h.1) f.0) (sym named) all;
         fits = f.2;
-        counted = counted ∙ (ap (with_event e) h.3.counted ∙ sym (tally_more h.1 (handles (step_of e) ∷ []) uncounted));
+        counted = counted ∙ (ap (with_event e) h.4.counted ∙ sym (tally_more h.2 (handles (step_of e) ∷ []) uncounted));
       },
     )
 
@@ -53,32 +56,33 @@ batch_length None b is = elim is [ ]
 batch_length (Some v) b is = ap length is.in_order
 
 -- one more take
-pub take_more : (old new : Core) (c : ConnectionId) (b : Batch) → HasHistory old → is_failed old ≡ false
-    → ((t : List Entry) → Fits old t → Fits new (Took c.0 (length b.items.items) ∷ t))
-    → ((t : List Entry) → Fits old t → IsBatchOf (conn t c.0) 64 b)
+pub take_more : {D : Type 0} (old new : Core D) (c : ConnectionId) (x : Batch) → HasHistory old → is_failed old ≡ false
+    → ((b : BookView) (t : List Entry) → Fits old b t → Fits new b (Took c.0 (length x.items.items) ∷ t))
+    → ((b : BookView) (t : List Entry) → Fits old b t → IsBatchOf (conn t c.0) 64 x)
     → counts_of new ≡ with_batch (counts_of old) → id_of new ≡ id_of old → HasHistory new
-take_more old new c b lived works fits batch counted named = λ _.
+take_more old new c x lived works fits batch counted named = λ _.
     let h = lived works in
     let id = id_of old in
-    let same : length b.items.items ≡ length (items_of (taking c) h.2) = batch_length (conn h.2 c.0) b (batch h.2 h.3.fits) in
-    let all : Goes id (h.1 ++ takes (taking c) ∷ []) (configured h.0) (took_one (taking c) h.2)
-    = goes_on id h.1 (takes (taking c) ∷ []) (configured h.0) h.2 (took_one (taking c) h.2) h.3.goes refl in (
+    let same : length x.items.items ≡ length (items_of (taking c) h.3) = batch_length (conn h.3 c.0) x (batch h.0 h.3 h.4.fits) in
+    let all : Goes id (h.2 ++ takes (taking c) ∷ []) (configured h.1) (took_one (taking c) h.3)
+    = goes_on id h.2 (takes (taking c) ∷ []) (configured h.1) h.3 (took_one (taking c) h.3) h.4.goes refl in (
       h.0,
-      h.1 ++ takes (taking c) ∷ [],
-      took_one (taking c) h.2,
+      h.1,
+      h.2 ++ takes (taking c) ∷ [],
+      took_one (taking c) h.3,
       record {
-        goes = subst (λ (i : List ℕ). Goes i (h.1 ++ takes (taking c) ∷ []) (configured h.0) (took_one (taking c) h.2)) (sym named) all;
-        fits = subst (λ (n : ℕ). Fits new (Took c.0 n ∷ h.2)) same (fits h.2 h.3.fits);
-        counted = counted ∙ (ap with_batch h.3.counted ∙ sym (tally_more h.1 (takes (taking c) ∷ []) uncounted));
+        goes = subst (λ (i : List ℕ). Goes i (h.2 ++ takes (taking c) ∷ []) (configured h.1) (took_one (taking c) h.3)) (sym named) all;
+        fits = subst (λ (n : ℕ). Fits new h.0 (Took c.0 n ∷ h.3)) same (fits h.0 h.3 h.4.fits);
+        counted = counted ∙ (ap with_batch h.4.counted ∙ sym (tally_more h.2 (takes (taking c) ∷ []) uncounted));
       },
     )
 
 -- nothing has happened yet
-pub none_yet : (core : Core) → IsOpened core → counts_of core ≡ uncounted → HasHistory core
-none_yet core opened counts = λ _. (opened.0, [], configured opened.0, record { goes = refl; fits = opened.1; counted = counts })
+pub none_yet : {D : Type 0} (core : Core D) → IsOpened core → counts_of core ≡ uncounted → HasHistory core
+none_yet core opened counts = λ _. (opened.0, opened.1, [], configured opened.1, record { goes = refl; fits = opened.2; counted = counts })
 
 -- nothing is claimed of a router that fails
-pub failed_now : (core : Core) → is_failed core ≡ true → HasHistory core
+pub failed_now : {D : Type 0} (core : Core D) → is_failed core ≡ true → HasHistory core
 failed_now core fails = λ works. absurd (let bad : true ≡ false = sym fails ∙ works in cc)
 
 -- after an answer Ok it hadn't failed before
@@ -86,29 +90,29 @@ worked : {A : Type 0} (a : A) (b : Bool) → (b ≡ true → Ok a ≡ Err Failed
 worked a true is = absurd (let bad = is refl in cc)
 worked a false is = refl
 
--- an event is handled, or refused, or memory is refused
-pub handled : (old new : Core) (e : Event) (r : Result Done CoreFault) → HasHistory old
-    → OnOk r ((t : List Entry) → Fits old t → (u : List Entry) × Replies (id_of old) t (step_of e) u × Fits new u)
-    → OnOk r ((t : List Entry) → Fits old t → refuses t e ≡ false)
+-- an event is handled, or declined, or the disk fails, or memory is refused
+pub handled : {D : Type 0} (old new : Core D) (e : Event) (r : Result Done CoreFault) → HasHistory old
+    → OnOk r ((b : BookView) (t : List Entry) → Fits old b t → (u : List Entry) × Replies (id_of old) t (step_of e) u × Fits new b u)
+    → OnOk r ((b : BookView) (t : List Entry) → Fits old b t → declines t e ≡ false)
     → OnOk r (counts_of new ≡ with_event e (counts_of old)) → id_of new ≡ id_of old
     → (is_failed old ≡ true → r ≡ Err Failed)
-    → IfErr r (λ f. f ≡ NoConnection → (new ≡ old) × ((t : List Entry) → Fits old t → refuses t e ≡ true))
+    → IfErr r (λ f. f ≡ NoConnection → (new ≡ old) × ((b : BookView) (t : List Entry) → Fits old b t → declines t e ≡ true))
     → IfErr r (λ f. f ≡ Failed → (new ≡ old) × (is_failed old ≡ true))
-    → IfErr r (λ f. f ≡ Memory → is_failed new ≡ true) → IfErr r (λ f. f ≡ Disk → ⊥) → HasHistory new
+    → IfErr r (λ f. f ≡ Memory → is_failed new ≡ true) → IfErr r (λ f. f ≡ Disk → is_failed new ≡ true) → HasHistory new
 handled old new e (Ok d) lived fits taken counted named failed refused unchanged memory disk =
     event_more old new e lived (worked d (is_failed old) failed) fits taken counted named
-handled old new e (Err Disk) lived fits taken counted named failed refused unchanged memory disk = absurd (disk refl)
+handled old new e (Err Disk) lived fits taken counted named failed refused unchanged memory disk = failed_now new (disk refl)
 handled old new e (Err Memory) lived fits taken counted named failed refused unchanged memory disk = failed_now new (memory refl)
 handled old new e (Err Failed) lived fits taken counted named failed refused unchanged memory disk = subst HasHistory (sym (unchanged refl).0) lived
 handled old new e (Err NoConnection) lived fits taken counted named failed refused unchanged memory disk = subst HasHistory (sym (refused refl).0) lived
 
 -- items are taken, or the connection is unknown, or memory is refused
-pub taken : (old new : Core) (c : ConnectionId) (r : Result Batch CoreFault) → HasHistory old
-    → IfOk r (λ b. (t : List Entry) → Fits old t → Fits new (Took c.0 (length b.items.items) ∷ t))
-    → IfOk r (λ b. (t : List Entry) → Fits old t → IsBatchOf (conn t c.0) 64 b)
+pub taken : {D : Type 0} (old new : Core D) (c : ConnectionId) (r : Result Batch CoreFault) → HasHistory old
+    → IfOk r (λ batch. (b : BookView) (t : List Entry) → Fits old b t → Fits new b (Took c.0 (length batch.items.items) ∷ t))
+    → IfOk r (λ batch. (b : BookView) (t : List Entry) → Fits old b t → IsBatchOf (conn t c.0) 64 batch)
     → OnOk r (counts_of new ≡ with_batch (counts_of old)) → id_of new ≡ id_of old
     → (is_failed old ≡ true → r ≡ Err Failed)
-    → IfErr r (λ f. f ≡ NoConnection → (new ≡ old) × ((t : List Entry) → Fits old t → conn t c.0 ≡ None))
+    → IfErr r (λ f. f ≡ NoConnection → (new ≡ old) × ((b : BookView) (t : List Entry) → Fits old b t → conn t c.0 ≡ None))
     → IfErr r (λ f. f ≡ Failed → (new ≡ old) × (is_failed old ≡ true))
     → IfErr r (λ f. f ≡ Memory → is_failed new ≡ true) → IfErr r (λ f. f ≡ Disk → ⊥) → HasHistory new
 taken old new c (Ok b) lived fits batch counted named failed refused unchanged memory disk =

@@ -1,6 +1,8 @@
 //! The data under the lock.
 ghost use Rattle.std.specs.Prelude.{◌≡◌, ◌≤◌, [], true, length, OnOk, OnErr, IfOk, IfSome};
-ghost use Rattle.router_core.specs.Handling.{Fits, counts_of};
+ghost use Rattle.gate_journal.specs.Journal.{batch_count};
+ghost use Rattle.router_store.specs.Store.{journal_of};
+ghost use Rattle.router_core.specs.Handling.{counts_of, store_of};
 ghost use Rattle.router_core.specs.Counting.{uncounted, with_event, with_batch};
 ghost use Rattle.router_shared.specs.Adding.{sums};
 ghost use Rattle.router_shared.specs.History.{HasHistory};
@@ -11,6 +13,7 @@ use crate::ledgers::Ledgers;
 use crate::router::Router;
 use crate::seat::Seat;
 use crate::totals::Totals;
+use disk_core::Disk;
 use router_core::{Batch, ConnectionId, Core, CoreFault, Counts, Event};
 
 /// A log of a router's events and takes.
@@ -22,7 +25,7 @@ pub struct NoLog {}
 
 impl Log for NoLog {}
 
-/// A batch of the journal that was written for an event. There is none yet.
+/// A batch of the journal that was written for an event. None is given out yet.
 #[derive(Debug, Drop)]
 pub struct Receipt {
     batch: u64,
@@ -30,42 +33,46 @@ pub struct Receipt {
 
 /// The result of closing the router.
 #[derive(Drop)]
-pub struct Closed<L: Log> {
+pub struct Closed<D: Disk, L: Log> {
     /// Whether every seat came back.
     pub all: bool,
     /// The sum of the counts of the seats that came back.
     pub counts: Counts,
-    /// The number of the journal's last batch; 0 without a journal.
+    /// The number of the journal's last batch; 0 where there is none.
     pub appended: u64,
     /// That number when the router was opened.
     pub opened: u64,
     /// The router.
-    pub core: Core,
+    pub core: Core<D>,
     /// The log.
     pub log: L,
 }
 
 /// The router with its history, and the totals of the seats' counts, which are the router's own counts.
 #[derive(Drop)]
-pub struct Locked<L: Log, G: Ledgers> {
-    router: Router,
+pub struct Locked<D: Disk, L: Log, G: Ledgers> {
+    router: Router<D>,
     totals: Totals<G>,
     log: L,
+    // the number of the journal's last batch when the router was opened
+    opened: u64,
     // the bells at which a writer may sleep
     asleep: Bells,
     ghost counted: { counts_of router.core ≡ totals },
 }
 
-impl<L: Log, G: Ledgers> Locked<L, G> {
+impl<D: Disk, L: Log, G: Ledgers> Locked<D, L, G> {
     /// A new router.
-    pub fn new(router: Router, totals: Totals<G>, log: L) -> Locked<L, G>
+    pub fn new(router: Router<D>, totals: Totals<G>, log: L) -> Locked<D, L, G>
         requires router { counts_of router.core ≡ uncounted }
         requires totals { totals ≡ uncounted }
     {
+        let opened = router.batch();
         Locked {
             router,
             totals,
             log,
+            opened,
             asleep: Bells::none(),
         }
     }
@@ -152,10 +159,11 @@ impl<L: Log, G: Ledgers> Locked<L, G> {
     }
 
     /// Adds up the seats' counts, beside the router's.
-    pub fn close(self, seats: Vec<Seat<G>>, receipts: Vec<Receipt>) -> Closed<L>
+    pub fn close(self, seats: Vec<Seat<G>>, receipts: Vec<Receipt>) -> Closed<D, L>
         requires cut { (G.Ups.seats ≡ G.Ups.parts) × (G.Items.seats ≡ G.Items.parts) × (G.Downs.seats ≡ G.Downs.parts) × (G.Ticks.seats ≡ G.Ticks.parts) × (G.Starts.seats ≡ G.Starts.parts) × (G.Batches.seats ≡ G.Batches.parts) }
         ensures counts { result.counts ≡ sums seats.items }
         ensures all { result.all ≡ true → counts_of result.core ≡ result.counts }
+        ensures appended { result.appended ≡ batch_count (journal_of (store_of result.core)) }
         ensures history { ∥ HasHistory result.core ∥₁ }
     {
         drop(receipts);
@@ -163,6 +171,7 @@ impl<L: Log, G: Ledgers> Locked<L, G> {
             router,
             totals,
             log,
+            opened,
             asleep: _,
         } = self;
         let mut gathering = totals.gather();
@@ -172,8 +181,8 @@ impl<L: Log, G: Ledgers> Locked<L, G> {
         Closed {
             all: gathering.is_whole(),
             counts: gathering.counts(),
-            appended: 0,
-            opened: 0,
+            appended: router.batch(),
+            opened,
             core: router.into_core(),
             log,
         }

@@ -1,25 +1,28 @@
 //! The router with its history: the data under the lock.
 ghost use Rattle.std.specs.Prelude.{◌≡◌, ◌≤◌, length, OnOk, OnErr, IfOk};
-ghost use Rattle.router_core.specs.Handling.{counts_of, is_failed};
+ghost use Rattle.gate_journal.specs.Journal.{batch_count};
+ghost use Rattle.router_store.specs.Store.{journal_of};
+ghost use Rattle.router_core.specs.Handling.{counts_of, is_failed, store_of};
 ghost use Rattle.router_core.specs.Counting.{uncounted, with_event, with_batch};
 ghost use Rattle.router_shared.specs.History.{IsOpened, HasHistory};
 
+use disk_core::Disk;
 use router_core::{Batch, ConnectionId, Core, CoreFault, Counts, Event};
 
 /// The number of items taken at a time.
 pub const MOST: usize = 64;
 
 /// A router whose tables agree with one order of events and takes, each of which its counts contain once. After a fault of
-/// memory its contents are unspecified, and it does nothing.
+/// the disk or of memory its contents are unspecified, and it does nothing.
 #[derive(Drop)]
-pub struct Router {
-    core: Core,
+pub struct Router<D: Disk> {
+    core: Core<D>,
     ghost history: { ∥ HasHistory core ∥₁ },
 }
 
-impl Router {
+impl<D: Disk> Router<D> {
     /// A new router.
-    pub fn new(core: Core) -> Router
+    pub fn new(core: Core<D>) -> Router<D>
         requires opened { IsOpened core }
         requires counts { counts_of core ≡ uncounted }
         ensures { result.core ≡ core }
@@ -33,7 +36,10 @@ impl Router {
         ensures uncounted { OnErr result (counts_of self.new.core ≡ counts_of self.old.core) }
     {
         match self.core.handle(event) {
-            Ok(_) => Ok(()),
+            Ok(done) => {
+                drop(done);
+                Ok(())
+            }
             Err(fault) => Err(fault),
         }
     }
@@ -83,8 +89,15 @@ impl Router {
         self.core.counts()
     }
 
+    /// The number of the last batch in its journal; 0 where there is none.
+    pub fn batch(&self) -> u64
+        ensures { result ≡ batch_count (journal_of (store_of self.now.core)) }
+    {
+        self.core.batch()
+    }
+
     /// The router without its history.
-    pub fn into_core(self) -> Core
+    pub fn into_core(self) -> Core<D>
         ensures same { result ≡ self.core }
         ensures history { ∥ HasHistory result ∥₁ }
     {

@@ -1,6 +1,8 @@
 //! The lock, and the bells beside it.
 ghost use Rattle.std.specs.Prelude.{◌≡◌, ◌<◌, ◌≤◌, true, length, vec_len, OnOk, OnErr, IfOk, IfSome};
-ghost use Rattle.router_core.specs.Handling.{counts_of};
+ghost use Rattle.gate_journal.specs.Journal.{batch_count};
+ghost use Rattle.router_store.specs.Store.{journal_of};
+ghost use Rattle.router_core.specs.Handling.{counts_of, store_of};
 ghost use Rattle.router_core.specs.Counting.{uncounted, with_event, with_batch};
 ghost use Rattle.router_shared.specs.Adding.{sums};
 ghost use Rattle.router_shared.specs.History.{IsOpened, HasHistory};
@@ -11,6 +13,7 @@ use crate::locked::{Closed, Locked, Log, Receipt};
 use crate::router::Router;
 use crate::seat::Seat;
 use crate::totals::Totals;
+use disk_core::Disk;
 use router_core::{Batch, ConnectionId, Core, CoreFault, Event};
 use std::alloc::{AllocError, Global};
 use std::sync::{Condvar, Mutex, Wait};
@@ -19,22 +22,22 @@ use std::sync::{Condvar, Mutex, Wait};
 /// failed, or one whose tables agree with one order of events and takes that contains each submit and each batch of a seat
 /// once. A writer that waits sleeps at the bell of its connection.
 #[derive(Drop)]
-pub struct Shared<L: Log, G: Ledgers> {
-    state: Mutex<Locked<L, G>>,
+pub struct Shared<D: Disk, L: Log, G: Ledgers> {
+    state: Mutex<Locked<D, L, G>>,
     bells: Vec<Condvar>,
     ghost all_bells: { vec_len bells ≡ 256 },
 }
 
-impl<L: Log, G: Ledgers> Shared<L, G> {
+impl<D: Disk, L: Log, G: Ledgers> Shared<D, L, G> {
     /// Puts a new router under a lock, with a log, and the blanks of ledgers with this many parts, one for each
     /// seat. Fails if there is no memory for the bells.
     pub fn new(
         alloc: Global,
-        core: Core,
+        core: Core<D>,
         log: L,
         blanks: Blanks,
         seats: u64,
-    ) -> Result<Shared<L, G>, AllocError>
+    ) -> Result<Shared<D, L, G>, AllocError>
         requires opened { IsOpened core }
         requires counts { counts_of core ≡ uncounted }
         requires ups { (blanks.ups.name ≡ G.Ups.name) × (blanks.ups.parts ≡ G.Ups.parts) × (seats ≡ G.Ups.seats) × (G.Ups.seats ≡ G.Ups.parts) }
@@ -112,10 +115,11 @@ impl<L: Log, G: Ledgers> Shared<L, G> {
     }
 
     /// Adds up the counts of the seats that come back, beside the router's: if all seats came back, the sums equal these, number by number.
-    pub fn close(self, seats: Vec<Seat<G>>, receipts: Vec<Receipt>) -> Closed<L>
+    pub fn close(self, seats: Vec<Seat<G>>, receipts: Vec<Receipt>) -> Closed<D, L>
         requires cut { (G.Ups.seats ≡ G.Ups.parts) × (G.Items.seats ≡ G.Items.parts) × (G.Downs.seats ≡ G.Downs.parts) × (G.Ticks.seats ≡ G.Ticks.parts) × (G.Starts.seats ≡ G.Starts.parts) × (G.Batches.seats ≡ G.Batches.parts) }
         ensures counts { result.counts ≡ sums seats.items }
         ensures all { result.all ≡ true → counts_of result.core ≡ result.counts }
+        ensures appended { result.appended ≡ batch_count (journal_of (store_of result.core)) }
         ensures history { ∥ HasHistory result.core ∥₁ }
     {
         let Shared { state, bells: _ } = self;

@@ -1,0 +1,11 @@
+use Rattle.std.proofs.Common.{subst, refl}
+use Rattle.book_core.specs.Book.{BookView, empty_book, effects}
+use Rattle.route_table.specs.Places.{routing_of}
+use Rattle.router_trace.specs.Configuration.{configured}
+use Rattle.router_core.specs.Handling.{Fits}
+use Rattle.router_play.proofs.Empty.{is_empty}
+use Rattle.router_play.proofs.player.opened.Goals as goal
+
+pub returns-in-Ok-clause-fits : goal.returns-in-Ok-clause-fits
+returns-in-Ok-clause-fits c =
+    subst (λ (b : BookView). Fits c.in-Ok.core b (configured (routing_of c.args.config.now))) (is_empty _ _ c.in_ok-format.ensures.empty c.in-Ok.ensures.book) c.in-Ok.ensures.fits
