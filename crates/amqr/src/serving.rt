@@ -1,5 +1,5 @@
 //! The command that serves clients.
-ghost use Rattle.std.specs.Prelude.{◌≡◌, ◌^◌, IfOk};
+ghost use Rattle.std.specs.Prelude.{◌≡◌, ◌^◌, IfOk, IfSome};
 ghost use Rattle.router_core.specs.Handling.{counts_of};
 ghost use Rattle.router_core.specs.Counting.{uncounted};
 ghost use Rattle.router_shared.specs.History.{IsOpened};
@@ -8,9 +8,9 @@ use crate::hub::{Hub, Taking};
 use crate::lines::Lines;
 use crate::listening::listen;
 use amqr_commands::{Refusal, Serving, Status, config_at, refuse};
-use route_table::{Config, Listener, Role};
 use disk_core::MemDisk;
 use gate_journal::format;
+use route_table::{Config, Listener, Role};
 use router_core::Core;
 use router_serve::{Blanks, Hall, NoLog, SEATS, Shared, Six};
 use std::alloc::{AllocError, Global};

@@ -102,7 +102,12 @@ fn empty<D: Disk>(core: &mut Core<D>, event: usize, taken: &mut Vec<Sent>) -> Re
 }
 
 /// Handles an event, which may be refused, and empties all outboxes.
-fn step<D: Disk>(core: &mut Core<D>, place: usize, event: Event, taken: &mut Vec<Sent>) -> Result<(), CoreFault>
+fn step<D: Disk>(
+    core: &mut Core<D>,
+    place: usize,
+    event: Event,
+    taken: &mut Vec<Sent>,
+) -> Result<(), CoreFault>
     ensures fits { OnOk result ((b : BookView) (t : List Entry) → Fits core.old b t → (ys : List ASent) × (u : List Entry) × Steps (id_of core.old) place t event ys u × Fits core.new b u × (taken.new.items ≡ taken.old.items ++ ys)) }
     ensures works { OnOk result (is_failed core.new ≡ true → is_failed core.old ≡ true) }
     ensures named { id_of core.new ≡ id_of core.old }

@@ -177,7 +177,10 @@ impl<D: Disk> Core<D> {
         ensures { result ≡ disk_of (store_of self) }
     {
         let Core {
-            id, state, store, ..
+            id,
+            state,
+            store,
+            ..
         } = self;
         drop(id);
         drop(state);
