@@ -23,10 +23,10 @@ says_on (says xs) here later h ys zs = sym (append_assoc xs ys zs)
 says_on (passes user) here later h ys zs = absurd (let bad : passed user here ≡ waits = h in cc)
 says_on (ends xs) here later h ys zs = absurd (let bad : closed ≡ waits = h in cc)
 
-fate_on : (v : Verdict) (here there : List Item) (later then : Fate) → fate_by v here later ≡ waits → fate_by v there then ≡ then
-fate_on (says xs) here there later then h = refl
-fate_on (passes user) here there later then h = absurd (let bad : passed user here ≡ waits = h in cc)
-fate_on (ends xs) here there later then h = absurd (let bad : closed ≡ waits = h in cc)
+fate_on : (v : Verdict) (here there : List Item) (later last : Fate) → fate_by v here later ≡ waits → fate_by v there last ≡ last
+fate_on (says xs) here there later last h = refl
+fate_on (passes user) here there later last h = absurd (let bad : passed user here ≡ waits = h in cc)
+fate_on (ends xs) here there later last h = absurd (let bad : closed ≡ waits = h in cc)
 
 pub says_more : (d : Door) (is js : List Item) → fate d is ≡ waits → door_says d (is ++ js) ≡ door_says d is ++ door_says (door_past d is) js
 says_more d [] js h = refl

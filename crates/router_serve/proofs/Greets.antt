@@ -47,8 +47,8 @@ gives_no_more old new bytes before rest after = inl (
 )
 
 none_by : (bs : List ℕ) (f g : Bool) → (g ≡ true → f ≡ true) → f ≡ false → (bs ≡ []) ⊎ (g ≡ true) → bs ≡ []
-none_by bs f g back no (inl e) = e
-none_by bs f g back no (inr t) = absurd (let bad : true ≡ false = sym (back t) ∙ no in cc)
+none_by bs f g back sound (inl e) = e
+none_by bs f g back sound (inr t) = absurd (let bad : true ≡ false = sym (back t) ∙ sound in cc)
 
 still_none : (bs cs : List ℕ) (f g : Bool) → (g ≡ true → f ≡ true) → (bs ≡ []) ⊎ (f ≡ true) → (cs ≡ []) ⊎ (g ≡ true) → (bs ++ cs ≡ []) ⊎ (f ≡ true)
 still_none bs cs f g back (inr t) k = inr t
@@ -89,15 +89,18 @@ IsFar d old source held now mid left holds = (bytes : List ℕ) × (items : List
     × Appends held holds (spelled (door_says d items)) × (fate d items ≡ waits) × (now ≡ door_past d items)
 
 -- bytes that came, and their items
-abbrev pub Read : Option (List ℕ) → Option (List ℕ) → Stream → List Item → Stream → Type 0
-Read left less mid items new = (bytes : List ℕ) × Consumes left less bytes × Gives mid bytes items new
+abbrev pub Came : Option (List ℕ) → Option (List ℕ) → Stream → List Item → Stream → Type 0
+Came left less mid items new = (bytes : List ℕ) × Consumes left less bytes × Gives mid bytes items new
+
+pub seen_as : (left less : Option (List ℕ)) (mid new : Stream) (items seen : List Item) → seen ≡ items → Came left less mid items new → Came left less mid seen new
+seen_as left less mid new items seen is read = subst (λ (xs : List Item). Came left less mid xs new) (sym is) read
 
 pub begins : (d : Door) (old : Stream) (source held : Option (List ℕ)) → IsFar d old source held d old source held
 begins d old source held = ([], [], consumes_none source, gives_nothing old, appends_none held, refl, refl)
 
 -- the items so far and those that came
 read_on : (d : Door) (old : Stream) (source held : Option (List ℕ)) (now : Door) (mid new : Stream) (left less holds : Option (List ℕ)) (items : List Item)
-    → (far : IsFar d old source held now mid left holds) → (read : Read left less mid items new) → Gives old (far.0 ++ read.0) (far.1 ++ items) new
+    → (far : IsFar d old source held now mid left holds) → (read : Came left less mid items new) → Gives old (far.0 ++ read.0) (far.1 ++ items) new
 read_on d old source held now mid new left less holds items far read =
     gives_more old mid new far.0 read.0 far.1 items (still_reads d old mid far.0 far.1 far.3 far.5) far.3 read.2
 
@@ -118,7 +121,7 @@ written_on d old source held now mid left holds more items far wrote =
 
 -- the door answers and waits
 pub goes : (d : Door) (old : Stream) (source held : Option (List ℕ)) (now next : Door) (mid new : Stream) (left less holds more : Option (List ℕ)) (items : List Item)
-    → IsFar d old source held now mid left holds → Read left less mid items new → Appends holds more (spelled (door_says now items))
+    → IsFar d old source held now mid left holds → Came left less mid items new → Appends holds more (spelled (door_says now items))
     → waits ≡ fate now items → (fate now items ≡ waits → next ≡ door_past now items) → IsFar d old source held next new less more
 goes d old source held now next mid new left less holds more items far read wrote waiting stage = (
   far.0 ++ read.0,
@@ -164,7 +167,7 @@ failed_only e f apart same = apart (let here : e ≡ f = cc in here)
 pub refused : (d : Door) (old : Stream) (source held : Option (List ℕ)) → Greets d old old source source held held (greeted.Ended end.Memory)
 refused d old source held =
     greeted_by d old old old source source held held (greeted.Ended end.Memory) [] [] [] (consumes_none source) (gives_nothing old) (appends_none held) tt
-    (λ no. absurd (no refl)) (λ same. absurd (failed_only end.Memory end.End (λ e. absurd (let bad : end.Memory ≡ end.End = e in cc)) same))
+    (λ isnt. absurd (isnt refl)) (λ same. absurd (failed_only end.Memory end.End (λ e. absurd (let bad : end.Memory ≡ end.End = e in cc)) same))
 
 -- all reads were made
 pub tires : (d : Door) (old : Stream) (source held : Option (List ℕ)) (now : Door) (mid : Stream) (left holds : Option (List ℕ))
@@ -175,8 +178,8 @@ tires d old source held now mid left holds far =
 
 -- a read gives no items
 at_end : (ended : Type 0) (room : ℕ) (f g : Bool) → (g ≡ true → f ≡ true) → 0 < room → (0 < room → ended) ⊎ (g ≡ true) → ended ⊎ (f ≡ true)
-at_end ended room f g back some (inl h) = inl (h some)
-at_end ended room f g back some (inr t) = inr (back t)
+at_end ended room f g back roomy (inl h) = inl (h roomy)
+at_end ended room f g back roomy (inr t) = inr (back t)
 
 no_items : (old new : Stream) (bs : List ℕ) (is : List Item) → Gives old bs (is ++ []) new → Gives old bs is new
 no_items old new bs is given = subst (λ (xs : List Item). Gives old bs xs new) (append-nil is) given
@@ -184,31 +187,31 @@ no_items old new bs is given = subst (λ (xs : List Item). Gives old bs xs new) 
 pub stops : (d : Door) (old : Stream) (source held : Option (List ℕ)) (now : Door) (mid new : Stream) (left less holds : Option (List ℕ)) (e : ReadEnd) (room : ℕ) → 0 < room
     → IsFar d old source held now mid left holds → (bytes : List ℕ) × Consumes left less bytes × Stops e room mid bytes new less
     → Greets d old new source less held holds (greeted.Ended e)
-stops d old source held now mid new left less holds end.End room some far read =
+stops d old source held now mid new left less holds end.End room roomy far read =
     let bs = far.0 ++ read.0 in
     greeted_by d old new new source less held holds (greeted.Ended end.End) bs [] far.1 (none_behind source less bs (consumes_on source left less far.0 read.0 far.2 read.1))
     (no_items old new bs far.1 (read_on d old source held now mid new left less holds [] far (read.0, read.1, read.2.0))) far.4 far.5
-    (λ _. (refl, refl)) (λ _. at_end (IsAtEnd less) room old.failed mid.failed (still_reads d old mid far.0 far.1 far.3 far.5) some read.2.1)
-stops d old source held now mid new left less holds end.ReadFailed room some far read =
+    (λ _. (refl, refl)) (λ _. at_end (IsAtEnd less) room old.failed mid.failed (still_reads d old mid far.0 far.1 far.3 far.5) roomy read.2.1)
+stops d old source held now mid new left less holds end.ReadFailed room roomy far read =
     let bs = far.0 ++ read.0 in
     greeted_by d old new new source less held holds (greeted.Ended end.ReadFailed) bs [] far.1 (none_behind source less bs (consumes_on source left less far.0 read.0 far.2 read.1))
     (no_items old new bs far.1 (read_on d old source held now mid new left less holds [] far (read.0, read.1, read.2))) far.4 far.5
     (λ _. (refl, refl)) (λ same. absurd (failed_only end.ReadFailed end.End (λ e. absurd (let bad : end.ReadFailed ≡ end.End = e in cc)) same))
-stops d old source held now mid new left less holds end.Memory room some far read =
+stops d old source held now mid new left less holds end.Memory room roomy far read =
     greeted_by d old mid new source less held holds (greeted.Ended end.Memory) far.0 read.0 far.1 (consumes_on source left less far.0 read.0 far.2 read.1) far.3 far.4 tt
-    (λ no. absurd (no refl)) (λ same. absurd (failed_only end.Memory end.End (λ e. absurd (let bad : end.Memory ≡ end.End = e in cc)) same))
-stops d old source held now mid new left less holds end.Door room some far read = elim read.2 [ ]
-stops d old source held now mid new left less holds end.WriteFailed room some far read = elim read.2 [ ]
-stops d old source held now mid new left less holds (end.Core fault) room some far read = elim read.2 [ ]
+    (λ isnt. absurd (isnt refl)) (λ same. absurd (failed_only end.Memory end.End (λ e. absurd (let bad : end.Memory ≡ end.End = e in cc)) same))
+stops d old source held now mid new left less holds end.Door room roomy far read = elim read.2 [ ]
+stops d old source held now mid new left less holds end.WriteFailed room roomy far read = elim read.2 [ ]
+stops d old source held now mid new left less holds (end.Core fault) room roomy far read = elim read.2 [ ]
 
 -- the answers aren't all written
 pub breaks : (d : Door) (old : Stream) (source held : Option (List ℕ)) (now : Door) (mid new : Stream) (left less holds more : Option (List ℕ)) (items : List Item) (e : ReadEnd)
-    → IsFar d old source held now mid left holds → Read left less mid items new → Breaks e holds more (spelled (door_says now items))
+    → IsFar d old source held now mid left holds → Came left less mid items new → Breaks e holds more (spelled (door_says now items))
     → Greets d old new source less held more (greeted.Ended e)
 breaks d old source held now mid new left less holds more items end.Memory far read same =
     greeted_by d old mid new source less held more (greeted.Ended end.Memory) far.0 read.0 far.1 (consumes_on source left less far.0 read.0 far.2 read.1) far.3
     (subst (λ (o : Option (List ℕ)). Appends held o (spelled (door_says d far.1))) (sym same) far.4) tt
-    (λ no. absurd (no refl)) (λ same. absurd (failed_only end.Memory end.End (λ e. absurd (let bad : end.Memory ≡ end.End = e in cc)) same))
+    (λ isnt. absurd (isnt refl)) (λ same. absurd (failed_only end.Memory end.End (λ e. absurd (let bad : end.Memory ≡ end.End = e in cc)) same))
 breaks d old source held now mid new left less holds more items end.WriteFailed far read some =
     let bs = far.0 ++ read.0 in
     let xs = spelled (door_says d far.1) in
@@ -237,7 +240,7 @@ breaks d old source held now mid new left less holds more items (end.Core fault)
 
 -- the door lets the peer in, or ends the connection
 comes : (d : Door) (old : Stream) (source held : Option (List ℕ)) (now : Door) (mid new : Stream) (left less holds more : Option (List ℕ)) (items : List Item) (g : Greeted)
-    → IsFar d old source held now mid left holds → Read left less mid items new → Appends holds more (spelled (door_says now items)) → IsTold g (fate now items)
+    → IsFar d old source held now mid left holds → Came left less mid items new → Appends holds more (spelled (door_says now items)) → IsTold g (fate now items)
     → (g ≡ greeted.Ended end.End → ⊥) → Greets d old new source less held more g
 comes d old source held now mid new left less holds more items g far read wrote told goes_on =
     let bs = far.0 ++ read.0 in
@@ -247,14 +250,14 @@ comes d old source held now mid new left less holds more items g far read wrote 
     (λ _. (refl, refl)) (λ same. absurd (goes_on same))
 
 pub closes : (d : Door) (old : Stream) (source held : Option (List ℕ)) (now : Door) (mid new : Stream) (left less holds more : Option (List ℕ)) (items : List Item)
-    → IsFar d old source held now mid left holds → Read left less mid items new → Appends holds more (spelled (door_says now items)) → closed ≡ fate now items
+    → IsFar d old source held now mid left holds → Came left less mid items new → Appends holds more (spelled (door_says now items)) → closed ≡ fate now items
     → Greets d old new source less held more (greeted.Ended end.Door)
 closes d old source held now mid new left less holds more items far read wrote over =
     comes d old source held now mid new left less holds more items (greeted.Ended end.Door) far read wrote (sym over)
     (failed_only end.Door end.End (λ e. absurd (let bad : end.Door ≡ end.End = e in cc)))
 
 pub enters : (d : Door) (old : Stream) (source held : Option (List ℕ)) (now : Door) (mid new : Stream) (left less holds more : Option (List ℕ)) (items : List Item) (g : Greeted)
-    (user : List ℕ) (behind : List Item) → IsFar d old source held now mid left holds → Read left less mid items new → Appends holds more (spelled (door_says now items))
+    (user : List ℕ) (behind : List Item) → IsFar d old source held now mid left holds → Came left less mid items new → Appends holds more (spelled (door_says now items))
     → passed user behind ≡ fate now items → IsTold g (passed user behind) → Greets d old new source less held more g
 enters d old source held now mid new left less holds more items g user behind far read wrote up told =
     comes d old source held now mid new left less holds more items g far read wrote (subst (λ (f : Fate). IsTold g f) up told)
