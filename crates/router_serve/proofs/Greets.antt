@@ -10,8 +10,9 @@ use Rattle.router_serve.specs.declared.end.ReadEnd.{ReadEnd}
 use Rattle.router_serve.specs.declared.end.ReadEnd.TheVariants as end
 use Rattle.router_serve.specs.declared.greeting.Greeted.{Greeted}
 use Rattle.router_serve.specs.declared.greeting.Greeted.TheVariants as greeted
+use Rattle.router_serve.specs.declared.greeting.Passing.{Passing}
 use Rattle.router_serve.specs.Wrote.{spelled}
-use Rattle.router_serve.specs.Greeting.{door_says, Fate, waits, passed, closed, fate, door_past, Gives, IsTold, Greets, Stops, Breaks}
+use Rattle.router_serve.specs.Greeting.{door_says, Fate, waits, passed, closed, fate, fate_of, door_past, Gives, IsTold, Greets, Stops, Breaks}
 use Rattle.router_serve.proofs.Appending.{appends_on}
 use Rattle.router_serve.proofs.Doors.{written_more, fate_more, past_more, fate_bad}
 
@@ -94,6 +95,9 @@ Came left less mid items new = (bytes : List ℕ) × Consumes left less bytes ×
 
 pub seen_as : (left less : Option (List ℕ)) (mid new : Stream) (items seen : List Item) → seen ≡ items → Came left less mid items new → Came left less mid seen new
 seen_as left less mid new items seen is read = subst (λ (xs : List Item). Came left less mid xs new) (sym is) read
+
+pub answered_as : (p q : Passing) (items : List Item) (f : Fate) → p ≡ q → fate_of p items ≡ f → fate_of q items ≡ f
+answered_as p q items f is answered = subst (λ (x : Passing). fate_of x items ≡ f) is answered
 
 pub begins : (d : Door) (old : Stream) (source held : Option (List ℕ)) → IsFar d old source held d old source held
 begins d old source held = ([], [], consumes_none source, gives_nothing old, appends_none held, refl, refl)

@@ -1,8 +1,8 @@
-use Rattle.std.proofs.Common.{rules, ◌≡◌, ◌∙◌, ◌<◌, sym, ap, subst, List, length, drop}
+use Rattle.std.proofs.Common.{rules, ◌≡◌, ◌<◌, sym, subst, List, length, drop}
 use Rattle.amqp_frames.specs.declared.item.Item.{Item}
-use Rattle.router_serve.specs.declared.greeting.Passing.{Passing}
-use Rattle.router_serve.specs.Greeting.{waits, passed, closed, fate, fate_of, IsTold}
-use Rattle.router_serve.proofs.Greets.{seen_as, begins, goes, tires, stops, breaks, closes, enters}
+use Rattle.router_serve.specs.declared.greeting.Passing.TheVariants as passing
+use Rattle.router_serve.specs.Greeting.{waits, passed, closed, fate, IsTold}
+use Rattle.router_serve.proofs.Greets.{seen_as, answered_as, begins, goes, tires, stops, breaks, closes, enters}
 use Rattle.router_serve.proofs.greeting.greet_in.Goals as goal
 
 pub loop-turn-init : goal.loop-turn-init
@@ -29,7 +29,7 @@ returns-in-Ended g c =
     let less = g.I.Read.remaining c.read_items.new.input in
     let seen = c.as_slice.result.now in
     let read = seen_as left less c.loop-turn.frames c.read_items.new.frames c.in-Ok.items.items seen c.as_slice.ensures.value c.in-Ok.ensures.ok in
-    let over : closed ≡ fate c.loop-turn.door seen = sym (ap (λ (p : Passing). fate_of p seen) c.in-Ended.is) ∙ c.in-Ok-answer.ensures.answered in
+    let over : closed ≡ fate c.loop-turn.door seen = answered_as c.in-Ok-answer.passing passing.Ended seen (fate c.loop-turn.door seen) c.in-Ended.is c.in-Ok-answer.ensures.answered in
     closes c.args.door.now c.args.frames.now (g.I.Read.remaining c.args.input.now) (g.W.Write.contents c.args.output.now) c.loop-turn.door c.loop-turn.frames c.read_items.new.frames
     left less (g.W.Write.contents c.loop-turn.output) (g.W.Write.contents c.answer.new.output) seen c.loop-turn.invariant read c.in-Ok-answer.ensures.written over
 
@@ -39,7 +39,8 @@ returns-in-Up g c =
     let less = g.I.Read.remaining c.read_items.new.input in
     let seen = c.as_slice.result.now in
     let read = seen_as left less c.loop-turn.frames c.read_items.new.frames c.in-Ok.items.items seen c.as_slice.ensures.value c.in-Ok.ensures.ok in
-    let up : passed c.in-Up.user (drop c.in-Up.at seen) ≡ fate c.loop-turn.door seen = sym (ap (λ (p : Passing). fate_of p seen) c.in-Up.is) ∙ c.in-Ok-answer.ensures.answered in
+    let up : passed c.in-Up.user (drop c.in-Up.at seen) ≡ fate c.loop-turn.door seen = 
+        answered_as c.in-Ok-answer.passing (passing.Up c.in-Up.user c.in-Up.at) seen (fate c.loop-turn.door seen) c.in-Up.is c.in-Ok-answer.ensures.answered in
     let told : IsTold c.hand_on.result (passed c.in-Up.user (drop c.in-Up.at seen))
     = subst (λ (xs : List Item). IsTold c.hand_on.result (passed c.in-Up.user (drop c.in-Up.at xs))) (sym c.as_slice.ensures.value) c.hand_on.ensures in
     enters c.args.door.now c.args.frames.now (g.I.Read.remaining c.args.input.now) (g.W.Write.contents c.args.output.now) c.loop-turn.door c.loop-turn.frames c.read_items.new.frames
@@ -52,7 +53,7 @@ loop-turn-preserved g c =
     let less = g.I.Read.remaining c.read_items.new.input in
     let seen = c.as_slice.result.now in
     let read = seen_as left less c.loop-turn.frames c.read_items.new.frames c.in-Ok.items.items seen c.as_slice.ensures.value c.in-Ok.ensures.ok in
-    let waiting : waits ≡ fate c.loop-turn.door seen = sym (ap (λ (p : Passing). fate_of p seen) c.in-Waits.is) ∙ c.in-Ok-answer.ensures.answered in
+    let waiting : waits ≡ fate c.loop-turn.door seen = answered_as c.in-Ok-answer.passing passing.Waits seen (fate c.loop-turn.door seen) c.in-Waits.is c.in-Ok-answer.ensures.answered in
     goes c.args.door.now c.args.frames.now (g.I.Read.remaining c.args.input.now) (g.W.Write.contents c.args.output.now) c.loop-turn.door c.answer.new.door c.loop-turn.frames c.read_items.new.frames
     left less (g.W.Write.contents c.loop-turn.output) (g.W.Write.contents c.answer.new.output) seen c.loop-turn.invariant read c.in-Ok-answer.ensures.written waiting c.in-Ok-answer.ensures.stage
 

@@ -9,7 +9,7 @@ loop-item-preserved c =
     let verdict : says c.in-Say.more.items ≡ door c.loop-item.door c.item-item.result = sym (ap verdict_of c.in-Say.is) ∙ c.in_ok-told.ensures.answer in (
       ap (λ (n : ℕ). n + 1) c.loop-item.invariant.0,
       asks_on c.args.door.now c.args.items.now c.args.said.now.items c.loop-item.door c.step.new.self c.loop-item.said.items c.add.new.said.items c.in-Say.more.items
-      c.loop-item.item-index c.item-item.result c.loop-item-test.true c.item-item.is verdict c.in_ok-told.ensures.stage c.in_ok-add.ensures c.loop-item.invariant.1,
+      c.loop-item.item-index c.item-item.result c.loop-item-test.true c.item-item.is verdict c.in_ok-told.ensures.stage c.in_ok-add-in-Say.ensures c.loop-item.invariant.1,
     )
 
 pub returns-in-Pass : goal.returns-in-Pass
