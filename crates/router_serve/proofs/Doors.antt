@@ -82,13 +82,13 @@ asks_on d items old now next said new more k i lt is verdict after added h =
     let rest = drop (k + 1) items in
     let here : i ∷ rest ≡ drop k items = sym (next_is items k i lt is) in (
       ap (λ (w : List Item). w ++ door_says next rest) added
-      ∙ (ap (λ (e : Door). (said ++ more) ++ door_says e rest) after
-      ∙ (append_assoc said more (door_says (door_behind now i) rest)
-      ∙ (ap (λ (v : Verdict). said ++ said_by v (door_says (door_behind now i) rest)) verdict
-      ∙ (ap (λ (xs : List Item). said ++ door_says now xs) here ∙ h.0)))),
+          ∙ (ap (λ (e : Door). (said ++ more) ++ door_says e rest) after
+          ∙ (append_assoc said more (door_says (door_behind now i) rest)
+          ∙ (ap (λ (v : Verdict). said ++ said_by v (door_says (door_behind now i) rest)) verdict
+          ∙ (ap (λ (xs : List Item). said ++ door_says now xs) here ∙ h.0)))),
       ap (λ (e : Door). fate e rest) after
-      ∙ (ap (λ (v : Verdict). fate_by v (i ∷ rest) (fate (door_behind now i) rest)) verdict
-      ∙ (ap (λ (xs : List Item). fate now xs) here ∙ h.1)),
+          ∙ (ap (λ (v : Verdict). fate_by v (i ∷ rest) (fate (door_behind now i) rest)) verdict
+          ∙ (ap (λ (xs : List Item). fate now xs) here ∙ h.1)),
       ap (λ (e : Door). door_past e rest) after ∙ (ap (λ (xs : List Item). door_past now xs) here ∙ h.2),
     )
 
@@ -103,10 +103,10 @@ asks_pass d items old now next said user k i lt is verdict h =
     let rest = drop (k + 1) items in
     let here : i ∷ rest ≡ drop k items = sym (next_is items k i lt is) in
     let up : passed user (drop k items) ≡ fate d items = ap (λ (xs : List Item). passed user xs) (sym here)
-        ∙ (ap (λ (v : Verdict). fate_by v (i ∷ rest) (fate (door_behind now i) rest)) verdict ∙ (ap (λ (xs : List Item). fate now xs) here ∙ h.1)) in (
+    ∙ (ap (λ (v : Verdict). fate_by v (i ∷ rest) (fate (door_behind now i) rest)) verdict ∙ (ap (λ (xs : List Item). fate now xs) here ∙ h.1)) in (
       sym (append-nil said)
-      ∙ (ap (λ (v : Verdict). said ++ said_by v (door_says (door_behind now i) rest)) verdict
-      ∙ (ap (λ (xs : List Item). said ++ door_says now xs) here ∙ h.0)),
+          ∙ (ap (λ (v : Verdict). said ++ said_by v (door_says (door_behind now i) rest)) verdict
+          ∙ (ap (λ (xs : List Item). said ++ door_says now xs) here ∙ h.0)),
       up,
       λ waiting. absurd (let bad : passed user (drop k items) ≡ waits = up ∙ waiting in cc),
     )
@@ -118,10 +118,10 @@ asks_end d items old now next said new last k i lt is verdict added h =
     let rest = drop (k + 1) items in
     let here : i ∷ rest ≡ drop k items = sym (next_is items k i lt is) in
     let over : closed ≡ fate d items =
-        ap (λ (v : Verdict). fate_by v (i ∷ rest) (fate (door_behind now i) rest)) verdict ∙ (ap (λ (xs : List Item). fate now xs) here ∙ h.1) in (
+    ap (λ (v : Verdict). fate_by v (i ∷ rest) (fate (door_behind now i) rest)) verdict ∙ (ap (λ (xs : List Item). fate now xs) here ∙ h.1) in (
       added
-      ∙ (ap (λ (v : Verdict). said ++ said_by v (door_says (door_behind now i) rest)) verdict
-      ∙ (ap (λ (xs : List Item). said ++ door_says now xs) here ∙ h.0)),
+          ∙ (ap (λ (v : Verdict). said ++ said_by v (door_says (door_behind now i) rest)) verdict
+          ∙ (ap (λ (xs : List Item). said ++ door_says now xs) here ∙ h.0)),
       over,
       λ waiting. absurd (let bad : closed ≡ waits = over ∙ waiting in cc),
     )

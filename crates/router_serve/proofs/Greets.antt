@@ -1,5 +1,5 @@
 -- Greetings, read by read.
-use Rattle.std.proofs.Common.{◌≡◌, ◌≢◌, ◌∙◌, sym, ap, refl, subst, ℕ, ◌+◌, ◌<◌, ◌≤◌, Bool, true, false, List, [], ◌∷◌, ◌++◌, length, take, drop, Option, Some, None, arith, append_assoc, append-nil, length-append, ◌⊎◌, inl, inr}
+use Rattle.std.proofs.Common.{◌≡◌, ◌≢◌, ◌∙◌, sym, ap, refl, subst, ℕ, ◌+◌, ◌<◌, Bool, true, false, List, [], ◌∷◌, ◌++◌, length, take, Option, Some, None, arith, append_assoc, append-nil, length-append, ◌⊎◌, inl, inr}
 use Rattle.std.proofs.Math.Seq.{take-append-add}
 use Rattle.std.specs.Io.KnownBytes.{Appends, Consumes, IsAtEnd, Keeps}
 use Rattle.amqp_frames.specs.declared.item.Item.{Item}
@@ -74,8 +74,11 @@ gives_more old mid new bs cs is js back (inr h) (inl k) =
     inr (h.0, subst (λ (w : List ℕ). Cuts new.failed (old.rest ++ w) (is ++ js) new.rest) bytes (subst (λ (xs : List Item). Cuts new.failed (old.rest ++ bs) xs new.rest) items whole))
 gives_more old mid new bs cs is js back (inr h) (inr k) =
     let whole : Cuts false (old.rest ++ bs) is mid.rest = subst (λ (f : Bool). Cuts f (old.rest ++ bs) is mid.rest) k.0 h.1 in
-    inr (h.0, subst (λ (w : List ℕ). Cuts new.failed w (is ++ js) new.rest) (append_assoc old.rest bs cs)
-        (cuts_append new.failed (old.rest ++ bs) is mid.rest cs js new.rest whole.0 k.1))
+    inr (
+      h.0,
+      subst (λ (w : List ℕ). Cuts new.failed w (is ++ js) new.rest) (append_assoc old.rest bs cs)
+          (cuts_append new.failed (old.rest ++ bs) is mid.rest cs js new.rest whole.0 k.1),
+    )
 
 -- while the door waits, the reader hasn't met bytes that are no item
 pub still_reads : (d : Door) (old mid : Stream) (bs : List ℕ) (is : List Item) → Gives old bs is mid → fate d is ≡ waits → mid.failed ≡ true → old.failed ≡ true

@@ -50,7 +50,7 @@ abbrev pub Gives : Stream → List ℕ → List Item → Stream → Type 0
 Gives old bytes items new =
     (((bytes ≡ []) ⊎ (old.failed ≡ true)) × (items ≡ []) × (new ≡ old)) ⊎ ((old.failed ≡ false) × Cuts new.failed (old.rest ++ bytes) items new.rest)
 
--- what a greeting answers is what became of it; unless memory was refused, or a write failed
+-- what a greeting answers is its fate, unless memory was refused or a write failed
 abbrev pub IsTold : Greeted → Fate → Type 0
 IsTold (greeted.Up user left) f = f ≡ passed user left.items
 IsTold (greeted.Ended end.Door) f = f ≡ closed
@@ -97,7 +97,7 @@ Breaks end.ReadFailed held holds bytes = ⊥
 Breaks end.Door held holds bytes = ⊥
 Breaks (end.Core fault) held holds bytes = ⊥
 
--- what the door answered to items is what becomes of a greeting by them
+-- the fate that a door's answer to items tells
 abbrev pub fate_of : Passing → List Item → Fate
 fate_of passing.Waits items = waits
 fate_of (passing.Up user at) items = passed user (drop at items)

@@ -39,8 +39,8 @@ returns-in-Up g c =
     let less = g.I.Read.remaining c.read_items.new.input in
     let seen = c.as_slice.result.now in
     let read = seen_as left less c.loop-turn.frames c.read_items.new.frames c.in-Ok.items.items seen c.as_slice.ensures.value c.in-Ok.ensures.ok in
-    let up : passed c.in-Up.user (drop c.in-Up.at seen) ≡ fate c.loop-turn.door seen = 
-        answered_as c.in-Ok-answer.passing (passing.Up c.in-Up.user c.in-Up.at) seen (fate c.loop-turn.door seen) c.in-Up.is c.in-Ok-answer.ensures.answered in
+    let up : passed c.in-Up.user (drop c.in-Up.at seen) ≡ fate c.loop-turn.door seen =
+    answered_as c.in-Ok-answer.passing (passing.Up c.in-Up.user c.in-Up.at) seen (fate c.loop-turn.door seen) c.in-Up.is c.in-Ok-answer.ensures.answered in
     let told : IsTold c.hand_on.result (passed c.in-Up.user (drop c.in-Up.at seen))
     = subst (λ (xs : List Item). IsTold c.hand_on.result (passed c.in-Up.user (drop c.in-Up.at xs))) (sym c.as_slice.ensures.value) c.hand_on.ensures in
     enters c.args.door.now c.args.frames.now (g.I.Read.remaining c.args.input.now) (g.W.Write.contents c.args.output.now) c.loop-turn.door c.loop-turn.frames c.read_items.new.frames
