@@ -1,3 +1,5 @@
 pub mod Appending
 pub mod Batches
+pub mod Doors
+pub mod Greets
 pub mod Submits

@@ -1,4 +1,5 @@
 pub mod Ends
+pub mod Greeting
 pub mod Submitting
 pub mod Wrote
 pub use Rattle.router_shared.specs.Adding

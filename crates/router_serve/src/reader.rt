@@ -1,5 +1,7 @@
 //! The thread that reads what a peer sends and submits it to the router.
-ghost use Rattle.std.specs.Prelude.{◌≡◌, ℕ};
+ghost use Rattle.std.specs.Prelude.{◌≡◌, ℕ, List, length, IfOk, IfErr};
+ghost use Rattle.std.specs.Io.KnownBytes.{Consumes};
+ghost use Rattle.router_serve.specs.Greeting.{Gives, Stops};
 ghost use Rattle.router_serve.specs.Submitting.{with_items, needs_down, Submitted};
 
 use crate::end::ReadEnd;
@@ -132,7 +134,10 @@ pub(crate) fn read_items<I: Read>(
     frames: &mut FrameReader,
     input: &mut I,
     piece: &mut [u8],
-) -> Result<Vec<Item>, ReadEnd> {
+) -> Result<Vec<Item>, ReadEnd>
+    ensures ok { IfOk result (λ items. (bytes : List ℕ) × Consumes (I.remaining input.old) (I.remaining input.new) bytes × Gives frames.old bytes items.items frames.new) }
+    ensures err { IfErr result (λ e. (bytes : List ℕ) × Consumes (I.remaining input.old) (I.remaining input.new) bytes × Stops e (length piece.old) frames.old bytes frames.new (I.remaining input.new)) }
+{
     match input.read(piece) {
         Ok(0) => Err(ReadEnd::End),
         Ok(count) => {

@@ -1,4 +1,4 @@
-use Rattle.router_serve.proofs.Submits.{items_joined, no_items}
+use Rattle.router_serve.proofs.Submits.{items_joined}
 use Rattle.router_serve.proofs.reader.hand_in.Goals as goal
 
 pub returns-then-last : goal.returns-then-last

@@ -1,4 +1,4 @@
-use Rattle.std.proofs.Common.{◌≡◌, ◌∙◌, sym, subst}
+use Rattle.std.proofs.Common.{◌∙◌, sym, subst}
 use Rattle.router_serve.specs.Submitting.{Submitted}
 use Rattle.router_serve.proofs.Submits.{told, untold}
 use Rattle.router_serve.proofs.reader.serve_reader.Goals as goal

@@ -1,4 +1,4 @@
-use Rattle.std.proofs.Common.{◌≡◌, ◌∙◌, ◌≤◌, ◌+◌, ℕ, sym, subst, length, true, rules}
+use Rattle.std.proofs.Common.{◌≡◌, ◌∙◌, ◌+◌, sym, subst, length, true, rules}
 use Rattle.router_serve.specs.declared.end.WriteEnd.TheVariants as end
 use Rattle.router_serve.specs.Wrote.{Wrote}
 use Rattle.router_serve.proofs.Batches.{stops, goes, breaks, no_more}

@@ -1,4 +1,4 @@
-use Rattle.std.proofs.Common.{rules, ◌≡◌, ◌≤◌, length, take, ℕ, ◌+◌, subst, sym, arith}
+use Rattle.std.proofs.Common.{rules, take, ℕ, subst, sym}
 use Rattle.std.specs.Io.KnownBytes.{Appends}
 use Rattle.router_serve.proofs.Appending.{appends_more, appends_kept}
 use Rattle.router_serve.proofs.writing.write_beginning.Goals as goal

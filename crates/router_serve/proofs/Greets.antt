@@ -1,0 +1,271 @@
+-- Greetings, read by read.
+use Rattle.std.proofs.Common.{◌≡◌, ◌≢◌, ◌∙◌, sym, ap, refl, subst, ℕ, ◌+◌, ◌<◌, Bool, true, false, List, [], ◌∷◌, ◌++◌, length, take, Option, Some, None, arith, append_assoc, append-nil, length-append, ◌⊎◌, inl, inr}
+use Rattle.std.proofs.Math.Seq.{take-append-add}
+use Rattle.std.specs.Io.KnownBytes.{Appends, Consumes, IsAtEnd, Keeps}
+use Rattle.amqp_frames.specs.declared.item.Item.{Item}
+use Rattle.amqp_frames.specs.Cuts.{Cuts, Stream}
+use Rattle.amqp_frames.proofs.Streams.{cuts_append}
+use Rattle.router_core.specs.declared.door.Door.{Door}
+use Rattle.router_serve.specs.declared.end.ReadEnd.{ReadEnd}
+use Rattle.router_serve.specs.declared.end.ReadEnd.TheVariants as end
+use Rattle.router_serve.specs.declared.greeting.Greeted.{Greeted}
+use Rattle.router_serve.specs.declared.greeting.Greeted.TheVariants as greeted
+use Rattle.router_serve.specs.declared.greeting.Passing.{Passing}
+use Rattle.router_serve.specs.Wrote.{spelled}
+use Rattle.router_serve.specs.Greeting.{door_says, Fate, waits, passed, closed, fate, fate_of, door_past, Gives, IsTold, Greets, Stops, Breaks}
+use Rattle.router_serve.proofs.Appending.{appends_on}
+use Rattle.router_serve.proofs.Doors.{written_more, fate_more, past_more, fate_bad}
+
+-- bytes that are read, then more of them
+pub consumes_on : (a b c : Option (List ℕ)) (xs ys : List ℕ) → Consumes a b xs → Consumes b c ys → Consumes a c (xs ++ ys)
+consumes_on None b c xs ys first rest = tt
+consumes_on (Some a) None c xs ys first rest = elim first [ ]
+consumes_on (Some a) (Some b) None xs ys first rest = elim rest [ ]
+consumes_on (Some a) (Some b) (Some c) xs ys first rest = first ∙ (ap (λ (w : List ℕ). xs ++ w) rest ∙ sym (append_assoc xs ys c))
+
+pub consumes_none : (a : Option (List ℕ)) → Consumes a a []
+consumes_none None = tt
+consumes_none (Some a) = refl
+
+pub kept_consumes : (a b : Option (List ℕ)) → Keeps a b → Consumes a b []
+kept_consumes None b kept = tt
+kept_consumes (Some a) None kept = elim kept [ ]
+kept_consumes (Some a) (Some b) kept = sym kept
+
+pub appends_none : (a : Option (List ℕ)) → Appends a a []
+appends_none None = tt
+appends_none (Some a) = sym (append-nil a)
+
+-- what a frame reader gives
+pub gives_nothing : (old : Stream) → Gives old [] [] old
+gives_nothing old = inl (inl refl, refl, refl)
+
+pub gives_no_more : (old new : Stream) (bytes : List ℕ) → old.failed ≡ true → new.rest ≡ old.rest → new.failed ≡ true → Gives old bytes [] new
+gives_no_more old new bytes before rest after = inl (
+  inr before,
+  refl,
+  ap (λ (r : List ℕ). record new { rest = r }) rest ∙ ap (λ (f : Bool). record old { failed = f }) (after ∙ sym before),
+)
+
+none_by : (bs : List ℕ) (f g : Bool) → (g ≡ true → f ≡ true) → f ≡ false → (bs ≡ []) ⊎ (g ≡ true) → bs ≡ []
+none_by bs f g back sound (inl e) = e
+none_by bs f g back sound (inr t) = absurd (let bad : true ≡ false = sym (back t) ∙ sound in cc)
+
+still_none : (bs cs : List ℕ) (f g : Bool) → (g ≡ true → f ≡ true) → (bs ≡ []) ⊎ (f ≡ true) → (cs ≡ []) ⊎ (g ≡ true) → (bs ++ cs ≡ []) ⊎ (f ≡ true)
+still_none bs cs f g back (inr t) k = inr t
+still_none bs cs f g back (inl e) (inr t) = inr (back t)
+still_none bs cs f g back (inl e) (inl e') = inl (ap (λ (w : List ℕ). w ++ cs) e ∙ e')
+
+pub gives_more : (old mid new : Stream) (bs cs : List ℕ) (is js : List Item) → (mid.failed ≡ true → old.failed ≡ true)
+    → Gives old bs is mid → Gives mid cs js new → Gives old (bs ++ cs) (is ++ js) new
+gives_more old mid new bs cs is js back (inl h) (inl k) =
+    inl (still_none bs cs old.failed mid.failed back h.0 k.0, ap (λ (w : List Item). w ++ js) h.1 ∙ k.1, k.2 ∙ h.2)
+gives_more old mid new bs cs is js back (inl h) (inr k) =
+    let sound : old.failed ≡ false = sym (ap (λ (s : Stream). s.failed) h.2) ∙ k.0 in
+    let none : bs ≡ [] = none_by bs old.failed old.failed (λ t. t) sound h.0 in
+    let bytes : mid.rest ++ cs ≡ old.rest ++ (bs ++ cs) = ap (λ (s : Stream). s.rest ++ cs) h.2 ∙ ap (λ (w : List ℕ). old.rest ++ (w ++ cs)) (sym none) in
+    let items : js ≡ is ++ js = ap (λ (w : List Item). w ++ js) (sym h.1) in
+    inr (sound, subst (λ (w : List ℕ). Cuts new.failed w (is ++ js) new.rest) bytes (subst (λ (xs : List Item). Cuts new.failed (mid.rest ++ cs) xs new.rest) items k.1))
+gives_more old mid new bs cs is js back (inr h) (inl k) =
+    let none : cs ≡ [] = none_by cs old.failed mid.failed back h.0 k.0 in
+    let bytes : bs ≡ bs ++ cs = sym (ap (λ (w : List ℕ). bs ++ w) none ∙ append-nil bs) in
+    let items : is ≡ is ++ js = sym (ap (λ (w : List Item). is ++ w) k.1 ∙ append-nil is) in
+    let whole : Cuts new.failed (old.rest ++ bs) is new.rest = subst (λ (s : Stream). Cuts s.failed (old.rest ++ bs) is s.rest) (sym k.2) h.1 in
+    inr (h.0, subst (λ (w : List ℕ). Cuts new.failed (old.rest ++ w) (is ++ js) new.rest) bytes (subst (λ (xs : List Item). Cuts new.failed (old.rest ++ bs) xs new.rest) items whole))
+gives_more old mid new bs cs is js back (inr h) (inr k) =
+    let whole : Cuts false (old.rest ++ bs) is mid.rest = subst (λ (f : Bool). Cuts f (old.rest ++ bs) is mid.rest) k.0 h.1 in
+    inr (
+      h.0,
+      subst (λ (w : List ℕ). Cuts new.failed w (is ++ js) new.rest) (append_assoc old.rest bs cs)
+          (cuts_append new.failed (old.rest ++ bs) is mid.rest cs js new.rest whole.0 k.1),
+    )
+
+-- while the door waits, the reader hasn't met bytes that are no item
+pub still_reads : (d : Door) (old mid : Stream) (bs : List ℕ) (is : List Item) → Gives old bs is mid → fate d is ≡ waits → mid.failed ≡ true → old.failed ≡ true
+still_reads d old mid bs is (inl h) w t = sym (ap (λ (s : Stream). s.failed) h.2) ∙ t
+still_reads d old mid bs is (inr h) w t =
+    let cut : Cuts true (old.rest ++ bs) is mid.rest = subst (λ (f : Bool). Cuts f (old.rest ++ bs) is mid.rest) t h.1 in
+    absurd (fate_bad d cut.0 cut.1 (ap (λ (xs : List Item). fate d xs) (sym cut.2) ∙ w))
+
+-- a greeting so far: all items that came were answered, and the door waits
+abbrev pub IsFar : Door → Stream → Option (List ℕ) → Option (List ℕ) → Door → Stream → Option (List ℕ) → Option (List ℕ) → Type 0
+IsFar d old source held now mid left holds = (bytes : List ℕ) × (items : List Item) × Consumes source left bytes × Gives old bytes items mid
+    × Appends held holds (spelled (door_says d items)) × (fate d items ≡ waits) × (now ≡ door_past d items)
+
+-- bytes that came, and their items
+abbrev pub Came : Option (List ℕ) → Option (List ℕ) → Stream → List Item → Stream → Type 0
+Came left less mid items new = (bytes : List ℕ) × Consumes left less bytes × Gives mid bytes items new
+
+pub seen_as : (left less : Option (List ℕ)) (mid new : Stream) (items seen : List Item) → seen ≡ items → Came left less mid items new → Came left less mid seen new
+seen_as left less mid new items seen is read = subst (λ (xs : List Item). Came left less mid xs new) (sym is) read
+
+pub answered_as : (p q : Passing) (items : List Item) (f : Fate) → p ≡ q → fate_of p items ≡ f → fate_of q items ≡ f
+answered_as p q items f is answered = subst (λ (x : Passing). fate_of x items ≡ f) is answered
+
+pub begins : (d : Door) (old : Stream) (source held : Option (List ℕ)) → IsFar d old source held d old source held
+begins d old source held = ([], [], consumes_none source, gives_nothing old, appends_none held, refl, refl)
+
+-- the items so far and those that came
+read_on : (d : Door) (old : Stream) (source held : Option (List ℕ)) (now : Door) (mid new : Stream) (left less holds : Option (List ℕ)) (items : List Item)
+    → (far : IsFar d old source held now mid left holds) → (read : Came left less mid items new) → Gives old (far.0 ++ read.0) (far.1 ++ items) new
+read_on d old source held now mid new left less holds items far read =
+    gives_more old mid new far.0 read.0 far.1 items (still_reads d old mid far.0 far.1 far.3 far.5) far.3 read.2
+
+all_written : (d : Door) (old : Stream) (source held : Option (List ℕ)) (now : Door) (mid : Stream) (left holds : Option (List ℕ)) (items : List Item)
+    → (far : IsFar d old source held now mid left holds) → spelled (door_says d (far.1 ++ items)) ≡ spelled (door_says d far.1) ++ spelled (door_says now items)
+all_written d old source held now mid left holds items far =
+    written_more d far.1 items far.5 ∙ ap (λ (e : Door). spelled (door_says d far.1) ++ spelled (door_says e items)) (sym far.6)
+
+all_fated : (d : Door) (old : Stream) (source held : Option (List ℕ)) (now : Door) (mid : Stream) (left holds : Option (List ℕ)) (items : List Item)
+    → (far : IsFar d old source held now mid left holds) → fate d (far.1 ++ items) ≡ fate now items
+all_fated d old source held now mid left holds items far = fate_more d far.1 items far.5 ∙ ap (λ (e : Door). fate e items) (sym far.6)
+
+written_on : (d : Door) (old : Stream) (source held : Option (List ℕ)) (now : Door) (mid : Stream) (left holds more : Option (List ℕ)) (items : List Item)
+    → (far : IsFar d old source held now mid left holds) → Appends holds more (spelled (door_says now items)) → Appends held more (spelled (door_says d (far.1 ++ items)))
+written_on d old source held now mid left holds more items far wrote =
+    subst (λ (w : List ℕ). Appends held more w) (sym (all_written d old source held now mid left holds items far))
+    (appends_on held holds more (spelled (door_says d far.1)) (spelled (door_says now items)) far.4 wrote)
+
+-- the door answers and waits
+pub goes : (d : Door) (old : Stream) (source held : Option (List ℕ)) (now next : Door) (mid new : Stream) (left less holds more : Option (List ℕ)) (items : List Item)
+    → IsFar d old source held now mid left holds → Came left less mid items new → Appends holds more (spelled (door_says now items))
+    → waits ≡ fate now items → (fate now items ≡ waits → next ≡ door_past now items) → IsFar d old source held next new less more
+goes d old source held now next mid new left less holds more items far read wrote waiting stage = (
+  far.0 ++ read.0,
+  far.1 ++ items,
+  consumes_on source left less far.0 read.0 far.2 read.1,
+  read_on d old source held now mid new left less holds items far read,
+  written_on d old source held now mid left holds more items far wrote,
+  all_fated d old source held now mid left holds items far ∙ sym waiting,
+  stage (sym waiting) ∙ (ap (λ (e : Door). door_past e items) far.6 ∙ sym (past_more d far.1 items)),
+)
+
+-- a greeting that ends with all answers written
+take_whole : (ys : List ℕ) → take (length ys) ys ≡ ys
+take_whole [] = refl
+take_whole (y ∷ ys) = ap (λ (zs : List ℕ). y ∷ zs) (take_whole ys)
+
+greeted_by : (d : Door) (old mid new : Stream) (source left held holds : Option (List ℕ)) (g : Greeted) (bs ls : List ℕ) (is : List Item) → Consumes source left (bs ++ ls)
+    → Gives old bs is mid → Appends held holds (spelled (door_says d is)) → IsTold g (fate d is) → (g ≢ greeted.Ended end.Memory → (ls ≡ []) × (new ≡ mid))
+    → (g ≡ greeted.Ended end.End → IsAtEnd left ⊎ (old.failed ≡ true)) → Greets d old new source left held holds g
+greeted_by d old mid new source left held holds g bs ls is read gives written fated all over = let xs = spelled (door_says d is) in record {
+  bytes = bs;
+  lost = ls;
+  came = read;
+  items = is;
+  kept = mid;
+  given = gives;
+  count = length xs;
+  within = omega arith;
+  wrote = subst (λ (w : List ℕ). Appends held holds w) (sym (take_whole xs)) written;
+  whole = λ _. refl;
+  told = fated;
+  none_lost = all;
+  ended = over;
+}
+
+none_behind : (source left : Option (List ℕ)) (bs : List ℕ) → Consumes source left bs → Consumes source left (bs ++ [])
+none_behind source left bs read = subst (λ (w : List ℕ). Consumes source left w) (sym (append-nil bs)) read
+
+failed_only : (e f : ReadEnd) → (e ≡ f → ⊥) → greeted.Ended e ≡ greeted.Ended f → ⊥
+failed_only e f apart same = apart (let here : e ≡ f = cc in here)
+
+-- memory was refused before anything was read
+pub refused : (d : Door) (old : Stream) (source held : Option (List ℕ)) → Greets d old old source source held held (greeted.Ended end.Memory)
+refused d old source held =
+    greeted_by d old old old source source held held (greeted.Ended end.Memory) [] [] [] (consumes_none source) (gives_nothing old) (appends_none held) tt
+    (λ isnt. absurd (isnt refl)) (λ same. absurd (failed_only end.Memory end.End (λ e. absurd (let bad : end.Memory ≡ end.End = e in cc)) same))
+
+-- all reads were made
+pub tires : (d : Door) (old : Stream) (source held : Option (List ℕ)) (now : Door) (mid : Stream) (left holds : Option (List ℕ))
+    → IsFar d old source held now mid left holds → Greets d old mid source left held holds (greeted.Ended end.ReadFailed)
+tires d old source held now mid left holds far =
+    greeted_by d old mid mid source left held holds (greeted.Ended end.ReadFailed) far.0 [] far.1 (none_behind source left far.0 far.2) far.3 far.4 far.5
+    (λ _. (refl, refl)) (λ same. absurd (failed_only end.ReadFailed end.End (λ e. absurd (let bad : end.ReadFailed ≡ end.End = e in cc)) same))
+
+-- a read gives no items
+at_end : (ended : Type 0) (room : ℕ) (f g : Bool) → (g ≡ true → f ≡ true) → 0 < room → (0 < room → ended) ⊎ (g ≡ true) → ended ⊎ (f ≡ true)
+at_end ended room f g back roomy (inl h) = inl (h roomy)
+at_end ended room f g back roomy (inr t) = inr (back t)
+
+no_items : (old new : Stream) (bs : List ℕ) (is : List Item) → Gives old bs (is ++ []) new → Gives old bs is new
+no_items old new bs is given = subst (λ (xs : List Item). Gives old bs xs new) (append-nil is) given
+
+pub stops : (d : Door) (old : Stream) (source held : Option (List ℕ)) (now : Door) (mid new : Stream) (left less holds : Option (List ℕ)) (e : ReadEnd) (room : ℕ) → 0 < room
+    → IsFar d old source held now mid left holds → (bytes : List ℕ) × Consumes left less bytes × Stops e room mid bytes new less
+    → Greets d old new source less held holds (greeted.Ended e)
+stops d old source held now mid new left less holds end.End room roomy far read =
+    let bs = far.0 ++ read.0 in
+    greeted_by d old new new source less held holds (greeted.Ended end.End) bs [] far.1 (none_behind source less bs (consumes_on source left less far.0 read.0 far.2 read.1))
+    (no_items old new bs far.1 (read_on d old source held now mid new left less holds [] far (read.0, read.1, read.2.0))) far.4 far.5
+    (λ _. (refl, refl)) (λ _. at_end (IsAtEnd less) room old.failed mid.failed (still_reads d old mid far.0 far.1 far.3 far.5) roomy read.2.1)
+stops d old source held now mid new left less holds end.ReadFailed room roomy far read =
+    let bs = far.0 ++ read.0 in
+    greeted_by d old new new source less held holds (greeted.Ended end.ReadFailed) bs [] far.1 (none_behind source less bs (consumes_on source left less far.0 read.0 far.2 read.1))
+    (no_items old new bs far.1 (read_on d old source held now mid new left less holds [] far (read.0, read.1, read.2))) far.4 far.5
+    (λ _. (refl, refl)) (λ same. absurd (failed_only end.ReadFailed end.End (λ e. absurd (let bad : end.ReadFailed ≡ end.End = e in cc)) same))
+stops d old source held now mid new left less holds end.Memory room roomy far read =
+    greeted_by d old mid new source less held holds (greeted.Ended end.Memory) far.0 read.0 far.1 (consumes_on source left less far.0 read.0 far.2 read.1) far.3 far.4 tt
+    (λ isnt. absurd (isnt refl)) (λ same. absurd (failed_only end.Memory end.End (λ e. absurd (let bad : end.Memory ≡ end.End = e in cc)) same))
+stops d old source held now mid new left less holds end.Door room roomy far read = elim read.2 [ ]
+stops d old source held now mid new left less holds end.WriteFailed room roomy far read = elim read.2 [ ]
+stops d old source held now mid new left less holds (end.Core fault) room roomy far read = elim read.2 [ ]
+
+-- the answers aren't all written
+pub breaks : (d : Door) (old : Stream) (source held : Option (List ℕ)) (now : Door) (mid new : Stream) (left less holds more : Option (List ℕ)) (items : List Item) (e : ReadEnd)
+    → IsFar d old source held now mid left holds → Came left less mid items new → Breaks e holds more (spelled (door_says now items))
+    → Greets d old new source less held more (greeted.Ended e)
+breaks d old source held now mid new left less holds more items end.Memory far read same =
+    greeted_by d old mid new source less held more (greeted.Ended end.Memory) far.0 read.0 far.1 (consumes_on source left less far.0 read.0 far.2 read.1) far.3
+    (subst (λ (o : Option (List ℕ)). Appends held o (spelled (door_says d far.1))) (sym same) far.4) tt
+    (λ isnt. absurd (isnt refl)) (λ same. absurd (failed_only end.Memory end.End (λ e. absurd (let bad : end.Memory ≡ end.End = e in cc)) same))
+breaks d old source held now mid new left less holds more items end.WriteFailed far read some =
+    let bs = far.0 ++ read.0 in
+    let xs = spelled (door_says d far.1) in
+    let ys = spelled (door_says now items) in
+    let all = all_written d old source held now mid left holds items far in
+    let cut : take (length xs + some.0) (spelled (door_says d (far.1 ++ items))) ≡ xs ++ take some.0 ys
+    = ap (λ (w : List ℕ). take (length xs + some.0) w) all ∙ take-append-add xs ys some.0 in record {
+      bytes = bs;
+      lost = [];
+      came = none_behind source less bs (consumes_on source left less far.0 read.0 far.2 read.1);
+      items = far.1 ++ items;
+      kept = new;
+      given = read_on d old source held now mid new left less holds items far read;
+      count = length xs + some.0;
+      within = omega (arith, some.1, ap (λ (w : List ℕ). length w) all, length-append xs ys);
+      wrote = subst (λ (w : List ℕ). Appends held more w) (sym cut) (appends_on held holds more xs (take some.0 ys) far.4 some.2);
+      whole = λ fails. absurd (fails refl);
+      told = tt;
+      none_lost = λ _. (refl, refl);
+      ended = λ same. absurd (failed_only end.WriteFailed end.End (λ e. absurd (let bad : end.WriteFailed ≡ end.End = e in cc)) same);
+    }
+breaks d old source held now mid new left less holds more items end.End far read never = elim never [ ]
+breaks d old source held now mid new left less holds more items end.ReadFailed far read never = elim never [ ]
+breaks d old source held now mid new left less holds more items end.Door far read never = elim never [ ]
+breaks d old source held now mid new left less holds more items (end.Core fault) far read never = elim never [ ]
+
+-- the door lets the peer in, or ends the connection
+comes : (d : Door) (old : Stream) (source held : Option (List ℕ)) (now : Door) (mid new : Stream) (left less holds more : Option (List ℕ)) (items : List Item) (g : Greeted)
+    → IsFar d old source held now mid left holds → Came left less mid items new → Appends holds more (spelled (door_says now items)) → IsTold g (fate now items)
+    → (g ≡ greeted.Ended end.End → ⊥) → Greets d old new source less held more g
+comes d old source held now mid new left less holds more items g far read wrote told goes_on =
+    let bs = far.0 ++ read.0 in
+    greeted_by d old new new source less held more g bs [] (far.1 ++ items) (none_behind source less bs (consumes_on source left less far.0 read.0 far.2 read.1))
+    (read_on d old source held now mid new left less holds items far read) (written_on d old source held now mid left holds more items far wrote)
+    (subst (λ (f : Fate). IsTold g f) (sym (all_fated d old source held now mid left holds items far)) told)
+    (λ _. (refl, refl)) (λ same. absurd (goes_on same))
+
+pub closes : (d : Door) (old : Stream) (source held : Option (List ℕ)) (now : Door) (mid new : Stream) (left less holds more : Option (List ℕ)) (items : List Item)
+    → IsFar d old source held now mid left holds → Came left less mid items new → Appends holds more (spelled (door_says now items)) → closed ≡ fate now items
+    → Greets d old new source less held more (greeted.Ended end.Door)
+closes d old source held now mid new left less holds more items far read wrote over =
+    comes d old source held now mid new left less holds more items (greeted.Ended end.Door) far read wrote (sym over)
+    (failed_only end.Door end.End (λ e. absurd (let bad : end.Door ≡ end.End = e in cc)))
+
+pub enters : (d : Door) (old : Stream) (source held : Option (List ℕ)) (now : Door) (mid new : Stream) (left less holds more : Option (List ℕ)) (items : List Item) (g : Greeted)
+    (user : List ℕ) (behind : List Item) → IsFar d old source held now mid left holds → Came left less mid items new → Appends holds more (spelled (door_says now items))
+    → passed user behind ≡ fate now items → IsTold g (passed user behind) → Greets d old new source less held more g
+enters d old source held now mid new left less holds more items g user behind far read wrote up told =
+    comes d old source held now mid new left less holds more items g far read wrote (subst (λ (f : Fate). IsTold g f) up told)
+    (λ same. absurd (let bad : passed user behind ≡ waits = subst (λ (x : Greeted). IsTold x (passed user behind)) same told in cc))
