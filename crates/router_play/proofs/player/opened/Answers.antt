@@ -6,6 +6,6 @@ use Rattle.router_core.specs.Handling.{Fits}
 use Rattle.router_play.proofs.Empty.{is_empty}
 use Rattle.router_play.proofs.player.opened.Goals as goal
 
-pub returns-in-Ok-clause-fits : goal.returns-in-Ok-clause-fits
-returns-in-Ok-clause-fits c =
-    subst (λ (b : BookView). Fits c.in-Ok.core b (configured (routing_of c.args.config.now))) (is_empty _ _ c.in_ok-format.ensures.empty c.in-Ok.ensures.book) c.in-Ok.ensures.fits
+pub returns-in-Ok-open-clause-fits : goal.returns-in-Ok-open-clause-fits
+returns-in-Ok-open-clause-fits c =
+    subst (λ (b : BookView). Fits c.in-Ok-open.core b (configured (routing_of c.args.config.now))) (is_empty _ _ c.in-Ok.ensures.empty c.in-Ok-open.ensures.book) c.in-Ok-open.ensures.fits
