@@ -10,3 +10,5 @@ pub mod WrittenTermini
 pub mod WrittenValues
 pub mod WrittenUnsettled
 pub mod FieldLengths
+pub mod TablePlaces
+pub mod TableFields
