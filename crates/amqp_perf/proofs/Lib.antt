@@ -12,3 +12,5 @@ pub mod WrittenUnsettled
 pub mod FieldLengths
 pub mod TablePlaces
 pub mod TableFields
+pub mod TableNames
+pub mod TableLists
