@@ -14,3 +14,5 @@ pub mod TablePlaces
 pub mod TableFields
 pub mod TableNames
 pub mod TableLists
+pub mod TableNested
+pub mod TableStates

@@ -92,11 +92,11 @@ described_parts n text a v h = by_code h.constructor h.known h.spelled
           value = subst (λ w. Spells n s.second w) q s.spelled;
         }
 
-less_one : (n : ℕ) → n ≡ suc n - 1
+pub less_one : (n : ℕ) → n ≡ suc n - 1
 less_one n = omega arith
 
 -- a described value opens by its descriptor
-pub opening_ready : (n : ℕ) (text rest : List ℕ) (a v : Data) (name : Descriptor) (p : DescribedParts n text a v) → name_of (Some a) ≡ Some name → opening_at (suc n) (text ++ rest) ≡ Ok (opening.Described (Some name), p.second ++ rest)
+pub opening_ready : (n : ℕ) (text rest : List ℕ) (a v : Data) (name : Option Descriptor) (p : DescribedParts n text a v) → name_of (Some a) ≡ name → opening_at (suc n) (text ++ rest) ≡ Ok (opening.Described name, p.second ++ rest)
 unfolding opening_at
 opening_ready n text rest a v name p named =
     ap (λ (t : List ℕ). by_fault outer (code_at (t ++ rest)) >>= opened (suc n)) p.parts
@@ -159,38 +159,38 @@ list_ready n limit wrong text rest vs fs h holds short = by_code h.constructor h
 
 -- ---- what was opened and listed
 
-abbrev IsDescribed : Opening → Type 0
+abbrev pub IsDescribed : Opening → Type 0
 IsDescribed (opening.Described o) = Unit {0}
 IsDescribed opening.Null = ⊥
 IsDescribed opening.Other = ⊥
 
-abbrev name_in : Opening → Option Descriptor
+abbrev pub name_in : Opening → Option Descriptor
 name_in (opening.Described o) = o
 name_in opening.Null = None
 name_in opening.Other = None
 
-not_described : (o : Opening) (more rest : List ℕ) (name : Option Descriptor) → opened_as o more ≡ Ok (opening.Described name, rest) → IsDescribed o
+pub not_described : (o : Opening) (more rest : List ℕ) (name : Option Descriptor) → opened_as o more ≡ Ok (opening.Described name, rest) → IsDescribed o
 not_described o more rest name e = subst IsDescribed (sym (ap (λ q. q.0) (found_is (o, more) (opening.Described name, rest) e))) tt
 
-pub record OpenedParts (n : ℕ) (bytes rest : List ℕ) (name : Descriptor) : Type 0 where
+pub record OpenedParts (n : ℕ) (bytes rest : List ℕ) (name : Option Descriptor) : Type 0 where
   pub byte : ℕ
   pub first : List ℕ
   pub descriptor : Data
   pub parts : bytes ≡ byte ∷ (first ++ rest)
   pub known : constructor_of byte ≡ Some code.Described
   pub spelled : Spells n first descriptor
-  pub named : name_of (Some descriptor) ≡ Some name
+  pub named : name_of (Some descriptor) ≡ name
 
-pub opened_parts : (n : ℕ) (bytes rest : List ℕ) (name : Descriptor) → opening_at n bytes ≡ Ok (opening.Described (Some name), rest) → OpenedParts (n - 1) bytes rest name
+pub opened_parts : (n : ℕ) (bytes rest : List ℕ) (name : Option Descriptor) → opening_at n bytes ≡ Ok (opening.Described name, rest) → OpenedParts (n - 1) bytes rest name
 unfolding opening_at
 opened_parts n bytes rest name e =
-    let x = bind_ok (by_fault outer (code_at bytes)) (opened n) (opening.Described (Some name), rest) e in
+    let x = bind_ok (by_fault outer (code_at bytes)) (opened n) (opening.Described name, rest) e in
     by_code x.0.0 x.0.1 (code_sound bytes x.0.0 x.0.1 (by_fault_ok outer (code_at bytes) x.0 x.1)) x.2
   where
-    by_code : (c : Code) (more : List ℕ) → ((b : ℕ) × (bytes ≡ b ∷ more) × (constructor_of b ≡ Some c)) → opened n (c, more) ≡ Ok (opening.Described (Some name), rest) → OpenedParts (n - 1) bytes rest name
-    by_code (code.Leaf leaf.Null) more b e = absurd (not_described opening.Null more rest (Some name) e)
+    by_code : (c : Code) (more : List ℕ) → ((b : ℕ) × (bytes ≡ b ∷ more) × (constructor_of b ≡ Some c)) → opened n (c, more) ≡ Ok (opening.Described name, rest) → OpenedParts (n - 1) bytes rest name
+    by_code (code.Leaf leaf.Null) more b e = absurd (not_described opening.Null more rest name e)
     by_code code.Described more b e =
-        let x = bind_ok (by_fault outer (to plain_part (value_at (n - 1) more))) (λ x. opened_as (opening.Described (name_of x.0)) x.1) (opening.Described (Some name), rest) e in
+        let x = bind_ok (by_fault outer (to plain_part (value_at (n - 1) more))) (λ x. opened_as (opening.Described (name_of x.0)) x.1) (opening.Described name, rest) e in
         let t = to_ok plain_part (value_at (n - 1) more) x.0.0 x.0.1 (by_fault_ok outer (to plain_part (value_at (n - 1) more)) x.0 x.1) in
         let s = Spells-value_at (n - 1) more t.0 x.0.1 t.1 in
         let same = pair_is (name_of x.0.0) x.0.1 x.2 in
@@ -204,9 +204,9 @@ opened_parts n bytes rest name e =
           named = sym (name_of_part t.0) ∙ ap name_of t.2 ∙ same.0;
         }
       where
-        pair_is : (o : Option Descriptor) (r : List ℕ) → opened_as (opening.Described o) r ≡ Ok (opening.Described (Some name), rest) → (o ≡ Some name) × (r ≡ rest)
-        pair_is o r e = let p = found_is (opening.Described o, r) (opening.Described (Some name), rest) e in (ap (λ q. name_in q.0) p, ap (λ q. q.1) p)
-    by_code c more b e = absurd (not_described opening.Other more rest (Some name) e)
+        pair_is : (o : Option Descriptor) (r : List ℕ) → opened_as (opening.Described o) r ≡ Ok (opening.Described name, rest) → (o ≡ name) × (r ≡ rest)
+        pair_is o r e = let p = found_is (opening.Described o, r) (opening.Described name, rest) e in (ap (λ q. name_in q.0) p, ap (λ q. q.1) p)
+    by_code c more b e = absurd (not_described opening.Other more rest name e)
 
 -- What was listed: as many items as there may be, and what they spell is a list.
 pub record ListedParts (n limit : ℕ) (bytes rest : List ℕ) (at : At) : Type 0 where
@@ -296,7 +296,7 @@ listed_parts n limit wrong bytes rest at e =
 
 pub list_sound : {X : Type 0} (n limit : ℕ) (wrong : PerfFault) (name : Descriptor) (fields : At → Result X PerfFault) (table : X → List Field)
     → ((at : At) (x : X) → at.depth ≡ n → fields at ≡ Ok x → Read at (table x)) → ((x : X) → length (table x) ≡ limit)
-    → (bytes behind rest : List ℕ) (at : At) (x : X) → OpenedParts (suc n) bytes behind name → listed (suc n) limit wrong behind ≡ Ok (at, rest) → fields at ≡ Ok x
+    → (bytes behind rest : List ℕ) (at : At) (x : X) → OpenedParts (suc n) bytes behind (Some name) → listed (suc n) limit wrong behind ≡ Ok (at, rest) → fields at ≡ Ok x
     → (text : List ℕ) × (bytes ≡ text ++ rest) × SpellsList (suc (suc n)) name (table x) text
 unfolding Behind
 list_sound n limit wrong name fields table sound size bytes behind rest at x o listed_is read =
@@ -336,7 +336,7 @@ list_complete n limit wrong name fields table complete size text rest x h =
     record {
       behind = p.second ++ rest;
       at = l.at;
-      opened = opening_ready (suc n) text rest h.list.descriptor (d.list h.list.items) name p (name_complete h.list.descriptor name h.list.named);
+      opened = opening_ready (suc n) text rest h.list.descriptor (d.list h.list.items) (Some name) p (name_complete h.list.descriptor name h.list.named);
       listed = l.is;
       read = complete l.at x l.deep l.ready;
     }

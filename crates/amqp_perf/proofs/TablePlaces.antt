@@ -41,7 +41,7 @@ pub by_fault_ok : {A : Type 0} (see : TypeFault → PerfFault) (r : Result A Typ
 by_fault_ok see (Ok y) x e = ap (λ z. Ok z) (found_is y x e)
 by_fault_ok see (Err f) x e = absurd cc
 
-ended_ok : (at : At) (u : Unit {0}) → ended at ≡ Ok u → at.bytes ≡ []
+pub ended_ok : (at : At) (u : Unit {0}) → ended at ≡ Ok u → at.bytes ≡ []
 unfolding ended
 ended_ok at u e = by_test (length at.bytes == 0) refl e
   where
@@ -131,7 +131,7 @@ absent_moves at o behind none e =
     let p = found_is (None, at) (o, behind) b.2 in
     inr (record { none = none; empty = ended_ok at b.0 b.1; same = ap (λ q. q.1) p; holds = sym (ap (λ q. q.0) p) })
 
-one_less : (n : ℕ) → (n == 0) ≡ false → n ≡ suc (n - 1)
+pub one_less : (n : ℕ) → (n == 0) ≡ false → n ≡ suc (n - 1)
 one_less n e = let ne = eqb-false n 0 e in omega arith
 
 item_moves : (at : At) (v : Data) (o : Option Data) (rest : List ℕ) (behind : At) → (at.left == 0) ≡ false → value_at at.depth at.bytes ≡ Ok (v, rest) → found_at (unless_null v) (next at rest) ≡ Ok (o, behind) → Moves at (Sees o) behind
@@ -213,7 +213,7 @@ ended_ready at r = none r.items r.spelled r.holds
     none (item v vs) e h = absurd h
 
 -- no item is left
-absent_taken : (at : At) → at.bytes ≡ [] → absent {A = Data} at ≡ Ok (None, at)
+pub absent_taken : {A : Type 0} (at : At) → at.bytes ≡ [] → absent {A = A} at ≡ Ok (None, at)
 unfolding ended
 absent_taken at e = ap (λ (b : List ℕ). cond (length b == 0) nothing (Err (fault.Spelling type_fault.SizeMismatch)) >>= λ _. found_at None at) e
 
@@ -224,10 +224,10 @@ record First (at : At) (vs : Items) (take : Takes (Option Data)) : Type 0 where
   pub counted : count (others vs) ≡ behind.left
   pub deep : behind.depth ≡ at.depth
 
-counted_less : (n m : ℕ) → suc n ≡ m → n ≡ m - 1
+pub counted_less : (n m : ℕ) → suc n ≡ m → n ≡ m - 1
 counted_less n m e = omega arith
 
-some_left : (n m : ℕ) → suc n ≡ m → (m == 0) ≡ false
+pub some_left : (n m : ℕ) → suc n ≡ m → (m == 0) ≡ false
 some_left n m e = subst (λ k. (k == 0) ≡ false) e (eqb-suc-zero n)
 
 value_first : (at : At) (vs : Items) → AreItems (Spells at.depth) at.bytes vs → count vs ≡ at.left → First at vs value
