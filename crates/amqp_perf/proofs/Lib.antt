@@ -16,3 +16,4 @@ pub mod TableNames
 pub mod TableLists
 pub mod TableNested
 pub mod TableStates
+pub mod TableTermini

@@ -340,3 +340,11 @@ field {take = take} {F = F} agrees at then y deep e go =
 
 pub last : {B : Type 0} {Goal : Type 0} (at : At) (then : Unit {0} → Result B PerfFault) (y : B) → (ended at >>= then) ≡ Ok y → (Read at [] → then tt ≡ Ok y → Goal) → Goal
 last at then y e go = let b = bind_ok (ended at) then y e in go (finished at b.0 b.1) b.2
+
+-- any step, and what follows
+pub taken : {A B : Type 0} {Goal : Type 0} (r : Result A PerfFault) (then : A → Result B PerfFault) (y : B) → (r >>= then) ≡ Ok y → ((x : A) → r ≡ Ok x → then x ≡ Ok y → Goal) → Goal
+taken r then y e go = let b = bind_ok r then y e in go b.0 b.1 b.2
+
+-- a reader of several fields before others: the lines before theirs
+abbrev pub Part : ℕ → At → At → List Field → List Field → Type 0
+Part n at behind fs lines = (behind.depth ≡ n) × (Read behind fs → Read at lines)

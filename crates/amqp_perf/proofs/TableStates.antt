@@ -174,7 +174,7 @@ other_reads n text rest v bytes s h =
     ∙ ap (λ r. r >>= λ x. found {A = Option DeliveryState × List ℕ} (Some (state.Other x.0), x.1)) (carried_reads (suc n) text rest v s)
     ∙ ap (λ (t : List ℕ). found {A = Option DeliveryState × List ℕ} (Some (state.Other t), rest)) (sym h.carried)
 
-abbrev Four : ℕ → ℕ
+abbrev pub Four : ℕ → ℕ
 Four n = suc (suc (suc (suc n)))
 
 pub state_reads : (n : ℕ) → ReadsKind (Four n) state_in delivery_state
