@@ -17,3 +17,4 @@ pub mod TableLists
 pub mod TableNested
 pub mod TableStates
 pub mod TableTermini
+pub mod TableUnsettled
