@@ -18,3 +18,5 @@ pub mod TableNested
 pub mod TableStates
 pub mod TableTermini
 pub mod TableUnsettled
+pub mod TablePerfs
+pub mod TableLaws

@@ -114,12 +114,12 @@ by_default k default (Some x) v h = inl h
 pub defaulted_moves : {A : Type 0} (k : Kind A) (default : A) (o : Option A) (at behind : At) → Moves at (optional k o) behind → Moves at (defaulted k default (unwrap_or o default)) behind
 defaulted_moves k default o at behind m = weaker at (optional k o) (defaulted k default (unwrap_or o default)) behind (by_default k default o) m
 
-pub record Given {A : Type 0} (k : Kind A) (default x : A) (fs : List Field) (at : At) : Type 0 where
+record Given {A : Type 0} (k : Kind A) (default x : A) (fs : List Field) (at : At) : Type 0 where
   pub given : Option A
   pub is : unwrap_or given default ≡ x
   pub ready : Ready at (optional k given ∷ fs)
 
-pub defaulted_ready : {A : Type 0} (k : Kind A) (default x : A) (fs : List Field) (at : At) → Ready at (defaulted k default x ∷ fs) → Given k default x fs at
+defaulted_ready : {A : Type 0} (k : Kind A) (default x : A) (fs : List Field) (at : At) → Ready at (defaulted k default x ∷ fs) → Given k default x fs at
 defaulted_ready {A = A} k default x fs at r =
     let h = first_holds (defaulted k default x) fs r.items r.holds in
     let g = by_value (front r.items) h.0 in
@@ -128,6 +128,14 @@ defaulted_ready {A = A} k default x fs at r =
     by_value : (v : Data) → defaulted k default x v → (o : Option A) × (unwrap_or o default ≡ x) × optional k o v
     by_value v (inl h) = (Some x, refl, h)
     by_value v (inr h) = (None, sym h.1, h.0)
+
+-- one field with a default that is known, and what follows
+pub given_or : {n : ℕ} {A : Type 0} {take : Takes (Option A)} {Goal : Type 0} (k : Kind A) (default : A) → Agrees n take (optional k) → (at : At) (x : A) (fs : List Field) → at.depth ≡ n → Ready at (defaulted k default x ∷ fs)
+    → ((o : Option A) (behind : At) → unwrap_or o default ≡ x → behind.depth ≡ n → take at ≡ Ok (o, behind) → Ready behind fs → Goal) → Goal
+given_or k default agrees at x fs deep r go =
+    let g = defaulted_ready k default x fs at r in
+    let t = agrees.ready at g.given fs deep g.ready in
+    go g.given t.behind g.is t.deep t.took t.ready
 
 or_agrees : {A : Type 0} (n : ℕ) (k : Kind A) (default : A) (take : Takes (Option A)) → Agrees n take (optional k) → Agrees n (λ at. take at >>= or_else default) (defaulted k default)
 or_agrees n k default take agrees = record {

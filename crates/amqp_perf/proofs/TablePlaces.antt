@@ -348,3 +348,8 @@ taken r then y e go = let b = bind_ok r then y e in go b.0 b.1 b.2
 -- a reader of several fields before others: the lines before theirs
 abbrev pub Part : ℕ → At → At → List Field → List Field → Type 0
 Part n at behind fs lines = (behind.depth ≡ n) × (Read behind fs → Read at lines)
+
+-- one field that is known, and what follows
+pub given : {n : ℕ} {A : Type 0} {take : Takes A} {F : A → Field} {Goal : Type 0} → Agrees n take F → (at : At) (x : A) (fs : List Field) → at.depth ≡ n → Ready at (F x ∷ fs)
+    → ((behind : At) → behind.depth ≡ n → take at ≡ Ok (x, behind) → Ready behind fs → Goal) → Goal
+given agrees at x fs deep r go = let t = agrees.ready at x fs deep r in go t.behind t.deep t.took t.ready

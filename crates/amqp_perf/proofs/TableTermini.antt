@@ -27,8 +27,8 @@ use Rattle.amqp_perf.specs.Tables.{Field, IsList, IsCarried, NoneNames, mandator
 use Rattle.amqp_perf.specs.ListTables.{delivery_state, source_table, target_table, source_terminus, target_terminus}
 use Rattle.amqp_perf.proofs.WrittenTermini.{source_other, target_other}
 use Rattle.amqp_perf.proofs.TableNames.{name_sound}
-use Rattle.amqp_perf.proofs.TablePlaces.{found, bind_ok, found_is, Ready, Read, moved, ended_ready, TakesFirst, Agrees, Part, taken, field, last}
-use Rattle.amqp_perf.proofs.TableFields.{flag_agrees, optional_uint, optional_symbol, optional_map, optional_address, multiple_agrees, defaulted_moves, defaulted_ready}
+use Rattle.amqp_perf.proofs.TablePlaces.{found, bind_ok, found_is, Ready, Read, moved, ended_ready, TakesFirst, Agrees, Part, taken, field, last, given}
+use Rattle.amqp_perf.proofs.TableFields.{flag_agrees, optional_uint, optional_symbol, optional_map, optional_address, multiple_agrees, defaulted_moves, given_or}
 use Rattle.amqp_perf.proofs.TableLists.{described_parts, opening_ready}
 use Rattle.amqp_perf.proofs.TableNested.{Found, ReadsKind, in_place_agrees, null_opens, null_found, never_refused, list_found, list_reads, carried_parts, apart}
 use Rattle.amqp_perf.proofs.TableStates.{Four, optional_state, carried_reads}
@@ -62,32 +62,16 @@ node_sound n at x behind fs deep e =
     field (optional_map (Four n)) at5 _ (x, behind) d5 e5 (λ x6 at6 d6 m6 e6.
     subst (λ q. Part (Four n) at q.1 fs (node_lines q.0 fs)) (found_is _ (x, behind) e6) (d6, λ end. (moved at _ _ at1 m1 (moved at1 _ _ at2 (defaulted_moves uint 0 x2 at1 at2 m2) (moved at2 _ _ at3 (defaulted_moves symbol session_end x3 at2 at3 m3) (moved at3 _ _ at4 (defaulted_moves uint 0 x4 at3 at4 m4) (moved at4 _ _ at5 m5 (moved at5 _ _ at6 m6 end)))))))))))))
 
-node_taken : (at0 at1 at2 at3 at4 at5 at6 : At) (x : NodeFields) (g2 : Option ℕ) (g3 : Option (List ℕ)) (g4 : Option ℕ)
-    → read.address_at at0 ≡ Ok (x.address, at1)
-    → read.uint at1 ≡ Ok (g2, at2)
-    → read.symbol at2 ≡ Ok (g3, at3)
-    → read.uint at3 ≡ Ok (g4, at4)
-    → read.flag at4 ≡ Ok (x.dynamic, at5)
-    → read.map at5 ≡ Ok (x.dynamic_node_properties, at6)
-    → unwrap_or g2 0 ≡ x.durable
-    → unwrap_or g3 session_end ≡ x.expiry_policy
-    → unwrap_or g4 0 ≡ x.timeout
-    → node_at at0 ≡ Ok (x, at6)
-unfolding node_at
-node_taken at0 at1 at2 at3 at4 at5 at6 x g2 g3 g4 e1 e2 e3 e4 e5 e6 h2 h3 h4 = rw (e1, e2, e3, e4, e5, e6, h2, h3, h4) refl
-
 node_complete : (n : ℕ) (at : At) (x : NodeFields) (fs : List Field) → at.depth ≡ Four n → Ready at (node_lines x fs) → TakesFirst (Four n) node_at x fs at
+unfolding node_at
 node_complete n at x fs deep r =
-    let t1 = (optional_address (Four n)).ready at x.address _ deep r in
-    let g2 = defaulted_ready uint 0 x.durable _ t1.behind t1.ready in
-    let t2 = (optional_uint (Four n)).ready t1.behind g2.given _ t1.deep g2.ready in
-    let g3 = defaulted_ready symbol session_end x.expiry_policy _ t2.behind t2.ready in
-    let t3 = (optional_symbol (Four n)).ready t2.behind g3.given _ t2.deep g3.ready in
-    let g4 = defaulted_ready uint 0 x.timeout _ t3.behind t3.ready in
-    let t4 = (optional_uint (Four n)).ready t3.behind g4.given _ t3.deep g4.ready in
-    let t5 = (flag_agrees (Four n)).ready t4.behind x.dynamic _ t4.deep t4.ready in
-    let t6 = (optional_map (Four n)).ready t5.behind x.dynamic_node_properties _ t5.deep t5.ready in
-    record { behind = t6.behind; took = node_taken at t1.behind t2.behind t3.behind t4.behind t5.behind t6.behind x g2.given g3.given g4.given t1.took t2.took t3.took t4.took t5.took t6.took g2.is g3.is g4.is; deep = t6.deep; ready = t6.ready }
+    given (optional_address (Four n)) at x.address _ deep r (λ at1 d1 e1 r1.
+    given_or uint 0 (optional_uint (Four n)) at1 x.durable _ d1 r1 (λ o2 at2 h2 d2 e2 r2.
+    given_or symbol session_end (optional_symbol (Four n)) at2 x.expiry_policy _ d2 r2 (λ o3 at3 h3 d3 e3 r3.
+    given_or uint 0 (optional_uint (Four n)) at3 x.timeout _ d3 r3 (λ o4 at4 h4 d4 e4 r4.
+    given (flag_agrees (Four n)) at4 x.dynamic _ d4 r4 (λ at5 d5 e5 r5.
+    given (optional_map (Four n)) at5 x.dynamic_node_properties _ d5 r5 (λ at6 d6 e6 r6.
+    record { behind = at6; took = rw (e1, e2, e3, e4, e5, e6, h2, h3, h4) refl; deep = d6; ready = r6 }))))))
 
 choices_sound : (n : ℕ) (at : At) (x : SourceChoices) → at.depth ≡ Four n → choices_fields at ≡ Ok x → Read at (choices_lines x)
 unfolding choices_fields
@@ -103,12 +87,12 @@ choices_sound n at x deep e =
 choices_complete : (n : ℕ) (at : At) (x : SourceChoices) → at.depth ≡ Four n → Ready at (choices_lines x) → choices_fields at ≡ Ok x
 unfolding choices_fields
 choices_complete n at x deep r =
-    let t1 = (optional_symbol (Four n)).ready at x.distribution_mode _ deep r in
-    let t2 = (optional_map (Four n)).ready t1.behind x.filter _ t1.deep t1.ready in
-    let t3 = (optional_state n).ready t2.behind x.default_outcome _ t2.deep t2.ready in
-    let t4 = (multiple_agrees (Four n)).ready t3.behind x.outcomes _ t3.deep t3.ready in
-    let t5 = (multiple_agrees (Four n)).ready t4.behind x.capabilities _ t4.deep t4.ready in
-    rw (t1.took, t2.took, t3.took, t4.took, t5.took, ended_ready t5.behind t5.ready) refl
+    given (optional_symbol (Four n)) at x.distribution_mode _ deep r (λ at1 d1 e1 r1.
+    given (optional_map (Four n)) at1 x.filter _ d1 r1 (λ at2 d2 e2 r2.
+    given (optional_state n) at2 x.default_outcome _ d2 r2 (λ at3 d3 e3 r3.
+    given (multiple_agrees (Four n)) at3 x.outcomes _ d3 r3 (λ at4 d4 e4 r4.
+    given (multiple_agrees (Four n)) at4 x.capabilities _ d4 r4 (λ at5 d5 e5 r5.
+    rw (e1, e2, e3, e4, e5, ended_ready at5 r5) refl)))))
 
 source_sound : (n : ℕ) (at : At) (x : Source) → at.depth ≡ Four n → source_fields at ≡ Ok x → Read at (source_table x)
 unfolding source_fields
