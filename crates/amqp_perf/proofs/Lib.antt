@@ -20,3 +20,4 @@ pub mod TableTermini
 pub mod TableUnsettled
 pub mod TablePerfs
 pub mod TableLaws
+pub mod PerfStaying

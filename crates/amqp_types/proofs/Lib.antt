@@ -10,4 +10,4 @@ pub mod Writing
 pub mod RoundTrip
 pub mod CallerLemmas
 pub mod Typed
-mod Staying
+pub mod Staying
