@@ -55,9 +55,9 @@ known_stays more rest (Err e) see = λ other. refl
 abbrev refuse : {A : Type 0} → PerfFault → Result (Data × List ℕ) TypeFault → Result (A × List ℕ) PerfFault
 refuse wrong r = by_fault outer (after r) >>= λ _. Err wrong
 
-refuse_stays : {A : Type 0} (more : List ℕ) (wrong : PerfFault) (r s : Result (Data × List ℕ) TypeFault) → TypeStays more r s → Stays {A = A} more (refuse wrong r) (refuse wrong s)
-refuse_stays {A = A} more wrong (Ok x) s h = λ other. ap (λ q. refuse {A = A} wrong q) h
-refuse_stays {A = A} more wrong (Err e) s h = λ other. ap (λ q. refuse {A = A} wrong q) (h (λ same. other (ap outer same)))
+refuse_stays : (A : Type 0) (more : List ℕ) (wrong : PerfFault) (r s : Result (Data × List ℕ) TypeFault) → TypeStays more r s → Stays {A = A} more (refuse wrong r) (refuse wrong s)
+refuse_stays A more wrong (Ok x) s h = λ other. ap (λ q. refuse {A = A} wrong q) h
+refuse_stays A more wrong (Err e) s h = λ other. ap (λ q. refuse {A = A} wrong q) (h (λ same. other (ap outer same)))
 
 opening_stays : (n : ℕ) (bytes more : List ℕ) → Stays more (opening_at n bytes) (opening_at n (bytes ++ more))
 unfolding opening_at
@@ -90,7 +90,7 @@ listed_stays n limit wrong bytes more =
     by_code (code.List z) rest =
         then_stays more (by_fault outer (sized_at z rest)) (by_fault outer (sized_at z (rest ++ more))) (λ x. by_fault inner (size_at z x.0) >>= counted n limit x.1) (λ x. by_fault inner (size_at z x.0) >>= counted n limit x.1)
         (outer_stays more (sized_at z rest) (sized_at z (rest ++ more)) (sized_stays z rest more)) (λ inside last. by_count (by_fault inner (size_at z inside)) last)
-    by_code c rest = refuse_stays more wrong (value_at n bytes) (value_at n (bytes ++ more)) (value_at_stays n bytes more)
+    by_code c rest = refuse_stays At more wrong (value_at n bytes) (value_at n (bytes ++ more)) (value_at_stays n bytes more)
 
 -- ---- a performative
 
@@ -110,7 +110,7 @@ performative_stays bytes more = then_stays more (opening_at 32 bytes) (opening_a
     by_opening : (o : Opening) (rest : List ℕ) → Stays more (performative_by bytes (o, rest)) (performative_by (bytes ++ more) (o, rest ++ more))
     by_opening (opening.Described (Some name)) rest = by_limit name (limit_of name) rest
     by_opening (opening.Described None) rest = λ other. refl
-    by_opening o rest = refuse_stays more fault.NotPerformative (value_at 32 bytes) (value_at 32 (bytes ++ more)) (value_at_stays 32 bytes more)
+    by_opening o rest = refuse_stays Perf more fault.NotPerformative (value_at 32 bytes) (value_at 32 (bytes ++ more)) (value_at_stays 32 bytes more)
 
 -- ---- a delivery state
 
@@ -146,7 +146,7 @@ state_stays bytes more = then_stays more (opening_at 32 bytes) (opening_at 32 (b
 
     by_opening : (o : Opening) (rest : List ℕ) → Stays more (state_by 32 bytes (o, rest)) (state_by 32 (bytes ++ more) (o, rest ++ more))
     by_opening opening.Null rest = refl
-    by_opening opening.Other rest = refuse_stays more fault.WrongKind (value_at 32 bytes) (value_at 32 (bytes ++ more)) (value_at_stays 32 bytes more)
+    by_opening opening.Other rest = refuse_stays MaybeState more fault.WrongKind (value_at 32 bytes) (value_at 32 (bytes ++ more)) (value_at_stays 32 bytes more)
     by_opening (opening.Described name) rest = by_name name rest
 
 -- ---- the laws
