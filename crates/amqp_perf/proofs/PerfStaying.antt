@@ -1,5 +1,5 @@
 -- Bytes that come behind change nothing of what was read of a performative, nor of a fault other than their end.
-use Rattle.std.proofs.Common.{◌≡◌, ℕ, ◌-◌, Bool, true, false, cond, nat_lt, ◌⊎◌, inl, inr, List, [], ◌∷◌, ◌++◌, length, Option, Some, None, Result, Ok, Err, refl, sym, ap, subst, ◌∙◌, true≢false}
+use Rattle.std.proofs.Common.{◌≡◌, ℕ, ◌-◌, Bool, true, false, cond, nat_lt, ◌⊎◌, inl, inr, List, ◌++◌, length, Option, Some, None, Result, Ok, Err, refl, sym, ap, subst, ◌∙◌, true≢false}
 use Rattle.amqp_types.specs.declared.fault.TypeFault.{TypeFault}
 use Rattle.amqp_types.specs.declared.fault.TypeFault.TheVariants as type_fault
 use Rattle.amqp_types.specs.declared.code.Leaf.TheVariants as leaf
@@ -25,7 +25,6 @@ use Rattle.amqp_perf.specs.States.{received_fields, rejected_fields, modified_fi
 use Rattle.amqp_perf.specs.Performative.{limit_of, body, behind, performative_by, performative_at, performative, some_state, state as state_read}
 use Rattle.amqp_perf.specs.Fitting.{read_as}
 use Rattle.amqp_perf.specs.ListTables.{SpellsPerf, SpellsState}
-use Rattle.amqp_perf.proofs.TablePlaces.{found}
 use Rattle.amqp_perf.proofs.TableLists.{opened_as, listed_as}
 use Rattle.amqp_perf.proofs.TableLaws.{spelled_perf_read, spelled_state_read}
 

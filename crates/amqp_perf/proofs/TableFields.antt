@@ -1,5 +1,5 @@
 -- The readers of fields against their lines in a table.
-use Rattle.std.proofs.Common.{◌≡◌, ℕ, ◌≤◌, Bool, true, false, cond, nat_lt, ◌⊎◌, inl, inr, List, [], ◌∷◌, length, Option, Some, None, Result, Ok, Err, refl, sym, ap, subst, ◌∙◌}
+use Rattle.std.proofs.Common.{◌≡◌, ℕ, ◌≤◌, Bool, true, false, cond, nat_lt, inl, inr, List, [], ◌∷◌, length, Option, Some, None, Result, Ok, Err, refl, sym, ap, subst, ◌∙◌}
 use Rattle.std.specs.Option.{unwrap_or}
 use Rattle.std.proofs.lemmas.Bool.{ltb-false, le-ltb}
 use Rattle.arrayvec.specs.ArrayVec.{ArrayVec}
@@ -7,7 +7,6 @@ use Rattle.amqp_types.specs.declared.code.Kind.TheVariants as kind
 use Rattle.amqp_types.specs.Data as d
 use Rattle.amqp_types.specs.Data.{Data, Items, no_items, item}
 use Rattle.amqp_types.specs.Spelling.{spelling}
-use Rattle.amqp_types.specs.View.{plain_part}
 use Rattle.amqp_perf.specs.declared.fault.PerfFault.{PerfFault}
 use Rattle.amqp_perf.specs.declared.fault.PerfFault.TheVariants as fault
 use Rattle.amqp_perf.specs.declared.perf.Role.{Role}
@@ -22,7 +21,7 @@ use Rattle.amqp_perf.specs.Texts.{symbol_items}
 use Rattle.amqp_perf.specs.Fitting.{is_address_value}
 use Rattle.amqp_perf.specs.Tables as t
 use Rattle.amqp_perf.specs.Tables.{Kind, Field, mandatory, optional, defaulted, multiple}
-use Rattle.amqp_perf.proofs.TablePlaces.{found, found_at, bind_ok, found_is, Moves, Ready, weaker, Sees, TakesFirst, TakesFront, ReadsValues, reads_value, reads_plain, IsPlain, Agrees, instead, first_holds, holds_first, front}
+use Rattle.amqp_perf.proofs.TablePlaces.{found, found_at, bind_ok, found_is, Moves, Ready, weaker, Sees, TakesFirst, ReadsValues, reads_value, reads_plain, IsPlain, Agrees, instead, first_holds, holds_first, front}
 
 -- ---- what a reader of values answered
 
@@ -62,12 +61,12 @@ may_moves R P reads k is judges at o behind e =
     by_seen None a m e =
         let p = found_is (None, a) (o, behind) e in
         subst (λ b. Moves at (optional k o) b) (ap (λ q. q.1) p)
-            (weaker at (Sees None) (optional k o) a (λ v s. subst (λ z. optional k z v) (ap (λ q. q.0) p) (unseen v s)) m)
+        (weaker at (Sees None) (optional k o) a (λ v s. subst (λ z. optional k z v) (ap (λ q. q.0) p) (unseen v s)) m)
     by_seen (Some w) a m e =
         let x = bind_ok (is w) (λ x. found_at (Some x) a) (o, behind) e in
         let p = found_is (Some x.0, a) (o, behind) x.2 in
         subst (λ b. Moves at (optional k o) b) (ap (λ q. q.1) p)
-            (weaker at (Sees (Some w)) (optional k o) a (λ v s. subst (λ z. optional k z v) (ap (λ q. q.0) p) (subst (λ u. k x.0 u) (sym (seen v w s)) (judges.sound w x.0 (is_there v w s) x.1))) m)
+        (weaker at (Sees (Some w)) (optional k o) a (λ v s. subst (λ z. optional k z v) (ap (λ q. q.0) p) (subst (λ u. k x.0 u) (sym (seen v w s)) (judges.sound w x.0 (is_there v w s) x.1))) m)
 
 may_ready : {A : Type 0} (n : ℕ) (R : Takes (Option Data)) (P : Data → Type 0) → ReadsValues R P → (k : Kind A) (is : Data → Result A PerfFault) → Judges P k is
     → (at : At) (o : Option A) (fs : List Field) → at.depth ≡ n → Ready at (optional k o ∷ fs) → TakesFirst n (may R is) o fs at
@@ -92,13 +91,13 @@ may_agrees n R P reads k is judges = record { moves = λ at x behind deep e. may
 -- a field that must be there
 must_agrees : {A : Type 0} (n : ℕ) (k : Kind A) (take : Takes (Option A)) → Agrees n take (optional k) → Agrees n (λ at. take at >>= required) (mandatory k)
 must_agrees {A = A} n k take agrees = record {
-    moves = λ at x behind deep e.
-        let b = bind_ok (take at) required (x, behind) e in
-        by_given at x behind b.0.0 b.0.1 (agrees.moves at b.0.0 b.0.1 deep b.1) b.2;
-    ready = λ at x fs deep r.
-        let t = agrees.ready at (Some x) fs deep (instead (mandatory k x) (optional k (Some x)) fs at (λ v h. h) r) in
-        record { behind = t.behind; took = ap (λ r. r >>= required) t.took; deep = t.deep; ready = t.ready };
-  }
+  moves = λ at x behind deep e.
+      let b = bind_ok (take at) required (x, behind) e in
+      by_given at x behind b.0.0 b.0.1 (agrees.moves at b.0.0 b.0.1 deep b.1) b.2;
+  ready = λ at x fs deep r.
+      let t = agrees.ready at (Some x) fs deep (instead (mandatory k x) (optional k (Some x)) fs at (λ v h. h) r) in
+      record { behind = t.behind; took = ap (λ r. r >>= required) t.took; deep = t.deep; ready = t.ready };
+}
   where
     by_given : (at : At) (x : A) (behind : At) (o : Option A) (a : At) → Moves at (optional k o) a → required (o, a) ≡ Ok (x, behind) → Moves at (mandatory k x) behind
     by_given at x behind None a m e = absurd cc
@@ -139,26 +138,26 @@ given_or k default agrees at x fs deep r go =
 
 or_agrees : {A : Type 0} (n : ℕ) (k : Kind A) (default : A) (take : Takes (Option A)) → Agrees n take (optional k) → Agrees n (λ at. take at >>= or_else default) (defaulted k default)
 or_agrees n k default take agrees = record {
-    moves = λ at x behind deep e.
-        let b = bind_ok (take at) (or_else default) (x, behind) e in
-        let p = found_is (unwrap_or b.0.0 default, b.0.1) (x, behind) b.2 in
-        subst (λ b. Moves at (defaulted k default x) b) (ap (λ q. q.1) p) (subst (λ z. Moves at (defaulted k default z) b.0.1) (ap (λ q. q.0) p) (defaulted_moves k default b.0.0 at b.0.1 (agrees.moves at b.0.0 b.0.1 deep b.1)));
-    ready = λ at x fs deep r.
-        let g = defaulted_ready k default x fs at r in
-        let t = agrees.ready at g.given fs deep g.ready in
-        record { behind = t.behind; took = ap (λ r. r >>= or_else default) t.took ∙ ap (λ z. found_at z t.behind) g.is; deep = t.deep; ready = t.ready };
-  }
+  moves = λ at x behind deep e.
+      let b = bind_ok (take at) (or_else default) (x, behind) e in
+      let p = found_is (unwrap_or b.0.0 default, b.0.1) (x, behind) b.2 in
+      subst (λ b. Moves at (defaulted k default x) b) (ap (λ q. q.1) p) (subst (λ z. Moves at (defaulted k default z) b.0.1) (ap (λ q. q.0) p) (defaulted_moves k default b.0.0 at b.0.1 (agrees.moves at b.0.0 b.0.1 deep b.1)));
+  ready = λ at x fs deep r.
+      let g = defaulted_ready k default x fs at r in
+      let t = agrees.ready at g.given fs deep g.ready in
+      record { behind = t.behind; took = ap (λ r. r >>= or_else default) t.took ∙ ap (λ z. found_at z t.behind) g.is; deep = t.deep; ready = t.ready };
+}
 
 -- ---- the kinds
 
 equal_judges : {A : Type 0} (of : A → Data) (is : Data → Result A PerfFault) → ((v : Data) (x : A) → is v ≡ Ok x → v ≡ of x) → ((x : A) → is (of x) ≡ Ok x)
     → ((x : A) → IsThere (of x)) → ((x : A) → IsPlain (of x)) → Judges IsPlain (λ x v. v ≡ of x) is
 equal_judges of is sound complete some proper = record {
-    sound = λ v x there e. sound v x e;
-    complete = λ v x e. ap is e ∙ complete x;
-    some = λ v x e. subst IsThere (sym e) (some x);
-    proper = λ v x e. subst IsPlain (sym e) (proper x);
-  }
+  sound = λ v x there e. sound v x e;
+  complete = λ v x e. ap is e ∙ complete x;
+  some = λ v x e. subst IsThere (sym e) (some x);
+  proper = λ v x e. subst IsPlain (sym e) (proper x);
+}
 
 boolean_judges : Judges IsPlain t.boolean is_boolean
 boolean_judges = equal_judges d.boolean is_boolean sound (λ x. refl) (λ x. refl) (λ x. refl)
@@ -234,11 +233,11 @@ tag_judges = record { sound = sound; complete = complete; some = λ v x h. subst
 
 map_judges : Judges (λ v. Unit {0}) t.map is_map
 map_judges = record {
-    sound = sound;
-    complete = λ v x h. ap is_map h.1 ∙ ap (λ w. found (spelling w)) (sym h.1) ∙ ap (λ y. found y) (sym h.2);
-    some = λ v x h. subst IsThere (sym h.1) refl;
-    proper = λ v x h. tt;
-  }
+  sound = sound;
+  complete = λ v x h. ap is_map h.1 ∙ ap (λ w. found (spelling w)) (sym h.1) ∙ ap (λ y. found y) (sym h.2);
+  some = λ v x h. subst IsThere (sym h.1) refl;
+  proper = λ v x h. tt;
+}
   where
     sound : (v : Data) (x : List ℕ) → IsThere v → is_map v ≡ Ok x → t.map x v
     sound (d.map ps) x there e = (ps, refl, sym (found_is _ x e))

@@ -1,8 +1,7 @@
 -- A whole performative, SASL body or delivery state against its table.
-use Rattle.std.proofs.Common.{◌≡◌, ℕ, zero, suc, ◌-◌, ◌≤◌, List, [], ◌∷◌, ◌++◌, length, take, Option, Some, None, Result, Ok, Err, refl, sym, ap, subst, ◌∙◌, arith}
-use Rattle.std.proofs.lemmas.List.{length-append, append-nil}
+use Rattle.std.proofs.Common.{◌≡◌, ℕ, ◌-◌, ◌≤◌, List, [], ◌++◌, length, take, Option, Some, None, Result, Ok, Err, refl, sym, ap, subst, ◌∙◌, arith}
+use Rattle.std.proofs.lemmas.List.{length-append}
 use Rattle.std.proofs.Math.Seq.{take-append_seam}
-use Rattle.amqp_types.specs.Data.{Data}
 use Rattle.amqp_types.specs.Reading.{after, value_at}
 use Rattle.amqp_types.specs.Spells.{Spells}
 use Rattle.amqp_types.proofs.Lengths.{none_begins}
@@ -21,12 +20,11 @@ use Rattle.amqp_perf.specs.States.{state_in}
 use Rattle.amqp_perf.specs.Performative.{limit_of, body, behind, performative_by, performative_at, performative, some_state, state, open_fields, begin_fields, attach_fields, flow_fields, transfer_fields, disposition_fields, detach_fields, end_fields, close_fields, sasl_mechanisms_fields, sasl_init_fields, sasl_challenge_fields, sasl_response_fields, sasl_outcome_fields}
 use Rattle.amqp_perf.specs.Spelling.{spelling, state_spelling}
 use Rattle.amqp_perf.specs.Fitting.{Fits, FitsState, read_as}
-use Rattle.amqp_perf.specs.Tables.{Field, SpellsList, optional}
+use Rattle.amqp_perf.specs.Tables.{Field, SpellsList}
 use Rattle.amqp_perf.specs.ListTables.{SpellsPerf, SpellsState, delivery_state, open_table, begin_table, attach_table, flow_table, transfer_table, disposition_table, detach_table, end_table, close_table, sasl_mechanisms_table, sasl_init_table, sasl_challenge_table, sasl_response_table, sasl_outcome_table}
 use Rattle.amqp_perf.proofs.WrittenPerformatives.{performative_again, state_again}
 use Rattle.amqp_perf.proofs.TablePlaces.{found, bind_ok, found_is, Ready, Read}
 use Rattle.amqp_perf.proofs.TableLists.{opened_parts, list_sound, list_complete}
-use Rattle.amqp_perf.proofs.TableNested.{Found}
 use Rattle.amqp_perf.proofs.TableStates.{state_reads}
 use Rattle.amqp_perf.proofs.TablePerfs.{open_sound, open_complete, begin_sound, begin_complete, attach_sound, attach_complete, flow_sound, flow_complete, transfer_sound, transfer_complete, disposition_sound, disposition_complete, detach_sound, detach_complete, end_sound, end_complete, close_sound, close_complete, sasl_mechanisms_sound, sasl_mechanisms_complete, sasl_init_sound, sasl_init_complete, sasl_challenge_sound, sasl_challenge_complete, sasl_response_sound, sasl_response_complete, sasl_outcome_sound, sasl_outcome_complete}
 
@@ -156,8 +154,7 @@ read_state_spelled bytes s n e =
     by_given None rest is e = absurd cc
     by_given (Some y) rest is e =
         let q = found_is (y, length bytes - length rest) (s, n) e in
-        let f = (state_reads 28).sound bytes (Some y) rest is in
-        (
+        let f = (state_reads 28).sound bytes (Some y) rest is in (
           record {
             value = f.value;
             spelled = subst (λ (t : List ℕ). Spells 32 t f.value) (front_is bytes f.text rest n f.parts (ap (λ q. q.1) q)) f.spelled;

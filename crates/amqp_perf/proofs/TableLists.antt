@@ -1,5 +1,5 @@
 -- Described lists: what is spelled so is opened so, and what was opened is spelled so.
-use Rattle.std.proofs.Common.{◌≡◌, ℕ, zero, suc, ◌-◌, ◌≤◌, Bool, true, false, cond, nat_lt, List, [], ◌∷◌, ◌++◌, length, Option, Some, None, Result, Ok, Err, refl, sym, ap, subst, ◌∙◌, append_assoc, arith}
+use Rattle.std.proofs.Common.{◌≡◌, ℕ, suc, ◌-◌, ◌≤◌, Bool, true, false, cond, nat_lt, List, [], ◌∷◌, ◌++◌, length, Option, Some, None, Result, Ok, Err, refl, sym, ap, subst, ◌∙◌, append_assoc, arith}
 use Rattle.std.proofs.lemmas.Bool.{ltb-false}
 use Rattle.amqp_types.specs.declared.code.Leaf.{Leaf}
 use Rattle.amqp_types.specs.declared.code.Leaf.TheVariants as leaf
@@ -14,7 +14,6 @@ use Rattle.amqp_types.specs.Data.{Data, Items, no_items, item}
 use Rattle.amqp_types.specs.View.{plain_part}
 use Rattle.amqp_types.specs.Reading.{to, code_at, size_at, sized_at, value_at}
 use Rattle.amqp_types.specs.Spells.{Spells, Behind, AreItems, count}
-use Rattle.amqp_types.specs.Fitting.{value_kind}
 use Rattle.amqp_types.proofs.Typed.{leaf_meant}
 use Rattle.amqp_types.proofs.Sound.{code_sound, size_sound, sized_sound, Spells-value_at}
 use Rattle.amqp_types.proofs.Complete.{code_complete, value_at-Spells}
@@ -25,9 +24,9 @@ use Rattle.amqp_perf.specs.declared.descriptor.Descriptor.{Descriptor}
 use Rattle.amqp_perf.specs.declared.opening.Opening.{Opening}
 use Rattle.amqp_perf.specs.declared.opening.Opening.TheVariants as opening
 use Rattle.amqp_perf.specs.Faults.{outer, inner, by_fault, ◌>>=◌}
-use Rattle.amqp_perf.specs.Fields.{At, name_of, opened, opening_at, no_list, counted, listed_by, listed}
-use Rattle.amqp_perf.specs.Tables.{Field, Holds, IsList, SpellsList}
-use Rattle.amqp_perf.proofs.TablePlaces.{found, bind_ok, found_is, by_fault_ok, Ready, Read}
+use Rattle.amqp_perf.specs.Fields.{At, name_of, opened, opening_at, counted, listed_by, listed}
+use Rattle.amqp_perf.specs.Tables.{Field, Holds, SpellsList}
+use Rattle.amqp_perf.proofs.TablePlaces.{bind_ok, found_is, by_fault_ok, Ready, Read}
 use Rattle.amqp_perf.proofs.WrittenLists.{listed_sized}
 use Rattle.amqp_perf.proofs.TableNames.{name_sound, name_complete}
 
@@ -302,8 +301,7 @@ unfolding Behind
 list_sound n limit wrong name fields table sound size bytes behind rest at x o listed_is read =
     let l = listed_parts n limit wrong behind rest at listed_is in
     let r = sound at x l.deep read (subst (λ m. at.left ≤ m) (sym (size x)) l.few) in
-    let s = l.spelled r.items r.spelled r.counted in
-    (
+    let s = l.spelled r.items r.spelled r.counted in (
       o.byte ∷ (o.first ++ s.0),
       o.parts ∙ ap (λ (t : List ℕ). o.byte ∷ t) (ap (λ (t : List ℕ). o.first ++ t) s.1 ∙ sym (append_assoc o.first s.0 rest)),
       record {

@@ -1,5 +1,5 @@
 -- A field whose value holds others, against its line in a table: null, a described list, a described value that is carried.
-use Rattle.std.proofs.Common.{◌≡◌, ℕ, zero, suc, ◌-◌, Bool, true, false, cond, ◌==◌, inl, inr, List, [], ◌∷◌, ◌++◌, length, Option, Some, None, Result, Ok, Err, refl, sym, ap, subst, ◌∙◌, append_assoc, true≢false, arith}
+use Rattle.std.proofs.Common.{◌≡◌, ℕ, suc, ◌-◌, Bool, true, false, cond, ◌==◌, inl, inr, List, [], ◌∷◌, ◌++◌, length, Option, Some, None, Result, Ok, Err, refl, sym, ap, subst, ◌∙◌, true≢false}
 use Rattle.std.proofs.lemmas.Bool.{eqb-true}
 use Rattle.std.proofs.lemmas.List.{nil_from_length}
 use Rattle.amqp_types.specs.declared.code.Leaf.{Leaf}
@@ -17,18 +17,18 @@ use Rattle.amqp_types.specs.Spelling.{spelling}
 use Rattle.amqp_types.specs.Spells.{Spells, Behind, AreItems, count}
 use Rattle.amqp_types.proofs.Typed.{leaf_meant}
 use Rattle.amqp_types.proofs.Sound.{code_sound, Spells-value_at}
-use Rattle.amqp_types.proofs.Complete.{code_complete, value_at-Spells}
+use Rattle.amqp_types.proofs.Complete.{code_complete}
 use Rattle.amqp_perf.specs.declared.fault.PerfFault.{PerfFault}
 use Rattle.amqp_perf.specs.declared.fault.PerfFault.TheVariants as fault
 use Rattle.amqp_perf.specs.declared.descriptor.Descriptor.{Descriptor}
 use Rattle.amqp_perf.specs.declared.opening.Opening.{Opening}
 use Rattle.amqp_perf.specs.declared.opening.Opening.TheVariants as opening
-use Rattle.amqp_perf.specs.Faults.{outer, inner, within, by_fault, ◌>>=◌}
-use Rattle.amqp_perf.specs.Fields.{At, Takes, ended, absent, next, in_place, name_of, opened, opening_at, listed, refused, carried}
-use Rattle.amqp_perf.specs.Tables.{Kind as FieldKind, Field, Holds, IsList, SpellsList, Names, NoneNames, optional}
+use Rattle.amqp_perf.specs.Faults.{outer, within, by_fault, ◌>>=◌}
+use Rattle.amqp_perf.specs.Fields.{At, ended, absent, next, in_place, name_of, opened, opening_at, listed, refused, carried}
+use Rattle.amqp_perf.specs.Tables.{Kind as FieldKind, Field, Holds, IsList, Names, optional}
 use Rattle.amqp_perf.proofs.TableNames.{name_complete}
 use Rattle.amqp_perf.proofs.TablePlaces.{found, found_at, bind_ok, found_is, by_fault_ok, ended_ok, one_less, some_left, counted_less, absent_taken, Ready, Read, Moves, TakesFirst, Agrees}
-use Rattle.amqp_perf.proofs.TableLists.{opened_as, listed_as, less_one, not_described, name_in, name_of_part, OpenedParts, opened_parts, described_parts, opening_ready, list_sound, list_complete}
+use Rattle.amqp_perf.proofs.TableLists.{opened_as, less_one, not_described, name_in, OpenedParts, opened_parts, described_parts, opening_ready, list_sound, list_complete}
 
 -- what was read at the front is a value for which P holds
 pub record Found (n : ℕ) (bytes rest : List ℕ) (P : Data → Type 0) : Type 0 where
@@ -85,23 +85,23 @@ in_place_ready n {A = A} read k reads at o fs deep r = by_items r.items r.spelle
 
     by_items : (vs : Items) → AreItems (Spells at.depth) at.bytes vs → count vs ≡ at.left → Holds (optional k o ∷ fs) vs → TakesFirst n (in_place read) o fs at
     by_items no_items s c h = record {
-        behind = at;
-        took =
-            ap (λ m. cond (m == 0) (absent at) (within (read at.depth at.bytes) >>= λ x. found_at x.0 (next at x.1))) (sym c)
-            ∙ absent_taken {A = A} at s
-            ∙ ap (λ z. found_at z at) (sym (nothing o h.0));
-        deep = deep;
-        ready = record { items = no_items; spelled = s; counted = c; holds = h.1 };
-      }
+      behind = at;
+      took =
+          ap (λ m. cond (m == 0) (absent at) (within (read at.depth at.bytes) >>= λ x. found_at x.0 (next at x.1))) (sym c)
+          ∙ absent_taken {A = A} at s
+          ∙ ap (λ z. found_at z at) (sym (nothing o h.0));
+      deep = deep;
+      ready = record { items = no_items; spelled = s; counted = c; holds = h.1 };
+    }
     by_items (item v vs) s c h = record {
-        behind = next at s.1;
-        took =
-            ap (λ b. cond b (absent at) (within (read at.depth at.bytes) >>= λ x. found_at x.0 (next at x.1))) (some_left (count vs) at.left c)
-            ∙ ap (λ m. within (read m at.bytes) >>= λ x. found_at x.0 (next at x.1)) deep
-            ∙ ap (λ r. within r >>= λ x. found_at x.0 (next at x.1)) (ap (λ (t : List ℕ). read n t) s.2 ∙ reads.complete s.0 s.1 v o (subst (λ m. Spells m s.0 v) deep s.3) h.0);
-        deep = deep;
-        ready = record { items = vs; spelled = s.4; counted = counted_less (count vs) at.left c; holds = h.1 };
-      }
+      behind = next at s.1;
+      took =
+          ap (λ b. cond b (absent at) (within (read at.depth at.bytes) >>= λ x. found_at x.0 (next at x.1))) (some_left (count vs) at.left c)
+          ∙ ap (λ m. within (read m at.bytes) >>= λ x. found_at x.0 (next at x.1)) deep
+          ∙ ap (λ r. within r >>= λ x. found_at x.0 (next at x.1)) (ap (λ (t : List ℕ). read n t) s.2 ∙ reads.complete s.0 s.1 v o (subst (λ m. Spells m s.0 v) deep s.3) h.0);
+      deep = deep;
+      ready = record { items = vs; spelled = s.4; counted = counted_less (count vs) at.left c; holds = h.1 };
+    }
 
 pub in_place_agrees : (n : ℕ) {A : Type 0} (read : NestedReader A) (k : FieldKind A) → ReadsKind n read k → Agrees n (in_place read) (optional k)
 in_place_agrees n read k reads = record { moves = in_place_moves n read k reads; ready = in_place_ready n read k reads }

@@ -1,6 +1,5 @@
 -- The fields of each performative and SASL body against its table.
-use Rattle.std.proofs.Common.{◌≡◌, ℕ, ◌-◌, Bool, false, List, [], ◌∷◌, ◌++◌, length, Option, Some, None, Result, Ok, Err, refl, sym, ap, subst, ◌∙◌}
-use Rattle.std.specs.Option.{unwrap_or}
+use Rattle.std.proofs.Common.{◌≡◌, false, List, [], ◌∷◌, Ok, refl, subst}
 use Rattle.amqp_perf.specs.declared.perf.Open.{Open}
 use Rattle.amqp_perf.specs.declared.perf.Begin.{Begin}
 use Rattle.amqp_perf.specs.declared.perf.Attach.{Attach}
@@ -18,12 +17,8 @@ use Rattle.amqp_perf.specs.declared.perf.SaslOutcome.{SaslOutcome}
 use Rattle.amqp_perf.specs.declared.read_perfs.LinkEnds.{LinkEnds}
 use Rattle.amqp_perf.specs.declared.read_perfs.LinkHoldings.{LinkHoldings}
 use Rattle.amqp_perf.specs.declared.read_perfs.LinkExtras.{LinkExtras}
-use Rattle.amqp_perf.specs.Faults.{◌>>=◌}
-use Rattle.amqp_perf.specs.Fields as read
-use Rattle.amqp_perf.specs.Fields.{At, ended}
-use Rattle.amqp_perf.specs.States.{unsettled_at}
-use Rattle.amqp_perf.specs.Termini.{source_at, target_at}
-use Rattle.amqp_perf.specs.Performative.{required_role, ends_at, holdings_at, extras_fields, open_fields, begin_fields, attach_fields, flow_fields, transfer_fields, disposition_fields, detach_fields, end_fields, close_fields, sasl_mechanisms_fields, sasl_init_fields, sasl_challenge_fields, sasl_response_fields, sasl_outcome_fields}
+use Rattle.amqp_perf.specs.Fields.{At}
+use Rattle.amqp_perf.specs.Performative.{ends_at, holdings_at, extras_fields, open_fields, begin_fields, attach_fields, flow_fields, transfer_fields, disposition_fields, detach_fields, end_fields, close_fields, sasl_mechanisms_fields, sasl_init_fields, sasl_challenge_fields, sasl_response_fields, sasl_outcome_fields}
 use Rattle.amqp_perf.specs.Tables.{Field, mandatory, optional, defaulted, multiple, boolean, ubyte, ushort, uint, ulong, string, map, role_kind}
 use Rattle.amqp_perf.specs.ListTables.{source_terminus, target_terminus, deliveries, open_table, begin_table, attach_table, flow_table, transfer_table, disposition_table, detach_table, end_table, close_table, sasl_mechanisms_table, sasl_init_table, sasl_challenge_table, sasl_response_table, sasl_outcome_table}
 use Rattle.amqp_perf.proofs.TablePlaces.{found_is, Ready, Read, moved, ended_ready, TakesFirst, Part, taken, field, last, given}

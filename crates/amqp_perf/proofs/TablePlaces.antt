@@ -1,5 +1,5 @@
 -- Places among items: what a reader of a field takes, and what it takes where the items are known.
-use Rattle.std.proofs.Common.{◌≡◌, ℕ, zero, suc, ◌-◌, ◌≤◌, Bool, true, false, cond, ◌==◌, ◌⊎◌, inl, inr, List, [], ◌∷◌, ◌++◌, length, Option, Some, None, Result, Ok, Err, refl, sym, ap, subst, ◌∙◌, arith}
+use Rattle.std.proofs.Common.{◌≡◌, ℕ, suc, ◌-◌, ◌≤◌, Bool, true, false, cond, ◌==◌, ◌⊎◌, inl, inr, List, [], ◌∷◌, ◌++◌, length, Option, Some, None, Result, Ok, Err, refl, sym, ap, subst, ◌∙◌, arith}
 use Rattle.std.proofs.Math.Dec.{eqb-suc-zero}
 use Rattle.std.proofs.lemmas.Bool.{eqb-true, eqb-false}
 use Rattle.std.proofs.lemmas.List.{nil_from_length}
@@ -233,12 +233,12 @@ some_left n m e = subst (λ k. (k == 0) ≡ false) e (eqb-suc-zero n)
 value_first : (at : At) (vs : Items) → AreItems (Spells at.depth) at.bytes vs → count vs ≡ at.left → First at vs value
 unfolding value
 value_first at no_items s c = record {
-    behind = at;
-    took = ap (λ n. cond (n == 0) (absent at) (by_fault inner (value_at at.depth at.bytes) >>= λ x. found_at (unless_null x.0) (next at x.1))) (sym c) ∙ absent_taken at s;
-    spelled = s;
-    counted = c;
-    deep = refl;
-  }
+  behind = at;
+  took = ap (λ n. cond (n == 0) (absent at) (by_fault inner (value_at at.depth at.bytes) >>= λ x. found_at (unless_null x.0) (next at x.1))) (sym c) ∙ absent_taken at s;
+  spelled = s;
+  counted = c;
+  deep = refl;
+}
 value_first at (item v vs) s c =
     let read : value_at at.depth at.bytes ≡ Ok (v, s.1) = ap (λ (t : List ℕ). value_at at.depth t) s.2 ∙ value_at-Spells at.depth s.0 v s.1 s.3 in
     record {
@@ -254,12 +254,12 @@ value_first at (item v vs) s c =
 plain_first : (at : At) (vs : Items) → AreItems (Spells at.depth) at.bytes vs → count vs ≡ at.left → plain_part (front vs) ≡ Some (front vs) → First at vs plain
 unfolding plain
 plain_first at no_items s c part = record {
-    behind = at;
-    took = ap (λ n. cond (n == 0) (absent at) (by_fault inner (to plain_part (value_at at.depth at.bytes)) >>= plain_only at)) (sym c) ∙ absent_taken at s;
-    spelled = s;
-    counted = c;
-    deep = refl;
-  }
+  behind = at;
+  took = ap (λ n. cond (n == 0) (absent at) (by_fault inner (to plain_part (value_at at.depth at.bytes)) >>= plain_only at)) (sym c) ∙ absent_taken at s;
+  spelled = s;
+  counted = c;
+  deep = refl;
+}
 plain_first at (item v vs) s c part =
     let read : value_at at.depth at.bytes ≡ Ok (v, s.1) = ap (λ (t : List ℕ). value_at at.depth t) s.2 ∙ value_at-Spells at.depth s.0 v s.1 s.3 in
     record {
@@ -290,26 +290,26 @@ pub record ReadsValues (read : Takes (Option Data)) (P : Data → Type 0) : Type
 
 pub reads_value : ReadsValues value (λ v. Unit {0})
 reads_value = record {
-    moves = value_moves;
-    null = tt;
-    front = λ f fs at proper r.
-        let h = first_holds f fs r.items r.holds in
-        let t = value_first at r.items r.spelled r.counted in
-        record { value = front r.items; holds = h.0; behind = t.behind; took = t.took; deep = t.deep; ready = record { items = others r.items; spelled = t.spelled; counted = t.counted; holds = h.1 } };
-  }
+  moves = value_moves;
+  null = tt;
+  front = λ f fs at proper r.
+      let h = first_holds f fs r.items r.holds in
+      let t = value_first at r.items r.spelled r.counted in
+      record { value = front r.items; holds = h.0; behind = t.behind; took = t.took; deep = t.deep; ready = record { items = others r.items; spelled = t.spelled; counted = t.counted; holds = h.1 } };
+}
 
 abbrev pub IsPlain : Data → Type 0
 IsPlain v = plain_part v ≡ Some v
 
 pub reads_plain : ReadsValues plain IsPlain
 reads_plain = record {
-    moves = plain_moves;
-    null = refl;
-    front = λ f fs at proper r.
-        let h = first_holds f fs r.items r.holds in
-        let t = plain_first at r.items r.spelled r.counted (proper (front r.items) h.0) in
-        record { value = front r.items; holds = h.0; behind = t.behind; took = t.took; deep = t.deep; ready = record { items = others r.items; spelled = t.spelled; counted = t.counted; holds = h.1 } };
-  }
+  moves = plain_moves;
+  null = refl;
+  front = λ f fs at proper r.
+      let h = first_holds f fs r.items r.holds in
+      let t = plain_first at r.items r.spelled r.counted (proper (front r.items) h.0) in
+      record { value = front r.items; holds = h.0; behind = t.behind; took = t.took; deep = t.deep; ready = record { items = others r.items; spelled = t.spelled; counted = t.counted; holds = h.1 } };
+}
 
 -- ---- a field's reader, both ways
 

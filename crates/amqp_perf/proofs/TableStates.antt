@@ -1,13 +1,10 @@
 -- Errors and delivery states against their tables.
-use Rattle.std.proofs.Common.{◌≡◌, ℕ, zero, suc, ◌-◌, Bool, true, false, List, [], ◌∷◌, ◌++◌, length, Option, Some, None, Result, Ok, Err, refl, sym, ap, subst, ◌∙◌, true≢false}
+use Rattle.std.proofs.Common.{◌≡◌, ℕ, suc, true, false, List, [], ◌++◌, Option, Some, None, Ok, refl, sym, ap, subst, ◌∙◌}
 use Rattle.amqp_types.specs.Data as d
 use Rattle.amqp_types.specs.Data.{Data}
-use Rattle.amqp_types.specs.Reading.{value_at}
 use Rattle.amqp_types.specs.Spelling.{spelling}
 use Rattle.amqp_types.specs.Spells.{Spells}
 use Rattle.amqp_types.proofs.Complete.{value_at-Spells}
-use Rattle.amqp_perf.specs.declared.fault.PerfFault.{PerfFault}
-use Rattle.amqp_perf.specs.declared.fault.PerfFault.TheVariants as fault
 use Rattle.amqp_perf.specs.declared.descriptor.Descriptor.{Descriptor}
 use Rattle.amqp_perf.specs.declared.descriptor.Descriptor.TheVariants as is
 use Rattle.amqp_perf.specs.declared.opening.Opening.{Opening}
@@ -19,17 +16,17 @@ use Rattle.amqp_perf.specs.declared.state.Modified.{Modified}
 use Rattle.amqp_perf.specs.declared.state.DeliveryState.{DeliveryState}
 use Rattle.amqp_perf.specs.declared.state.DeliveryState.TheVariants as state
 use Rattle.amqp_perf.specs.Faults.{outer, by_fault, ◌>>=◌}
-use Rattle.amqp_perf.specs.Fields.{At, ended, name_of, opening_at, carried, refused}
+use Rattle.amqp_perf.specs.Fields.{At, ended, name_of, opening_at, carried}
 use Rattle.amqp_perf.specs.States.{error_fields, error_by, error_in, error_at, received_fields, rejected_fields, modified_fields, state_by, state_in, state_at}
 use Rattle.amqp_perf.specs.Fitting.{names_state}
-use Rattle.amqp_perf.specs.Tables.{Field, IsList, IsCarried, Names, NoneNames, optional}
+use Rattle.amqp_perf.specs.Tables.{Field, IsCarried, Names, NoneNames, optional}
 use Rattle.amqp_perf.specs.ListTables.{error_table, error, received_table, rejected_table, modified_table, state_names, delivery_state}
 use Rattle.amqp_perf.proofs.WrittenStates.{state_other}
 use Rattle.amqp_perf.proofs.TableNames.{name_sound}
 use Rattle.amqp_perf.proofs.TablePlaces.{found, bind_ok, found_is, Ready, Read, moved, finished, ended_ready, Agrees, field, last}
 use Rattle.amqp_perf.proofs.TableFields.{flag_agrees, mandatory_uint, mandatory_ulong, optional_string, mandatory_symbol, optional_map}
-use Rattle.amqp_perf.proofs.TableLists.{name_of_part, described_parts, opening_ready}
-use Rattle.amqp_perf.proofs.TableNested.{Found, ReadsKind, in_place_agrees, null_opens, null_found, never_refused, read_list, list_found, list_reads, carried_parts, apart}
+use Rattle.amqp_perf.proofs.TableLists.{described_parts, opening_ready}
+use Rattle.amqp_perf.proofs.TableNested.{Found, ReadsKind, in_place_agrees, null_opens, null_found, never_refused, list_found, list_reads, carried_parts, apart}
 
 -- ---- errors
 

@@ -1,11 +1,8 @@
 -- Sources and targets against their tables.
-use Rattle.std.proofs.Common.{◌≡◌, ℕ, zero, suc, ◌-◌, Bool, true, false, List, [], ◌∷◌, ◌++◌, length, Option, Some, None, Result, Ok, Err, refl, sym, ap, subst, ◌∙◌, true≢false}
+use Rattle.std.proofs.Common.{◌≡◌, ℕ, suc, false, List, [], ◌∷◌, ◌++◌, Option, Some, None, Ok, refl, sym, ap, subst, ◌∙◌}
 use Rattle.amqp_types.specs.Data as d
 use Rattle.amqp_types.specs.Data.{Data}
-use Rattle.amqp_types.specs.Spelling.{spelling}
 use Rattle.amqp_types.specs.Spells.{Spells}
-use Rattle.std.specs.Option.{unwrap_or}
-use Rattle.amqp_perf.specs.declared.fault.PerfFault.{PerfFault}
 use Rattle.amqp_perf.specs.declared.descriptor.Descriptor.{Descriptor}
 use Rattle.amqp_perf.specs.declared.descriptor.Descriptor.TheVariants as is
 use Rattle.amqp_perf.specs.declared.opening.Opening.{Opening}
@@ -19,11 +16,10 @@ use Rattle.amqp_perf.specs.declared.terminus.SourceTerminus.TheVariants as sourc
 use Rattle.amqp_perf.specs.declared.terminus.TargetTerminus.{TargetTerminus}
 use Rattle.amqp_perf.specs.declared.terminus.TargetTerminus.TheVariants as target
 use Rattle.amqp_perf.specs.Faults.{◌>>=◌}
-use Rattle.amqp_perf.specs.Fields as read
-use Rattle.amqp_perf.specs.Fields.{At, ended, name_of, opening_at, carried}
+use Rattle.amqp_perf.specs.Fields.{At, name_of, opening_at, carried}
 use Rattle.amqp_perf.specs.Termini.{session_end, node_at, choices_fields, source_fields, target_fields, source_by, source_in, source_at, target_by, target_in, target_at}
 use Rattle.amqp_perf.specs.Fitting.{names_source, names_target}
-use Rattle.amqp_perf.specs.Tables.{Field, IsList, IsCarried, NoneNames, mandatory, optional, defaulted, multiple, boolean, uint, symbol, map, node_address}
+use Rattle.amqp_perf.specs.Tables.{Field, IsCarried, NoneNames, optional, defaulted, multiple, boolean, uint, symbol, map, node_address}
 use Rattle.amqp_perf.specs.ListTables.{delivery_state, source_table, target_table, source_terminus, target_terminus}
 use Rattle.amqp_perf.proofs.WrittenTermini.{source_other, target_other}
 use Rattle.amqp_perf.proofs.TableNames.{name_sound}

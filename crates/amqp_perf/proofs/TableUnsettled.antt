@@ -1,8 +1,7 @@
 -- An unsettled map against its line in the table of attach.
-use Rattle.std.proofs.Common.{◌≡◌, ℕ, zero, suc, ◌*◌, ◌-◌, ◌/◌, Bool, true, false, cond, ◌⊎◌, inl, inr, List, [], ◌∷◌, ◌++◌, length, Option, Some, None, Result, Ok, Err, refl, sym, ap, subst, ◌∙◌, append_assoc, arith}
-use Rattle.std.proofs.lemmas.List.{append-nil, nil_from_length}
+use Rattle.std.proofs.Common.{◌≡◌, ℕ, suc, ◌*◌, ◌-◌, ◌/◌, Bool, true, false, cond, inl, inr, List, [], ◌∷◌, ◌++◌, Option, Some, None, Ok, Err, refl, sym, ap, subst, ◌∙◌, append_assoc, arith}
+use Rattle.std.proofs.lemmas.List.{append-nil}
 use Rattle.arrayvec.specs.ArrayVec.{ArrayVec}
-use Rattle.amqp_types.specs.declared.fault.TypeFault.{TypeFault}
 use Rattle.amqp_types.specs.declared.code.Leaf.{Leaf}
 use Rattle.amqp_types.specs.declared.code.Leaf.TheVariants as leaf
 use Rattle.amqp_types.specs.declared.code.Code.{Code}
@@ -10,26 +9,24 @@ use Rattle.amqp_types.specs.declared.code.Code.TheVariants as code
 use Rattle.amqp_types.specs.declared.code.Size.{Size}
 use Rattle.amqp_types.specs.declared.code.Kind.{Kind}
 use Rattle.amqp_types.specs.declared.code.Kind.TheVariants as kind
-use Rattle.amqp_types.specs.Codes.{code_of as constructor_of, leaf_kind}
+use Rattle.amqp_types.specs.Codes.{leaf_kind}
 use Rattle.amqp_types.specs.Data as d
 use Rattle.amqp_types.specs.Data.{Data, Items, no_items, item, Pairs, no_pairs, pair}
-use Rattle.amqp_types.specs.Reading.{after, code_at, size_at, sized_at, value_at, found_before}
-use Rattle.amqp_types.specs.Spells.{Spelling, Spells, Behind, AreItems, ArePairs, Fills, IsMapInside, IsNumber, count, pair_count}
+use Rattle.amqp_types.specs.Reading.{after, code_at, size_at, value_at, found_before}
+use Rattle.amqp_types.specs.Spells.{Spelling, Spells, Behind, AreItems, ArePairs, Fills, IsMapInside, count, pair_count}
 use Rattle.amqp_types.proofs.Tools.{bind_ok as type_bind_ok, ok_is as type_ok_is}
 use Rattle.amqp_types.proofs.Typed.{leaf_meant}
 use Rattle.amqp_types.proofs.Sound.{Spells-value_at}
 use Rattle.amqp_types.proofs.Complete.{code_complete, size_complete, sized_complete, value_at-Spells}
-use Rattle.amqp_perf.specs.declared.fault.PerfFault.{PerfFault}
 use Rattle.amqp_perf.specs.declared.fault.PerfFault.TheVariants as fault
 use Rattle.amqp_perf.specs.declared.state.UnsettledDelivery.{UnsettledDelivery}
-use Rattle.amqp_perf.specs.declared.state.DeliveryState.{DeliveryState}
 use Rattle.amqp_perf.specs.Faults.{outer, inner, by_fault, ◌>>=◌}
 use Rattle.amqp_perf.specs.Fields as read
 use Rattle.amqp_perf.specs.Fields.{At}
 use Rattle.amqp_perf.specs.States.{state_at, some_tag, tag_key, is_among, not_among, deliveries_at, unsettled_by, unsettled_in, unsettled_at}
 use Rattle.amqp_perf.specs.Tables.{Field, Holds, mandatory, optional, tag}
 use Rattle.amqp_perf.specs.ListTables.{AreDeliveries, deliveries, delivery_state}
-use Rattle.amqp_perf.proofs.TablePlaces.{found, found_at, bind_ok, found_is, by_fault_ok, Ready, Moves, TakesFirst, Agrees, instead, moved_deep, taken}
+use Rattle.amqp_perf.proofs.TablePlaces.{found, bind_ok, found_is, by_fault_ok, Ready, Moves, Agrees, instead, moved_deep, taken}
 use Rattle.amqp_perf.proofs.TableFields.{optional_tag}
 use Rattle.amqp_perf.proofs.TableNested.{Found, ReadsKind, in_place_agrees}
 use Rattle.amqp_perf.proofs.TableStates.{Four, optional_state}
@@ -39,13 +36,13 @@ use Rattle.amqp_perf.proofs.TableStates.{Four, optional_state}
 key_agrees : (n : ℕ) → Agrees n tag_key (mandatory tag)
 unfolding tag_key
 key_agrees n = record {
-    moves = λ at x behind deep e.
-        let b = bind_ok (read.tag at) some_tag (x, behind) e in
-        by_given at x behind b.0.0 b.0.1 ((optional_tag n).moves at b.0.0 b.0.1 deep b.1) b.2;
-    ready = λ at x fs deep r.
-        let t = (optional_tag n).ready at (Some x) fs deep (instead (mandatory tag x) (optional tag (Some x)) fs at (λ v h. h) r) in
-        record { behind = t.behind; took = ap (λ r. r >>= some_tag) t.took; deep = t.deep; ready = t.ready };
-  }
+  moves = λ at x behind deep e.
+      let b = bind_ok (read.tag at) some_tag (x, behind) e in
+      by_given at x behind b.0.0 b.0.1 ((optional_tag n).moves at b.0.0 b.0.1 deep b.1) b.2;
+  ready = λ at x fs deep r.
+      let t = (optional_tag n).ready at (Some x) fs deep (instead (mandatory tag x) (optional tag (Some x)) fs at (λ v h. h) r) in
+      record { behind = t.behind; took = ap (λ r. r >>= some_tag) t.took; deep = t.deep; ready = t.ready };
+}
   where
     by_given : (at : At) (x : ArrayVec ℕ) (behind : At) (o : Option (ArrayVec ℕ)) (a : At) → Moves at (optional tag o) a → some_tag (o, a) ≡ Ok (x, behind) → Moves at (mandatory tag x) behind
     by_given at x behind None a m e = absurd cc
@@ -264,7 +261,7 @@ unsettled_complete n text rest v o h means =
         let k = pair_count i.pairs in
         map_reads (Four n) (text ++ rest) h.body rest z (d.map ps) s
         ∙ ap (λ r. r >>= λ ds. found (Some ds))
-            (deliveries_complete n i.pairs [] us (place_in (Four n) k i.bytes) refl h2 (record { items = flat i.pairs; spelled = flat_spelled (Spells (Four n)) i.bytes i.pairs i.spelled; counted = flat_count i.pairs; holds = flat_holds i.pairs [] us h2 }))
+        (deliveries_complete n i.pairs [] us (place_in (Four n) k i.bytes) refl h2 (record { items = flat i.pairs; spelled = flat_spelled (Spells (Four n)) i.bytes i.pairs i.spelled; counted = flat_count i.pairs; holds = flat_holds i.pairs [] us h2 }))
     map_code (code.Array z) ps us s are = let e = s.spelled.is in absurd cc
     map_code code.Described ps us s are = let e = s.is in absurd cc
 

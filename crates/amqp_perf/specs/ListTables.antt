@@ -1,7 +1,7 @@
 -- The tables of the standard's lists, field by field (AMQP 1.0 part 2, section 2.7; part 3, sections 3.4 and 3.5; part 5,
 -- section 5.3.3), and which bytes encode a performative, a SASL body or a delivery state by them. A number of a few choices,
 -- as a settle mode, is any number of its type.
-use Rattle.std.specs.Prelude.{◌≡◌, ℕ, Bool, true, false, List, [], ◌∷◌, ◌++◌, Option, Some, None, codes}
+use Rattle.std.specs.Prelude.{◌≡◌, ℕ, false, List, [], ◌∷◌, ◌++◌, codes}
 use Rattle.amqp_types.specs.Data as d
 use Rattle.amqp_types.specs.Data.{Data, Pairs, no_pairs, pair}
 use Rattle.amqp_types.specs.Spells.{Spells}
