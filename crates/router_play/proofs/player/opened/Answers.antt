@@ -1,5 +1,5 @@
-use Rattle.std.proofs.Common.{subst, refl}
-use Rattle.book_core.specs.Book.{BookView, empty_book, effects}
+use Rattle.std.proofs.Common.{subst}
+use Rattle.book_core.specs.Book.{BookView}
 use Rattle.route_table.specs.Places.{routing_of}
 use Rattle.router_trace.specs.Configuration.{configured}
 use Rattle.router_core.specs.Handling.{Fits}
