@@ -10,3 +10,14 @@ pub mod WrittenTermini
 pub mod WrittenValues
 pub mod WrittenUnsettled
 pub mod FieldLengths
+pub mod TablePlaces
+pub mod TableFields
+pub mod TableNames
+pub mod TableLists
+pub mod TableNested
+pub mod TableStates
+pub mod TableTermini
+pub mod TableUnsettled
+pub mod TablePerfs
+pub mod TableLaws
+pub mod PerfStaying

@@ -129,7 +129,7 @@ Counted s n inside bytes v = (field : List ℕ) × (bytes ≡ field ++ inside) �
 pub number_is : (s : Size) (n : ℕ) (inside : List ℕ) (v : Data) (field : List ℕ) → IsNumber s field n → Counted s n inside (field ++ inside) v
 number_is s n inside v field h = (field, refl, h)
 
-listed_sized : (depth limit : ℕ) (wrong : PerfFault) (b : ℕ) (s : Size) (n : ℕ) (inside text rest : List ℕ) (v : Data) → constructor_of b ≡ Some (code.List s) → Fills s text v (Counted s n inside) → n ≤ limit
+pub listed_sized : (depth limit : ℕ) (wrong : PerfFault) (b : ℕ) (s : Size) (n : ℕ) (inside text rest : List ℕ) (v : Data) → constructor_of b ≡ Some (code.List s) → Fills s text v (Counted s n inside) → n ≤ limit
     → listed depth limit wrong (b ∷ (text ++ rest)) ≡ Ok (record { depth = depth - 1; left = n; bytes = inside }, rest)
 unfolding listed
 listed_sized depth limit wrong b s n inside text rest v known h few =

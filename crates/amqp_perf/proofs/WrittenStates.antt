@@ -123,7 +123,7 @@ modified_fields_again depth x h =
     let message_annotations : Each (IsMap (suc depth)) x.message_annotations = subst (λ n. Each (IsMap n) x.message_annotations) (less_two (suc depth)) h.message_annotations in
     rw (flag_again depth x.delivery_failed ((flag_text x.undeliverable_here) ∷ (x.message_annotations) ∷ []), flag_again depth x.undeliverable_here ((x.message_annotations) ∷ []), map_again depth x.message_annotations [] message_annotations, place_ended (suc depth)) refl
 
-state_other : (depth : ℕ) (bytes rest : List ℕ) (n : Option Descriptor) → names_state n ≡ false → state_by depth bytes (opening.Described n, rest) ≡ (carried depth bytes >>= λ x. Ok (Some (state.Other x.0), x.1))
+pub state_other : (depth : ℕ) (bytes rest : List ℕ) (n : Option Descriptor) → names_state n ≡ false → state_by depth bytes (opening.Described n, rest) ≡ (carried depth bytes >>= λ x. Ok (Some (state.Other x.0), x.1))
 state_other depth bytes rest None h = refl
 state_other depth bytes rest (Some is.Open) h = refl
 state_other depth bytes rest (Some is.Begin) h = refl

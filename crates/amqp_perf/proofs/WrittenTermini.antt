@@ -133,7 +133,7 @@ target_fields_again x h =
       policy_or x.expiry_policy,
     ) refl
 
-source_other : (depth : ℕ) (bytes rest : List ℕ) (n : Option Descriptor) → names_source n ≡ false → source_by depth bytes (opening.Described n, rest) ≡ (carried depth bytes >>= λ x. Ok (Some (source.Other x.0), x.1))
+pub source_other : (depth : ℕ) (bytes rest : List ℕ) (n : Option Descriptor) → names_source n ≡ false → source_by depth bytes (opening.Described n, rest) ≡ (carried depth bytes >>= λ x. Ok (Some (source.Other x.0), x.1))
 source_other depth bytes rest None h = refl
 source_other depth bytes rest (Some is.Open) h = refl
 source_other depth bytes rest (Some is.Begin) h = refl
@@ -158,7 +158,7 @@ source_other depth bytes rest (Some is.SaslChallenge) h = refl
 source_other depth bytes rest (Some is.SaslResponse) h = refl
 source_other depth bytes rest (Some is.SaslOutcome) h = refl
 
-target_other : (depth : ℕ) (bytes rest : List ℕ) (n : Option Descriptor) → names_target n ≡ false → target_by depth bytes (opening.Described n, rest) ≡ (carried depth bytes >>= λ x. Ok (Some (target.Other x.0), x.1))
+pub target_other : (depth : ℕ) (bytes rest : List ℕ) (n : Option Descriptor) → names_target n ≡ false → target_by depth bytes (opening.Described n, rest) ≡ (carried depth bytes >>= λ x. Ok (Some (target.Other x.0), x.1))
 target_other depth bytes rest None h = refl
 target_other depth bytes rest (Some is.Open) h = refl
 target_other depth bytes rest (Some is.Begin) h = refl

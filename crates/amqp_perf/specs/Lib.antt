@@ -12,3 +12,5 @@ pub mod TextViews
 pub mod NestedViews
 pub mod Spelling
 pub mod Fitting
+pub mod Tables
+pub mod ListTables

@@ -23,7 +23,10 @@ mod write_termini;
 
 pub use descriptor::Descriptor;
 pub use fault::PerfFault;
-pub use laws::written_is_read_again;
+pub use laws::{
+    a_fault_of_a_state_stays, a_fault_stays, encoded_by_its_table_is_read, none_begins_another,
+    read_as_its_table_says, written_as_its_table_says, written_is_read_again,
+};
 pub use leaf::{AnyValue, Binary, Map, Symbol, Symbols, Text};
 pub use lengths::transfer_len;
 pub use opening::Opening;

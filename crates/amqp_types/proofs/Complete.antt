@@ -22,7 +22,7 @@ use Rattle.amqp_types.proofs.Tools.{done, whole-all}
 abbrev pub Complete : {A : Type 0} → Reads A → (List ℕ → A → Type 0) → Type 0
 Complete {A = A} read P = (text : List ℕ) (x : A) (rest : List ℕ) → P text x → read (text ++ rest) ≡ Ok (x, rest)
 
-bytes_complete : (n : ℕ) (text rest : List ℕ) → length text ≡ n → bytes_at n (text ++ rest) ≡ Ok (text, rest)
+pub bytes_complete : (n : ℕ) (text rest : List ℕ) → length text ≡ n → bytes_at n (text ++ rest) ≡ Ok (text, rest)
 bytes_complete n text rest e =
     let le : length text ≤ length (text ++ rest) = omega (arith, length-append text rest) in
     subst (λ m. bytes_at m (text ++ rest) ≡ Ok (text, rest)) e (rw (le-ltb (length (text ++ rest)) (length text) le, take-append_seam text rest, drop-append_seam text rest) refl)

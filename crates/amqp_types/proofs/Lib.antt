@@ -10,3 +10,4 @@ pub mod Writing
 pub mod RoundTrip
 pub mod CallerLemmas
 pub mod Typed
+pub mod Staying

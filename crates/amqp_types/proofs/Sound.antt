@@ -32,13 +32,13 @@ bytes_sound n bytes x rest e =
       subst (λ a. length a ≡ n) first (length-take-le n bytes le),
     )
 
-size_sound : (s : Size) → Sound (size_at s) (IsNumber s)
+pub size_sound : (s : Size) → Sound (size_at s) (IsNumber s)
 size_sound s bytes n rest e =
     let t = to_ok (from_be_bytes (width s)) (bytes_at (byte_len (width s)) bytes) n rest e in
     let b = bytes_sound (byte_len (width s)) bytes t.0 rest t.1 in
     (t.0, b.0, record { wide = b.1; number = t.2 })
 
-sized_sound : (s : Size) (bytes inside rest : List ℕ) → sized_at s bytes ≡ Ok (inside, rest) → (text : List ℕ) × (bytes ≡ text ++ rest) × IsSized s text inside
+pub sized_sound : (s : Size) (bytes inside rest : List ℕ) → sized_at s bytes ≡ Ok (inside, rest) → (text : List ℕ) × (bytes ≡ text ++ rest) × IsSized s text inside
 unfolding sized_at
 sized_sound s bytes inside rest e =
     let n = bind_ok (size_at s bytes) (λ n. bytes_at n.0 n.1) (inside, rest) e in

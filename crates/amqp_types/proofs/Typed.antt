@@ -26,7 +26,7 @@ boolean_meant n v e = by_test (n == 0) (n == 1) e
     by_test false false e = absurd cc
 
 -- a plain value is of its constructor's type
-leaf_meant : (l : Leaf) (bytes : List ℕ) (v : Data) → content_of l bytes ≡ Ok v → value_kind v ≡ Some (leaf_kind l)
+pub leaf_meant : (l : Leaf) (bytes : List ℕ) (v : Data) → content_of l bytes ≡ Ok v → value_kind v ≡ Some (leaf_kind l)
 leaf_meant leaf.Null bytes v e = sym (ap value_kind (ok_is d.null v e))
 leaf_meant leaf.True bytes v e = sym (ap value_kind (ok_is (d.boolean true) v e))
 leaf_meant leaf.False bytes v e = sym (ap value_kind (ok_is (d.boolean false) v e))

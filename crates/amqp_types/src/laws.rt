@@ -1,11 +1,13 @@
 //! What holds of all encodings. These functions do nothing: their contracts are the laws.
 
-ghost use Rattle.std.specs.Prelude.{◌≡◌, ◌++◌, List, ℕ};
+ghost use Rattle.std.specs.Prelude.{◌≡◌, ◌++◌, List, ℕ, Err};
 ghost use Rattle.amqp_types.specs.Data.{Data};
 ghost use Rattle.amqp_types.specs.Fitting.{FitsIn, IsTyped};
 ghost use Rattle.amqp_types.specs.Spells.{Spells};
 ghost use Rattle.amqp_types.specs.Spelling.{spelling};
 ghost use Rattle.amqp_types.specs.Reading.{value_at, found_before};
+ghost use Rattle.amqp_types.specs.declared.fault.TypeFault.{TypeFault};
+ghost use Rattle.amqp_types.specs.declared.fault.TypeFault.TheVariants as fault;
 
 /// No encoding is a prefix of another: the value at the front is settled, whatever follows.
 pub fn none_begins_another()
@@ -24,4 +26,15 @@ pub fn written_is_read_again()
 /// array's type.
 pub fn arrays_are_of_one_type()
     ensures { (depth : ℕ) (bytes : List ℕ) (v : Data) → Spells depth bytes v → IsTyped depth v }
+{}
+
+/// A fault other than `Truncated` stays, whatever bytes come behind: nothing that begins so encodes a value. `Truncated` is told where
+/// all bytes were used: each beginning of them is answered so, too.
+pub fn a_fault_stays()
+    ensures stays { (depth : ℕ) (bytes more : List ℕ) (e : TypeFault)
+        → value_at depth bytes ≡ Err e → (e ≡ fault.Truncated → ⊥) → value_at depth (bytes ++ more) ≡ Err e }
+    ensures none { (depth : ℕ) (bytes more text rest : List ℕ) (v : Data) (e : TypeFault)
+        → value_at depth bytes ≡ Err e → (e ≡ fault.Truncated → ⊥) → bytes ++ more ≡ text ++ rest → Spells depth text v → ⊥ }
+    ensures truncated { (depth : ℕ) (bytes more : List ℕ)
+        → value_at depth (bytes ++ more) ≡ Err fault.Truncated → value_at depth bytes ≡ Err fault.Truncated }
 {}

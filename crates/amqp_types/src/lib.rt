@@ -17,7 +17,7 @@ pub use code::{Code, Kind, Layout, Leaf, Size};
 pub use decoder::{decode, value_of};
 pub use encoder::{encode, put_array, put_list, put_map, put_plain};
 pub use fault::TypeFault;
-pub use laws::{arrays_are_of_one_type, none_begins_another, written_is_read_again};
+pub use laws::{a_fault_stays, arrays_are_of_one_type, none_begins_another, written_is_read_again};
 pub use opening::{Opening, element_of, front_of, opening_of};
 pub use pieces::Pieces;
 pub use plain::Plain;

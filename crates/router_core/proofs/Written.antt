@@ -1,5 +1,5 @@
 -- What a crash leaves where nothing is written.
-use Rattle.std.proofs.Common.{◌≡◌, sym, subst, ℕ, List}
+use Rattle.std.proofs.Common.{sym, subst, ℕ, List}
 use Rattle.disk_core.specs.Disk.{LeavesOnly}
 use Rattle.disk_core.specs.DiskLaws.{started}
 use Rattle.gate_journal.specs.Batches.{Holds}

@@ -1,5 +1,5 @@
 //! The router: one event or one take at a time.
-ghost use Rattle.std.specs.Prelude.{◌≡◌, ◌≢◌, ◌⊎◌, ◌+◌, ◌<◌, ◌≤◌, ◌∷◌, ◌&&◌, nat_lt, ℕ, List, [], length, true, false, Ok, Err, None, option_map, is_some, OnOk, OnErr, IfOk, IfErr, IfSome, IfNone, IsErrOf};
+ghost use Rattle.std.specs.Prelude.{◌≡◌, ◌≢◌, ◌⊎◌, ◌+◌, ◌<◌, ◌≤◌, ◌∷◌, ◌&&◌, nat_lt, List, [], length, true, false, Ok, Err, None, option_map, is_some, OnOk, OnErr, IfOk, IfErr, IfSome, IfNone};
 ghost use Rattle.disk_core.specs.Disk.{LeavesOnly, NoMore};
 ghost use Rattle.gate_journal.specs.Journal.{batch_count};
 ghost use Rattle.gate_journal.specs.Opening.{Explains};

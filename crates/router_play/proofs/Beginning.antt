@@ -1,6 +1,5 @@
 -- The start of a router that knows no connection puts nothing out.
 use Rattle.std.proofs.Common.{◌≡◌, ◌∙◌, sym, ap, refl, subst, ℕ, List, [], ◌∷◌, true, false}
-use Rattle.std.specs.Prelude.{Option, Some, None}
 use Rattle.std.specs.Ordering.{nat_cmp}
 use Rattle.std.specs.BTreeMap.{get}
 use Rattle.router_play.specs.Script.{new_router}
@@ -13,7 +12,7 @@ use Rattle.router_trace.specs.Following.{as_long_as_due, tells, sends_due, drain
 use Rattle.router_trace.specs.Numbers.{first_below, first_placed}
 use Rattle.router_passing.specs.Passing.{grants, grants_due, lowest_below}
 use Rattle.router_sessions.specs.Windows.{windows}
-use Rattle.router_after.specs.After.{told, sent, drained, granted}
+use Rattle.router_after.specs.After.{sent, drained, granted}
 use Rattle.router_core.specs.Replies.{Replies, answered}
 use Rattle.router_core.specs.Handling.{Fits, id_of, is_failed}
 use Rattle.router_core.specs.Books.{declines}
@@ -21,7 +20,6 @@ use Rattle.router_core.specs.declared.fault.CoreFault.{CoreFault}
 use Rattle.router_core.specs.declared.fault.CoreFault.TheVariants.{Disk, Memory, Failed, NoConnection}
 use Rattle.router_core.proofs.Following.{due_keeps}
 use Rattle.router_core.proofs.Moves.{Leads, leads_event}
-use Rattle.router_play.specs.declared.line.Line.{Line}
 use Rattle.router_play.specs.declared.line.Line.TheVariants as line
 use Rattle.router_play.specs.declared.player.Player.{Player}
 use Rattle.router_play.specs.Playing.{Begun, Follows, Said}

@@ -1,5 +1,5 @@
 -- A new journal opens to the empty book.
-use Rattle.std.proofs.Common.{◌≡◌, sym, refl, ℕ, List, []}
+use Rattle.std.proofs.Common.{◌≡◌, refl, ℕ, List, []}
 use Rattle.book_core.specs.Book.{BookView, empty_book}
 use Rattle.gate_journal.specs.Batches.{Holds, book_after}
 use Rattle.router_store.specs.Store.{OpensTo}

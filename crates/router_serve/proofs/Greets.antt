@@ -146,9 +146,10 @@ take_whole [] = refl
 take_whole (y ∷ ys) = ap (λ (zs : List ℕ). y ∷ zs) (take_whole ys)
 
 greeted_by : (d : Door) (old mid new : Stream) (source left held holds : Option (List ℕ)) (g : Greeted) (bs ls : List ℕ) (is : List Item) → Consumes source left (bs ++ ls)
-    → Gives old bs is mid → Appends held holds (spelled (door_says d is)) → IsTold g (fate d is) → (g ≢ greeted.Ended end.Memory → (ls ≡ []) × (new ≡ mid))
+    → Gives old bs is mid → Appends held holds (spelled (door_says d is)) → IsTold g (fate d is) → (g ≢ greeted.Ended end.WriteFailed)
+    → (g ≢ greeted.Ended end.Memory → (ls ≡ []) × (new ≡ mid))
     → (g ≡ greeted.Ended end.End → IsAtEnd left ⊎ (old.failed ≡ true)) → Greets d old new source left held holds g
-greeted_by d old mid new source left held holds g bs ls is read gives written fated all over = let xs = spelled (door_says d is) in record {
+greeted_by d old mid new source left held holds g bs ls is read gives written fated unbroken all over = let xs = spelled (door_says d is) in record {
   bytes = bs;
   lost = ls;
   came = read;
@@ -159,6 +160,7 @@ greeted_by d old mid new source left held holds g bs ls is read gives written fa
   within = omega arith;
   wrote = subst (λ (w : List ℕ). Appends held holds w) (sym (take_whole xs)) written;
   whole = λ _. refl;
+  short = λ same. absurd (unbroken same);
   told = fated;
   none_lost = all;
   ended = over;
@@ -170,17 +172,32 @@ none_behind source left bs read = subst (λ (w : List ℕ). Consumes source left
 failed_only : (e f : ReadEnd) → (e ≡ f → ⊥) → greeted.Ended e ≡ greeted.Ended f → ⊥
 failed_only e f apart same = apart (let here : e ≡ f = cc in here)
 
+unbroken_by : (e : ReadEnd) → (e ≡ end.WriteFailed → ⊥) → greeted.Ended e ≢ greeted.Ended end.WriteFailed
+unbroken_by e apart same = failed_only e end.WriteFailed apart same
+
+memory_unbroken : greeted.Ended end.Memory ≢ greeted.Ended end.WriteFailed
+memory_unbroken = unbroken_by end.Memory (λ e. absurd (let bad : end.Memory ≡ end.WriteFailed = e in cc))
+
+read_unbroken : greeted.Ended end.ReadFailed ≢ greeted.Ended end.WriteFailed
+read_unbroken = unbroken_by end.ReadFailed (λ e. absurd (let bad : end.ReadFailed ≡ end.WriteFailed = e in cc))
+
+end_unbroken : greeted.Ended end.End ≢ greeted.Ended end.WriteFailed
+end_unbroken = unbroken_by end.End (λ e. absurd (let bad : end.End ≡ end.WriteFailed = e in cc))
+
+door_unbroken : greeted.Ended end.Door ≢ greeted.Ended end.WriteFailed
+door_unbroken = unbroken_by end.Door (λ e. absurd (let bad : end.Door ≡ end.WriteFailed = e in cc))
+
 -- memory was refused before anything was read
 pub refused : (d : Door) (old : Stream) (source held : Option (List ℕ)) → Greets d old old source source held held (greeted.Ended end.Memory)
 refused d old source held =
-    greeted_by d old old old source source held held (greeted.Ended end.Memory) [] [] [] (consumes_none source) (gives_nothing old) (appends_none held) tt
+    greeted_by d old old old source source held held (greeted.Ended end.Memory) [] [] [] (consumes_none source) (gives_nothing old) (appends_none held) tt memory_unbroken
     (λ isnt. absurd (isnt refl)) (λ same. absurd (failed_only end.Memory end.End (λ e. absurd (let bad : end.Memory ≡ end.End = e in cc)) same))
 
 -- all reads were made
 pub tires : (d : Door) (old : Stream) (source held : Option (List ℕ)) (now : Door) (mid : Stream) (left holds : Option (List ℕ))
     → IsFar d old source held now mid left holds → Greets d old mid source left held holds (greeted.Ended end.ReadFailed)
 tires d old source held now mid left holds far =
-    greeted_by d old mid mid source left held holds (greeted.Ended end.ReadFailed) far.0 [] far.1 (none_behind source left far.0 far.2) far.3 far.4 far.5
+    greeted_by d old mid mid source left held holds (greeted.Ended end.ReadFailed) far.0 [] far.1 (none_behind source left far.0 far.2) far.3 far.4 far.5 read_unbroken
     (λ _. (refl, refl)) (λ same. absurd (failed_only end.ReadFailed end.End (λ e. absurd (let bad : end.ReadFailed ≡ end.End = e in cc)) same))
 
 -- a read gives no items
@@ -197,15 +214,15 @@ pub stops : (d : Door) (old : Stream) (source held : Option (List ℕ)) (now : D
 stops d old source held now mid new left less holds end.End room roomy far read =
     let bs = far.0 ++ read.0 in
     greeted_by d old new new source less held holds (greeted.Ended end.End) bs [] far.1 (none_behind source less bs (consumes_on source left less far.0 read.0 far.2 read.1))
-    (no_items old new bs far.1 (read_on d old source held now mid new left less holds [] far (read.0, read.1, read.2.0))) far.4 far.5
+    (no_items old new bs far.1 (read_on d old source held now mid new left less holds [] far (read.0, read.1, read.2.0))) far.4 far.5 end_unbroken
     (λ _. (refl, refl)) (λ _. at_end (IsAtEnd less) room old.failed mid.failed (still_reads d old mid far.0 far.1 far.3 far.5) roomy read.2.1)
 stops d old source held now mid new left less holds end.ReadFailed room roomy far read =
     let bs = far.0 ++ read.0 in
     greeted_by d old new new source less held holds (greeted.Ended end.ReadFailed) bs [] far.1 (none_behind source less bs (consumes_on source left less far.0 read.0 far.2 read.1))
-    (no_items old new bs far.1 (read_on d old source held now mid new left less holds [] far (read.0, read.1, read.2))) far.4 far.5
+    (no_items old new bs far.1 (read_on d old source held now mid new left less holds [] far (read.0, read.1, read.2))) far.4 far.5 read_unbroken
     (λ _. (refl, refl)) (λ same. absurd (failed_only end.ReadFailed end.End (λ e. absurd (let bad : end.ReadFailed ≡ end.End = e in cc)) same))
 stops d old source held now mid new left less holds end.Memory room roomy far read =
-    greeted_by d old mid new source less held holds (greeted.Ended end.Memory) far.0 read.0 far.1 (consumes_on source left less far.0 read.0 far.2 read.1) far.3 far.4 tt
+    greeted_by d old mid new source less held holds (greeted.Ended end.Memory) far.0 read.0 far.1 (consumes_on source left less far.0 read.0 far.2 read.1) far.3 far.4 tt memory_unbroken
     (λ isnt. absurd (isnt refl)) (λ same. absurd (failed_only end.Memory end.End (λ e. absurd (let bad : end.Memory ≡ end.End = e in cc)) same))
 stops d old source held now mid new left less holds end.Door room roomy far read = elim read.2 [ ]
 stops d old source held now mid new left less holds end.WriteFailed room roomy far read = elim read.2 [ ]
@@ -217,7 +234,7 @@ pub breaks : (d : Door) (old : Stream) (source held : Option (List ℕ)) (now : 
     → Greets d old new source less held more (greeted.Ended e)
 breaks d old source held now mid new left less holds more items end.Memory far read same =
     greeted_by d old mid new source less held more (greeted.Ended end.Memory) far.0 read.0 far.1 (consumes_on source left less far.0 read.0 far.2 read.1) far.3
-    (subst (λ (o : Option (List ℕ)). Appends held o (spelled (door_says d far.1))) (sym same) far.4) tt
+    (subst (λ (o : Option (List ℕ)). Appends held o (spelled (door_says d far.1))) (sym same) far.4) tt memory_unbroken
     (λ isnt. absurd (isnt refl)) (λ same. absurd (failed_only end.Memory end.End (λ e. absurd (let bad : end.Memory ≡ end.End = e in cc)) same))
 breaks d old source held now mid new left less holds more items end.WriteFailed far read some =
     let bs = far.0 ++ read.0 in
@@ -236,6 +253,7 @@ breaks d old source held now mid new left less holds more items end.WriteFailed 
       within = omega (arith, some.1, ap (λ (w : List ℕ). length w) all, length-append xs ys);
       wrote = subst (λ (w : List ℕ). Appends held more w) (sym cut) (appends_on held holds more xs (take some.0 ys) far.4 some.2);
       whole = λ fails. absurd (fails refl);
+      short = λ _. omega (arith, some.1, ap (λ (w : List ℕ). length w) all, length-append xs ys);
       told = tt;
       none_lost = λ _. (refl, refl);
       ended = λ same. absurd (failed_only end.WriteFailed end.End (λ e. absurd (let bad : end.WriteFailed ≡ end.End = e in cc)) same);
@@ -248,24 +266,24 @@ breaks d old source held now mid new left less holds more items (end.Core fault)
 -- the door lets the peer in, or ends the connection
 comes : (d : Door) (old : Stream) (source held : Option (List ℕ)) (now : Door) (mid new : Stream) (left less holds more : Option (List ℕ)) (items : List Item) (g : Greeted)
     → IsFar d old source held now mid left holds → Came left less mid items new → Appends holds more (spelled (door_says now items)) → IsTold g (fate now items)
-    → (g ≡ greeted.Ended end.End → ⊥) → Greets d old new source less held more g
-comes d old source held now mid new left less holds more items g far read wrote told goes_on =
+    → g ≢ greeted.Ended end.WriteFailed → g ≢ greeted.Ended end.End → Greets d old new source less held more g
+comes d old source held now mid new left less holds more items g far read wrote told unbroken goes_on =
     let bs = far.0 ++ read.0 in
     greeted_by d old new new source less held more g bs [] (far.1 ++ items) (none_behind source less bs (consumes_on source left less far.0 read.0 far.2 read.1))
     (read_on d old source held now mid new left less holds items far read) (written_on d old source held now mid left holds more items far wrote)
     (subst (λ (f : Fate). IsTold g f) (sym (all_fated d old source held now mid left holds items far)) told)
-    (λ _. (refl, refl)) (λ same. absurd (goes_on same))
+    unbroken (λ _. (refl, refl)) (λ same. absurd (goes_on same))
 
 pub closes : (d : Door) (old : Stream) (source held : Option (List ℕ)) (now : Door) (mid new : Stream) (left less holds more : Option (List ℕ)) (items : List Item)
     → IsFar d old source held now mid left holds → Came left less mid items new → Appends holds more (spelled (door_says now items)) → closed ≡ fate now items
     → Greets d old new source less held more (greeted.Ended end.Door)
 closes d old source held now mid new left less holds more items far read wrote over =
-    comes d old source held now mid new left less holds more items (greeted.Ended end.Door) far read wrote (sym over)
+    comes d old source held now mid new left less holds more items (greeted.Ended end.Door) far read wrote (sym over) door_unbroken
     (failed_only end.Door end.End (λ e. absurd (let bad : end.Door ≡ end.End = e in cc)))
 
 pub enters : (d : Door) (old : Stream) (source held : Option (List ℕ)) (now : Door) (mid new : Stream) (left less holds more : Option (List ℕ)) (items : List Item) (g : Greeted)
     (user : List ℕ) (behind : List Item) → IsFar d old source held now mid left holds → Came left less mid items new → Appends holds more (spelled (door_says now items))
-    → passed user behind ≡ fate now items → IsTold g (passed user behind) → Greets d old new source less held more g
-enters d old source held now mid new left less holds more items g user behind far read wrote up told =
-    comes d old source held now mid new left less holds more items g far read wrote (subst (λ (f : Fate). IsTold g f) up told)
+    → passed user behind ≡ fate now items → IsTold g (passed user behind) → g ≢ greeted.Ended end.WriteFailed → Greets d old new source less held more g
+enters d old source held now mid new left less holds more items g user behind far read wrote up told unbroken =
+    comes d old source held now mid new left less holds more items g far read wrote (subst (λ (f : Fate). IsTold g f) up told) unbroken
     (λ same. absurd (let bad : passed user behind ≡ waits = subst (λ (x : Greeted). IsTold x (passed user behind)) same told in cc))

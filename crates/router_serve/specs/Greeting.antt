@@ -62,7 +62,7 @@ IsTold (greeted.Ended (end.Core fault)) f = ⊥
 
 -- a greeting with this door, by what the frame reader kept, the input had left and the output held before and after it, and its
 -- answer. The bytes that came give the items; what was written is a beginning of the canonical encodings of all that the door says
--- to them, and all of it unless a write failed; the answer is what became of them. Only where memory was refused did bytes come of
+-- to them, and all of it but where a write failed; the answer is what became of them. Only where memory was refused did bytes come of
 -- which nothing is said here
 pub record Greets (d : Door) (old new : Stream) (source left held holds : Option (List ℕ)) (g : Greeted) : Type 0 where
   pub bytes : List ℕ
@@ -75,6 +75,7 @@ pub record Greets (d : Door) (old new : Stream) (source left held holds : Option
   pub within : count ≤ length (spelled (door_says d items))
   pub wrote : Appends held holds (take count (spelled (door_says d items)))
   pub whole : g ≢ greeted.Ended end.WriteFailed → count ≡ length (spelled (door_says d items))
+  pub short : g ≡ greeted.Ended end.WriteFailed → count < length (spelled (door_says d items))
   pub told : IsTold g (fate d items)
   pub none_lost : g ≢ greeted.Ended end.Memory → (lost ≡ []) × (new ≡ kept)
   pub ended : g ≡ greeted.Ended end.End → IsAtEnd left ⊎ (old.failed ≡ true)
@@ -91,7 +92,7 @@ Stops (end.Core fault) room old bytes new left = ⊥
 -- answers that weren't all written: the end that it is for, and what the output holds of these bytes
 abbrev pub Breaks : ReadEnd → Option (List ℕ) → Option (List ℕ) → List ℕ → Type 0
 Breaks end.Memory held holds bytes = holds ≡ held
-Breaks end.WriteFailed held holds bytes = (k : ℕ) × (k ≤ length bytes) × Appends held holds (take k bytes)
+Breaks end.WriteFailed held holds bytes = (k : ℕ) × (k < length bytes) × Appends held holds (take k bytes)
 Breaks end.End held holds bytes = ⊥
 Breaks end.ReadFailed held holds bytes = ⊥
 Breaks end.Door held holds bytes = ⊥

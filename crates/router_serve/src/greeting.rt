@@ -1,5 +1,5 @@
 //! Headers and logins, before a connection has its threads.
-ghost use Rattle.std.specs.Prelude.{◌≡◌, ◌<◌, ◌++◌, length, drop, IfOk, IfErr, OnOk};
+ghost use Rattle.std.specs.Prelude.{◌≡◌, ◌≢◌, ◌<◌, ◌++◌, length, drop, IfOk, IfErr, OnOk};
 ghost use Rattle.std.specs.Io.KnownBytes.{Appends};
 ghost use Rattle.router_serve.specs.Wrote.{spelled};
 ghost use Rattle.router_serve.specs.Greeting.{Greets, IsTold, Breaks, door_says, door_past, fate, fate_of, waits, passed};
@@ -124,7 +124,8 @@ fn answer<W: Write>(
 
 /// The connection is up: the items from an index on go to the router.
 fn hand_on(user: Text, items: Vec<Item>, at: usize) -> Greeted
-    ensures { IsTold result (passed user (drop at items.items)) }
+    ensures told { IsTold result (passed user (drop at items.items)) }
+    ensures written { result ≢ Greeted.Ended ReadEnd.WriteFailed }
 {
     match behind(items, at) {
         Ok(left) => Greeted::Up(user, left),

@@ -1,5 +1,5 @@
 //! Writes bytes, and returns how many.
-ghost use Rattle.std.specs.Prelude.{◌≡◌, ◌≤◌, true, length, take};
+ghost use Rattle.std.specs.Prelude.{◌≡◌, ◌<◌, ◌≤◌, true, false, length, take};
 ghost use Rattle.std.specs.Io.KnownBytes.{Appends};
 
 use std::io::{ErrorKind, Write};
@@ -10,6 +10,7 @@ pub fn write_beginning<W: Write>(output: &mut W, bytes: &[u8]) -> (usize, bool)
     ensures bound { result.0 ≤ length bytes.now }
     ensures begun { Appends (W.contents output.old) (W.contents output.new) (take result.0 bytes.now) }
     ensures whole { result.1 ≡ true → Appends (W.contents output.old) (W.contents output.new) bytes.now }
+    ensures short { result.1 ≡ false → result.0 < length bytes.now }
 {
     let mut done = 0;
     for _turn in 0..u64::MAX {
@@ -27,5 +28,5 @@ pub fn write_beginning<W: Write>(output: &mut W, bytes: &[u8]) -> (usize, bool)
             }
         }
     }
-    (done, false)
+    (done, done == bytes.len())
 }

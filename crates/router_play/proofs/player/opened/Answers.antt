@@ -1,4 +1,4 @@
-use Rattle.std.proofs.Common.{subst, refl}
+use Rattle.std.proofs.Common.{subst}
 use Rattle.book_core.specs.Book.{BookView}
 use Rattle.route_table.specs.Places.{routing_of}
 use Rattle.router_trace.specs.Configuration.{beginning}

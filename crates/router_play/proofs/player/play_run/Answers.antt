@@ -8,7 +8,7 @@ use Rattle.router_play.proofs.player.play_run.Goals as goal
 pub returns : goal.returns
 returns c = λ works.
     let r = c.in_ok-played.ensures.follows (sym c.is_failed-works.ensures ∙ not_true c.is_failed-works.result works) (opening c.args.config.now)
-        (c.in_ok-player.ensures.follows (back (is_failed c.in_ok-player.player.core) (is_failed c.play-played.new.self.core) c.play-played.ensures.stays (sym c.is_failed-works.ensures ∙ not_true c.is_failed-works.result works)))
+    (c.in_ok-player.ensures.follows (back (is_failed c.in_ok-player.player.core) (is_failed c.play-played.new.self.core) c.play-played.ensures.stays (sym c.is_failed-works.ensures ∙ not_true c.is_failed-works.result works)))
     in (
       r.0,
       subst (λ (ys : List Step). Plays ys (opening c.args.config.now) r.0) c.deref.ensures.value r.1,

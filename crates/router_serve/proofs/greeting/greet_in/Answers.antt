@@ -42,10 +42,10 @@ returns-in-Up g c =
     let up : passed c.in-Up.user (drop c.in-Up.at seen) ≡ fate c.loop-turn.door seen =
     answered_as c.in-Ok-answer.passing (passing.Up c.in-Up.user c.in-Up.at) seen (fate c.loop-turn.door seen) c.in-Up.is c.in-Ok-answer.ensures.answered in
     let told : IsTold c.hand_on.result (passed c.in-Up.user (drop c.in-Up.at seen))
-    = subst (λ (xs : List Item). IsTold c.hand_on.result (passed c.in-Up.user (drop c.in-Up.at xs))) (sym c.as_slice.ensures.value) c.hand_on.ensures in
+    = subst (λ (xs : List Item). IsTold c.hand_on.result (passed c.in-Up.user (drop c.in-Up.at xs))) (sym c.as_slice.ensures.value) c.hand_on.ensures.told in
     enters c.args.door.now c.args.frames.now (g.I.Read.remaining c.args.input.now) (g.W.Write.contents c.args.output.now) c.loop-turn.door c.loop-turn.frames c.read_items.new.frames
     left less (g.W.Write.contents c.loop-turn.output) (g.W.Write.contents c.answer.new.output) seen c.hand_on.result c.in-Up.user (drop c.in-Up.at seen)
-    c.loop-turn.invariant read c.in-Ok-answer.ensures.written up told
+    c.loop-turn.invariant read c.in-Ok-answer.ensures.written up told c.hand_on.ensures.written
 
 pub loop-turn-preserved : goal.loop-turn-preserved
 loop-turn-preserved g c =
