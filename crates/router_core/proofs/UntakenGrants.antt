@@ -6,7 +6,7 @@ use Rattle.route_credit.specs.Granting.{choice, grants_of}
 use Rattle.router_pools.specs.Sharing.{Figure, consumer, producer, sharing}
 use Rattle.router_trace.specs.declared.handle.Attachment.{Attachment}
 use Rattle.router_trace.specs.Trace.{Entry, Did, Out, Took, Bound, Began}
-use Rattle.route_table.specs.Places.{Routing, distribution_of}
+use Rattle.route_table.specs.Places.{distribution_of}
 use Rattle.router_trace.specs.Configuration.{routing, distribution}
 use Rattle.router_trace.specs.Links.{Link, Happened, sends, receives, numbered, attachments}
 use Rattle.router_trace.specs.Deliveries.{waits_on, undecided_on, held_from}
