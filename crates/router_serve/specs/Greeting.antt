@@ -60,10 +60,10 @@ IsTold (greeted.Ended end.Memory) f = Unit {0}
 IsTold (greeted.Ended end.WriteFailed) f = Unit {0}
 IsTold (greeted.Ended (end.Core fault)) f = ⊥
 
--- a greeting with this door, by what the frame reader kept, the input had left and the output held before and after it, and its
--- answer. The bytes that came give the items; what was written is a beginning of the canonical encodings of all that the door says
--- to them, and all of it but where a write failed; the answer is what became of them. Only where memory was refused did bytes come of
--- which nothing is said here
+-- a greeting with this door, by what the frame reader kept, the input had left and the output held before and after it, and by
+-- its answer. The bytes that came give the items. What was written is a beginning of the canonical encodings of all that the door
+-- says to them, and the whole of it but where a write failed. The answer is what became of them. Only where memory was refused
+-- may further bytes have come, of which nothing is said
 pub record Greets (d : Door) (old new : Stream) (source left held holds : Option (List ℕ)) (g : Greeted) : Type 0 where
   pub bytes : List ℕ
   pub lost : List ℕ
