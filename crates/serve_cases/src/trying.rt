@@ -7,6 +7,8 @@ use router_serve::{ReadEnd, WriteEnd};
 use std::alloc::Global;
 use std::fmt::Write;
 use std::io;
+use std::sync::Wait;
+use std::thread::Threads;
 
 /// Tries a row, and returns whether all is as it has to be. Printed are whether every seat came back and what the seats counted, but for
 /// the batches, whose number is the schedule's; then that the row is ok, or what differs.
@@ -14,7 +16,10 @@ use std::io;
 /// # Errors
 ///
 /// What can't be printed, and refused memory.
-pub fn try_row(rt: &HostRuntime, row: &Row) -> io::Result<bool> {
+pub fn try_row<R: Threads + Wait + Sync + Print + AllocGlobal>(
+    rt: &R,
+    row: &Row,
+) -> io::Result<bool> {
     let alloc = rt.alloc();
     let wires = Wires::new(alloc, row)?;
     let left = serve_row(rt, alloc, row, &wires)?;
@@ -45,7 +50,12 @@ pub fn try_row(rt: &HostRuntime, row: &Row) -> io::Result<bool> {
 }
 
 /// A line for each thing that isn't as the row has it.
-fn differences(rt: &HostRuntime, row: &Row, wires: &Wires, left: Left) -> io::Result<String> {
+fn differences<R: Wait + AllocGlobal>(
+    rt: &R,
+    row: &Row,
+    wires: &Wires,
+    left: Left,
+) -> io::Result<String> {
     let mut lines = String::new(rt.alloc());
     if *wires.stuck.lock(rt) {
         writeln!(lines, "a thread gave up waiting")?;
@@ -74,7 +84,12 @@ fn is_counted(row: &Row, left: Left) -> bool {
 }
 
 /// Appends what was written on a connection and what the row has, where they differ, and why its threads ended, where that differs.
-fn put_difference(rt: &HostRuntime, lines: &mut String, row: &Row, wire: &Wire) -> io::Result<()> {
+fn put_difference<R: Wait + AllocGlobal>(
+    rt: &R,
+    lines: &mut String,
+    row: &Row,
+    wire: &Wire,
+) -> io::Result<()> {
     let alloc = rt.alloc();
     let conn = wire.conn;
     let wanted = row.output(alloc, conn)?;
