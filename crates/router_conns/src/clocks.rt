@@ -2,8 +2,8 @@
 ghost use Rattle.std.specs.Prelude.{◌≡◌, ◌==◌, ◌∷◌, List, ℕ, None, false, if◌then◌else◌, OnOk};
 ghost use Rattle.std.specs.Ordering.{nat_cmp};
 ghost use Rattle.std.specs.BTreeMap.{get};
-ghost use Rattle.route_table.specs.Places.{Routing};
-ghost use Rattle.router_trace.specs.Configuration.{configured};
+ghost use Rattle.router_trace.specs.Trace.{Beginning};
+ghost use Rattle.router_trace.specs.Configuration.{beginning};
 ghost use Rattle.router_trace.specs.Trace.{Entry, Out, did};
 ghost use Rattle.router_trace.specs.Clocks.{terms, written, needs_beat, channel_max_of};
 ghost use Rattle.router_conns.specs.Timing.{ClocksFit, is_close};
@@ -30,7 +30,7 @@ pub struct Clocks {
 impl Clocks {
     /// An empty table.
     pub fn new(alloc: Global) -> Clocks
-        ensures { (g : Routing) → ClocksFit result (configured g) }
+        ensures { (g : Beginning) → ClocksFit result (beginning g) }
     {
         Clocks {
             moment: 0,

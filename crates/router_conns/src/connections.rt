@@ -2,8 +2,8 @@
 ghost use Rattle.std.specs.Prelude.{◌≡◌, ◌==◌, ◌≤◌, ◌∷◌, ◌++◌, ℕ, List, [], Some, None, length, nat_eq, nat_lt, true, false, not, filter, option_map, option_and_then, OnOk, IfOk, if◌then◌else◌};
 ghost use Rattle.std.specs.Ordering.{nat_cmp};
 ghost use Rattle.std.specs.BTreeMap.{get};
-ghost use Rattle.route_table.specs.Places.{Routing};
-ghost use Rattle.router_trace.specs.Configuration.{configured};
+ghost use Rattle.router_trace.specs.Trace.{Beginning};
+ghost use Rattle.router_trace.specs.Configuration.{beginning};
 ghost use Rattle.router_trace.specs.Trace.{Entry, Out, Took, did, newest};
 ghost use Rattle.router_trace.specs.Connection.{conn as known, took, standing, is_live, is_full, is_ready, with_item, is_due, has, ended, unless_due, due};
 ghost use Rattle.router_conns.specs.Fits.{IsBatch, count, ConnectionsFit, ConnectionsAt};
@@ -33,7 +33,7 @@ pub struct Connections {
 impl Connections {
     /// An empty table.
     pub fn new(alloc: Global) -> Connections
-        ensures { (g : Routing) → ConnectionsFit result (configured g) }
+        ensures { (g : Beginning) → ConnectionsFit result (beginning g) }
     {
         Connections {
             alloc,

@@ -2,8 +2,8 @@
 ghost use Rattle.std.specs.Prelude.{◌≡◌, ◌==◌, ◌∷◌, [], List, ℕ, Option, None, false, if◌then◌else◌, unwrap_or, OnOk, IfOk};
 ghost use Rattle.std.specs.Ordering.{nat_cmp};
 ghost use Rattle.std.specs.BTreeMap.{get};
-ghost use Rattle.route_table.specs.Places.{Routing};
-ghost use Rattle.router_trace.specs.Configuration.{configured};
+ghost use Rattle.router_trace.specs.Trace.{Beginning};
+ghost use Rattle.router_trace.specs.Configuration.{beginning};
 ghost use Rattle.router_trace.specs.Trace.{Entry, Out, did};
 ghost use Rattle.router_trace.specs.Links.{key_of, way_of};
 ghost use Rattle.router_trace.specs.Peers.{user, container, container_of, container_id, largest_frame};
@@ -61,7 +61,7 @@ pub struct Peers {
 impl Peers {
     /// An empty table.
     pub fn new(alloc: Global) -> Peers
-        ensures { (g : Routing) → PeersFit result (configured g) }
+        ensures { (g : Beginning) → PeersFit result (beginning g) }
     {
         Peers {
             alloc,

@@ -3,8 +3,8 @@ use Rattle.std.proofs.Common.{◌≡◌, ◌∙◌, sym, ap, refl, subst, true�
 use Rattle.std.specs.Prelude.{is_some, if◌then◌else◌, Option, Some, None}
 use Rattle.std.specs.List.{list_any}
 use Rattle.std.proofs.lemmas.Bool.{eqb-true}
-use Rattle.route_table.specs.Places.{Routing}
-use Rattle.router_trace.specs.Configuration.{configured}
+use Rattle.router_trace.specs.Trace.{Beginning}
+use Rattle.router_trace.specs.Configuration.{beginning}
 use Rattle.router_trace.specs.declared.binding.Binding.{Binding}
 use Rattle.router_trace.specs.declared.event.Event.{Event}
 use Rattle.router_trace.specs.declared.event.Event.TheVariants as event
@@ -270,7 +270,7 @@ own_moves id c (handles s ∷ ms) t u fine alone never went =
     (λ e. rw e (rest ∙ ap (own_all id c (own_events c (events_of ms))) (next.other e)))
 own_moves id c (takes x ∷ ms) t u fine alone never went = own_moves id c ms (took_one x t) u (fine_took c t x fine) alone never went
 
-fine_start : (c : ℕ) (g : Routing) → Fine c (configured g)
+fine_start : (c : ℕ) (g : Beginning) → Fine c (beginning g)
 fine_start c g = record {
   ordered = ordered_start g;
   told = record { told = λ k v is live some. absurd cc; strange = λ k absent. refl };
@@ -281,12 +281,12 @@ fine_start c g = record {
   settled = refl;
 }
 
-pub answered_alone : (id : List ℕ) (g : Routing) (c : ℕ) (ms ns : List Move) (t u : List Entry) → Goes id ms (configured g) t → Goes id ns (configured g) u
-    → Undisturbed id c ms (configured g) → Undisturbed id c ns (configured g)
+pub answered_alone : (id : List ℕ) (g : Beginning) (c : ℕ) (ms ns : List Move) (t u : List Entry) → Goes id ms (beginning g) t → Goes id ns (beginning g) u
+    → Undisturbed id c ms (beginning g) → Undisturbed id c ns (beginning g)
     → own_events c (events_of ms) ≡ own_events c (events_of ns) → NeverAttaches c (events_of ms) → (own_part c t ≡ own_part c u) × (outs t c ≡ outs u c)
 answered_alone id g c ms ns t u went too alone alone_too same never =
     let never_too : NeverAttaches c (events_of ns) = ap (λ (ss : List Step). list_any (λ s. brings_attach s.event) ss) (sym same) ∙ never
     in let alike : own_part c t ≡ own_part c u
-    = own_moves id c ms (configured g) t (fine_start c g) alone never went ∙ ap (λ (ss : List Step). own_all id c ss (configured g)) same
-    ∙ sym (own_moves id c ns (configured g) u (fine_start c g) alone_too never_too too)
+    = own_moves id c ms (beginning g) t (fine_start c g) alone never went ∙ ap (λ (ss : List Step). own_all id c ss (beginning g)) same
+    ∙ sym (own_moves id c ns (beginning g) u (fine_start c g) alone_too never_too too)
     in (alike, own_outs t c ∙ ap (λ (x : List Entry). outs x c) alike ∙ sym (own_outs u c))

@@ -14,7 +14,7 @@ use Rattle.router_reply.specs.Replies.{closing_of, ends, heard, bound_by, own_ro
 use Rattle.router_passing.specs.Passing.{with_bound}
 use Rattle.router_state.specs.Tables.{TablesFit}
 use Rattle.router_core.specs.Replies.{answered}
-use Rattle.router_core.specs.Books.{book_behind, book_since, is_start, is_started, is_out_of_turn, declines}
+use Rattle.router_core.specs.Books.{book_behind, book_in, is_start, is_started, is_out_of_turn, declines}
 use Rattle.router_core.specs.Handling.{Fits, kept_book, state_of}
 use Rattle.router_core.specs.declared.router.Core.{Core}
 use Rattle.router_core.proofs.Following.{all_keep}
@@ -43,8 +43,8 @@ module _ {A : Type 0} (view : List Entry → A) (out : (c : ℕ) (i : Item) (t :
   view_answered id t e =
       all_keep (λ (u : List Entry). view u ≡ view (did e ∷ t)) (λ ps u h. view_goes ps u ∙ h) (replied id t (step_of e)) (view_replied id t e)
 
-pub book_answered : (id : List ℕ) (b : BookView) (t : List Entry) (e : Event) → book_since b (answered id t (step_of e)) ≡ book_behind (book_since b t) e
-book_answered id b t e = view_answered (book_since b) (λ c i u. refl) (λ x u. refl) id t e
+pub book_answered : (id : List ℕ) (t : List Entry) (e : Event) → book_in (answered id t (step_of e)) ≡ book_behind (book_in t) e
+book_answered id t e = view_answered book_in (λ c i u. refl) (λ x u. refl) id t e
 
 -- tests of two things
 or_first : (x y : Bool) → (x || y) ≡ false → x ≡ false
@@ -76,10 +76,10 @@ started_answered id t e taken =
     view_answered is_started (λ c i u. refl) (λ x u. refl) id t e ∙ in_turn t e (or_first (is_out_of_turn t e) (refuses t e) taken)
 
 -- the router agrees with the trace after an event
-pub fits_answered : {D : Type 0} (old new : Core D) (b : BookView) (id : List ℕ) (t : List Entry) (e : Event) → Fits old b t → declines t e ≡ false
-    → TablesFit (state_of new) (answered id t (step_of e)) → new.started ≡ true → kept_book new ≡ book_behind (kept_book old) e → Fits new b (answered id t (step_of e))
-fits_answered old new b id t e fits taken tables started book = record {
+pub fits_answered : {D : Type 0} (old new : Core D) (id : List ℕ) (t : List Entry) (e : Event) → Fits old t → declines t e ≡ false
+    → TablesFit (state_of new) (answered id t (step_of e)) → new.started ≡ true → kept_book new ≡ book_behind (kept_book old) e → Fits new (answered id t (step_of e))
+fits_answered old new id t e fits taken tables started book = record {
   tables = tables;
   started = started ∙ sym (started_answered id t e taken);
-  book = book ∙ ap (λ (x : BookView). book_behind x e) fits.book ∙ sym (book_answered id b t e);
+  book = book ∙ ap (λ (x : BookView). book_behind x e) fits.book ∙ sym (book_answered id t e);
 }

@@ -7,8 +7,8 @@ use Rattle.amqp_frames.specs.declared.item.Item.{Item}
 use Rattle.amqp_frames.specs.declared.item.Item.TheVariants as item
 use Rattle.amqp_conn.specs.declared.conn.Conn.{Conn}
 use Rattle.amqp_session.specs.Session.{Session}
-use Rattle.route_table.specs.Places.{Routing}
-use Rattle.router_trace.specs.Configuration.{configured}
+use Rattle.router_trace.specs.Trace.{Beginning}
+use Rattle.router_trace.specs.Configuration.{beginning}
 use Rattle.router_trace.specs.declared.binding.Binding.{Binding}
 use Rattle.router_trace.specs.declared.terms.Terms.{Terms}
 use Rattle.router_trace.specs.declared.condition.Condition.TheVariants.{ResourceLimitExceeded}
@@ -16,7 +16,7 @@ use Rattle.router_trace.specs.declared.event.ConnectionId.{ConnectionId}
 use Rattle.router_trace.specs.declared.event.Event.{Event}
 use Rattle.router_trace.specs.declared.handle.Attachment.{Attachment}
 use Rattle.router_trace.specs.declared.event.Event.TheVariants as event
-use Rattle.router_trace.specs.Trace.{Entry, Put, Did, Out, Took, Bound, Configured, did, goes, puts, each_to, ups, step_of}
+use Rattle.router_trace.specs.Trace.{Entry, Put, Did, Out, Took, Bound, Began, did, goes, puts, each_to, ups, step_of}
 use Rattle.router_trace.specs.Connection.{Connection, conn, ended, took, unless_empty, drained, standing, is_live, is_full, is_due, has, due, found, live, live_of, at_event}
 use Rattle.router_trace.specs.Refusing.{refuses}
 use Rattle.router_trace.specs.Frames.{header_item}
@@ -85,7 +85,7 @@ quiet (Did s ∷ t) c h =
 quiet (Out d i ∷ t) c h =
     by_test (d == c) (λ e. absurd (push_some (outs t c) i (rw e at h))) (λ e. rw e (quiet t c (rw e at h)))
 quiet (Bound b ∷ t) c h = quiet t c h
-quiet (Configured g ∷ t) c h = quiet t c h
+quiet (Began g ∷ t) c h = quiet t c h
 quiet (Took d n ∷ t) c h =
     by_test (d == c) (λ e. rw e (waits_took n (conn t c) (quiet t c h))) (λ e. rw e (quiet t c h))
 
@@ -163,7 +163,7 @@ untold (Did s ∷ t) c h = untold_at s.event c (ins t c) (terms t c) h (untold t
 untold (Out d i ∷ t) c h = goes_strange (record { conn = d; item = i } ∷ []) t c (untold t c h)
 untold (Took d n ∷ t) c h = untold t c h
 untold (Bound b ∷ t) c h = untold t c h
-untold (Configured g ∷ t) c h = untold t c h
+untold (Began g ∷ t) c h = untold t c h
 
 -- an item of another connection puts nothing if no link is attached
 
@@ -387,7 +387,7 @@ goes_kept id (takes x ∷ ms) t u was goes =
     })
     goes
 
-kept_start : (g : Routing) → Kept (configured g)
+kept_start : (g : Beginning) → Kept (beginning g)
 kept_start g = record {
   ordered = ordered_start g;
   lively = λ c o h some. absurd cc;
@@ -395,10 +395,10 @@ kept_start g = record {
   headed = record { header = λ c h. absurd cc; silent = λ c h. refl };
 }
 
-pub trace_kept : (id : List ℕ) (g : Routing) (u : List Entry) → IsTrace id g u → Kept u
-trace_kept id g u trace = goes_kept id trace.0 (configured g) u (kept_start g) trace.1
+pub trace_kept : (id : List ℕ) (g : Beginning) (u : List Entry) → IsTrace id g u → Kept u
+trace_kept id g u trace = goes_kept id trace.0 (beginning g) u (kept_start g) trace.1
 
-pub trace_keeps_order : (id : List ℕ) (g : Routing) (u : List Entry) → IsTrace id g u → KeepsOrder u
+pub trace_keeps_order : (id : List ℕ) (g : Beginning) (u : List Entry) → IsTrace id g u → KeepsOrder u
 trace_keeps_order id g u trace =
     let kept : Kept u = trace_kept id g u trace
     in record {

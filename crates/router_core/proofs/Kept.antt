@@ -12,8 +12,8 @@ use Rattle.amqp_link.specs.declared.part.Delivery.{Delivery as Told}
 use Rattle.amqp_link.specs.declared.part.Part.{Part}
 use Rattle.amqp_link.specs.declared.part.Part.TheVariants as part
 use Rattle.amqp_session.specs.Session.{Session, remote_window}
-use Rattle.route_table.specs.Places.{Routing}
-use Rattle.router_trace.specs.Configuration.{configured}
+use Rattle.router_trace.specs.Trace.{Beginning}
+use Rattle.router_trace.specs.Configuration.{beginning}
 use Rattle.router_trace.specs.declared.binding.Binding.{Binding}
 use Rattle.router_trace.specs.declared.binding.Origin.{Origin}
 use Rattle.router_trace.specs.declared.condition.Condition.{Condition}
@@ -302,5 +302,5 @@ moves_keep id [] t u kept went = subst (λ (w : List Entry). WindowKept w) (sym 
 moves_keep id (handles s ∷ ms) t u kept went = moves_keep id ms (answered id t s) u (answered_keeps id t s kept) went.1
 moves_keep id (takes x ∷ ms) t u kept went = moves_keep id ms (took_one x t) u kept went
 
-pub trace_keeps_windows : (id : List ℕ) (g : Routing) (u : List Entry) → IsTrace id g u → WindowKept u
-trace_keeps_windows id g u trace = moves_keep id trace.0 (configured g) u tt trace.1
+pub trace_keeps_windows : (id : List ℕ) (g : Beginning) (u : List Entry) → IsTrace id g u → WindowKept u
+trace_keeps_windows id g u trace = moves_keep id trace.0 (beginning g) u tt trace.1

@@ -1,7 +1,7 @@
 -- Runs consist of moves: their traces are traces of the router.
 use Rattle.std.proofs.Common.{◌≡◌, sym, refl, subst, ℕ, false, List, [], ◌∷◌, ◌++◌, ◌+◌, inl, inr}
-use Rattle.route_table.specs.Places.{Routing}
-use Rattle.router_trace.specs.Configuration.{configured}
+use Rattle.router_trace.specs.Trace.{Beginning}
+use Rattle.router_trace.specs.Configuration.{beginning}
 use Rattle.router_trace.specs.declared.event.Event.{Event}
 use Rattle.router_core.specs.declared.driving.Sent.{Sent}
 use Rattle.router_trace.specs.Trace.{Entry, step_of}
@@ -53,5 +53,5 @@ run_leads id place t (e ∷ es) xs u run =
 
 -- the traces of runs
 
-pub run_is_trace : (id : List ℕ) (g : Routing) (es : List Event) (xs : List Sent) (u : List Entry) → Run id 0 (configured g) es xs u → IsTrace id g u
-run_is_trace id g es xs u run = run_leads id 0 (configured g) es xs u run
+pub run_is_trace : (id : List ℕ) (g : Beginning) (es : List Event) (xs : List Sent) (u : List Entry) → Run id 0 (beginning g) es xs u → IsTrace id g u
+run_is_trace id g es xs u run = run_leads id 0 (beginning g) es xs u run

@@ -2,7 +2,6 @@
 use Rattle.std.proofs.Common.{◌≡◌, ◌∙◌, sym, ap, refl, subst, ℕ, ◌+◌, List, [], ◌∷◌, ◌++◌, append_assoc, append-nil, suc, length, length-append, arith, true, Some, ◌⊎◌, inl, inr}
 use Rattle.std.specs.Prelude.{map}
 use Rattle.router_core.specs.declared.driving.Sent.{Sent}
-use Rattle.book_core.specs.Book.{BookView}
 use Rattle.router_trace.specs.declared.event.Event.{Event}
 use Rattle.router_core.specs.declared.router.Core.{Core}
 use Rattle.router_trace.specs.Trace.{Entry}
@@ -27,15 +26,15 @@ turns_more [] x t turns next = (next, turns)
 turns_more (y ∷ ys) x t turns next = (turns.0, turns_more ys x (took_one y t) turns.1 next)
 
 -- one more take
-pub one_more : {D : Type 0} (core : Core D) (b : BookView) (place : ℕ) (t : List Entry) (before mid after : List Sent) (xs : List Taking) (x : Taking)
+pub one_more : {D : Type 0} (core : Core D) (place : ℕ) (t : List Entry) (before mid after : List Sent) (xs : List Taking) (x : Taking)
     → InTurn xs t → IsNext (took_all xs t) x
-    → Fits core b (took_one x (took_all xs t)) → mid ≡ before ++ sent place xs t
+    → Fits core (took_one x (took_all xs t)) → mid ≡ before ++ sent place xs t
     → after ≡ mid ++ map (as_sent place x.conn) (items_of x (took_all xs t))
-    → (takes : List Taking) × InTurn takes t × Fits core b (took_all takes t) × (after ≡ before ++ sent place takes t)
-one_more core b place t before mid after xs x turns next fit was now = (
+    → (takes : List Taking) × InTurn takes t × Fits core (took_all takes t) × (after ≡ before ++ sent place takes t)
+one_more core place t before mid after xs x turns next fit was now = (
   xs ++ x ∷ [],
   turns_more xs x t turns next,
-  subst (λ (u : List Entry). Fits core b u) (sym (took_more xs x t)) fit,
+  subst (λ (u : List Entry). Fits core u) (sym (took_more xs x t)) fit,
   now ∙ ap (λ ys. ys ++ map (as_sent place x.conn) (items_of x (took_all xs t))) was
       ∙ append_assoc before (sent place xs t) (map (as_sent place x.conn) (items_of x (took_all xs t)))
       ∙ ap (λ ys. before ++ ys) (sym (sent_more place xs x t)),
@@ -84,7 +83,7 @@ past_more id other handled t m u es first rest behind e xs ys zs same next taken
 )
 
 -- memory was refused for the items of a ready connection
-pub still_waits : {D : Type 0} (old new : Core D) (c : ℕ) → ((b : BookView) (t : List Entry) → Fits old b t → IsLeast (λ c. is_ready (known t c)) (Some c))
-    → (new ≡ old) ⊎ (is_failed new ≡ true) → ((b : BookView) (t : List Entry) → Fits new b t → Waits t) ⊎ (is_failed new ≡ true)
-still_waits {D = D} old new c least (inl same) = inl (λ b t f. (c, (least b t (subst (λ (x : Core D). Fits x b t) same f)).0))
+pub still_waits : {D : Type 0} (old new : Core D) (c : ℕ) → ((t : List Entry) → Fits old t → IsLeast (λ c. is_ready (known t c)) (Some c))
+    → (new ≡ old) ⊎ (is_failed new ≡ true) → ((t : List Entry) → Fits new t → Waits t) ⊎ (is_failed new ≡ true)
+still_waits {D = D} old new c least (inl same) = inl (λ t f. (c, (least t (subst (λ (x : Core D). Fits x t) same f)).0))
 still_waits old new c least (inr failed) = inr failed

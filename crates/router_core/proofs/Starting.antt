@@ -6,8 +6,8 @@ use Rattle.amqp_perf.specs.declared.perf.Perf.TheVariants as perf
 use Rattle.amqp_frames.specs.declared.item.Item.{Item}
 use Rattle.amqp_frames.specs.declared.item.Item.TheVariants as item
 use Rattle.amqp_link.specs.Credit.{credit}
-use Rattle.route_table.specs.Places.{Routing}
-use Rattle.router_trace.specs.Configuration.{configured}
+use Rattle.router_trace.specs.Trace.{Beginning}
+use Rattle.router_trace.specs.Configuration.{beginning}
 use Rattle.router_trace.specs.declared.binding.Binding.{Binding}
 use Rattle.router_trace.specs.declared.condition.Condition.TheVariants.{ResourceLimitExceeded}
 use Rattle.router_trace.specs.Trace.{Entry, Did, Out, Put, Step, goes, puts, each_to}
@@ -110,5 +110,5 @@ moves_within id [] t u within went = subst (λ (w : List Entry). WithinCredit w)
 moves_within id (handles s ∷ ms) t u within went = moves_within id ms (answered id t s) u (answered_within id t s within) went.1
 moves_within id (takes x ∷ ms) t u within went = moves_within id ms (took_one x t) u within went
 
-pub trace_starts_within : (id : List ℕ) (g : Routing) (u : List Entry) → IsTrace id g u → WithinCredit u
-trace_starts_within id g u trace = moves_within id trace.0 (configured g) u tt trace.1
+pub trace_starts_within : (id : List ℕ) (g : Beginning) (u : List Entry) → IsTrace id g u → WithinCredit u
+trace_starts_within id g u trace = moves_within id trace.0 (beginning g) u tt trace.1

@@ -2,8 +2,8 @@
 use Rattle.std.proofs.Common.{◌≡◌, ◌∙◌, sym, ap, refl, subst, ℕ, false, List, [], ◌∷◌}
 use Rattle.std.specs.Prelude.{Option, Some, None}
 use Rattle.amqp_conn.specs.declared.conn.Conn.{Conn}
-use Rattle.route_table.specs.Places.{Routing}
-use Rattle.router_trace.specs.Configuration.{configured}
+use Rattle.router_trace.specs.Trace.{Beginning}
+use Rattle.router_trace.specs.Configuration.{beginning}
 use Rattle.router_trace.specs.declared.binding.Binding.{Binding}
 use Rattle.router_trace.specs.declared.event.Event.{Event}
 use Rattle.router_trace.specs.declared.event.Event.TheVariants as event
@@ -112,11 +112,11 @@ same_moves id (handles s ∷ ms) t u calm roomy went =
     in same_moves id ms (answered id t s) u next.0 roomy.1 went.1 ∙ ap (plain_all id (events_of ms)) next.1
 same_moves id (takes x ∷ ms) t u calm roomy went = same_moves id ms (took_one x t) u calm roomy went
 
-pub takes_alike : (id : List ℕ) (g : Routing) (ms ns : List Move) (t u : List Entry) → Goes id ms (configured g) t → Goes id ns (configured g) u
-    → NeverFull id ms (configured g) → NeverFull id ns (configured g)
+pub takes_alike : (id : List ℕ) (g : Beginning) (ms ns : List Move) (t u : List Entry) → Goes id ms (beginning g) t → Goes id ns (beginning g) u
+    → NeverFull id ms (beginning g) → NeverFull id ns (beginning g)
     → events_of ms ≡ events_of ns → (untaken t ≡ untaken u) × ((c : ℕ) → outs t c ≡ outs u c)
 takes_alike id g ms ns t u went too roomy roomy_too same =
     let alike : untaken t ≡ untaken u
-    = same_moves id ms (configured g) t tt roomy went ∙ ap (λ (ss : List Step). plain_all id ss (configured g)) same
-    ∙ sym (same_moves id ns (configured g) u tt roomy_too too)
+    = same_moves id ms (beginning g) t tt roomy went ∙ ap (λ (ss : List Step). plain_all id ss (beginning g)) same
+    ∙ sym (same_moves id ns (beginning g) u tt roomy_too too)
     in (alike, λ c. same_outs t c ∙ ap (λ (x : List Entry). outs x c) alike ∙ sym (same_outs u c))

@@ -5,8 +5,8 @@ use Rattle.amqp_link.specs.Credit as credit
 use Rattle.route_credit.specs.Granting.{choice, grants_of}
 use Rattle.router_pools.specs.Sharing.{Figure, consumer, producer, sharing}
 use Rattle.router_trace.specs.declared.handle.Attachment.{Attachment}
-use Rattle.router_trace.specs.Trace.{Entry, Did, Out, Took, Bound, Configured}
-use Rattle.route_table.specs.Places.{Routing, distribution_of}
+use Rattle.router_trace.specs.Trace.{Entry, Did, Out, Took, Bound, Began}
+use Rattle.route_table.specs.Places.{distribution_of}
 use Rattle.router_trace.specs.Configuration.{routing, distribution}
 use Rattle.router_trace.specs.Links.{Link, Happened, sends, receives, numbered, attachments}
 use Rattle.router_trace.specs.Deliveries.{waits_on, undecided_on, held_from}
@@ -56,7 +56,7 @@ same_routing (Did s ∷ t) = same_routing t
 same_routing (Out c i ∷ t) = same_routing t
 same_routing (Took c n ∷ t) = same_routing t
 same_routing (Bound b ∷ t) = same_routing t
-same_routing (Configured g ∷ t) = refl
+same_routing (Began g ∷ t) = refl
 
 pub same_distribution : (t : List Entry) (address : List ℕ) → distribution t address ≡ distribution (untaken t) address
 same_distribution t address = λ j. distribution_of (same_routing t j) address
@@ -68,7 +68,7 @@ same_last [] address = refl
 same_last (Did s ∷ t) address = same_last t address
 same_last (Out c i ∷ t) address = same_last t address
 same_last (Took c n ∷ t) address = same_last t address
-same_last (Configured g ∷ t) address = same_last t address
+same_last (Began g ∷ t) address = same_last t address
 same_last (Bound b ∷ t) address =
     λ j. if is_of address (same_link t b.consumer.conn.0 b.consumer.channel b.consumer.handle j) b.consumer.number then b.consumer.number else same_last t address j
 

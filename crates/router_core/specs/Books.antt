@@ -1,11 +1,11 @@
--- The book of a router: what its store opened to, and what the events of a trace did to it; and which events come out of turn.
+-- The book of a trace: the one that the router began with, and what the events did to it; and which events come out of turn.
 use Rattle.std.specs.Prelude.{Bool, true, false, not, ◌||◌, List, [], ◌∷◌}
 use Rattle.book_core.specs.declared.act.Act.{Act}
-use Rattle.book_core.specs.Book.{BookView, effects}
+use Rattle.book_core.specs.Book.{BookView, empty_book, effects}
 use Rattle.router_store.specs.Lost.{start_acts}
 use Rattle.router_trace.specs.declared.event.Event.{Event}
 use Rattle.router_trace.specs.declared.event.Event.TheVariants as event
-use Rattle.router_trace.specs.Trace.{Trace, Did, Out, Took, Bound, Configured}
+use Rattle.router_trace.specs.Trace.{Trace, Did, Out, Took, Bound, Began}
 use Rattle.router_trace.specs.Refusing.{refuses}
 
 -- the acts of an event on a book: a start decides the rows that have lost their consumers
@@ -17,14 +17,14 @@ acts_of b _ = []
 abbrev pub book_behind : BookView → Event → BookView
 book_behind b e = effects b (acts_of b e)
 
--- the book after a trace that began with this one
-abbrev pub book_since : BookView → Trace → BookView
-book_since b [] = b
-book_since b (Did s ∷ t) = book_behind (book_since b t) s.event
-book_since b (Out c i ∷ t) = book_since b t
-book_since b (Took c n ∷ t) = book_since b t
-book_since b (Bound x ∷ t) = book_since b t
-book_since b (Configured g ∷ t) = book_since b t
+-- the book in which a trace ends
+abbrev pub book_in : Trace → BookView
+book_in [] = empty_book
+book_in (Did s ∷ t) = book_behind (book_in t) s.event
+book_in (Out c i ∷ t) = book_in t
+book_in (Took c n ∷ t) = book_in t
+book_in (Bound x ∷ t) = book_in t
+book_in (Began g ∷ t) = g.book
 
 -- Start comes first, and once.
 abbrev pub is_start : Event → Bool
@@ -37,7 +37,7 @@ is_started (Did s ∷ t) = is_start s.event || is_started t
 is_started (Out c i ∷ t) = is_started t
 is_started (Took c n ∷ t) = is_started t
 is_started (Bound x ∷ t) = is_started t
-is_started (Configured g ∷ t) = is_started t
+is_started (Began g ∷ t) = is_started t
 
 abbrev pub is_out_of_turn : Trace → Event → Bool
 is_out_of_turn t event.Start = is_started t

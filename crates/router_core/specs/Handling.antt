@@ -11,13 +11,13 @@ use Rattle.router_trace.specs.Trace.{Trace}
 use Rattle.router_trace.specs.Connection.{Connection, Batched}
 use Rattle.router_state.specs.declared.tables.State.{State}
 use Rattle.router_state.specs.Tables.{TablesFit}
-use Rattle.router_core.specs.Books.{book_behind, book_since, is_started}
+use Rattle.router_core.specs.Books.{book_behind, book_in, is_started}
 
--- the router agrees with the trace, which began with this book: its tables, whether it was started, and its book
-pub record Fits {D : Type 0} (core : Core D) (b : BookView) (t : Trace) : Type 0 where
+-- the router agrees with the trace: its tables, whether it was started, and its book
+pub record Fits {D : Type 0} (core : Core D) (t : Trace) : Type 0 where
   pub tables : TablesFit core.state t
   pub started : core.started ≡ is_started t
-  pub book : book_of core.store ≡ book_since b t
+  pub book : book_of core.store ≡ book_in t
 
 -- it failed with a fault of the disk or of memory, and answers nothing else
 abbrev pub is_failed : {D : Type 0} → Core D → Bool

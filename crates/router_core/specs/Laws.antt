@@ -7,12 +7,12 @@ use Rattle.amqp_session.specs.Session.{Session, remote_window}
 use Rattle.amqp_link.specs.Credit.{credit}
 use Rattle.amqp_frames.specs.declared.item.Item.{Item}
 use Rattle.amqp_frames.specs.declared.item.Item.TheVariants as item
-use Rattle.route_table.specs.Places.{Routing}
+use Rattle.router_trace.specs.Trace.{Beginning}
 use Rattle.router_trace.specs.declared.event.Event.{Event}
 use Rattle.router_trace.specs.declared.event.Event.TheVariants as event
 use Rattle.router_core.specs.declared.driving.Sent.{Sent}
-use Rattle.router_trace.specs.Trace.{Trace, Did, Out, Took, Bound, Configured, Step}
-use Rattle.router_trace.specs.Configuration.{configured}
+use Rattle.router_trace.specs.Trace.{Trace, Did, Out, Took, Bound, Began, Step}
+use Rattle.router_trace.specs.Configuration.{beginning}
 use Rattle.router_trace.specs.Connection.{conn, is_full, is_live}
 use Rattle.router_trace.specs.Links.{Link, Happened, sends, receives, link}
 use Rattle.router_trace.specs.Sessions.{session}
@@ -53,11 +53,11 @@ pub record KeepsOrder (t : Trace) : Type 0 where
 
 -- every trace of the router keeps the order
 abbrev pub TracesKeepOrder : Type 0
-TracesKeepOrder = (id : List ℕ) (g : Routing) (u : Trace) → IsTrace id g u → KeepsOrder u
+TracesKeepOrder = (id : List ℕ) (g : Beginning) (u : Trace) → IsTrace id g u → KeepsOrder u
 
 -- so does every list of events, the outboxes emptied after each
 abbrev pub RunsKeepOrder : Type 0
-RunsKeepOrder = (id : List ℕ) (g : Routing) (events : List Event) (xs : List Sent) (u : Trace) → Run id 0 (configured g) events xs u → KeepsOrder u
+RunsKeepOrder = (id : List ℕ) (g : Beginning) (events : List Event) (xs : List Sent) (u : Trace) → Run id 0 (beginning g) events xs u → KeepsOrder u
 
 -- Before each transfer put out the session's remote-incoming-window is at least 1 (2.5.6).
 abbrev pub has_room : Option Session → Type 0
@@ -78,14 +78,14 @@ WindowKept (Did s ∷ t) = WindowKept t
 WindowKept (Out c i ∷ t) = keeps_window i (session t c) × WindowKept t
 WindowKept (Took c n ∷ t) = WindowKept t
 WindowKept (Bound b ∷ t) = WindowKept t
-WindowKept (Configured g ∷ t) = WindowKept t
+WindowKept (Began g ∷ t) = WindowKept t
 
 -- this holds in every trace of the router, and for every list of events
 abbrev pub TracesKeepWindows : Type 0
-TracesKeepWindows = (id : List ℕ) (g : Routing) (u : Trace) → IsTrace id g u → WindowKept u
+TracesKeepWindows = (id : List ℕ) (g : Beginning) (u : Trace) → IsTrace id g u → WindowKept u
 
 abbrev pub RunsKeepWindows : Type 0
-RunsKeepWindows = (id : List ℕ) (g : Routing) (events : List Event) (xs : List Sent) (u : Trace) → Run id 0 (configured g) events xs u → WindowKept u
+RunsKeepWindows = (id : List ℕ) (g : Beginning) (events : List Event) (xs : List Sent) (u : Trace) → Run id 0 (beginning g) events xs u → WindowKept u
 
 -- Before each transfer put out that starts a delivery the link's remaining credit is at least 1; each is put out on an attached link (2.6.7).
 abbrev pub credit_left : Happened → Type 0
@@ -114,14 +114,14 @@ WithinCredit (Did s ∷ t) = WithinCredit t
 WithinCredit (Out c i ∷ t) = within_credit i (link t c) × WithinCredit t
 WithinCredit (Took c n ∷ t) = WithinCredit t
 WithinCredit (Bound b ∷ t) = WithinCredit t
-WithinCredit (Configured g ∷ t) = WithinCredit t
+WithinCredit (Began g ∷ t) = WithinCredit t
 
 -- this holds in every trace of the router, and for every list of events
 abbrev pub TracesStartWithinCredit : Type 0
-TracesStartWithinCredit = (id : List ℕ) (g : Routing) (u : Trace) → IsTrace id g u → WithinCredit u
+TracesStartWithinCredit = (id : List ℕ) (g : Beginning) (u : Trace) → IsTrace id g u → WithinCredit u
 
 abbrev pub RunsStartWithinCredit : Type 0
-RunsStartWithinCredit = (id : List ℕ) (g : Routing) (events : List Event) (xs : List Sent) (u : Trace) → Run id 0 (configured g) events xs u → WithinCredit u
+RunsStartWithinCredit = (id : List ℕ) (g : Beginning) (events : List Event) (xs : List Sent) (u : Trace) → Run id 0 (beginning g) events xs u → WithinCredit u
 
 -- A trace without its takes, and the events that moves handle, in order.
 abbrev pub untaken : Trace → Trace
@@ -130,7 +130,7 @@ untaken (Did s ∷ t) = Did s ∷ untaken t
 untaken (Out c i ∷ t) = Out c i ∷ untaken t
 untaken (Took c n ∷ t) = untaken t
 untaken (Bound b ∷ t) = Bound b ∷ untaken t
-untaken (Configured g ∷ t) = Configured g ∷ untaken t
+untaken (Began g ∷ t) = Began g ∷ untaken t
 
 abbrev pub events_of : List Move → List Step
 events_of [] = []
@@ -146,8 +146,8 @@ NeverFull id (takes x ∷ ms) t = NeverFull id ms (took_one x t)
 -- Takes make no difference: if the same events are handled in the same order and no outbox is ever full, the same is put out,
 -- whenever items are taken and however many
 abbrev pub TakesMakeNoDifference : Type 0
-TakesMakeNoDifference = (id : List ℕ) (g : Routing) (ms ns : List Move) (t u : Trace) → Goes id ms (configured g) t → Goes id ns (configured g) u
-    → NeverFull id ms (configured g) → NeverFull id ns (configured g)
+TakesMakeNoDifference = (id : List ℕ) (g : Beginning) (ms ns : List Move) (t u : Trace) → Goes id ms (beginning g) t → Goes id ns (beginning g) u
+    → NeverFull id ms (beginning g) → NeverFull id ns (beginning g)
     → events_of ms ≡ events_of ns → (untaken t ≡ untaken u) × ((c : ℕ) → outs t c ≡ outs u c)
 
 -- An event is about a connection if it comes up, is lost, or an item of it is received. A tick is about all connections.
@@ -168,7 +168,7 @@ own_part c (Did s ∷ t) = if is_about c s.event then Did s ∷ own_part c t els
 own_part c (Out d i ∷ t) = if d == c then Out d i ∷ own_part c t else own_part c t
 own_part c (Took d n ∷ t) = own_part c t
 own_part c (Bound b ∷ t) = own_part c t
-own_part c (Configured g ∷ t) = Configured g ∷ own_part c t
+own_part c (Began g ∷ t) = Began g ∷ own_part c t
 
 abbrev pub comes_up : ℕ → Event → Bool
 comes_up c (event.Up d p) = d.0 == c
@@ -201,6 +201,6 @@ NeverAttaches c ss = list_any (λ s. brings_attach s.event) (own_events c ss) �
 -- put out for it, and after the same of these events, whatever is received on other connections, and whatever happens to them. (A link
 -- can be stolen by another connection.)
 abbrev pub AnsweredAlone : Type 0
-AnsweredAlone = (id : List ℕ) (g : Routing) (c : ℕ) (ms ns : List Move) (t u : Trace) → Goes id ms (configured g) t → Goes id ns (configured g) u
-    → Undisturbed id c ms (configured g) → Undisturbed id c ns (configured g)
+AnsweredAlone = (id : List ℕ) (g : Beginning) (c : ℕ) (ms ns : List Move) (t u : Trace) → Goes id ms (beginning g) t → Goes id ns (beginning g) u
+    → Undisturbed id c ms (beginning g) → Undisturbed id c ns (beginning g)
     → own_events c (events_of ms) ≡ own_events c (events_of ns) → NeverAttaches c (events_of ms) → (own_part c t ≡ own_part c u) × (outs t c ≡ outs u c)

@@ -2,11 +2,11 @@
 -- on a connection.
 use Rattle.std.specs.Prelude.{◌≡◌, ◌==◌, ℕ, false, if◌then◌else◌, List, [], ◌∷◌, ◌++◌}
 use Rattle.amqp_frames.specs.declared.item.Item.{Item}
-use Rattle.route_table.specs.Places.{Routing}
+use Rattle.router_trace.specs.Trace.{Beginning}
 use Rattle.router_trace.specs.declared.event.Event.{Event}
 use Rattle.router_trace.specs.declared.event.Event.TheVariants as event
-use Rattle.router_trace.specs.Trace.{Trace, Did, Out, Took, Bound, Configured, Step}
-use Rattle.router_trace.specs.Configuration.{configured}
+use Rattle.router_trace.specs.Trace.{Trace, Did, Out, Took, Bound, Began, Step}
+use Rattle.router_trace.specs.Configuration.{beginning}
 use Rattle.router_trace.specs.Refusing.{refuses}
 use Rattle.router_core.specs.Replies.{answered}
 use Rattle.router_core.specs.Runs.{Taking, took_one}
@@ -23,8 +23,8 @@ Goes id (handles s ∷ ms) t u = (refuses t s.event ≡ false) × Goes id ms (an
 Goes id (takes x ∷ ms) t u = Goes id ms (took_one x t) u
 
 -- a trace of the router with this id, opened with this configuration
-abbrev pub IsTrace : List ℕ → Routing → Trace → Type 0
-IsTrace id g u = (moves : List Move) × Goes id moves (configured g) u
+abbrev pub IsTrace : List ℕ → Beginning → Trace → Type 0
+IsTrace id g u = (moves : List Move) × Goes id moves (beginning g) u
 
 -- the items received on a connection, in order
 abbrev pub with_came : Event → ℕ → List Item → List Item
@@ -37,7 +37,7 @@ ins (Did s ∷ t) c = with_came s.event c (ins t c)
 ins (Out d i ∷ t) c = ins t c
 ins (Took d n ∷ t) c = ins t c
 ins (Bound b ∷ t) c = ins t c
-ins (Configured g ∷ t) c = ins t c
+ins (Began g ∷ t) c = ins t c
 
 -- the items put out for a connection, in order
 abbrev pub outs : Trace → ℕ → List Item
@@ -46,4 +46,4 @@ outs (Did s ∷ t) c = outs t c
 outs (Out d i ∷ t) c = if d == c then outs t c ++ i ∷ [] else outs t c
 outs (Took d n ∷ t) c = outs t c
 outs (Bound b ∷ t) c = outs t c
-outs (Configured g ∷ t) c = outs t c
+outs (Began g ∷ t) c = outs t c

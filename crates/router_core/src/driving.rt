@@ -1,6 +1,5 @@
 //! Running a list of events.
 ghost use Rattle.std.specs.Prelude.{◌≡◌, ◌≢◌, ◌≤◌, ◌⊎◌, ◌+◌, ◌∷◌, ◌++◌, ℕ, List, map, length, true, false, None, vec_len, vec_capacity, OnOk, OnErr, IfErr, IfSome};
-ghost use Rattle.book_core.specs.Book.{BookView};
 ghost use Rattle.router_trace.specs.Trace.{Entry};
 ghost use Rattle.router_trace.specs.Connection.{conn as known, is_ready};
 ghost use Rattle.router_core.specs.Handling.{Fits, id_of, is_failed};
@@ -56,14 +55,14 @@ fn take_one<D: Disk>(
     conn: ConnectionId,
     taken: &mut Vec<Sent>,
 ) -> Result<(), CoreFault>
-    ensures fits { OnOk result ((b : BookView) (t : List Entry) → Fits core.old b t → Fits core.new b (took_one (taking conn) t)) }
-    ensures items { OnOk result ((b : BookView) (t : List Entry) → Fits core.old b t → taken.new.items ≡ taken.old.items ++ map (as_sent event conn) (items_of (taking conn) t)) }
+    ensures fits { OnOk result ((t : List Entry) → Fits core.old t → Fits core.new (took_one (taking conn) t)) }
+    ensures items { OnOk result ((t : List Entry) → Fits core.old t → taken.new.items ≡ taken.old.items ++ map (as_sent event conn) (items_of (taking conn) t)) }
     ensures works { OnOk result (is_failed core.new ≡ false) }
     ensures named { id_of core.new ≡ id_of core.old }
 
     // What a fault leaves, and when it occurs.
     ensures kept { OnErr result (taken.new.items ≡ taken.old.items) }
-    ensures known { IfErr result (λ f. f ≡ CoreFault.NoConnection → (b : BookView) (t : List Entry) → Fits core.old b t → known t conn.0 ≡ None) }
+    ensures known { IfErr result (λ f. f ≡ CoreFault.NoConnection → (t : List Entry) → Fits core.old t → known t conn.0 ≡ None) }
     ensures failed { IfErr result (λ f. f ≡ CoreFault.Failed → is_failed core.old ≡ true) }
     ensures memory { IfErr result (λ f. f ≡ CoreFault.Memory → (core.new ≡ core.old) ⊎ (is_failed core.new ≡ true)) }
     ensures no_disk { IfErr result (λ f. f ≡ CoreFault.Disk → ⊥) }
@@ -78,15 +77,15 @@ fn take_one<D: Disk>(
 
 /// Empties all outboxes, by connection.
 fn empty<D: Disk>(core: &mut Core<D>, event: usize, taken: &mut Vec<Sent>) -> Result<(), CoreFault>
-    ensures fits { OnOk result ((b : BookView) (t : List Entry) → Fits core.old b t → (ys : List ASent) × (u : List Entry) × Emptied event t ys u × Fits core.new b u × (taken.new.items ≡ taken.old.items ++ ys)) }
+    ensures fits { OnOk result ((t : List Entry) → Fits core.old t → (ys : List ASent) × (u : List Entry) × Emptied event t ys u × Fits core.new u × (taken.new.items ≡ taken.old.items ++ ys)) }
     ensures works { OnOk result (is_failed core.new ≡ true → is_failed core.old ≡ true) }
     ensures named { id_of core.new ≡ id_of core.old }
 
     // What a fault leaves, and when it occurs.
-    ensures broken { OnErr result ((b : BookView) (t : List Entry) → Fits core.old b t → (takes : List Taking) × InTurn takes t × (taken.new.items ≡ taken.old.items ++ sent event takes t)) }
-    ensures known { IfErr result (λ f. (b : BookView) (t : List Entry) → Fits core.old b t → f ≢ CoreFault.NoConnection) }
+    ensures broken { OnErr result ((t : List Entry) → Fits core.old t → (takes : List Taking) × InTurn takes t × (taken.new.items ≡ taken.old.items ++ sent event takes t)) }
+    ensures known { IfErr result (λ f. (t : List Entry) → Fits core.old t → f ≢ CoreFault.NoConnection) }
     ensures failed { IfErr result (λ f. f ≡ CoreFault.Failed → is_failed core.old ≡ true) }
-    ensures memory { IfErr result (λ f. f ≡ CoreFault.Memory → ((b : BookView) (t : List Entry) → Fits core.new b t → Waits t) ⊎ (is_failed core.new ≡ true)) }
+    ensures memory { IfErr result (λ f. f ≡ CoreFault.Memory → ((t : List Entry) → Fits core.new t → Waits t) ⊎ (is_failed core.new ≡ true)) }
     ensures no_disk { IfErr result (λ f. f ≡ CoreFault.Disk → ⊥) }
 {
     for _turn in 0..u64::MAX {
@@ -108,15 +107,15 @@ fn step<D: Disk>(
     event: Event,
     taken: &mut Vec<Sent>,
 ) -> Result<(), CoreFault>
-    ensures fits { OnOk result ((b : BookView) (t : List Entry) → Fits core.old b t → (ys : List ASent) × (u : List Entry) × Steps (id_of core.old) place t event ys u × Fits core.new b u × (taken.new.items ≡ taken.old.items ++ ys)) }
+    ensures fits { OnOk result ((t : List Entry) → Fits core.old t → (ys : List ASent) × (u : List Entry) × Steps (id_of core.old) place t event ys u × Fits core.new u × (taken.new.items ≡ taken.old.items ++ ys)) }
     ensures works { OnOk result (is_failed core.new ≡ true → is_failed core.old ≡ true) }
     ensures named { id_of core.new ≡ id_of core.old }
 
     // What a fault leaves, and when it occurs.
-    ensures broken { OnErr result ((b : BookView) (t : List Entry) → Fits core.old b t → (ys : List ASent) × Broken (id_of core.old) place t event ys × (taken.new.items ≡ taken.old.items ++ ys)) }
-    ensures known { IfErr result (λ f. (b : BookView) (t : List Entry) → Fits core.old b t → f ≢ CoreFault.NoConnection) }
+    ensures broken { OnErr result ((t : List Entry) → Fits core.old t → (ys : List ASent) × Broken (id_of core.old) place t event ys × (taken.new.items ≡ taken.old.items ++ ys)) }
+    ensures known { IfErr result (λ f. (t : List Entry) → Fits core.old t → f ≢ CoreFault.NoConnection) }
     ensures failed { IfErr result (λ f. f ≡ CoreFault.Failed → is_failed core.old ≡ true) }
-    ensures memory { IfErr result (λ f. f ≡ CoreFault.Memory → ((b : BookView) (t : List Entry) → Fits core.new b t → Waits t) ⊎ (is_failed core.new ≡ true)) }
+    ensures memory { IfErr result (λ f. f ≡ CoreFault.Memory → ((t : List Entry) → Fits core.new t → Waits t) ⊎ (is_failed core.new ≡ true)) }
     ensures disk { IfErr result (λ f. f ≡ CoreFault.Disk → is_failed core.new ≡ true) }
 {
     hear(core, event)?;
@@ -125,7 +124,7 @@ fn step<D: Disk>(
 
 /// Handles an event, which may be refused.
 fn hear<D: Disk>(core: &mut Core<D>, event: Event) -> Result<(), CoreFault>
-    ensures fits { OnOk result ((b : BookView) (t : List Entry) → Fits core.old b t → (u : List Entry) × MayStep (id_of core.old) t event u × Fits core.new b u) }
+    ensures fits { OnOk result ((t : List Entry) → Fits core.old t → (u : List Entry) × MayStep (id_of core.old) t event u × Fits core.new u) }
     ensures works { OnOk result (is_failed core.new ≡ true → is_failed core.old ≡ true) }
     ensures named { id_of core.new ≡ id_of core.old }
 
@@ -152,14 +151,14 @@ fn hear<D: Disk>(core: &mut Core<D>, event: Event) -> Result<(), CoreFault>
 /// its last call left it. A refused event (`NoConnection`) never ends it.
 pub fn drive<D: Disk>(alloc: Global, core: &mut Core<D>, events: Vec<Event>) -> Driven
     // Without a fault all events were handled.
-    ensures ran { result.fault ≡ None → (b : BookView) (t : List Entry) → Fits core.old b t → (u : List Entry) × Run (id_of core.old) 0 t events.items result.taken.items u × Fits core.new b u }
+    ensures ran { result.fault ≡ None → (t : List Entry) → Fits core.old t → (u : List Entry) × Run (id_of core.old) 0 t events.items result.taken.items u × Fits core.new u }
     ensures all { result.fault ≡ None → result.handled ≡ length events.items }
 
     // With a fault, those before it were, and the items taken are those after them and after the event that met the fault.
-    ensures stopped { IfSome result.fault (λ f. (b : BookView) (t : List Entry) → Fits core.old b t → Stopped (id_of core.old) t events.items result.handled result.taken.items) }
-    ensures known { IfSome result.fault (λ f. (b : BookView) (t : List Entry) → Fits core.old b t → f ≢ CoreFault.NoConnection) }
+    ensures stopped { IfSome result.fault (λ f. (t : List Entry) → Fits core.old t → Stopped (id_of core.old) t events.items result.handled result.taken.items) }
+    ensures known { IfSome result.fault (λ f. (t : List Entry) → Fits core.old t → f ≢ CoreFault.NoConnection) }
     ensures failed { IfSome result.fault (λ f. f ≡ CoreFault.Failed → is_failed core.old ≡ true) }
-    ensures memory { IfSome result.fault (λ f. f ≡ CoreFault.Memory → ((b : BookView) (t : List Entry) → Fits core.new b t → Waits t) ⊎ (is_failed core.new ≡ true)) }
+    ensures memory { IfSome result.fault (λ f. f ≡ CoreFault.Memory → ((t : List Entry) → Fits core.new t → Waits t) ⊎ (is_failed core.new ≡ true)) }
     ensures disk { IfSome result.fault (λ f. f ≡ CoreFault.Disk → is_failed core.new ≡ true) }
 {
     let mut taken = Vec::new(alloc);

@@ -1,12 +1,11 @@
 //! The router: one event or one take at a time.
 ghost use Rattle.std.specs.Prelude.{◌≡◌, ◌≢◌, ◌⊎◌, ◌+◌, ◌<◌, ◌≤◌, ◌∷◌, ◌&&◌, nat_lt, List, [], length, true, false, Ok, Err, None, option_map, is_some, OnOk, OnErr, IfOk, IfErr, IfSome, IfNone};
 ghost use Rattle.disk_core.specs.Disk.{LeavesOnly, NoMore};
-ghost use Rattle.book_core.specs.Book.{BookView};
 ghost use Rattle.gate_journal.specs.Journal.{batch_count};
 ghost use Rattle.gate_journal.specs.Opening.{Explains};
 ghost use Rattle.router_store.specs.Store.{OpensTo, Stands, journal_of, disk_of};
 ghost use Rattle.route_table.specs.Places.{routing_of};
-ghost use Rattle.router_trace.specs.Configuration.{configured};
+ghost use Rattle.router_trace.specs.Configuration.{beginning};
 ghost use Rattle.router_trace.specs.Trace.{Entry, Took, step_of};
 ghost use Rattle.router_trace.specs.Connection.{conn as known, is_ready, is_live};
 ghost use Rattle.router_trace.specs.Refusing.{refuses};
@@ -103,7 +102,7 @@ impl<D: Disk> Core<D> {
     /// comes where it failed, `Memory` where memory was refused, and the others where the disk holds no journal, or a
     /// damaged one.
     pub fn open(alloc: Global, disk: D, config: &Config) -> Result<Core<D>, OpenFault>
-        ensures fits { IfOk result (λ core. Fits core (kept_book core) (configured (routing_of config.now))) }
+        ensures fits { IfOk result (λ core. Fits core (beginning (record { routing = routing_of config.now; book = kept_book core }))) }
         ensures works { IfOk result (λ core. is_failed core ≡ false) }
         ensures named { IfOk result (λ core. id_of core ≡ config.now.router_id) }
         ensures counts { IfOk result (λ core. counts_of core ≡ uncounted) }
@@ -195,8 +194,8 @@ impl<D: Disk> Core<D> {
     /// What the event does to the book is written to the journal, as one batch, before any of its items is put out.
     pub fn handle(&mut self, event: Event) -> Result<Done, CoreFault>
         // The trace continues with the event and its replies.
-        ensures fits { OnOk result ((b : BookView) (t : List Entry) → Fits self.old b t → (u : List Entry) × Replies (id_of self.old) t (step_of event) u × Fits self.new b u) }
-        ensures taken { OnOk result ((b : BookView) (t : List Entry) → Fits self.old b t → declines t event ≡ false) }
+        ensures fits { OnOk result ((t : List Entry) → Fits self.old t → (u : List Entry) × Replies (id_of self.old) t (step_of event) u × Fits self.new u) }
+        ensures taken { OnOk result ((t : List Entry) → Fits self.old t → declines t event ≡ false) }
         ensures works { OnOk result (is_failed self.new ≡ false) }
         ensures named { id_of self.new ≡ id_of self.old }
 
@@ -219,8 +218,8 @@ impl<D: Disk> Core<D> {
         ensures uncounted { OnErr result (counts_of self.new ≡ counts_of self.old) }
 
         // Which fault occurs, and what it leaves.
-        ensures refused { IfErr result (λ f. f ≡ NoConnection → (self.new ≡ self.old) × ((b : BookView) (t : List Entry) → Fits self.old b t → declines t event ≡ true)) }
-        ensures refuses { (b : BookView) (t : List Entry) → Fits self.old b t → is_failed self.old ≡ false → declines t event ≡ true → result ≡ Err NoConnection }
+        ensures refused { IfErr result (λ f. f ≡ NoConnection → (self.new ≡ self.old) × ((t : List Entry) → Fits self.old t → declines t event ≡ true)) }
+        ensures refuses { (t : List Entry) → Fits self.old t → is_failed self.old ≡ false → declines t event ≡ true → result ≡ Err NoConnection }
         ensures failed { is_failed self.old ≡ true → result ≡ Err Failed }
         ensures unchanged { IfErr result (λ f. f ≡ Failed → (self.new ≡ self.old) × (is_failed self.old ≡ true)) }
         ensures memory { IfErr result (λ f. f ≡ Memory → is_failed self.new ≡ true) }
@@ -253,7 +252,7 @@ impl<D: Disk> Core<D> {
 
     /// Whether an event comes out of turn, or is refused.
     fn declines(&self, event: &Event) -> bool
-        ensures { (b : BookView) (t : List Entry) → Fits self.now b t → result ≡ declines t event.now }
+        ensures { (t : List Entry) → Fits self.now t → result ≡ declines t event.now }
     {
         let out_of_turn = match event {
             Event::Start => self.started,
@@ -312,8 +311,8 @@ impl<D: Disk> Core<D> {
     /// both change nothing. After `Memory` the router is failed.
     pub fn take(&mut self, conn: ConnectionId, most: usize) -> Result<Batch, CoreFault>
         // The trace continues with the items taken.
-        ensures fits { IfOk result (λ batch. (b : BookView) (t : List Entry) → Fits self.old b t → Fits self.new b (Took conn.0 (length batch.items.items) ∷ t)) }
-        ensures batch { IfOk result (λ batch. (b : BookView) (t : List Entry) → Fits self.old b t → IsBatchOf (known t conn.0) most batch) }
+        ensures fits { IfOk result (λ batch. (t : List Entry) → Fits self.old t → Fits self.new (Took conn.0 (length batch.items.items) ∷ t)) }
+        ensures batch { IfOk result (λ batch. (t : List Entry) → Fits self.old t → IsBatchOf (known t conn.0) most batch) }
         ensures whose { IfOk result (λ b. b.conn ≡ conn) }
         ensures most { IfOk result (λ b. length b.items.items ≤ most) }
         ensures works { OnOk result (is_failed self.new ≡ false) }
@@ -325,8 +324,8 @@ impl<D: Disk> Core<D> {
         ensures uncounted { OnErr result (counts_of self.new ≡ counts_of self.old) }
 
         // Which fault occurs, and what it leaves.
-        ensures refused { IfErr result (λ f. f ≡ NoConnection → (self.new ≡ self.old) × ((b : BookView) (t : List Entry) → Fits self.old b t → known t conn.0 ≡ None)) }
-        ensures refuses { (b : BookView) (t : List Entry) → Fits self.old b t → is_failed self.old ≡ false → known t conn.0 ≡ None → result ≡ Err NoConnection }
+        ensures refused { IfErr result (λ f. f ≡ NoConnection → (self.new ≡ self.old) × ((t : List Entry) → Fits self.old t → known t conn.0 ≡ None)) }
+        ensures refuses { (t : List Entry) → Fits self.old t → is_failed self.old ≡ false → known t conn.0 ≡ None → result ≡ Err NoConnection }
         ensures failed { is_failed self.old ≡ true → result ≡ Err Failed }
         ensures unchanged { IfErr result (λ f. f ≡ Failed → (self.new ≡ self.old) × (is_failed self.old ≡ true)) }
         ensures memory { IfErr result (λ f. f ≡ Memory → is_failed self.new ≡ true) }
@@ -361,7 +360,7 @@ impl<D: Disk> Core<D> {
 
     /// The lowest ready connection: an item is waiting in its outbox, or the router ended it.
     pub fn ready(&self) -> Option<ConnectionId>
-        ensures { (b : BookView) (t : List Entry) → Fits self.now b t → IsLeast (λ c. is_ready (known t c)) (option_map (λ c. c.0) result) }
+        ensures { (t : List Entry) → Fits self.now t → IsLeast (λ c. is_ready (known t c)) (option_map (λ c. c.0) result) }
     {
         match self.state.ready() {
             None => None,
@@ -371,7 +370,7 @@ impl<D: Disk> Core<D> {
 
     /// The lowest ready connection above another.
     pub fn ready_behind(&self, conn: ConnectionId) -> Option<ConnectionId>
-        ensures { (b : BookView) (t : List Entry) → Fits self.now b t → IsLeast (λ c. nat_lt conn.0 c && is_ready (known t c)) (option_map (λ c. c.0) result) }
+        ensures { (t : List Entry) → Fits self.now t → IsLeast (λ c. nat_lt conn.0 c && is_ready (known t c)) (option_map (λ c. c.0) result) }
     {
         match self.state.ready_behind(conn.0) {
             None => None,
@@ -381,21 +380,21 @@ impl<D: Disk> Core<D> {
 
     /// Whether a connection is known: it is live, or it is over and its outbox isn't empty.
     pub fn knows(&self, conn: ConnectionId) -> bool
-        ensures { (b : BookView) (t : List Entry) → Fits self.now b t → result ≡ is_some (known t conn.0) }
+        ensures { (t : List Entry) → Fits self.now t → result ≡ is_some (known t conn.0) }
     {
         self.state.phase(conn.0).is_some()
     }
 
     /// Whether a connection is live: it is up, and the router didn't end it.
     pub fn is_live(&self, conn: ConnectionId) -> bool
-        ensures { (b : BookView) (t : List Entry) → Fits self.now b t → result ≡ is_live (known t conn.0) }
+        ensures { (t : List Entry) → Fits self.now t → result ≡ is_live (known t conn.0) }
     {
         self.state.standing(conn.0).is_some()
     }
 
     /// Whether a connection is ready: an item is waiting in its outbox, or the router ended it.
     pub fn is_ready(&self, conn: ConnectionId) -> bool
-        ensures { (b : BookView) (t : List Entry) → Fits self.now b t → result ≡ is_ready (known t conn.0) }
+        ensures { (t : List Entry) → Fits self.now t → result ≡ is_ready (known t conn.0) }
     {
         self.state.is_ready(conn.0)
     }

@@ -16,7 +16,7 @@ use Rattle.router_trace.specs.declared.event.Event.{Event}
 use Rattle.router_trace.specs.declared.event.Event.TheVariants as event
 use Rattle.router_trace.specs.declared.channel.PeerChannel.{PeerChannel}
 use Rattle.router_trace.specs.declared.handle.Attachment.{Attachment}
-use Rattle.router_trace.specs.Trace.{Entry, Trace, Did, Out, Took, Bound, Configured}
+use Rattle.router_trace.specs.Trace.{Entry, Trace, Did, Out, Took, Bound, Began}
 use Rattle.router_trace.specs.Deliveries.{Delivery, delivery, bindings, bound, unless_over, is_over, is_undecided, behind_ends, is_gone_with, ended, untold, behind_put, behind_frame, behind_event, put_in, is_number, carried, tag_in, told, is_meant, origin_id, heard, heard_in, disposed, decided, is_settled_at, is_on, ended_by, lost_with, named, sending}
 use Rattle.router_trace.specs.Sessions.{theirs}
 use Rattle.amqp_perf.specs.declared.state.DeliveryState.TheVariants as state
@@ -100,7 +100,7 @@ pub stays_closed : (e : Entry) (t : Trace) (n : ℕ) → n ≤ bindings t → is
 stays_closed (Did s) t n there closed = closed_behind (behind_event s.event (theirs t) (named t) n) (event_closed s.event (theirs t) (named t) n) (delivery t n) closed
 stays_closed (Out c i) t n there closed = closed_behind (behind_put i c n (sending t c)) (put_closed i c n (sending t c)) (delivery t n) closed
 stays_closed (Took c k) t n there closed = closed
-stays_closed (Configured g) t n there closed = closed
+stays_closed (Began g) t n there closed = closed
 stays_closed (Bound b) t n there closed = fresh (bindings t + 1 == n) refl
   where
     fresh : (new : Bool) → (bindings t + 1 == n) ≡ new → is_open (if new then Some (bound b) else delivery t n) ≡ false
@@ -111,5 +111,5 @@ pub more_bindings : (e : Entry) (t : Trace) (n : ℕ) → n ≤ bindings t → n
 more_bindings (Did s) t n there = there
 more_bindings (Out c i) t n there = there
 more_bindings (Took c k) t n there = there
-more_bindings (Configured g) t n there = there
+more_bindings (Began g) t n there = there
 more_bindings (Bound b) t n there = omega (arith, there)

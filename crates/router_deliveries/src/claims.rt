@@ -1,8 +1,8 @@
 //! The deliveries that peers have not settled, by delivery-id.
 ghost use Rattle.std.specs.Prelude.{◌≡◌, ◌==◌, ◌∷◌, List, ℕ, Some, None, true, if◌then◌else◌, OnOk};
 ghost use Rattle.std.specs.Option.{option_map};
-ghost use Rattle.route_table.specs.Places.{Routing};
-ghost use Rattle.router_trace.specs.Configuration.{configured};
+ghost use Rattle.router_trace.specs.Trace.{Beginning};
+ghost use Rattle.router_trace.specs.Configuration.{beginning};
 ghost use Rattle.router_trace.specs.Trace.{Entry, Out, did};
 ghost use Rattle.router_trace.specs.Claims.{claims, claim, claim_behind_in};
 ghost use Rattle.router_trace.specs.Settling.{is_claimed, is_claimed_on, ignored};
@@ -70,7 +70,7 @@ pub struct Claims {
 impl Claims {
     /// An empty table.
     pub fn new(alloc: Global) -> Claims
-        ensures { (g : Routing) → ClaimsFit result (configured g) }
+        ensures { (g : Beginning) → ClaimsFit result (beginning g) }
     {
         Claims {
             ids: BySession::new(alloc),

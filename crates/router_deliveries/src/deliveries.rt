@@ -3,8 +3,8 @@ ghost use Rattle.std.specs.Prelude.{◌≡◌, ◌==◌, ◌&&◌, ◌∷◌, Li
 ghost use Rattle.std.specs.Option.{option_map, is_some};
 ghost use Rattle.std.specs.Ordering.{nat_cmp};
 ghost use Rattle.std.specs.BTreeMap.{get};
-ghost use Rattle.route_table.specs.Places.{Routing};
-ghost use Rattle.router_trace.specs.Configuration.{configured};
+ghost use Rattle.router_trace.specs.Trace.{Beginning};
+ghost use Rattle.router_trace.specs.Configuration.{beginning};
 ghost use Rattle.router_trace.specs.Trace.{Entry, Out, Bound, did};
 ghost use Rattle.router_trace.specs.declared.event.Event.TheVariants as event;
 ghost use Rattle.router_trace.specs.Deliveries.{delivery, next_id, sending, named, waits_on, undecided_on, held_from, is_to_tell};
@@ -42,7 +42,7 @@ pub struct Deliveries {
 impl Deliveries {
     /// An empty table.
     pub fn new(alloc: Global) -> Deliveries
-        ensures { (g : Routing) → DeliveriesFit result (configured g) }
+        ensures { (g : Beginning) → DeliveriesFit result (beginning g) }
     {
         Deliveries {
             alloc,

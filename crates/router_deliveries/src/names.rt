@@ -5,8 +5,8 @@ ghost use Rattle.std.specs.Ordering.{nat_cmp};
 ghost use Rattle.std.specs.BTreeMap.{get};
 ghost use Rattle.amqp_perf.specs.declared.perf.Perf.TheVariants as perf;
 ghost use Rattle.amqp_frames.specs.declared.item.Item.TheVariants as item;
-ghost use Rattle.route_table.specs.Places.{Routing};
-ghost use Rattle.router_trace.specs.Configuration.{configured};
+ghost use Rattle.router_trace.specs.Trace.{Beginning};
+ghost use Rattle.router_trace.specs.Configuration.{beginning};
 ghost use Rattle.router_trace.specs.Trace.{Entry, Out, did};
 ghost use Rattle.router_trace.specs.declared.event.Event.TheVariants as event;
 ghost use Rattle.router_trace.specs.Deliveries.{bindings, delivery, is_id, tagged, tag_in, is_number};
@@ -37,7 +37,7 @@ pub(crate) struct Names {
 impl Names {
     /// An empty table.
     pub(crate) fn new(alloc: Global) -> Names
-        ensures { (g : Routing) → NamesFit result (configured g) }
+        ensures { (g : Beginning) → NamesFit result (beginning g) }
     {
         Names {
             alloc,

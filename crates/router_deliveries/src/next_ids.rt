@@ -3,8 +3,8 @@ ghost use Rattle.std.specs.Prelude.{◌≡◌, ◌==◌, ◌∷◌, List, ℕ, B
 ghost use Rattle.std.specs.Ordering.{nat_cmp};
 ghost use Rattle.std.specs.BTreeMap.{get};
 ghost use Rattle.amqp_frames.specs.declared.item.Item.TheVariants as item;
-ghost use Rattle.route_table.specs.Places.{Routing};
-ghost use Rattle.router_trace.specs.Configuration.{configured};
+ghost use Rattle.router_trace.specs.Trace.{Beginning};
+ghost use Rattle.router_trace.specs.Configuration.{beginning};
 ghost use Rattle.router_trace.specs.Trace.{Entry, Out, did};
 ghost use Rattle.router_trace.specs.declared.event.Event.TheVariants as event;
 ghost use Rattle.router_trace.specs.Deliveries.{next_id, after_id};
@@ -27,7 +27,7 @@ pub(crate) struct NextIds {
 impl NextIds {
     /// An empty table.
     pub(crate) fn new(alloc: Global) -> NextIds
-        ensures { (g : Routing) → NextIdsFit result (configured g) }
+        ensures { (g : Beginning) → NextIdsFit result (beginning g) }
     {
         NextIds {
             alloc,

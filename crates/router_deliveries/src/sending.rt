@@ -6,8 +6,8 @@ ghost use Rattle.std.specs.BTreeMap.{IsOrdered};
 ghost use Rattle.router_deliveries.specs.Finding.{IsListed};
 ghost use Rattle.amqp_perf.specs.declared.perf.Perf.TheVariants as perf;
 ghost use Rattle.amqp_frames.specs.declared.item.Item.TheVariants as item;
-ghost use Rattle.route_table.specs.Places.{Routing};
-ghost use Rattle.router_trace.specs.Configuration.{configured};
+ghost use Rattle.router_trace.specs.Trace.{Beginning};
+ghost use Rattle.router_trace.specs.Configuration.{beginning};
 ghost use Rattle.router_trace.specs.Trace.{Entry, Out, did};
 ghost use Rattle.router_trace.specs.declared.event.Event.TheVariants as event;
 ghost use Rattle.router_trace.specs.Deliveries.{carried, tag_in};
@@ -30,7 +30,7 @@ pub(crate) struct Sending {
 impl Sending {
     /// An empty table.
     pub(crate) fn new(alloc: Global) -> Sending
-        ensures { (g : Routing) → SendingFit result (configured g) }
+        ensures { (g : Beginning) → SendingFit result (beginning g) }
     {
         Sending {
             numbers: ByHandle::new(alloc),

@@ -10,8 +10,8 @@ use Rattle.amqp_frames.specs.declared.item.Item.{Item}
 use Rattle.amqp_frames.specs.declared.item.Item.TheVariants as item
 use Rattle.amqp_conn.specs.declared.conn.Conn.{Conn}
 use Rattle.amqp_link.specs.declared.part.Part.{Part}
-use Rattle.route_table.specs.Places.{Routing}
-use Rattle.router_trace.specs.Configuration.{configured}
+use Rattle.router_trace.specs.Trace.{Beginning}
+use Rattle.router_trace.specs.Configuration.{beginning}
 use Rattle.router_trace.specs.declared.binding.Binding.{Binding}
 use Rattle.router_trace.specs.declared.condition.Condition.TheVariants.{ResourceLimitExceeded}
 use Rattle.router_trace.specs.declared.event.ConnectionId.{ConnectionId}
@@ -166,8 +166,8 @@ moves_sound id [] t u sound went = subst (λ (w : List Entry). Sound w) (sym wen
 moves_sound id (handles s ∷ ms) t u sound went = moves_sound id ms (answered id t s) u (answered_sound id t s sound) went.1
 moves_sound id (takes x ∷ ms) t u sound went = moves_sound id ms (took_one x t) u (took_sound _ _ t sound) went
 
-pub trace_sound : (id : List ℕ) (g : Routing) (u : List Entry) → IsTrace id g u → Sound u
-trace_sound id g u trace = moves_sound id trace.0 (configured g) u (sound_start g) trace.1
+pub trace_sound : (id : List ℕ) (g : Beginning) (u : List Entry) → IsTrace id g u → Sound u
+trace_sound id g u trace = moves_sound id trace.0 (beginning g) u (sound_start g) trace.1
 
 -- each delivery is of a message that was received
 pub all_came : (u : List Entry) → EachBound BindsMessage u → (n : ℕ) (d : Delivery) → delivery u n ≡ Some d → CameAndWasBound u n d

@@ -10,7 +10,7 @@ use Rattle.amqp_perf.specs.declared.perf.Transfer.{Transfer}
 use Rattle.amqp_frames.specs.declared.item.Item.{Item}
 use Rattle.amqp_frames.specs.declared.item.Item.TheVariants as item
 use Rattle.router_trace.specs.declared.binding.Binding.{Binding}
-use Rattle.router_trace.specs.Trace.{Entry, Did, Out, Took, Bound, Configured}
+use Rattle.router_trace.specs.Trace.{Entry, Did, Out, Took, Bound, Began}
 use Rattle.router_trace.specs.Sessions.{theirs}
 use Rattle.router_trace.specs.Deliveries.{Delivery, bindings, delivery, sending, named, unless_over, behind_frame, ended_by, put_in, behind_put, behind_event, carried, tag_in, is_number}
 use Rattle.router_laws.specs.OneConsumer.{IsOf, WhileThere}
@@ -189,7 +189,7 @@ none_early (Out c i ∷ t) n all small early =
         (λ test. let same = same_number t c own x payload n is small (number_is (carried (tag_in x) (sending t c own x.handle)) n test)
         in absurd (above n (bindings t) (subst (λ (k : ℕ). k ≤ bindings t) same (there_bound t is.number is.of is.there)) early))
         (λ test. rw test before)
-none_early (Configured g ∷ t) n all small early = none_early t n all small early
+none_early (Began g ∷ t) n all small early = none_early t n all small early
 none_early (Took c k ∷ t) n all small early = none_early t n all small early
 none_early (Bound b ∷ t) n all small early = none_early t n all (lower_by (bindings t) small) (lower_still (bindings t) n early)
   where
@@ -264,7 +264,7 @@ went (Did s ∷ t) n all small d there =
     in unmoved_went (bytes_out t n) was.0 d (went t n all small was.0 was.1)
     (subst (λ (g : Delivery). Unmoved was.0 g) (sym was.2) (event_left Unmoved unmoved_left s.event (theirs t) (named t) n was.0))
 went (Out c i ∷ t) n all small d there = out_went t c n i small (went t n all.1 small) all.0 d there
-went (Configured g ∷ t) n all small d there = went t n all small d there
+went (Began g ∷ t) n all small d there = went t n all small d there
 went (Took c k ∷ t) n all small d there = went t n all small d there
 went (Bound b ∷ t) n all small d there =
     by_test (bindings t + 1 == n)
@@ -296,7 +296,7 @@ all_complete (Did s ∷ t) all = all_complete t all
 all_complete (Out c i ∷ t) all = (completes t c i all.1 all.0, all_complete t all.1)
 all_complete (Took c k ∷ t) all = all_complete t all
 all_complete (Bound b ∷ t) all = all_complete t all
-all_complete (Configured g ∷ t) all = all_complete t all
+all_complete (Began g ∷ t) all = all_complete t all
 
 -- the bytes sent are always a beginning
 
@@ -340,7 +340,7 @@ begins_later (Out c i ∷ later) t b all small =
     (begins_later later t b all.1 small) all.0
 begins_later (Took c k ∷ later) t b all small = begins_later later t b all small
 begins_later (Bound a ∷ later) t b all small = begins_later later t b all (lower (bindings (later ++ Bound b ∷ t)) small)
-begins_later (Configured g ∷ later) t b all small = begins_later later t b all small
+begins_later (Began g ∷ later) t b all small = begins_later later t b all small
 
 pub goes_in_order : (u : List Entry) → AllCarried u → GoesInOrder u
 goes_in_order u all small b t later is =

@@ -16,7 +16,7 @@ use Rattle.router_trace.specs.declared.channel.PeerChannel.{PeerChannel}
 use Rattle.router_trace.specs.declared.event.Event.{Event}
 use Rattle.router_trace.specs.declared.event.Event.TheVariants as event
 use Rattle.router_trace.specs.declared.handle.Attachment.{Attachment}
-use Rattle.router_trace.specs.Trace.{Entry, Did, Out, Took, Bound, Configured}
+use Rattle.router_trace.specs.Trace.{Entry, Did, Out, Took, Bound, Began}
 use Rattle.router_trace.specs.Sessions.{theirs}
 use Rattle.router_trace.specs.Deliveries.{Delivery, bindings, delivery, sending, named, is_over, unless_over, behind_frame, decided, untold, told, ended, is_undecided, is_meant, is_named, decision, terminal, is_gone_with, behind_origin, behind_ends, ended_by, put_in, behind_put, carried, tag_in, is_number, is_on, is_settled_at, disposed, heard_in, heard, lost_with, behind_event, origin_id}
 use Rattle.router_laws.specs.OneConsumer.{IsOrNone, WhileThere}
@@ -172,7 +172,7 @@ pub entry_follows : (e : Entry) (t : List Entry) (n : ℕ) → n ≤ bindings t 
 entry_follows (Did s) t n given = changed (behind_event s.event (theirs t) (named t) n) (event_follows s.event (theirs t) (named t) n) (delivery t n)
 entry_follows (Out c i) t n given = changed (behind_put i c n (sending t c)) (item_follows i c n (sending t c)) (delivery t n)
 entry_follows (Took c k) t n given = all_same (delivery t n)
-entry_follows (Configured g) t n given = all_same (delivery t n)
+entry_follows (Began g) t n given = all_same (delivery t n)
 entry_follows (Bound b) t n given =
     by_test (bindings t + 1 == n) (λ e. absurd (too_high n (bindings t) given (eqb-true (bindings t + 1) n e))) (λ e. rw e (all_same (delivery t n)))
   where
@@ -183,7 +183,7 @@ pub more_bound : (e : Entry) (t : List Entry) (n : ℕ) → n ≤ bindings t →
 more_bound (Did s) t n h = h
 more_bound (Out c i) t n h = h
 more_bound (Took c k) t n h = h
-more_bound (Configured g) t n h = h
+more_bound (Began g) t n h = h
 more_bound (Bound b) t n h = one_more n (bindings t) h
   where
     one_more : (n k : ℕ) → n ≤ k → n ≤ k + 1

@@ -18,7 +18,7 @@ use Rattle.router_trace.specs.declared.event.ConnectionId.{ConnectionId}
 use Rattle.router_trace.specs.declared.event.Event.{Event}
 use Rattle.router_trace.specs.declared.event.Event.TheVariants as event
 use Rattle.router_trace.specs.declared.handle.Attachment.{Attachment}
-use Rattle.router_trace.specs.Trace.{Entry, Did, Out, Took, Bound, Configured, Step}
+use Rattle.router_trace.specs.Trace.{Entry, Did, Out, Took, Bound, Began, Step}
 use Rattle.router_trace.specs.Links.{ends_handle}
 use Rattle.router_trace.specs.Sessions.{maps, theirs}
 use Rattle.router_trace.specs.Deliveries.{Delivery, bindings, delivery, sending, named, failed, behind_frame, decided, untold, told, ended, is_undecided, is_meant, is_named, is_number, last_of, decision, terminal, is_gone_with, behind_origin, behind_ends, ended_by, put_in, behind_put, carried, tag_in, is_on, is_settled_at, disposed, heard_in, heard, lost_with, behind_event, origin_id}
@@ -242,7 +242,7 @@ outcomes_given (Out c i ∷ t) n d s h e =
     in either_decided (Out c i) t n was.0 s was.1 (outcomes_given t n was.0 s was.1)
     (put_from c i t n was.0 s (sym (ap (λ (f : Delivery). f.outcome) was.2) ∙ e))
 outcomes_given (Took c k ∷ t) n d s h e = later_decided (Took c k) t n s (outcomes_given t n d s h e)
-outcomes_given (Configured g ∷ t) n d s h e = later_decided (Configured g) t n s (outcomes_given t n d s h e)
+outcomes_given (Began g ∷ t) n d s h e = later_decided (Began g) t n s (outcomes_given t n d s h e)
 outcomes_given (Bound b ∷ t) n d s h e =
     by_test (bindings t + 1 == n)
     (λ f. absurd (none_not_some (ap (λ (g : Delivery). g.outcome) (some_same (rw f at h)) ∙ e)))

@@ -8,8 +8,8 @@ use Rattle.amqp_perf.specs.declared.perf.Role.{Role}
 use Rattle.amqp_perf.specs.declared.perf.Role.TheVariants.{Sender, Receiver}
 use Rattle.amqp_frames.specs.declared.item.Item.{Item}
 use Rattle.amqp_frames.specs.declared.item.Item.TheVariants as item
-use Rattle.route_table.specs.Places.{Routing}
-use Rattle.router_trace.specs.Configuration.{configured}
+use Rattle.router_trace.specs.Trace.{Beginning}
+use Rattle.router_trace.specs.Configuration.{beginning}
 use Rattle.router_trace.specs.declared.binding.Binding.{Binding}
 use Rattle.router_trace.specs.Trace.{Entry, Put, Did, Out, Took, Bound, Step, goes, each_to}
 use Rattle.router_laws.specs.Each.{EachOut, EachBound}
@@ -27,10 +27,10 @@ pub record Sound (t : List Entry) : Type 0 where
   pub binds : EachBound BindsMessage t
   pub unstarted : Unstarted t
 
-none_yet : (g : Routing) → Unstarted (configured g)
+none_yet : (g : Beginning) → Unstarted (beginning g)
 none_yet g n d there = absurd (none_not_some there)
 
-pub sound_start : (g : Routing) → Sound (configured g)
+pub sound_start : (g : Beginning) → Sound (beginning g)
 sound_start g = record { carries = tt; tells = tt; binds = tt; unstarted = none_yet g }
 
 pub did_sound : (s : Step) (t : List Entry) → Sound t → Sound (Did s ∷ t)

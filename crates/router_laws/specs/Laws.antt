@@ -1,7 +1,7 @@
 -- Laws of every trace of the router, and so of every list of events.
 use Rattle.std.specs.Prelude.{◌≡◌, ℕ, List, Some}
-use Rattle.route_table.specs.Places.{Routing}
-use Rattle.router_trace.specs.Configuration.{configured}
+use Rattle.router_trace.specs.Trace.{Beginning}
+use Rattle.router_trace.specs.Configuration.{beginning}
 use Rattle.router_trace.specs.declared.event.Event.{Event}
 use Rattle.router_trace.specs.Trace.{Trace}
 use Rattle.router_trace.specs.Deliveries.{Delivery, delivery}
@@ -16,11 +16,11 @@ use Rattle.router_laws.specs.Told.{TellsAsGiven}
 
 -- in every trace of the router
 abbrev pub InTraces : (Trace → Type 0) → Type 0
-InTraces P = (id : List ℕ) (g : Routing) (u : Trace) → IsTrace id g u → P u
+InTraces P = (id : List ℕ) (g : Beginning) (u : Trace) → IsTrace id g u → P u
 
 -- in the trace of every list of events, the outboxes emptied after each
 abbrev pub InRuns : (Trace → Type 0) → Type 0
-InRuns P = (id : List ℕ) (g : Routing) (events : List Event) (xs : List Sent) (u : Trace) → Run id 0 (configured g) events xs u → P u
+InRuns P = (id : List ℕ) (g : Beginning) (events : List Event) (xs : List Sent) (u : Trace) → Run id 0 (beginning g) events xs u → P u
 
 -- each transfer carries the next bytes of a message that was bound, on its consumer's link
 abbrev pub AllCarry : Trace → Type 0

@@ -1,8 +1,8 @@
 //! The table of links.
 ghost use Rattle.std.specs.Prelude.{◌≡◌, ◌==◌, ◌&&◌, ◌∷◌, List, ℕ, Bool, Some, true, false, if◌then◌else◌, IfOk, OnOk};
 ghost use Rattle.amqp_frames.specs.declared.item.Item.TheVariants as item;
-ghost use Rattle.route_table.specs.Places.{Routing};
-ghost use Rattle.router_trace.specs.Configuration.{configured};
+ghost use Rattle.router_trace.specs.Trace.{Beginning};
+ghost use Rattle.router_trace.specs.Configuration.{beginning};
 ghost use Rattle.router_trace.specs.Trace.{Entry, Out, did};
 ghost use Rattle.router_trace.specs.Sessions.{is_channel, maps, theirs};
 ghost use Rattle.router_trace.specs.Links.{link, link_place, found_link, free_handle, holder, place_of};
@@ -40,7 +40,7 @@ pub struct Links {
 impl Links {
     /// An empty table.
     pub fn new(alloc: Global) -> Links
-        ensures fits { (g : Routing) → LinksFit result (configured g) }
+        ensures fits { (g : Beginning) → LinksFit result (beginning g) }
         ensures untouched { (k : ℕ) → is_touched result k ≡ false }
     {
         Links {

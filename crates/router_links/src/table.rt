@@ -10,8 +10,8 @@ ghost use Rattle.amqp_perf.specs.declared.perf.Close.{Close};
 ghost use Rattle.amqp_frames.specs.declared.item.Item.TheVariants as item;
 ghost use Rattle.book_core.specs.Keys.{key_cmp};
 ghost use Rattle.book_core.specs.declared.terminus.LinkKey.{LinkKey as AKey};
-ghost use Rattle.route_table.specs.Places.{Routing};
-ghost use Rattle.router_trace.specs.Configuration.{configured};
+ghost use Rattle.router_trace.specs.Trace.{Beginning};
+ghost use Rattle.router_trace.specs.Configuration.{beginning};
 ghost use Rattle.router_trace.specs.Trace.{Entry, Out, did};
 ghost use Rattle.router_trace.specs.Sessions.{is_channel, maps, theirs};
 ghost use Rattle.router_trace.specs.Links.{is_handle, their_handle, asked, initial_of, key_at, is_attached, if_attached, holder, place_of};
@@ -57,7 +57,7 @@ pub struct LinkTable {
 impl LinkTable {
     /// An empty table.
     pub fn new(alloc: Global) -> LinkTable
-        ensures fits { (g : Routing) → TableFit result (configured g) }
+        ensures fits { (g : Beginning) → TableFit result (beginning g) }
         ensures untouched { (k : ℕ) → contains nat_cmp result.touched k ≡ false }
     {
         LinkTable {

@@ -1,7 +1,8 @@
 //! Links, the deliveries on them and the pools of their addresses.
 ghost use Rattle.std.specs.Prelude.{◌≡◌, ℕ, List, ◌∷◌, OnOk, IfOk};
-ghost use Rattle.route_table.specs.Places.{FindsAs, Routing};
-ghost use Rattle.router_trace.specs.Configuration.{configured};
+ghost use Rattle.route_table.specs.Places.{FindsAs};
+ghost use Rattle.router_trace.specs.Trace.{Beginning};
+ghost use Rattle.router_trace.specs.Configuration.{beginning};
 ghost use Rattle.router_trace.specs.Trace.{Entry, Out, did};
 ghost use Rattle.router_trace.specs.Sessions.{is_channel, maps, theirs};
 ghost use Rattle.router_trace.specs.Settling.{part_at};
@@ -36,7 +37,7 @@ pub struct Passing {
 impl Passing {
     /// Tables without any links; addresses are shared as this table says.
     pub fn new(alloc: Global, table: Table) -> Passing
-        ensures { (g : Routing) → FindsAs table g → PassingFit result (configured g) }
+        ensures { (g : Beginning) → FindsAs table g.routing → PassingFit result (beginning g) }
     {
         Passing {
             alloc,

@@ -19,7 +19,6 @@ use Rattle.router_play.specs.Script.{Scene, with_socket, say_all, say, out_line,
 use Rattle.router_play.specs.Asking.{IsAskedAt, IsVerdict, AsksAt, behind, follow}
 use Rattle.router_core.specs.declared.router.Core.{Core}
 use Rattle.router_trace.specs.Trace.{Trace}
-use Rattle.book_core.specs.Book.{empty_book}
 use Rattle.disk_core.specs.declared.fuse.FuseDisk.{FuseDisk}
 use Rattle.disk_core.specs.declared.memory.MemDisk.{MemDisk}
 use Rattle.router_core.specs.Books.{is_started}
@@ -141,7 +140,7 @@ asked_scene p q c i a s asks core config newest lines follows =
     in (
       w.after,
       record {
-        core = subst (λ (k : Core (FuseDisk MemDisk)). Fits k empty_book w.after.trace) (sym core) (subst (λ (t : Trace). Fits p.core empty_book t) (sym w.trace) follows.core);
+        core = subst (λ (k : Core (FuseDisk MemDisk)). Fits k w.after.trace) (sym core) (subst (λ (t : Trace). Fits p.core t) (sym w.trace) follows.core);
         started = ap is_started w.trace ∙ follows.started;
         named = ap id_of core ∙ follows.named ∙ sym w.id;
         config = ap (λ r. r.now) config ∙ follows.config ∙ sym w.config;

@@ -2,10 +2,10 @@
 use Rattle.std.proofs.Common.{◌≡◌, ◌∙◌, sym, ap, refl, subst, ℕ, List, [], ◌∷◌, true, false}
 use Rattle.std.specs.Ordering.{nat_cmp}
 use Rattle.std.specs.BTreeMap.{get}
-use Rattle.book_core.specs.Book.{BookView, empty_book}
-use Rattle.route_table.specs.Places.{Routing, routing_of}
+use Rattle.router_play.specs.Script.{new_router}
+use Rattle.router_trace.specs.Trace.{Beginning}
 use Rattle.route_table.specs.Settings.{Settings}
-use Rattle.router_trace.specs.Configuration.{configured}
+use Rattle.router_trace.specs.Configuration.{beginning}
 use Rattle.router_trace.specs.declared.event.Event.TheVariants as event
 use Rattle.router_trace.specs.Trace.{Entry, Put, did, goes, step_of}
 use Rattle.router_trace.specs.Following.{as_long_as_due, tells, sends_due, drains_due}
@@ -31,26 +31,26 @@ quiet next t none =
     due_keeps next (λ (u : List Entry). u ≡ t)
     (λ u is. subst (λ (v : List Entry). goes (next v) v ≡ t) (sym is) (ap (λ (ps : List Put). goes ps t) none)) t refl
 
-abbrev begins : Routing → List Entry
-begins g = did event.Start ∷ configured g
+abbrev begins : Beginning → List Entry
+begins g = did event.Start ∷ beginning g
 
-no_outcome : (g : Routing) → tells (begins g) ≡ []
+no_outcome : (g : Beginning) → tells (begins g) ≡ []
 unfolding first_below
 no_outcome g = refl
 
-no_delivery : (g : Routing) → sends_due (begins g) ≡ []
+no_delivery : (g : Beginning) → sends_due (begins g) ≡ []
 unfolding first_placed
 no_delivery g = refl
 
-no_drain : (g : Routing) → drains_due (begins g) ≡ []
+no_drain : (g : Beginning) → drains_due (begins g) ≡ []
 unfolding first_placed
 no_drain g = refl
 
-no_grant : (g : Routing) → grants_due (begins g) ≡ []
+no_grant : (g : Beginning) → grants_due (begins g) ≡ []
 unfolding grants lowest_below
 no_grant g = refl
 
-pub start_is_silent : (id : List ℕ) (g : Routing) → answered id (configured g) (step_of event.Start) ≡ begins g
+pub start_is_silent : (id : List ℕ) (g : Beginning) → answered id (beginning g) (step_of event.Start) ≡ begins g
 start_is_silent id g =
     let t : List Entry = begins g in
     ap (λ (u : List Entry). goes (windows u) u)
@@ -60,19 +60,19 @@ start_is_silent id g =
     ∙ quiet grants_due t (no_grant g))
 
 -- the trace of a started router is one of the router
-pub began : (id : List ℕ) (g : Routing) → Leads id (configured g) (begins g)
-began id g = subst (λ (u : List Entry). Leads id (configured g) u) (start_is_silent id g) (leads_event id (configured g) event.Start refl)
+pub began : (id : List ℕ) (g : Beginning) → Leads id (beginning g) (begins g)
+began id g = subst (λ (u : List Entry). Leads id (beginning g) u) (start_is_silent id g) (leads_event id (beginning g) event.Start refl)
 
 -- a player whose router was started
 pub start_follows : (p q : Player) (config : Settings)
-    → ((b : BookView) (t : List Entry) → Fits p.core b t → (u : List Entry) × Replies (id_of p.core) t (step_of event.Start) u × Fits q.core b u)
+    → ((t : List Entry) → Fits p.core t → (u : List Entry) × Replies (id_of p.core) t (step_of event.Start) u × Fits q.core u)
     → id_of q.core ≡ id_of p.core → q.config ≡ p.config → q.newest ≡ p.newest → q.sockets ≡ p.sockets → q.lines ≡ p.lines → Begun p config → Follows q (opening config)
 start_follows p q config fits named config_same newest sockets lines b =
-    let w : (u : List Entry) × Replies (id_of p.core) (configured (routing_of config)) (step_of event.Start) u × Fits q.core empty_book u
-    = fits empty_book (configured (routing_of config)) b.core in
-    let after : w.0 ≡ begins (routing_of config) = w.1.answers ∙ start_is_silent (id_of p.core) (routing_of config) in
+    let w : (u : List Entry) × Replies (id_of p.core) (beginning (new_router config)) (step_of event.Start) u × Fits q.core u
+    = fits (beginning (new_router config)) b.core in
+    let after : w.0 ≡ begins (new_router config) = w.1.answers ∙ start_is_silent (id_of p.core) (new_router config) in
     record {
-      core = subst (λ (u : List Entry). Fits q.core empty_book u) after w.2;
+      core = subst (λ (u : List Entry). Fits q.core u) after w.2;
       started = refl;
       named = named ∙ b.named;
       config = subst (λ k. k.now ≡ config) (sym config_same) b.config_is;
@@ -83,12 +83,12 @@ start_follows p q config fits named config_same newest sockets lines b =
 
 -- a start that the router answers with a fault fails it
 pub start_fails : (p q r : Player) (fault : CoreFault) (config : Settings)
-    → (fault ≡ NoConnection → (q.core ≡ p.core) × ((b : BookView) (t : List Entry) → Fits p.core b t → declines t event.Start ≡ true))
+    → (fault ≡ NoConnection → (q.core ≡ p.core) × ((t : List Entry) → Fits p.core t → declines t event.Start ≡ true))
     → (fault ≡ Failed → (q.core ≡ p.core) × (is_failed p.core ≡ true))
     → (fault ≡ Memory → is_failed q.core ≡ true) → (fault ≡ Disk → is_failed q.core ≡ true)
     → Said q r (line.Failed fault ∷ []) → is_failed r.core ≡ false → Begun p config → Follows r (opening config)
 start_fails p q r NoConnection config refused failed memory disk said works b =
-    let wrong : false ≡ true = (refused refl).1 empty_book (configured (routing_of config)) b.core in absurd cc
+    let wrong : false ≡ true = (refused refl).1 (beginning (new_router config)) b.core in absurd cc
 start_fails p q r Failed config refused failed memory disk said works b =
     let wrong : true ≡ false = sym (failed refl).1 ∙ b.works in absurd cc
 start_fails p q r Memory config refused failed memory disk said works b =

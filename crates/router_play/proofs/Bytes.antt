@@ -9,7 +9,6 @@ use Rattle.router_play.specs.declared.line.Line.{Line}
 use Rattle.router_play.specs.declared.socket.Socket.{Socket}
 use Rattle.router_play.specs.declared.player.Player.{Player}
 use Rattle.router_core.specs.declared.router.Core.{Core}
-use Rattle.book_core.specs.Book.{empty_book}
 use Rattle.disk_core.specs.declared.fuse.FuseDisk.{FuseDisk}
 use Rattle.disk_core.specs.declared.memory.MemDisk.{MemDisk}
 use Rattle.router_core.specs.Handling.{Fits, id_of}
@@ -19,7 +18,7 @@ use Rattle.router_play.specs.Playing.{Follows, Said, IsRead, IsReadOne}
 -- appended lines, then more of them
 pub said_follows : (p q : Player) (ls : List Line) (s : Scene) → Said p q ls → Follows p s → Follows q (say_all ls s)
 said_follows p q ls s said follows = record {
-  core = subst (λ (k : Core (FuseDisk MemDisk)). Fits k empty_book s.trace) (sym said.core) follows.core;
+  core = subst (λ (k : Core (FuseDisk MemDisk)). Fits k s.trace) (sym said.core) follows.core;
   started = follows.started;
   named = ap id_of said.core ∙ follows.named;
   config = ap (λ r. r.now) said.config ∙ follows.config;

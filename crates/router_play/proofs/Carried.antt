@@ -14,7 +14,7 @@ use Rattle.router_play.specs.Listening.{door_for}
 use Rattle.router_play.specs.Script.{Scene, opening, say, refused, hand, made, lose, Takes, Flushes, Plays, PlaysAll}
 use Rattle.router_play.specs.Carrying.{behind_up, role_in, door_in, bytes_of, bytes_in, door_says, passed, Carries, RunsCarry}
 use Rattle.router_conns.proofs.Lists.{by_test}
-use Rattle.route_table.specs.Places.{routing_of}
+use Rattle.router_play.specs.Script.{new_router}
 use Rattle.router_play.proofs.Beginning.{began}
 use Rattle.router_play.proofs.PlayMoves.{play_is_trace, takes_onward, take_all_onward}
 use Rattle.router_play.proofs.Entering.{Quiet}
@@ -141,7 +141,7 @@ play_unmade (step.Tick ms ∷ xs) s u c f h plays =
 
 pub play_carries : (config : Settings) (steps : List Step) (u : Scene) (c : ℕ) → Plays steps (opening config) u → Carries (door_in config c steps) (bytes_in c steps) u.trace u.lines c
 play_carries config steps u c plays = play_unmade steps (opening config) u c (λ n. refl) (record {
-  entered = record { real = began config.router_id (routing_of config); said = []; balance = refl; stands = (record { silent = λ m. refl; begins = λ m. ([], refl); whole = λ l m. absurd (true≢false (sym l)) }, refl) };
+  entered = record { real = began config.router_id (new_router config); said = []; balance = refl; stands = (record { silent = λ m. refl; begins = λ m. ([], refl); whole = λ l m. absurd (true≢false (sym l)) }, refl) };
   socket = refl;
   unknown = refl;
   silent = refl;

@@ -3,7 +3,7 @@ use Rattle.std.proofs.Common.{◌≡◌, ◌∙◌, sym, ap, refl, subst, ℕ, B
 use Rattle.std.specs.Prelude.{◌==◌, map, Option, Some, None, is_some, if◌then◌else◌}
 use Rattle.amqp_frames.specs.declared.item.Item.{Item}
 use Rattle.amqp_frames.specs.ItemSpelling.{item_spelling}
-use Rattle.route_table.specs.Places.{routing_of}
+use Rattle.router_play.specs.Script.{new_router}
 use Rattle.router_trace.specs.declared.event.ConnectionId.{ConnectionId}
 use Rattle.router_trace.specs.declared.event.Peer.{Peer}
 use Rattle.router_trace.specs.declared.event.Event.{Event}
@@ -131,7 +131,7 @@ hand_quiet e s c still none =
       socket = refl;
       bytes = refl;
       onward = answered_onward e s r;
-      even = λ real. answered_even s.id (routing_of s.config) s.trace e c real r still;
+      even = λ real. answered_even s.id (new_router s.config) s.trace e c real r still;
       came = answered_ins s.id s.trace e c ∙ none (ins s.trace c);
       last = refl;
       kept = answered_kept s.id s.trace e c (still_kept e c still);

@@ -5,7 +5,6 @@ use Rattle.std.specs.Ordering.{nat_cmp}
 use Rattle.std.specs.BTreeMap.{get}
 use Rattle.router_core.specs.declared.fault.CoreFault.{CoreFault}
 use Rattle.router_core.specs.declared.fault.CoreFault.TheVariants.{Disk, Memory, Failed, NoConnection}
-use Rattle.book_core.specs.Book.{BookView, empty_book}
 use Rattle.router_core.specs.Books.{is_start, is_started, declines}
 use Rattle.router_core.specs.Handling.{Fits, id_of, is_failed}
 use Rattle.router_core.proofs.Books.{started_answered, not_refused}
@@ -23,7 +22,7 @@ use Rattle.router_play.specs.Script.{Scene, hand, refused, say, with_trace}
 refused_follows : (p q r : Player) (s : Scene) → q.core ≡ p.core → q.config ≡ p.config → q.newest ≡ p.newest → q.sockets ≡ p.sockets → q.lines ≡ p.lines
     → Said q r (refused ∷ []) → Follows p s → Follows r (say refused s)
 refused_follows p q r s core config newest sockets lines said f = record {
-  core = subst (λ k. Fits k empty_book s.trace) (sym (said.core ∙ core)) f.core;
+  core = subst (λ k. Fits k s.trace) (sym (said.core ∙ core)) f.core;
   started = f.started;
   named = ap id_of (said.core ∙ core) ∙ f.named;
   config = subst (λ k. k.now ≡ s.config) (sym (said.config ∙ config)) f.config;
@@ -41,15 +40,15 @@ declines_later t (event.Tick ms) later started = rw started refl
 declines_later t event.Start later started = absurd cc
 
 -- the player after an event that the router handled
-pub handled_follows : (p q : Player) (e : Event) (s : Scene) → ((b : BookView) (t : Trace) → Fits p.core b t → (u : Trace) × Replies (id_of p.core) t (step_of e) u × Fits q.core b u)
-    → ((b : BookView) (t : Trace) → Fits p.core b t → declines t e ≡ false)
+pub handled_follows : (p q : Player) (e : Event) (s : Scene) → ((t : Trace) → Fits p.core t → (u : Trace) × Replies (id_of p.core) t (step_of e) u × Fits q.core u)
+    → ((t : Trace) → Fits p.core t → declines t e ≡ false)
     → id_of q.core ≡ id_of p.core → q.config ≡ p.config → q.newest ≡ p.newest → q.sockets ≡ p.sockets → q.lines ≡ p.lines → Follows p s → Follows q (hand e s)
 handled_follows p q e s fits taken named config newest sockets lines f =
-    let was : declines s.trace e ≡ false = taken empty_book s.trace f.core in
-    let w : (u : Trace) × Replies (id_of p.core) s.trace (step_of e) u × Fits q.core empty_book u = fits empty_book s.trace f.core in
+    let was : declines s.trace e ≡ false = taken s.trace f.core in
+    let w : (u : Trace) × Replies (id_of p.core) s.trace (step_of e) u × Fits q.core u = fits s.trace f.core in
     let after : w.0 ≡ answered s.id s.trace (step_of e) = w.1.answers ∙ ap (λ (i : List ℕ). answered i s.trace (step_of e)) f.named in
     rw (not_refused s.trace e was) (record {
-      core = subst (λ (u : Trace). Fits q.core empty_book u) after w.2;
+      core = subst (λ (u : Trace). Fits q.core u) after w.2;
       started = started_answered s.id s.trace e was;
       named = named ∙ f.named;
       config = subst (λ k. k.now ≡ s.config) (sym config) f.config;
@@ -60,14 +59,14 @@ handled_follows p q e s fits taken named config newest sockets lines f =
 
 -- If the router answers with a fault and hasn't failed, the event is refused.
 pub fault_follows : (p q r : Player) (fault : CoreFault) (e : Event) (s : Scene)
-    → is_start e ≡ false → (fault ≡ NoConnection → (q.core ≡ p.core) × ((b : BookView) (t : Trace) → Fits p.core b t → declines t e ≡ true))
+    → is_start e ≡ false → (fault ≡ NoConnection → (q.core ≡ p.core) × ((t : Trace) → Fits p.core t → declines t e ≡ true))
     → (fault ≡ Failed → (q.core ≡ p.core) × (is_failed p.core ≡ true))
     → (fault ≡ Memory → is_failed q.core ≡ true) → (fault ≡ Disk → is_failed q.core ≡ true)
     → q.config ≡ p.config → q.newest ≡ p.newest → q.sockets ≡ p.sockets → q.lines ≡ p.lines
     → Said q r (line.Failed fault ∷ []) → is_failed r.core ≡ false → Follows p s → Follows r (hand e s)
 fault_follows p q r NoConnection e s later refused_as failed memory disk config newest sockets lines said works f =
-    let is : (q.core ≡ p.core) × ((b : BookView) (t : Trace) → Fits p.core b t → declines t e ≡ true) = refused_as refl in
-    subst (λ (b : Bool). Follows r (if b then say refused s else with_trace (answered s.id s.trace (step_of e)) s)) (sym (sym (declines_later s.trace e later f.started) ∙ is.1 empty_book s.trace f.core))
+    let is : (q.core ≡ p.core) × ((t : Trace) → Fits p.core t → declines t e ≡ true) = refused_as refl in
+    subst (λ (b : Bool). Follows r (if b then say refused s else with_trace (answered s.id s.trace (step_of e)) s)) (sym (sym (declines_later s.trace e later f.started) ∙ is.1 s.trace f.core))
     (refused_follows p q r s is.0 config newest sockets lines said f)
 fault_follows p q r Failed e s later refused_as failed memory disk config newest sockets lines said works f =
     let wrong : true ≡ false = sym (failed refl).1 ∙ ap is_failed (sym (said.core ∙ (failed refl).0)) ∙ works in absurd cc

@@ -4,7 +4,7 @@ use Rattle.std.specs.Prelude.{◌==◌, Option, Some, None, is_some, option_map,
 use Rattle.std.proofs.lemmas.Bool.{eqb-true, eq-eqb}
 use Rattle.amqp_frames.specs.declared.item.Item.{Item}
 use Rattle.amqp_conn.specs.declared.conn.Conn.{Conn}
-use Rattle.route_table.specs.Places.{Routing}
+use Rattle.router_trace.specs.Trace.{Beginning}
 use Rattle.router_trace.specs.declared.binding.Binding.{Binding}
 use Rattle.router_trace.specs.declared.condition.Condition.{Condition}
 use Rattle.router_trace.specs.declared.condition.Condition.TheVariants.{ResourceLimitExceeded}
@@ -319,7 +319,7 @@ row_even id t (event.Tick ms) c links =
 row_even id t event.Start c links = even_refl (heard id t (step_of event.Start)) c
 
 -- an event with its replies
-behind_even : (id : List ℕ) (g : Routing) (t : List Entry) (e : Event) (c : ℕ) → IsTrace id g t → refuses t e ≡ false → Even (did e ∷ t) (answered id t (step_of e)) c
+behind_even : (id : List ℕ) (g : Beginning) (t : List Entry) (e : Event) (c : ℕ) → IsTrace id g t → refuses t e ≡ false → Even (did e ∷ t) (answered id t (step_of e)) c
 behind_even id g t e c real taken =
     let u : List Entry = heard id t (step_of e)
     in let v : List Entry = replied id t (step_of e)
@@ -329,7 +329,7 @@ behind_even id g t e c real taken =
     in even_trans (did e ∷ t) u (answered id t (step_of e)) c (ends_even id (due t e) (did e ∷ t) c)
     (even_trans u v (answered id t (step_of e)) c (row_even id t e c links) (followed_even v c (replied_lively id t e lively)))
 
-pub answered_even : (id : List ℕ) (g : Routing) (t : List Entry) (e : Event) (c : ℕ) → IsTrace id g t → refuses t e ≡ false → moves e c ≡ false → Even t (answered id t (step_of e)) c
+pub answered_even : (id : List ℕ) (g : Beginning) (t : List Entry) (e : Event) (c : ℕ) → IsTrace id g t → refuses t e ≡ false → moves e c ≡ false → Even t (answered id t (step_of e)) c
 answered_even id g t e c real taken h = even_trans t (did e ∷ t) (answered id t (step_of e)) c (did_even t e c h) (behind_even id g t e c real taken)
 
 pub same : (n : ℕ) → (n == n) ≡ true
@@ -340,7 +340,7 @@ none_of None h = refl
 none_of (Some v) h = absurd (true≢false h)
 
 -- a connection comes up
-pub up_level : (id : List ℕ) (g : Routing) (t : List Entry) (d : ConnectionId) (p : Peer) → IsTrace id g t → refuses t (event.Up d p) ≡ false → conn t d.0 ≡ None
+pub up_level : (id : List ℕ) (g : Beginning) (t : List Entry) (d : ConnectionId) (p : Peer) → IsTrace id g t → refuses t (event.Up d p) ≡ false → conn t d.0 ≡ None
     → Level t (answered id t (step_of (event.Up d p))) d.0
 up_level id g t d p real taken none =
     let e : Event = event.Up d p
@@ -350,7 +350,7 @@ up_level id g t d p real taken none =
     (behind_even id g t e d.0 real taken).level
 
 -- a connection for which nothing is waiting is lost
-pub down_level : (id : List ℕ) (g : Routing) (t : List Entry) (d : ConnectionId) → IsTrace id g t → refuses t (event.Down d) ≡ false → waiting_of (conn t d.0) ≡ []
+pub down_level : (id : List ℕ) (g : Beginning) (t : List Entry) (d : ConnectionId) → IsTrace id g t → refuses t (event.Down d) ≡ false → waiting_of (conn t d.0) ≡ []
     → Level t (answered id t (step_of (event.Down d))) d.0
 down_level id g t d real taken none =
     let e : Event = event.Down d
@@ -359,7 +359,7 @@ down_level id g t d real taken none =
     (record { added = []; written = sym (append-nil (outs t d.0)); waits = rw here (sym (ap (λ (xs : List Item). xs ++ []) none)) })
     (behind_even id g t e d.0 real taken).level
 
-pub down_dead : (id : List ℕ) (g : Routing) (t : List Entry) (d : ConnectionId) → IsTrace id g t → refuses t (event.Down d) ≡ false → conn (answered id t (step_of (event.Down d))) d.0 ≡ None
+pub down_dead : (id : List ℕ) (g : Beginning) (t : List Entry) (d : ConnectionId) → IsTrace id g t → refuses t (event.Down d) ≡ false → conn (answered id t (step_of (event.Down d))) d.0 ≡ None
 down_dead id g t d real taken =
     let e : Event = event.Down d
     in let here : (d.0 == d.0) ≡ true = same d.0

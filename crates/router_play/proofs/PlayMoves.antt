@@ -2,8 +2,8 @@
 use Rattle.std.proofs.Common.{◌≡◌, ◌∙◌, sym, ap, refl, subst, ℕ, Bool, true, false, List, [], ◌∷◌}
 use Rattle.std.specs.Prelude.{map, length, Option, Some, None, if◌then◌else◌}
 use Rattle.amqp_frames.specs.declared.item.Item.{Item}
-use Rattle.route_table.specs.Places.{routing_of}
-use Rattle.router_trace.specs.Configuration.{configured}
+use Rattle.router_play.specs.Script.{new_router}
+use Rattle.router_trace.specs.Configuration.{beginning}
 use Rattle.router_trace.specs.declared.event.ConnectionId.{ConnectionId}
 use Rattle.router_trace.specs.declared.event.PeerRole.{PeerRole}
 use Rattle.router_trace.specs.declared.event.Event.{Event}
@@ -54,13 +54,13 @@ took_onward x s = record { id = refl; config = refl; leads = leads_take s.id s.t
 
 -- its trace is one of the router
 abbrev pub Real : Scene → Type 0
-Real s = IsTrace s.id (routing_of s.config) s.trace
+Real s = IsTrace s.id (new_router s.config) s.trace
 
 pub onward_real : (s u : Scene) → Onward s u → Real s → Real u
 onward_real s u onward real =
-    subst (λ (id : List ℕ). IsTrace id (routing_of u.config) u.trace) (sym onward.id)
-    (subst (λ (x : Settings). IsTrace s.id (routing_of x) u.trace) (sym onward.config)
-    (leads_on s.id (configured (routing_of s.config)) s.trace u.trace real onward.leads))
+    subst (λ (id : List ℕ). IsTrace id (new_router u.config) u.trace) (sym onward.id)
+    (subst (λ (x : Settings). IsTrace s.id (new_router x) u.trace) (sym onward.config)
+    (leads_on s.id (beginning (new_router s.config)) s.trace u.trace real onward.leads))
 
 pub hand_onward : (e : Event) (s : Scene) → Onward s (hand e s)
 hand_onward e s = by_answer (refuses s.trace e) refl
@@ -155,6 +155,6 @@ plays_onward (x ∷ xs) s u plays =
     let emptied : Onward plays.0 plays.1 = subst (λ (v : Scene). Onward plays.0 v) (sym plays.3.scene) (take_all_onward plays.3.takes plays.0)
     in onward_on s plays.0 u (takes_onward x s plays.0 plays.2) (onward_on plays.0 plays.1 u emptied (plays_onward xs plays.1 u plays.4))
 
-pub play_is_trace : (config : Settings) (steps : List Step) (u : Scene) → Plays steps (opening config) u → IsTrace config.router_id (routing_of config) u.trace
+pub play_is_trace : (config : Settings) (steps : List Step) (u : Scene) → Plays steps (opening config) u → IsTrace config.router_id (new_router config) u.trace
 play_is_trace config steps u plays =
-    leads_on config.router_id (configured (routing_of config)) (opening config).trace u.trace (began config.router_id (routing_of config)) (plays_onward steps (opening config) u plays).leads
+    leads_on config.router_id (beginning (new_router config)) (opening config).trace u.trace (began config.router_id (new_router config)) (plays_onward steps (opening config) u plays).leads

@@ -21,7 +21,6 @@ use Rattle.router_core.specs.declared.router.Batch.{Batch}
 use Rattle.amqp_frames.specs.declared.item.Item.{Item}
 use Rattle.router_trace.specs.Trace.{Entry, Took}
 use Rattle.router_trace.specs.Connection.{Connection, conn}
-use Rattle.book_core.specs.Book.{empty_book}
 use Rattle.disk_core.specs.declared.fuse.FuseDisk.{FuseDisk}
 use Rattle.disk_core.specs.declared.memory.MemDisk.{MemDisk}
 use Rattle.router_core.specs.Books.{is_started}
@@ -93,7 +92,7 @@ parted_scene p q c r s parts rows core config newest lines follows =
     in (
       w.after,
       record {
-        core = subst (λ (k : Core (FuseDisk MemDisk)). Fits k empty_book w.after.trace) (sym core) (subst (λ (t : List Entry). Fits p.core empty_book t) (sym w.trace) follows.core);
+        core = subst (λ (k : Core (FuseDisk MemDisk)). Fits k w.after.trace) (sym core) (subst (λ (t : List Entry). Fits p.core t) (sym w.trace) follows.core);
         started = ap is_started w.trace ∙ follows.started;
         named = ap id_of core ∙ follows.named ∙ sym w.id;
         config = ap (λ r. r.now) config ∙ follows.config ∙ sym w.config;
@@ -114,11 +113,11 @@ batch_last None b is = absurd is
 batch_last (Some v) b is = is.gone
 
 pub taken_follows : (p q : Player) (c : ConnectionId) (b : Batch) (s : Scene) → Follows p s
-    → Fits q.core empty_book (Took c.0 (length b.items.items) ∷ s.trace) → IsBatchOf (conn s.trace c.0) 64 b
+    → Fits q.core (Took c.0 (length b.items.items) ∷ s.trace) → IsBatchOf (conn s.trace c.0) 64 b
     → id_of q.core ≡ id_of p.core → q.config ≡ p.config → q.sockets ≡ p.sockets → q.newest ≡ p.newest → q.lines.items ≡ p.lines.items
     → Follows q (with_trace (took_one (taking c) s.trace) s)
 taken_follows p q c b s follows fits is named config sockets newest lines = record {
-  core = subst (λ (ys : List Item). Fits q.core empty_book (Took c.0 (length ys) ∷ s.trace)) (batch_items (conn s.trace c.0) b is) fits;
+  core = subst (λ (ys : List Item). Fits q.core (Took c.0 (length ys) ∷ s.trace)) (batch_items (conn s.trace c.0) b is) fits;
   started = follows.started;
   named = named ∙ follows.named;
   config = ap (λ r. r.now) config ∙ follows.config;

@@ -5,8 +5,8 @@ use Rattle.std.proofs.lemmas.Bool.{eqb-true, ltb-true, lt-ltb}
 use Rattle.amqp_frames.specs.declared.item.Item.{Item}
 use Rattle.amqp_frames.proofs.Streams.{HasCut, has_cut}
 use Rattle.route_table.specs.Settings.{Settings}
-use Rattle.route_table.specs.Places.{routing_of}
-use Rattle.router_trace.specs.Configuration.{configured}
+use Rattle.router_play.specs.Script.{new_router}
+use Rattle.router_trace.specs.Configuration.{beginning}
 use Rattle.router_trace.specs.declared.event.ConnectionId.{ConnectionId}
 use Rattle.router_trace.specs.declared.event.PeerRole.{PeerRole}
 use Rattle.router_trace.specs.declared.event.Event.{Event}
@@ -286,11 +286,11 @@ plays_shadows (x ∷ xs) s p u plays calm h =
 -- from the opening on
 
 abbrev pub first : Settings → Course
-first config = record { id = config.router_id; config = config; trace = did event.Start ∷ configured (routing_of config); last = None; spots = λ c. None }
+first config = record { id = config.router_id; config = config; trace = did event.Start ∷ beginning (new_router config); last = None; spots = λ c. None }
 
 pub play_course : (config : Settings) (xs : List Step) (u : Scene) → Plays xs (opening config) u → Calm u.trace → untaken u.trace ≡ (course xs (first config)).trace
 play_course config xs u plays calm = (plays_shadows xs (opening config) (first config) u plays calm (record {
-  kin = record { id = refl; config = refl; last = refl; trace = refl; real = began config.router_id (routing_of config) };
+  kin = record { id = refl; config = refl; last = refl; trace = refl; real = began config.router_id (new_router config) };
   spots = λ c. tt;
   unmade = λ c r. (refl, refl);
 })).kin.trace

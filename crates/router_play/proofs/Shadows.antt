@@ -3,7 +3,7 @@ use Rattle.std.proofs.Common.{◌≡◌, ◌∙◌, sym, ap, refl, subst, true�
 use Rattle.std.specs.Prelude.{◌==◌, Option, Some, None, if◌then◌else◌}
 use Rattle.std.proofs.lemmas.Bool.{eqb-true}
 use Rattle.amqp_frames.specs.declared.item.Item.{Item}
-use Rattle.route_table.specs.Places.{routing_of}
+use Rattle.router_play.specs.Script.{new_router}
 use Rattle.router_trace.specs.declared.event.ConnectionId.{ConnectionId}
 use Rattle.router_trace.specs.declared.event.Peer.{Peer}
 use Rattle.router_trace.specs.declared.event.Event.{Event}
@@ -69,7 +69,7 @@ shades_even t u c even (Some k) (Some q) h = (h.0, h.1, unknown_even t u c even 
 -- an event
 
 pub hand_even : (e : Event) (s : Scene) (c : ℕ) → Real s → moves e c ≡ false → Even s.trace (hand e s).trace c
-hand_even e s c real still = hand_cases (λ u. Even s.trace u.trace c) e s (λ r. even_refl s.trace c) (λ r. answered_even s.id (routing_of s.config) s.trace e c real r still)
+hand_even e s c real still = hand_cases (λ u. Even s.trace u.trace c) e s (λ r. even_refl s.trace c) (λ r. answered_even s.id (new_router s.config) s.trace e c real r still)
 
 pub hand_kin : (e : Event) (s : Scene) (p : Course) → Calm (hand e s).trace → Kin s p → Kin (hand e s) (tell e p)
 hand_kin e s p calm kin =

@@ -4,7 +4,7 @@ use Rattle.amqp_frames.specs.declared.item.Item.{Item}
 use Rattle.amqp_frames.specs.Cuts.{Cuts}
 use Rattle.amqp_frames.specs.ItemSpelling.{item_spelling}
 use Rattle.route_table.specs.Settings.{Settings}
-use Rattle.route_table.specs.Places.{routing_of}
+use Rattle.router_play.specs.Script.{new_router}
 use Rattle.router_trace.specs.declared.event.PeerRole.{PeerRole}
 use Rattle.router_trace.specs.declared.event.PeerRole.TheVariants.{Normal}
 use Rattle.router_trace.specs.declared.event.Event.{Event}
@@ -14,7 +14,7 @@ use Rattle.router_play.specs.declared.line.Line.{Line}
 use Rattle.router_play.specs.declared.line.Line.TheVariants as line
 use Rattle.router_play.specs.declared.script.Step.{Step}
 use Rattle.router_play.specs.declared.script.Step.TheVariants as step
-use Rattle.router_trace.specs.Trace.{Trace, Did, Out, Took, Bound, Configured}
+use Rattle.router_trace.specs.Trace.{Trace, Did, Out, Took, Bound, Began}
 use Rattle.router_trace.specs.Connection.{conn, is_live}
 use Rattle.router_trace.specs.Refusing.{rises}
 use Rattle.router_core.specs.Door.{Verdict, says, passes, ends, door, door_behind}
@@ -32,7 +32,7 @@ was_lost (Did s ∷ t) c = is_loss_of s.event c || was_lost t c
 was_lost (Out d i ∷ t) c = was_lost t c
 was_lost (Took d n ∷ t) c = was_lost t c
 was_lost (Bound b ∷ t) c = was_lost t c
-was_lost (Configured g ∷ t) c = was_lost t c
+was_lost (Began g ∷ t) c = was_lost t c
 
 -- the steps after a connection is made: its number is above that of each connection made before
 abbrev pub behind_up : ℕ → Option ℕ → List Step → List Step
@@ -117,4 +117,4 @@ pub record Carries (start : DoorState) (stream : List ℕ) (t : Trace) (lines : 
 abbrev pub RunsCarry : Settings → List (List Step) → List Line → Type 0
 RunsCarry config [] lines = lines ≡ []
 RunsCarry config (steps ∷ runs) lines = (t : Trace) × (mine : List Line) × (others : List Line)
-    × IsTrace config.router_id (routing_of config) t × ((c : ℕ) → Carries (door_in config c steps) (bytes_in c steps) t mine c) × RunsCarry config runs others × (lines ≡ mine ++ others)
+    × IsTrace config.router_id (new_router config) t × ((c : ℕ) → Carries (door_in config c steps) (bytes_in c steps) t mine c) × RunsCarry config runs others × (lines ≡ mine ++ others)

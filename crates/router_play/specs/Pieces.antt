@@ -2,7 +2,7 @@
 use Rattle.std.specs.Prelude.{◌≡◌, ℕ, false, ◌==◌, if◌then◌else◌, List, [], ◌∷◌, ◌++◌}
 use Rattle.route_table.specs.Settings.{Settings}
 use Rattle.router_trace.specs.declared.event.ConnectionId.{ConnectionId}
-use Rattle.router_trace.specs.Trace.{Trace, Did, Out, Took, Bound, Configured}
+use Rattle.router_trace.specs.Trace.{Trace, Did, Out, Took, Bound, Began}
 use Rattle.router_trace.specs.Connection.{conn, is_full}
 use Rattle.router_core.specs.Laws.{untaken}
 use Rattle.router_play.specs.declared.script.Step.{Step}
@@ -34,7 +34,7 @@ AlwaysRoom (Did s ∷ t) = ((c : ℕ) → is_full (conn t c) ≡ false) × Alway
 AlwaysRoom (Out c i ∷ t) = AlwaysRoom t
 AlwaysRoom (Took c n ∷ t) = AlwaysRoom t
 AlwaysRoom (Bound b ∷ t) = AlwaysRoom t
-AlwaysRoom (Configured g ∷ t) = AlwaysRoom t
+AlwaysRoom (Began g ∷ t) = AlwaysRoom t
 
 -- Pieces make no difference: two scripts that differ only in how bytes of a connection are cut, whether into many steps or into one, have
 -- the same effect if no outbox is ever full. The router receives the same events and puts out the same items, except for when items are taken,

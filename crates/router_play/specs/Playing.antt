@@ -11,17 +11,16 @@ use Rattle.router_play.specs.declared.sockets.Parted.{Parted}
 use Rattle.router_play.specs.declared.sockets.Parted.TheVariants as parted
 use Rattle.router_trace.specs.declared.event.Event.TheVariants as event
 use Rattle.router_play.specs.declared.line.Line.{Line}
-use Rattle.book_core.specs.Book.{empty_book}
 use Rattle.route_table.specs.Settings.{Settings}
-use Rattle.route_table.specs.Places.{routing_of}
-use Rattle.router_trace.specs.Configuration.{configured}
+use Rattle.router_play.specs.Script.{new_router}
+use Rattle.router_trace.specs.Configuration.{beginning}
 use Rattle.router_core.specs.Books.{is_started}
 use Rattle.router_core.specs.Handling.{Fits, id_of, is_failed}
 use Rattle.router_play.specs.Script.{Scene, refused, say, hand, with_socket, stream_of}
 
--- its router began with an empty book, and is started
+-- its router is started
 pub record Follows (p : Player) (s : Scene) : Type 0 where
-  pub core : Fits p.core empty_book s.trace
+  pub core : Fits p.core s.trace
   pub started : is_started s.trace ≡ true
   pub named : id_of p.core ≡ s.id
   pub config : p.config.now ≡ s.config
@@ -31,7 +30,7 @@ pub record Follows (p : Player) (s : Scene) : Type 0 where
 
 -- a player whose router is opened with a configuration, and not started yet
 pub record Begun (p : Player) (config : Settings) : Type 0 where
-  pub core : Fits p.core empty_book (configured (routing_of config))
+  pub core : Fits p.core (beginning (new_router config))
   pub works : is_failed p.core ≡ false
   pub named : id_of p.core ≡ config.router_id
   pub config_is : p.config.now ≡ config

@@ -9,15 +9,16 @@ use Rattle.router_trace.specs.declared.event.PeerRole.{PeerRole}
 use Rattle.router_trace.specs.declared.event.Event.{Event}
 use Rattle.router_trace.specs.declared.event.Event.TheVariants as event
 use Rattle.route_table.specs.Settings.{Settings}
+use Rattle.book_core.specs.Book.{empty_book}
 use Rattle.route_table.specs.Places.{routing_of}
-use Rattle.router_trace.specs.Configuration.{configured}
+use Rattle.router_trace.specs.Configuration.{beginning}
 use Rattle.router_core.specs.declared.door.Door.{Door as DoorState}
 use Rattle.router_play.specs.declared.line.Line.{Line}
 use Rattle.router_play.specs.declared.line.Line.TheVariants as line
 use Rattle.router_play.specs.declared.socket.Socket.{Socket}
 use Rattle.router_play.specs.declared.script.Step.{Step}
 use Rattle.router_play.specs.declared.script.Step.TheVariants as step
-use Rattle.router_trace.specs.Trace.{Trace, did, step_of}
+use Rattle.router_trace.specs.Trace.{Trace, Beginning, did, step_of}
 use Rattle.router_trace.specs.Connection.{Connection, conn, took, is_ready}
 use Rattle.router_trace.specs.Refusing.{refuses, rises}
 use Rattle.router_core.specs.Replies.{answered}
@@ -35,9 +36,13 @@ pub record Scene : Type 0 where
   pub sockets : ℕ → Option Socket
   pub lines : List Line
 
+-- a router with this configuration and a new journal
+abbrev pub new_router : Settings → Beginning
+new_router config = record { routing = routing_of config; book = empty_book }
+
 -- before the first step: the router is started, which puts nothing out
 abbrev pub opening : Settings → Scene
-opening config = record { id = config.router_id; config = config; trace = did event.Start ∷ configured (routing_of config); last = None; sockets = λ c. None; lines = [] }
+opening config = record { id = config.router_id; config = config; trace = did event.Start ∷ beginning (new_router config); last = None; sockets = λ c. None; lines = [] }
 
 -- more lines
 abbrev pub say_all : List Line → Scene → Scene

@@ -1,9 +1,8 @@
 //! Plays a script.
 ghost use Rattle.std.specs.Prelude.{◌≡◌, ◌==◌, ◌∷◌, ◌++◌, ℕ, List, [], None, Some, map, option_map, true, false, if◌then◌else◌, OnOk, IfOk};
-ghost use Rattle.book_core.specs.Book.{empty_book};
-ghost use Rattle.route_table.specs.Places.{routing_of};
+ghost use Rattle.router_play.specs.Script.{new_router};
 ghost use Rattle.route_table.specs.Settings.{Settings};
-ghost use Rattle.router_trace.specs.Configuration.{configured};
+ghost use Rattle.router_trace.specs.Configuration.{beginning};
 ghost use Rattle.router_core.specs.Books.{is_start};
 ghost use Rattle.router_core.specs.Handling.{Fits, id_of, is_failed};
 ghost use Rattle.router_play.specs.Script.{Scene, opening, PlaysAll, book, refused, out_line, say_all, hand, enter, enter_all, BytesCome, make, lose, Takes, take_one, close_if, Flushes, Plays};
@@ -105,7 +104,7 @@ fn play_run(
 
 /// A router in memory, with a new journal.
 fn opened(alloc: Global, config: &Config) -> Result<Core<FuseDisk<MemDisk>>, AllocError>
-    ensures fits { IfOk result (λ core. Fits core empty_book (configured (routing_of config.now))) }
+    ensures fits { IfOk result (λ core. Fits core (beginning (new_router config.now))) }
     ensures works { IfOk result (λ core. is_failed core ≡ false) }
     ensures named { IfOk result (λ core. id_of core ≡ config.now.router_id) }
 {

@@ -3,8 +3,8 @@ ghost use Rattle.std.specs.Prelude.{◌≡◌, ◌<◌, ◌∷◌, ◌++◌, Lis
 ghost use Rattle.std.specs.Ordering.{nat_cmp};
 ghost use Rattle.std.specs.BTreeMap.{get};
 ghost use Rattle.std.specs.BTreeSet.{contains};
-ghost use Rattle.route_table.specs.Places.{Routing};
-ghost use Rattle.router_trace.specs.Configuration.{configured};
+ghost use Rattle.router_trace.specs.Trace.{Beginning};
+ghost use Rattle.router_trace.specs.Configuration.{beginning};
 ghost use Rattle.router_trace.specs.Trace.{Entry, Out, did, puts_of};
 ghost use Rattle.std.specs.List.{find};
 ghost use Rattle.router_trace.specs.Sessions.{place, session, is_free, free_channel, is_channel, maps, theirs};
@@ -44,7 +44,7 @@ pub struct Sessions {
 impl Sessions {
     /// An empty table.
     pub fn new(alloc: Global) -> Sessions
-        ensures { (g : Routing) → SessionsFit result (configured g) }
+        ensures { (g : Beginning) → SessionsFit result (beginning g) }
     {
         Sessions {
             alloc,

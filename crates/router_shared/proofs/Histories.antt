@@ -5,9 +5,8 @@ use Rattle.router_core.specs.declared.fault.CoreFault.{CoreFault}
 use Rattle.router_core.specs.declared.fault.CoreFault.TheVariants.{Disk, Memory, Failed, NoConnection}
 use Rattle.router_trace.specs.declared.event.Event.{Event}
 use Rattle.router_trace.specs.declared.event.ConnectionId.{ConnectionId}
-use Rattle.router_trace.specs.Configuration.{configured}
+use Rattle.router_trace.specs.Configuration.{beginning}
 use Rattle.router_trace.specs.Trace.{Entry, Took, step_of}
-use Rattle.book_core.specs.Book.{BookView}
 use Rattle.router_core.specs.Books.{declines}
 use Rattle.router_core.proofs.Books.{not_refused}
 use Rattle.router_trace.specs.Connection.{Connection, conn}
@@ -30,23 +29,22 @@ tally_more (takes x ∷ ms) ns n = tally_more ms ns (with_batch n)
 
 -- one more event
 pub event_more : {D : Type 0} (old new : Core D) (e : Event) → HasHistory old → is_failed old ≡ false
-    → ((b : BookView) (t : List Entry) → Fits old b t → (u : List Entry) × Replies (id_of old) t (step_of e) u × Fits new b u)
-    → ((b : BookView) (t : List Entry) → Fits old b t → declines t e ≡ false)
+    → ((t : List Entry) → Fits old t → (u : List Entry) × Replies (id_of old) t (step_of e) u × Fits new u)
+    → ((t : List Entry) → Fits old t → declines t e ≡ false)
     → counts_of new ≡ with_event e (counts_of old) → id_of new ≡ id_of old → HasHistory new
 event_more old new e lived works fits taken counted named = λ _.
     let h = lived works in
     let id = id_of old in
-    let f = fits h.0 h.3 h.4.fits in
-    let last : Goes id (handles (step_of e) ∷ []) h.3 f.0 = (not_refused h.3 e (taken h.0 h.3 h.4.fits), f.1.answers) in
-    let all : Goes id (h.2 ++ handles (step_of e) ∷ []) (configured h.1) f.0 = goes_on id h.2 (handles (step_of e) ∷ []) (configured h.1) h.3 f.0 h.4.goes last in (
+    let f = fits h.2 h.3.fits in
+    let last : Goes id (handles (step_of e) ∷ []) h.2 f.0 = (not_refused h.2 e (taken h.2 h.3.fits), f.1.answers) in
+    let all : Goes id (h.1 ++ handles (step_of e) ∷ []) (beginning h.0) f.0 = goes_on id h.1 (handles (step_of e) ∷ []) (beginning h.0) h.2 f.0 h.3.goes last in (
       h.0,
-      h.1,
-      h.2 ++ handles (step_of e) ∷ [],
+      h.1 ++ handles (step_of e) ∷ [],
       f.0,
       record {
-        goes = subst (λ (i : List ℕ). Goes i (h.2 ++ handles (step_of e) ∷ []) (configured h.1) f.0) (sym named) all;
+        goes = subst (λ (i : List ℕ). Goes i (h.1 ++ handles (step_of e) ∷ []) (beginning h.0) f.0) (sym named) all;
         fits = f.2;
-        counted = counted ∙ (ap (with_event e) h.4.counted ∙ sym (tally_more h.2 (handles (step_of e) ∷ []) uncounted));
+        counted = counted ∙ (ap (with_event e) h.3.counted ∙ sym (tally_more h.1 (handles (step_of e) ∷ []) uncounted));
       },
     )
 
@@ -57,29 +55,28 @@ batch_length (Some v) b is = ap length is.in_order
 
 -- one more take
 pub take_more : {D : Type 0} (old new : Core D) (c : ConnectionId) (x : Batch) → HasHistory old → is_failed old ≡ false
-    → ((b : BookView) (t : List Entry) → Fits old b t → Fits new b (Took c.0 (length x.items.items) ∷ t))
-    → ((b : BookView) (t : List Entry) → Fits old b t → IsBatchOf (conn t c.0) 64 x)
+    → ((t : List Entry) → Fits old t → Fits new (Took c.0 (length x.items.items) ∷ t))
+    → ((t : List Entry) → Fits old t → IsBatchOf (conn t c.0) 64 x)
     → counts_of new ≡ with_batch (counts_of old) → id_of new ≡ id_of old → HasHistory new
 take_more old new c x lived works fits batch counted named = λ _.
     let h = lived works in
     let id = id_of old in
-    let same : length x.items.items ≡ length (items_of (taking c) h.3) = batch_length (conn h.3 c.0) x (batch h.0 h.3 h.4.fits) in
-    let all : Goes id (h.2 ++ takes (taking c) ∷ []) (configured h.1) (took_one (taking c) h.3)
-    = goes_on id h.2 (takes (taking c) ∷ []) (configured h.1) h.3 (took_one (taking c) h.3) h.4.goes refl in (
+    let same : length x.items.items ≡ length (items_of (taking c) h.2) = batch_length (conn h.2 c.0) x (batch h.2 h.3.fits) in
+    let all : Goes id (h.1 ++ takes (taking c) ∷ []) (beginning h.0) (took_one (taking c) h.2)
+    = goes_on id h.1 (takes (taking c) ∷ []) (beginning h.0) h.2 (took_one (taking c) h.2) h.3.goes refl in (
       h.0,
-      h.1,
-      h.2 ++ takes (taking c) ∷ [],
-      took_one (taking c) h.3,
+      h.1 ++ takes (taking c) ∷ [],
+      took_one (taking c) h.2,
       record {
-        goes = subst (λ (i : List ℕ). Goes i (h.2 ++ takes (taking c) ∷ []) (configured h.1) (took_one (taking c) h.3)) (sym named) all;
-        fits = subst (λ (n : ℕ). Fits new h.0 (Took c.0 n ∷ h.3)) same (fits h.0 h.3 h.4.fits);
-        counted = counted ∙ (ap with_batch h.4.counted ∙ sym (tally_more h.2 (takes (taking c) ∷ []) uncounted));
+        goes = subst (λ (i : List ℕ). Goes i (h.1 ++ takes (taking c) ∷ []) (beginning h.0) (took_one (taking c) h.2)) (sym named) all;
+        fits = subst (λ (n : ℕ). Fits new (Took c.0 n ∷ h.2)) same (fits h.2 h.3.fits);
+        counted = counted ∙ (ap with_batch h.3.counted ∙ sym (tally_more h.1 (takes (taking c) ∷ []) uncounted));
       },
     )
 
 -- nothing has happened yet
 pub none_yet : {D : Type 0} (core : Core D) → IsOpened core → counts_of core ≡ uncounted → HasHistory core
-none_yet core opened counts = λ _. (opened.0, opened.1, [], configured opened.1, record { goes = refl; fits = opened.2; counted = counts })
+none_yet core opened counts = λ _. (opened.0, [], beginning opened.0, record { goes = refl; fits = opened.1; counted = counts })
 
 -- nothing is claimed of a router that fails
 pub failed_now : {D : Type 0} (core : Core D) → is_failed core ≡ true → HasHistory core
@@ -92,11 +89,11 @@ worked a false is = refl
 
 -- an event is handled, or declined, or the disk fails, or memory is refused
 pub handled : {D : Type 0} (old new : Core D) (e : Event) (r : Result Done CoreFault) → HasHistory old
-    → OnOk r ((b : BookView) (t : List Entry) → Fits old b t → (u : List Entry) × Replies (id_of old) t (step_of e) u × Fits new b u)
-    → OnOk r ((b : BookView) (t : List Entry) → Fits old b t → declines t e ≡ false)
+    → OnOk r ((t : List Entry) → Fits old t → (u : List Entry) × Replies (id_of old) t (step_of e) u × Fits new u)
+    → OnOk r ((t : List Entry) → Fits old t → declines t e ≡ false)
     → OnOk r (counts_of new ≡ with_event e (counts_of old)) → id_of new ≡ id_of old
     → (is_failed old ≡ true → r ≡ Err Failed)
-    → IfErr r (λ f. f ≡ NoConnection → (new ≡ old) × ((b : BookView) (t : List Entry) → Fits old b t → declines t e ≡ true))
+    → IfErr r (λ f. f ≡ NoConnection → (new ≡ old) × ((t : List Entry) → Fits old t → declines t e ≡ true))
     → IfErr r (λ f. f ≡ Failed → (new ≡ old) × (is_failed old ≡ true))
     → IfErr r (λ f. f ≡ Memory → is_failed new ≡ true) → IfErr r (λ f. f ≡ Disk → is_failed new ≡ true) → HasHistory new
 handled old new e (Ok d) lived fits taken counted named failed refused unchanged memory disk =
@@ -108,11 +105,11 @@ handled old new e (Err NoConnection) lived fits taken counted named failed refus
 
 -- items are taken, or the connection is unknown, or memory is refused
 pub taken : {D : Type 0} (old new : Core D) (c : ConnectionId) (r : Result Batch CoreFault) → HasHistory old
-    → IfOk r (λ batch. (b : BookView) (t : List Entry) → Fits old b t → Fits new b (Took c.0 (length batch.items.items) ∷ t))
-    → IfOk r (λ batch. (b : BookView) (t : List Entry) → Fits old b t → IsBatchOf (conn t c.0) 64 batch)
+    → IfOk r (λ batch. (t : List Entry) → Fits old t → Fits new (Took c.0 (length batch.items.items) ∷ t))
+    → IfOk r (λ batch. (t : List Entry) → Fits old t → IsBatchOf (conn t c.0) 64 batch)
     → OnOk r (counts_of new ≡ with_batch (counts_of old)) → id_of new ≡ id_of old
     → (is_failed old ≡ true → r ≡ Err Failed)
-    → IfErr r (λ f. f ≡ NoConnection → (new ≡ old) × ((b : BookView) (t : List Entry) → Fits old b t → conn t c.0 ≡ None))
+    → IfErr r (λ f. f ≡ NoConnection → (new ≡ old) × ((t : List Entry) → Fits old t → conn t c.0 ≡ None))
     → IfErr r (λ f. f ≡ Failed → (new ≡ old) × (is_failed old ≡ true))
     → IfErr r (λ f. f ≡ Memory → is_failed new ≡ true) → IfErr r (λ f. f ≡ Disk → ⊥) → HasHistory new
 taken old new c (Ok b) lived fits batch counted named failed refused unchanged memory disk =

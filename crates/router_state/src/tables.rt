@@ -2,8 +2,9 @@
 ghost use Rattle.std.specs.Prelude.{◌≡◌, ◌==◌, ◌≤◌, ◌&&◌, nat_lt, if◌then◌else◌, ◌∷◌, ◌++◌, ℕ, List, [], true, Option, option_map, OnOk, IfOk};
 ghost use Rattle.std.specs.Ordering.{nat_cmp};
 ghost use Rattle.std.specs.Prelude.{is_some};
-ghost use Rattle.route_table.specs.Places.{FindsAs, Routing};
-ghost use Rattle.router_trace.specs.Configuration.{configured, distribution, is_multicast};
+ghost use Rattle.route_table.specs.Places.{FindsAs};
+ghost use Rattle.router_trace.specs.Trace.{Beginning};
+ghost use Rattle.router_trace.specs.Configuration.{beginning, distribution, is_multicast};
 ghost use Rattle.router_trace.specs.Sessions.{theirs, maps, session};
 ghost use Rattle.router_trace.specs.Frames.{told_of};
 ghost use Rattle.router_trace.specs.Links.{place_of, is_attached};
@@ -66,7 +67,7 @@ pub struct State {
 impl State {
     /// The tables of a new router; addresses are shared as this table says.
     pub fn new(alloc: Global, table: Table) -> State
-        ensures { (g : Routing) → FindsAs table g → TablesFit result (configured g) }
+        ensures { (g : Beginning) → FindsAs table g.routing → TablesFit result (beginning g) }
     {
         State {
             alloc,

@@ -3,11 +3,11 @@ use Rattle.std.specs.Prelude.{ℕ, Bool, true, false, List, [], ◌∷◌}
 use Rattle.route_table.specs.declared.sections.Distribution.{Distribution}
 use Rattle.route_table.specs.declared.sections.Distribution.TheVariants.{Balanced, Closest, Multicast}
 use Rattle.route_table.specs.Places.{Routing, distribution_of}
-use Rattle.router_trace.specs.Trace.{Did, Out, Took, Bound, Configured, Trace}
+use Rattle.router_trace.specs.Trace.{Did, Out, Took, Bound, Began, Beginning, Trace}
 
--- the trace before the first event: the router was opened with this configuration
-abbrev pub configured : Routing → Trace
-configured g = Configured g ∷ []
+-- the trace before the first event
+abbrev pub beginning : Beginning → Trace
+beginning g = Began g ∷ []
 
 -- a configuration without any prefix
 abbrev pub no_routing : Routing
@@ -20,7 +20,7 @@ routing (Did s ∷ t) = routing t
 routing (Out c i ∷ t) = routing t
 routing (Took c n ∷ t) = routing t
 routing (Bound b ∷ t) = routing t
-routing (Configured g ∷ t) = g
+routing (Began g ∷ t) = g.routing
 
 -- how the links of an address share its messages
 abbrev pub distribution : Trace → List ℕ → Distribution

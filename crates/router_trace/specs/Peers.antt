@@ -7,7 +7,7 @@ use Rattle.amqp_frames.specs.declared.item.Item.{Item}
 use Rattle.amqp_frames.specs.declared.item.Item.TheVariants as item
 use Rattle.router_trace.specs.declared.event.Event.{Event}
 use Rattle.router_trace.specs.declared.event.Event.TheVariants as event
-use Rattle.router_trace.specs.Trace.{Did, Out, Took, Bound, Configured, Trace}
+use Rattle.router_trace.specs.Trace.{Did, Out, Took, Bound, Began, Trace}
 use Rattle.router_trace.specs.Sessions.{unless_close}
 
 -- the user of a connection; none if the connection is closed or lost
@@ -22,7 +22,7 @@ user (Did s ∷ t) c = user_at s.event c (user t c)
 user (Out d i ∷ t) c = if d == c then unless_close i (user t c) else user t c
 user (Took d n ∷ t) c = user t c
 user (Bound b ∷ t) c = user t c
-user (Configured g ∷ t) c = user t c
+user (Began g ∷ t) c = user t c
 
 -- what links need of the peer's first open: its container-id, and the largest frame that it accepts
 pub record Container : Type 0 where
@@ -55,7 +55,7 @@ container (Did s ∷ t) c = container_at s.event c (container t c)
 container (Out d i ∷ t) c = if d == c then unless_close i (container t c) else container t c
 container (Took d n ∷ t) c = container t c
 container (Bound b ∷ t) c = container t c
-container (Configured g ∷ t) c = container t c
+container (Began g ∷ t) c = container t c
 
 -- the largest frame that the peer accepts, in bytes; 4,294,967,295 if it states none
 abbrev pub largest_frame : Trace → ℕ → ℕ

@@ -1,6 +1,7 @@
 -- A trace: what happened, as a list of entries, the newest first. All definitions search it; the router keeps none of it.
 use Rattle.std.specs.Prelude.{ℕ, List, [], ◌∷◌, ◌++◌, map, Option, Some, None}
 use Rattle.amqp_frames.specs.declared.item.Item.{Item}
+use Rattle.book_core.specs.Book.{BookView}
 use Rattle.route_table.specs.Places.{Routing}
 use Rattle.router_trace.specs.declared.event.Event.{Event}
 use Rattle.router_trace.specs.declared.outgoing.Outgoing.{Outgoing}
@@ -20,6 +21,11 @@ pub record Put : Type 0 where
   pub conn : ℕ
   pub item : Item
 
+-- what a router begins with: how its configuration shares addresses, and the book that its disk opened to
+pub record Beginning : Type 0 where
+  pub routing : Routing
+  pub book : BookView
+
 pub data Entry : Type 0 where
   -- an event was handled
   Did : (step : Step) → Entry
@@ -29,8 +35,8 @@ pub data Entry : Type 0 where
   Took : (conn : ℕ) (count : ℕ) → Entry
   -- a message was bound to a consumer's link; no item says so
   Bound : (binding : Binding) → Entry
-  -- the configuration that the router was opened with
-  Configured : (routing : Routing) → Entry
+  -- the router was opened
+  Began : (beginning : Beginning) → Entry
 
 abbrev pub Trace : Type 0
 Trace = List Entry
@@ -70,7 +76,7 @@ ups (Did s ∷ t) = with_up s.event (ups t)
 ups (Out c i ∷ t) = ups t
 ups (Took c n ∷ t) = ups t
 ups (Bound b ∷ t) = ups t
-ups (Configured g ∷ t) = ups t
+ups (Began g ∷ t) = ups t
 
 -- the number of the last connection that came up
 abbrev pub newer : Event → Option ℕ → Option ℕ
@@ -83,4 +89,4 @@ newest (Did s ∷ t) = newer s.event (newest t)
 newest (Out c i ∷ t) = newest t
 newest (Took c n ∷ t) = newest t
 newest (Bound b ∷ t) = newest t
-newest (Configured g ∷ t) = newest t
+newest (Began g ∷ t) = newest t

@@ -7,8 +7,8 @@ use Rattle.router_core.proofs.RunLemmas.{all_run, past_more}
 use Rattle.router_core.proofs.driving.drive.Goals as goal
 
 pub returns-clause-ran : goal.returns-clause-ran
-returns-clause-ran g c = λ none b t f.
-    let w = c.loop-event.invariant.past b t f
+returns-clause-ran g c = λ none t f.
+    let w = c.loop-event.invariant.past t f
     in (
       w.1,
       all_run (id_of c.args.core.now) t c.args.events.items w.0 (into_iter_items c.loop-event.event-iterator) c.loop-event.taken.items w.1
@@ -18,9 +18,9 @@ returns-clause-ran g c = λ none b t f.
 
 pub loop-event-preserved : goal.loop-event-preserved
 loop-event-preserved g c = record {
-  past = λ b t f.
-      let w = c.loop-event.invariant.past b t f in
-      let s = c.in-Ok.ensures.fits b w.1 w.5 in
+  past = λ t f.
+      let w = c.loop-event.invariant.past t f in
+      let s = c.in-Ok.ensures.fits w.1 w.5 in
       let p = past_more (id_of c.args.core.now) (id_of c.loop-event.core) c.loop-event.handled t w.1 s.1 c.args.events.items w.0
       (into_iter_items c.loop-event.event-iterator) (into_iter_items c.next.new.self) c.in-Some.event c.loop-event.taken.items s.0 c.step.new.taken.items
       c.loop-event.invariant.named c.in-Some.ensures.steps.0 s.4 w.2 w.3 w.4 s.2
@@ -31,9 +31,9 @@ loop-event-preserved g c = record {
 }
 
 pub returns-in-Err-clause-stopped : goal.returns-in-Err-clause-stopped
-returns-in-Err-clause-stopped g c = λ b t f.
-    let w = c.loop-event.invariant.past b t f in
-    let left = c.in-Err.ensures.broken b w.1 w.5 in
+returns-in-Err-clause-stopped g c = λ t f.
+    let w = c.loop-event.invariant.past t f in
+    let left = c.in-Err.ensures.broken w.1 w.5 in
     record {
       first = w.0;
       event = c.in-Some.event;

@@ -1,6 +1,5 @@
 use Rattle.std.proofs.Common.{◌≡◌, ◌+◌, ◌++◌, List, length, true}
 use Rattle.std.specs.Vec.Iter.{into_iter_items}
-use Rattle.book_core.specs.Book.{BookView}
 use Rattle.router_trace.specs.Trace.{Entry}
 use Rattle.router_trace.specs.declared.event.Event.{Event}
 use Rattle.router_core.specs.Handling.{Fits, id_of, is_failed}
@@ -10,8 +9,8 @@ use Rattle.router_core.proofs.driving.drive.Given as goal
 -- the events before the remaining ones were run
 abbrev pub invariant-loop-event : goal.invariant-loop-event
 invariant-loop-event g l = record {
-  past : (b : BookView) (t : List Entry) → Fits l.fn.core b t → (first : List Event) × (m : List Entry) × (l.fn.events.items ≡ first ++ into_iter_items l.event-iterator)
-      × (l.handled ≡ length first) × Run (id_of l.fn.core) 0 t first l.taken.items m × Fits l.core b m;
+  past : (t : List Entry) → Fits l.fn.core t → (first : List Event) × (m : List Entry) × (l.fn.events.items ≡ first ++ into_iter_items l.event-iterator)
+      × (l.handled ≡ length first) × Run (id_of l.fn.core) 0 t first l.taken.items m × Fits l.core m;
   works : is_failed l.core ≡ true → is_failed l.fn.core ≡ true;
   named : id_of l.core ≡ id_of l.fn.core;
   count : l.handled + length (into_iter_items l.event-iterator) ≡ length l.fn.events.items;

@@ -1,5 +1,4 @@
 use Rattle.std.proofs.Common.{◌∙◌, ◌≡◌, ◌++◌, refl, ◌⊎◌, List, true, rules}
-use Rattle.book_core.specs.Book.{BookView}
 use Rattle.router_trace.specs.Trace.{Entry}
 use Rattle.router_core.specs.Handling.{Fits, is_failed}
 use Rattle.router_core.specs.Runs.{Taking, InTurn, sent, taking, Waits}
@@ -9,10 +8,10 @@ use Rattle.router_core.proofs.driving.empty.Goals as goal
 
 pub loop-turn-preserved : goal.loop-turn-preserved
 loop-turn-preserved g c = record {
-  fits = λ b t f. let w = c.loop-turn.invariant.fits b t f
-      in one_more c.take_one.new.core b c.args.event t c.args.taken.now.items c.loop-turn.taken.items c.take_one.new.taken.items w.0 (taking c.in-Some.conn)
-      w.1 (record { most = refl; lowest = c.in-Some.ensures b _ w.2 })
-      (c.in_ok-take_one-in-Some.ensures.fits b _ w.2) w.3 (c.in_ok-take_one-in-Some.ensures.items b _ w.2);
+  fits = λ t f. let w = c.loop-turn.invariant.fits t f
+      in one_more c.take_one.new.core c.args.event t c.args.taken.now.items c.loop-turn.taken.items c.take_one.new.taken.items w.0 (taking c.in-Some.conn)
+      w.1 (record { most = refl; lowest = c.in-Some.ensures _ w.2 })
+      (c.in_ok-take_one-in-Some.ensures.fits _ w.2) w.3 (c.in_ok-take_one-in-Some.ensures.items _ w.2);
   works = search rules;
   named = c.in_ok-take_one-in-Some.ensures.named ∙ c.loop-turn.invariant.named;
 }
@@ -20,12 +19,12 @@ loop-turn-preserved g c = record {
 pub returns-in_err-take_one-in-Some-clause-memory : goal.returns-in_err-take_one-in-Some-clause-memory
 returns-in_err-take_one-in-Some-clause-memory g c =
     let waits = still_waits c.loop-turn.core c.take_one.new.core c.in-Some.conn.0 c.in-Some.ensures in
-    let memory : c.in_err-take_one-in-Some.field-0.0 ≡ Memory → ((b : BookView) (t : List Entry) → Fits c.take_one.new.core b t → Waits t) ⊎ (is_failed c.take_one.new.core ≡ true)
+    let memory : c.in_err-take_one-in-Some.field-0.0 ≡ Memory → ((t : List Entry) → Fits c.take_one.new.core t → Waits t) ⊎ (is_failed c.take_one.new.core ≡ true)
     = λ is. waits (c.in_err-take_one-in-Some.ensures.memory is) in
     search (memory, rules)
 
 pub returns-in_err-take_one-in-Some-clause-broken : goal.returns-in_err-take_one-in-Some-clause-broken
 returns-in_err-take_one-in-Some-clause-broken g c =
-    let broken : (b : BookView) (t : List Entry) → Fits c.args.core.now b t → (takes : List Taking) × InTurn takes t × (c.take_one.new.taken.items ≡ c.args.taken.now.items ++ sent c.args.event takes t)
-    = λ b t f. let w = c.loop-turn.invariant.fits b t f in (w.0, w.1, c.in_err-take_one-in-Some.ensures.kept ∙ w.3) in
+    let broken : (t : List Entry) → Fits c.args.core.now t → (takes : List Taking) × InTurn takes t × (c.take_one.new.taken.items ≡ c.args.taken.now.items ++ sent c.args.event takes t)
+    = λ t f. let w = c.loop-turn.invariant.fits t f in (w.0, w.1, c.in_err-take_one-in-Some.ensures.kept ∙ w.3) in
     search (broken, rules)

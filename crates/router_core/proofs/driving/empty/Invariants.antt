@@ -1,5 +1,4 @@
 use Rattle.std.proofs.Common.{◌≡◌, ◌++◌, List, true}
-use Rattle.book_core.specs.Book.{BookView}
 use Rattle.router_trace.specs.Trace.{Entry}
 use Rattle.router_core.specs.Handling.{Fits, id_of, is_failed}
 use Rattle.router_core.specs.Runs.{Taking, InTurn, took_all, sent}
@@ -7,7 +6,7 @@ use Rattle.router_core.proofs.driving.empty.Given as goal
 
 abbrev pub invariant-loop-turn : goal.invariant-loop-turn
 invariant-loop-turn g l = record {
-  fits : (b : BookView) (t : List Entry) → Fits l.fn.core b t → (takes : List Taking) × InTurn takes t × Fits l.core b (took_all takes t) × (l.taken.items ≡ l.fn.taken.items ++ sent l.event takes t);
+  fits : (t : List Entry) → Fits l.fn.core t → (takes : List Taking) × InTurn takes t × Fits l.core (took_all takes t) × (l.taken.items ≡ l.fn.taken.items ++ sent l.event takes t);
   works : is_failed l.core ≡ true → is_failed l.fn.core ≡ true;
   named : id_of l.core ≡ id_of l.fn.core;
 }

@@ -8,7 +8,7 @@ use Rattle.router_play.proofs.player.Player.take.Goals as goal
 pub returns-in-Ok-clause-follows : goal.returns-in-Ok-clause-follows
 returns-in-Ok-clause-follows c = on_ok_weaker c.send.result
     (λ h works s f ready.
-    let is = c.in-Ok.ensures.batch _ s.trace f.core
+    let is = c.in-Ok.ensures.batch s.trace f.core
     in subst (λ (u : Scene). Follows c.send.new.self u) (taken_scene c.args.conn c.in-Ok.batch s is)
-    (h _ (taken_follows c.args.self.now _ c.args.conn c.in-Ok.batch s f (c.in-Ok.ensures.fits _ s.trace f.core) is c.in-Ok.ensures.named refl refl refl refl)))
+    (h _ (taken_follows c.args.self.now _ c.args.conn c.in-Ok.batch s f (c.in-Ok.ensures.fits s.trace f.core) is c.in-Ok.ensures.named refl refl refl refl)))
     c.send.ensures.follows
