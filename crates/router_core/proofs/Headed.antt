@@ -16,7 +16,7 @@ use Rattle.router_trace.specs.declared.event.ConnectionId.{ConnectionId}
 use Rattle.router_trace.specs.declared.event.Event.{Event}
 use Rattle.router_trace.specs.declared.handle.Attachment.{Attachment}
 use Rattle.router_trace.specs.declared.event.Event.TheVariants as event
-use Rattle.router_trace.specs.Trace.{Entry, Put, Did, Out, Took, Bound, Began, did, goes, puts, each_to, ups, step_of}
+use Rattle.router_trace.specs.Trace.{Entry, Put, Did, Out, Took, Bound, Booked, Began, did, goes, puts, each_to, ups, step_of}
 use Rattle.router_trace.specs.Connection.{Connection, conn, ended, took, unless_empty, drained, standing, is_live, is_full, is_due, has, due, found, live, live_of, at_event}
 use Rattle.router_trace.specs.Refusing.{refuses}
 use Rattle.router_trace.specs.Frames.{header_item}
@@ -85,6 +85,7 @@ quiet (Did s ∷ t) c h =
 quiet (Out d i ∷ t) c h =
     by_test (d == c) (λ e. absurd (push_some (outs t c) i (rw e at h))) (λ e. rw e (quiet t c (rw e at h)))
 quiet (Bound b ∷ t) c h = quiet t c h
+quiet (Booked acts ∷ t) c h = quiet t c h
 quiet (Began g ∷ t) c h = quiet t c h
 quiet (Took d n ∷ t) c h =
     by_test (d == c) (λ e. rw e (waits_took n (conn t c) (quiet t c h))) (λ e. rw e (quiet t c h))
@@ -163,6 +164,7 @@ untold (Did s ∷ t) c h = untold_at s.event c (ins t c) (terms t c) h (untold t
 untold (Out d i ∷ t) c h = goes_strange (record { conn = d; item = i } ∷ []) t c (untold t c h)
 untold (Took d n ∷ t) c h = untold t c h
 untold (Bound b ∷ t) c h = untold t c h
+untold (Booked acts ∷ t) c h = untold t c h
 untold (Began g ∷ t) c h = untold t c h
 
 -- an item of another connection puts nothing if no link is attached

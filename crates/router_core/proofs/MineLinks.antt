@@ -6,7 +6,7 @@ use Rattle.router_trace.specs.declared.handle.Asked.{Asked}
 use Rattle.router_trace.specs.declared.handle.PeerHandle.{PeerHandle}
 use Rattle.router_trace.specs.declared.event.Event.{Event}
 use Rattle.router_trace.specs.declared.event.Event.TheVariants as event
-use Rattle.router_trace.specs.Trace.{Entry, Did, Out, Took, Bound, Began}
+use Rattle.router_trace.specs.Trace.{Entry, Did, Out, Took, Bound, Booked, Began}
 use Rattle.route_table.specs.Places.{distribution_of}
 use Rattle.router_trace.specs.Configuration.{routing, is_multicast}
 use Rattle.router_trace.specs.Links.{asked, asked_at, is_lost, answers_by, answered_handle, their_handle_at, their_handle_behind, their_handle, link_place_by, handle_max_at, told_handle_max, most_behind, highest_handle, is_free_handle, first_free_below, free_handle}
@@ -61,6 +61,7 @@ own_asked (Did s ∷ t) c =
 own_asked (Out d i ∷ t) c = by_test (d == c) (λ e. rw e (rw e (ap (unless_close i) (own_asked t c)))) (λ e. rw e (own_asked t c))
 own_asked (Took d n ∷ t) c = own_asked t c
 own_asked (Bound b ∷ t) c = own_asked t c
+own_asked (Booked acts ∷ t) c = own_asked t c
 own_asked (Began g ∷ t) c = own_asked t c
 
 own_answers : (t : List Entry) (c o h : ℕ) → answered_handle t c o h ≡ answered_handle (own_part c t) c o h
@@ -72,6 +73,7 @@ own_answers (Out d i ∷ t) c o h =
     by_test (d == c) (λ e. rw e (rw e (λ j. answers_by i o h (own_asked t c j) (own_answers t c o h j)))) (λ e. rw e (own_answers t c o h))
 own_answers (Took d n ∷ t) c o h = own_answers t c o h
 own_answers (Bound b ∷ t) c o h = own_answers t c o h
+own_answers (Booked acts ∷ t) c o h = own_answers t c o h
 own_answers (Began g ∷ t) c o h = own_answers t c o h
 
 own_handle : (t : List Entry) (c o p : ℕ) → their_handle t c o p ≡ their_handle (own_part c t) c o p
@@ -85,6 +87,7 @@ own_handle (Out d i ∷ t) c o p =
     (λ e. rw e (own_handle t c o p))
 own_handle (Took d n ∷ t) c o p = own_handle t c o p
 own_handle (Bound b ∷ t) c o p = own_handle t c o p
+own_handle (Booked acts ∷ t) c o p = own_handle t c o p
 own_handle (Began g ∷ t) c o p = own_handle t c o p
 
 own_told : (t : List Entry) (c : ℕ) → told_handle_max t c ≡ told_handle_max (own_part c t) c
@@ -94,6 +97,7 @@ own_told (Did s ∷ t) c =
 own_told (Out d i ∷ t) c = by_test (d == c) (λ e. rw e (rw e (ap (unless_close i) (own_told t c)))) (λ e. rw e (own_told t c))
 own_told (Took d n ∷ t) c = own_told t c
 own_told (Bound b ∷ t) c = own_told t c
+own_told (Booked acts ∷ t) c = own_told t c
 own_told (Began g ∷ t) c = own_told t c
 
 own_highest : (t : List Entry) (c o : ℕ) → highest_handle t c o ≡ highest_handle (own_part c t) c o
@@ -105,6 +109,7 @@ own_highest (Out d i ∷ t) c o =
     by_test (d == c) (λ e. rw e (rw e (λ j. most_behind i o (own_told t c j) (own_highest t c o j)))) (λ e. rw e (own_highest t c o))
 own_highest (Took d n ∷ t) c o = own_highest t c o
 own_highest (Bound b ∷ t) c o = own_highest t c o
+own_highest (Booked acts ∷ t) c o = own_highest t c o
 own_highest (Began g ∷ t) c o = own_highest t c o
 
 own_free_handle : (t : List Entry) (c o : ℕ) → free_handle t c o ≡ free_handle (own_part c t) c o
@@ -117,6 +122,7 @@ own_routing (Did s ∷ t) c = by_test (is_about c s.event) (λ e. rw e (own_rout
 own_routing (Out d i ∷ t) c = by_test (d == c) (λ e. rw e (own_routing t c)) (λ e. rw e (own_routing t c))
 own_routing (Took d n ∷ t) c = own_routing t c
 own_routing (Bound b ∷ t) c = own_routing t c
+own_routing (Booked acts ∷ t) c = own_routing t c
 own_routing (Began g ∷ t) c = refl
 
 -- what an item finds on a connection without links

@@ -12,7 +12,7 @@ use Rattle.router_trace.specs.declared.channel.PeerChannel.{PeerChannel}
 use Rattle.router_trace.specs.declared.event.ConnectionId.{ConnectionId}
 use Rattle.router_trace.specs.declared.event.Event.{Event}
 use Rattle.router_trace.specs.declared.event.Event.TheVariants as event
-use Rattle.router_trace.specs.Trace.{Entry, Did, Out, Took, Bound, Began, did, ups, with_up, newer, newest, step_of}
+use Rattle.router_trace.specs.Trace.{Entry, Did, Out, Took, Bound, Booked, Began, did, ups, with_up, newer, newest, step_of}
 use Rattle.router_trace.specs.Connection.{Connection, conn, ended, took, unless_empty, drained, is_full, is_due, has, due, found, live_of, at_event, fresh}
 use Rattle.router_trace.specs.Refusing.{reaches, rises, refuses}
 use Rattle.router_trace.specs.Sessions.{session, session_at, heard_by, heard_in, maps, theirs}
@@ -80,6 +80,7 @@ no_session (Out d i ∷ t) c none o =
     by_test (d == c) (λ e. absurd (push_some (outs t c) i (rw e at none))) (λ e. rw e (no_session t c (rw e at none) o))
 no_session (Took d n ∷ t) c none o = no_session t c none o
 no_session (Bound b ∷ t) c none o = no_session t c none o
+no_session (Booked acts ∷ t) c none o = no_session t c none o
 no_session (Began g ∷ t) c none o = no_session t c none o
 
 event_phases : (t : List Entry) (e : Event) → Ordered t → refuses t e ≡ false → (c n : ℕ) (v : Connection)

@@ -5,7 +5,7 @@ use Rattle.amqp_frames.specs.declared.item.Item.{Item}
 use Rattle.amqp_conn.specs.declared.conn.Conn.{Conn}
 use Rattle.router_trace.specs.declared.event.Event.{Event}
 use Rattle.router_trace.specs.declared.event.Event.TheVariants as event
-use Rattle.router_trace.specs.Trace.{Entry, Did, Out, Took, Bound, Began, Put, goes, ups}
+use Rattle.router_trace.specs.Trace.{Entry, Did, Out, Took, Bound, Booked, Began, Put, goes, ups}
 use Rattle.router_trace.specs.Connection.{Connection, conn, behind, with_item, drained, unless_empty, took, fresh, standing, is_full, is_due, due, unless_due, found, live, live_of, at_event}
 use Rattle.router_core.specs.Laws.{untaken}
 use Rattle.router_conns.proofs.Lists.{by_test, filter_none}
@@ -35,6 +35,7 @@ plain (Did s ∷ t) c = plain_at s.event c (length (standing_of (ups t) (plain t
 plain (Out d i ∷ t) c = if d == c then option_and_then (stand_behind i) (plain t c) else plain t c
 plain (Took d n ∷ t) c = plain t c
 plain (Bound b ∷ t) c = plain t c
+plain (Booked acts ∷ t) c = plain t c
 plain (Began g ∷ t) c = plain t c
 
 abbrev pub plain_live : List Entry → List ℕ
@@ -47,6 +48,7 @@ Calm (Did s ∷ t) = ((c : ℕ) → is_full (conn t c) ≡ false) × Calm t
 Calm (Out d i ∷ t) = Calm t
 Calm (Took d n ∷ t) = Calm t
 Calm (Bound b ∷ t) = Calm t
+Calm (Booked acts ∷ t) = Calm t
 Calm (Began g ∷ t) = Calm t
 
 pub calm_goes : (ps : List Put) (t : List Entry) → Calm t → Calm (goes ps t)
@@ -112,6 +114,7 @@ stood (Out d i ∷ t) calm c =
     standing_item (d == c) i (conn t c) ∙ ap (λ (v : Option Conn). if d == c then option_and_then (stand_behind i) v else v) (stood t calm c)
 stood (Took d n ∷ t) calm c = standing_took (d == c) n (conn t c) ∙ stood t calm c
 stood (Bound b ∷ t) calm c = stood t calm c
+stood (Booked acts ∷ t) calm c = stood t calm c
 stood (Began g ∷ t) calm c = stood t calm c
 
 -- and so are those that are live

@@ -3,7 +3,7 @@ use Rattle.std.proofs.Common.{◌≡◌, ◌∙◌, ap, refl, ℕ, ◌+◌, not,
 use Rattle.std.specs.Prelude.{Bool, Option, Some, None, is_none, is_some, option_and_then, if◌then◌else◌}
 use Rattle.router_trace.specs.declared.binding.Origin.{Origin}
 use Rattle.router_trace.specs.declared.handle.Attachment.{Attachment}
-use Rattle.router_trace.specs.Trace.{Entry, Did, Out, Took, Bound, Began}
+use Rattle.router_trace.specs.Trace.{Entry, Did, Out, Took, Bound, Booked, Began}
 use Rattle.router_trace.specs.Links.{is_lost, has_number, attachments, newest_by, numbered}
 use Rattle.router_trace.specs.Deliveries.{Delivery, bindings, delivery, bound, unless_over, behind_event, behind_put, sending_by, sending, named_by, named, next_id_by, next_id, stands_on}
 use Rattle.router_trace.specs.DeliveryFrames.{next_frame, largest_out, rest_of, first_transfer, later_transfer}
@@ -22,6 +22,7 @@ same_bindings (Did s ∷ t) = same_bindings t
 same_bindings (Out d i ∷ t) = same_bindings t
 same_bindings (Took d n ∷ t) = same_bindings t
 same_bindings (Bound b ∷ t) = ap (λ (n : ℕ). n + 1) (same_bindings t)
+same_bindings (Booked acts ∷ t) = same_bindings t
 same_bindings (Began g ∷ t) = same_bindings t
 
 same_sending : (t : List Entry) (c o h : ℕ) → sending t c o h ≡ sending (untaken t) c o h
@@ -30,6 +31,7 @@ same_sending (Did s ∷ t) c o h = ap (λ (v : Option ℕ). if is_lost s.event c
 same_sending (Out d i ∷ t) c o h = ap (λ (v : Option ℕ). if d == c then sending_by i o h v else v) (same_sending t c o h)
 same_sending (Took d n ∷ t) c o h = same_sending t c o h
 same_sending (Bound b ∷ t) c o h = same_sending t c o h
+same_sending (Booked acts ∷ t) c o h = same_sending t c o h
 same_sending (Began g ∷ t) c o h = same_sending t c o h
 
 pub same_named : (t : List Entry) (c o id : ℕ) → named t c o id ≡ named (untaken t) c o id
@@ -38,6 +40,7 @@ same_named (Did s ∷ t) c o id = ap (λ (v : Option ℕ). if is_lost s.event c 
 same_named (Out d i ∷ t) c o id = ap (λ (v : Option ℕ). if d == c then named_by i o id v else v) (same_named t c o id)
 same_named (Took d n ∷ t) c o id = same_named t c o id
 same_named (Bound b ∷ t) c o id = same_named t c o id
+same_named (Booked acts ∷ t) c o id = same_named t c o id
 same_named (Began g ∷ t) c o id = same_named t c o id
 
 same_next_id : (t : List Entry) (c o : ℕ) → next_id t c o ≡ next_id (untaken t) c o
@@ -46,6 +49,7 @@ same_next_id (Did s ∷ t) c o = ap (λ (n : ℕ). if is_lost s.event c then 0 e
 same_next_id (Out d i ∷ t) c o = ap (λ (n : ℕ). if d == c then next_id_by i o n else n) (same_next_id t c o)
 same_next_id (Took d n ∷ t) c o = same_next_id t c o
 same_next_id (Bound b ∷ t) c o = same_next_id t c o
+same_next_id (Booked acts ∷ t) c o = same_next_id t c o
 same_next_id (Began g ∷ t) c o = same_next_id t c o
 
 pub same_delivery : (t : List Entry) (n : ℕ) → delivery t n ≡ delivery (untaken t) n
@@ -55,6 +59,7 @@ same_delivery (Did s ∷ t) n =
 same_delivery (Out c i ∷ t) n = λ j. option_and_then (λ d. unless_over (behind_put i c n (λ o h. same_sending t c o h j) d)) (same_delivery t n j)
 same_delivery (Took c k ∷ t) n = same_delivery t n
 same_delivery (Bound b ∷ t) n = λ j. if same_bindings t j + 1 == n then Some (bound b) else same_delivery t n j
+same_delivery (Booked acts ∷ t) n = same_delivery t n
 same_delivery (Began g ∷ t) n = same_delivery t n
 
 pub same_claims : (t : List Entry) (c o id : ℕ) → claims t c o id ≡ claims (untaken t) c o id
@@ -64,6 +69,7 @@ same_claims (Did s ∷ t) c o id =
 same_claims (Out d i ∷ t) c o id = ap (λ (v : Option Claim). if d == c then claim_behind i o id v else v) (same_claims t c o id)
 same_claims (Took d n ∷ t) c o id = same_claims t c o id
 same_claims (Bound b ∷ t) c o id = same_claims t c o id
+same_claims (Booked acts ∷ t) c o id = same_claims t c o id
 same_claims (Began g ∷ t) c o id = same_claims t c o id
 
 pub same_numbered : (t : List Entry) (n : ℕ) → numbered t n ≡ numbered (untaken t) n
@@ -72,6 +78,7 @@ same_numbered (Did s ∷ t) n = same_numbered t n
 same_numbered (Out d i ∷ t) n = λ j. newest_by i d (same_attachments t j + 1) (λ a. same_attachments t j + 1 == n) (same_numbered t n j)
 same_numbered (Took d k ∷ t) n = same_numbered t n
 same_numbered (Bound b ∷ t) n = same_numbered t n
+same_numbered (Booked acts ∷ t) n = same_numbered t n
 same_numbered (Began g ∷ t) n = same_numbered t n
 
 -- outcomes to producers

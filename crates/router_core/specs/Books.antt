@@ -5,7 +5,7 @@ use Rattle.book_core.specs.Book.{BookView, empty_book, effects}
 use Rattle.router_store.specs.Lost.{start_acts}
 use Rattle.router_trace.specs.declared.event.Event.{Event}
 use Rattle.router_trace.specs.declared.event.Event.TheVariants as event
-use Rattle.router_trace.specs.Trace.{Trace, Did, Out, Took, Bound, Began}
+use Rattle.router_trace.specs.Trace.{Trace, Did, Out, Took, Bound, Booked, Began}
 use Rattle.router_trace.specs.Refusing.{refuses}
 
 -- the acts of an event on a book: a start decides the rows that have lost their consumers
@@ -24,6 +24,7 @@ book_in (Did s ∷ t) = book_behind (book_in t) s.event
 book_in (Out c i ∷ t) = book_in t
 book_in (Took c n ∷ t) = book_in t
 book_in (Bound x ∷ t) = book_in t
+book_in (Booked acts ∷ t) = book_in t
 book_in (Began g ∷ t) = g.book
 
 -- Start comes first, and once.
@@ -37,6 +38,7 @@ is_started (Did s ∷ t) = is_start s.event || is_started t
 is_started (Out c i ∷ t) = is_started t
 is_started (Took c n ∷ t) = is_started t
 is_started (Bound x ∷ t) = is_started t
+is_started (Booked acts ∷ t) = is_started t
 is_started (Began g ∷ t) = is_started t
 
 abbrev pub is_out_of_turn : Trace → Event → Bool

@@ -11,7 +11,7 @@ use Rattle.router_trace.specs.Trace.{Beginning}
 use Rattle.router_trace.specs.declared.event.Event.{Event}
 use Rattle.router_trace.specs.declared.event.Event.TheVariants as event
 use Rattle.router_core.specs.declared.driving.Sent.{Sent}
-use Rattle.router_trace.specs.Trace.{Trace, Did, Out, Took, Bound, Began, Step}
+use Rattle.router_trace.specs.Trace.{Trace, Did, Out, Took, Bound, Booked, Began, Step}
 use Rattle.router_trace.specs.Configuration.{beginning}
 use Rattle.router_trace.specs.Connection.{conn, is_full, is_live}
 use Rattle.router_trace.specs.Links.{Link, Happened, sends, receives, link}
@@ -78,6 +78,7 @@ WindowKept (Did s ∷ t) = WindowKept t
 WindowKept (Out c i ∷ t) = keeps_window i (session t c) × WindowKept t
 WindowKept (Took c n ∷ t) = WindowKept t
 WindowKept (Bound b ∷ t) = WindowKept t
+WindowKept (Booked acts ∷ t) = WindowKept t
 WindowKept (Began g ∷ t) = WindowKept t
 
 -- this holds in every trace of the router, and for every list of events
@@ -114,6 +115,7 @@ WithinCredit (Did s ∷ t) = WithinCredit t
 WithinCredit (Out c i ∷ t) = within_credit i (link t c) × WithinCredit t
 WithinCredit (Took c n ∷ t) = WithinCredit t
 WithinCredit (Bound b ∷ t) = WithinCredit t
+WithinCredit (Booked acts ∷ t) = WithinCredit t
 WithinCredit (Began g ∷ t) = WithinCredit t
 
 -- this holds in every trace of the router, and for every list of events
@@ -130,6 +132,7 @@ untaken (Did s ∷ t) = Did s ∷ untaken t
 untaken (Out c i ∷ t) = Out c i ∷ untaken t
 untaken (Took c n ∷ t) = untaken t
 untaken (Bound b ∷ t) = Bound b ∷ untaken t
+untaken (Booked acts ∷ t) = Booked w ∷ untaken t
 untaken (Began g ∷ t) = Began g ∷ untaken t
 
 abbrev pub events_of : List Move → List Step
@@ -168,6 +171,7 @@ own_part c (Did s ∷ t) = if is_about c s.event then Did s ∷ own_part c t els
 own_part c (Out d i ∷ t) = if d == c then Out d i ∷ own_part c t else own_part c t
 own_part c (Took d n ∷ t) = own_part c t
 own_part c (Bound b ∷ t) = own_part c t
+own_part c (Booked acts ∷ t) = own_part c t
 own_part c (Began g ∷ t) = Began g ∷ own_part c t
 
 abbrev pub comes_up : ℕ → Event → Bool

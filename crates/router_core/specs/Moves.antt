@@ -5,7 +5,7 @@ use Rattle.amqp_frames.specs.declared.item.Item.{Item}
 use Rattle.router_trace.specs.Trace.{Beginning}
 use Rattle.router_trace.specs.declared.event.Event.{Event}
 use Rattle.router_trace.specs.declared.event.Event.TheVariants as event
-use Rattle.router_trace.specs.Trace.{Trace, Did, Out, Took, Bound, Began, Step}
+use Rattle.router_trace.specs.Trace.{Trace, Did, Out, Took, Bound, Booked, Began, Step}
 use Rattle.router_trace.specs.Configuration.{beginning}
 use Rattle.router_trace.specs.Refusing.{refuses}
 use Rattle.router_core.specs.Replies.{answered}
@@ -37,6 +37,7 @@ ins (Did s ∷ t) c = with_came s.event c (ins t c)
 ins (Out d i ∷ t) c = ins t c
 ins (Took d n ∷ t) c = ins t c
 ins (Bound b ∷ t) c = ins t c
+ins (Booked acts ∷ t) c = ins t c
 ins (Began g ∷ t) c = ins t c
 
 -- the items put out for a connection, in order
@@ -46,4 +47,5 @@ outs (Did s ∷ t) c = outs t c
 outs (Out d i ∷ t) c = if d == c then outs t c ++ i ∷ [] else outs t c
 outs (Took d n ∷ t) c = outs t c
 outs (Bound b ∷ t) c = outs t c
+outs (Booked acts ∷ t) c = outs t c
 outs (Began g ∷ t) c = outs t c

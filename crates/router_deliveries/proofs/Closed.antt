@@ -101,6 +101,7 @@ stays_closed (Did s) t n there closed = closed_behind (behind_event s.event (the
 stays_closed (Out c i) t n there closed = closed_behind (behind_put i c n (sending t c)) (put_closed i c n (sending t c)) (delivery t n) closed
 stays_closed (Took c k) t n there closed = closed
 stays_closed (Began g) t n there closed = closed
+stays_closed (Booked acts) t n there closed = closed
 stays_closed (Bound b) t n there closed = fresh (bindings t + 1 == n) refl
   where
     fresh : (new : Bool) → (bindings t + 1 == n) ≡ new → is_open (if new then Some (bound b) else delivery t n) ≡ false
@@ -112,4 +113,5 @@ more_bindings (Did s) t n there = there
 more_bindings (Out c i) t n there = there
 more_bindings (Took c k) t n there = there
 more_bindings (Began g) t n there = there
+more_bindings (Booked acts) t n there = there
 more_bindings (Bound b) t n there = omega (arith, there)

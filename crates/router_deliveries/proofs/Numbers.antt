@@ -9,7 +9,7 @@ use Rattle.std.specs.Option.{option_and_then}
 use Rattle.std.proofs.lemmas.Bool.{eqb-true, ltb-true}
 use Rattle.std.proofs.lemmas.Bool.Decides.{nat_tests}
 use Rattle.amqp_session.specs.Ranges.{has}
-use Rattle.router_trace.specs.Trace.{Trace, Did, Out, Took, Bound, Began}
+use Rattle.router_trace.specs.Trace.{Trace, Did, Out, Took, Bound, Booked, Began}
 use Rattle.router_trace.specs.Deliveries.{Delivery, delivery, bindings, bound as fresh_delivery, sending, named, unless_over, behind_event, behind_put}
 use Rattle.router_trace.specs.Sessions.{theirs}
 use Rattle.router_trace.specs.Following.{first_delivery}
@@ -143,6 +143,7 @@ none_beyond (Out c i ∷ t) n l = none_is (λ d. unless_over (behind_put i c n (
 none_beyond (Took c k ∷ t) n l = none_beyond t n l
 none_beyond (Began g ∷ t) n l = none_beyond t n l
 none_beyond (Bound b ∷ t) n l = fresh (bindings t + 1 == n) (Some (fresh_delivery b)) (delivery t n) (apart (bindings t) n l) (none_beyond t n (omega (arith, l)))
+none_beyond (Booked acts ∷ t) n l = none_beyond t n l
   where
     apart : (k n : ℕ) → k + 1 < n → (k + 1 == n) ≡ false
     apart k n l = grind (arith, nat_tests)
@@ -154,6 +155,7 @@ none_before (Out c i ∷ t) = none_is (λ d. unless_over (behind_put i c 0 (send
 none_before (Took c k ∷ t) = none_before t
 none_before (Began g ∷ t) = none_before t
 none_before (Bound b ∷ t) = fresh (bindings t + 1 == 0) (Some (fresh_delivery b)) (delivery t 0) (apart (bindings t)) (none_before t)
+none_before (Booked acts ∷ t) = none_before t
   where
     apart : (k : ℕ) → (k + 1 == 0) ≡ false
     apart k = grind (arith, nat_tests)

@@ -15,7 +15,7 @@ use Rattle.amqp_link.specs.Receiving.{Received, middle, given, is_beyond}
 use Rattle.router_trace.specs.declared.event.ConnectionId.{ConnectionId}
 use Rattle.router_trace.specs.declared.event.Event.TheVariants as event
 use Rattle.router_trace.specs.declared.handle.Attachment.{Attachment}
-use Rattle.router_trace.specs.Trace.{Entry, Step, Did, Out, Took, Bound, Began, goes, each_to}
+use Rattle.router_trace.specs.Trace.{Entry, Step, Did, Out, Took, Bound, Booked, Began, goes, each_to}
 use Rattle.router_trace.specs.DeliveryFrames.{kept_outcome}
 use Rattle.router_trace.specs.Sessions.{theirs}
 use Rattle.router_trace.specs.Links.{Link, LinkPlace, Happened, link, link_place}
@@ -148,6 +148,7 @@ none_since (Did s ∷ t) h just = refl
 none_since (Out c i ∷ t) h just = none_since t h just
 none_since (Took c k ∷ t) h just = absurd (none_not_some just)
 none_since (Bound b ∷ t) h just = absurd (none_not_some just)
+none_since (Booked acts ∷ t) h just = absurd (none_not_some just)
 none_since (Began g ∷ t) h just = absurd (none_not_some just)
 
 -- a complete message, whether its link is attached or not

@@ -4,7 +4,7 @@ use Rattle.std.specs.Prelude.{◌==◌, Option, Some, None, is_none, option_and_
 use Rattle.std.proofs.lemmas.Bool.{eqb-true, eq-eqb}
 use Rattle.router_trace.specs.declared.binding.Binding.{Binding}
 use Rattle.router_trace.specs.declared.binding.Origin.{Origin}
-use Rattle.router_trace.specs.Trace.{Entry, Did, Out, Took, Bound, Began}
+use Rattle.router_trace.specs.Trace.{Entry, Did, Out, Took, Bound, Booked, Began}
 use Rattle.router_trace.specs.Sessions.{theirs}
 use Rattle.router_trace.specs.Deliveries.{Delivery, bound, bindings, delivery, sending, named, is_over, unless_over, behind_put, behind_event}
 use Rattle.router_laws.specs.Each.{EachBound}
@@ -73,6 +73,7 @@ of_messages (Out c i ∷ t) n d h =
     in later_message (Out c i) t n was.0 d (of_messages t n was.0 was.1)
     (subst (λ (e : Delivery). Follows was.0 e) (sym was.2) (item_follows i c n (sending t c) was.0))
 of_messages (Took c k ∷ t) n d h = later_message (Took c k) t n d d (of_messages t n d h) (same d)
+of_messages (Booked acts ∷ t) n d h = later_message (Booked acts) t n d d (of_messages t n d h) (same d)
 of_messages (Began g ∷ t) n d h = later_message (Began g) t n d d (of_messages t n d h) (same d)
 of_messages (Bound b ∷ t) n d h =
     by_test (bindings t + 1 == n)
@@ -117,4 +118,5 @@ each_bound P (Did s ∷ later) t b each = each_bound P later t b each
 each_bound P (Out c i ∷ later) t b each = each_bound P later t b each
 each_bound P (Took c k ∷ later) t b each = each_bound P later t b each
 each_bound P (Bound a ∷ later) t b each = each_bound P later t b each.1
+each_bound P (Booked acts ∷ later) t b each = each_bound P later t b each
 each_bound P (Began g ∷ later) t b each = each_bound P later t b each

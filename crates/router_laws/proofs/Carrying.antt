@@ -10,7 +10,7 @@ use Rattle.amqp_perf.specs.declared.perf.Transfer.{Transfer}
 use Rattle.amqp_frames.specs.declared.item.Item.{Item}
 use Rattle.amqp_frames.specs.declared.item.Item.TheVariants as item
 use Rattle.router_trace.specs.declared.binding.Binding.{Binding}
-use Rattle.router_trace.specs.Trace.{Entry, Did, Out, Took, Bound, Began}
+use Rattle.router_trace.specs.Trace.{Entry, Did, Out, Took, Bound, Booked, Began}
 use Rattle.router_trace.specs.Sessions.{theirs}
 use Rattle.router_trace.specs.Deliveries.{Delivery, bindings, delivery, sending, named, unless_over, behind_frame, ended_by, put_in, behind_put, behind_event, carried, tag_in, is_number}
 use Rattle.router_laws.specs.OneConsumer.{IsOf, WhileThere}
@@ -192,6 +192,7 @@ none_early (Out c i ∷ t) n all small early =
 none_early (Began g ∷ t) n all small early = none_early t n all small early
 none_early (Took c k ∷ t) n all small early = none_early t n all small early
 none_early (Bound b ∷ t) n all small early = none_early t n all (lower_by (bindings t) small) (lower_still (bindings t) n early)
+none_early (Booked acts ∷ t) n all small early = none_early t n all small early
   where
     lower_by : (k : ℕ) → k + 1 < 2 ^ 64 → k < 2 ^ 64
     lower_by k h = omega (arith, h)
@@ -271,6 +272,7 @@ went (Bound b ∷ t) n all small d there =
     (λ e. none_early t n all (lower (bindings t) small) (just_below (bindings t) n (eqb-true (bindings t + 1) n e))
     ∙ ap (λ (f : Delivery). take f.sent f.payload) (some_same (rw e at there)))
     (λ e. went t n all (lower (bindings t) small) d (rw e at there))
+went (Booked acts ∷ t) n all small d there = went t n all small d there
   where
     just_below : (k n : ℕ) → k + 1 ≡ n → k < n
     just_below k n h = omega (arith, h)
@@ -296,6 +298,7 @@ all_complete (Did s ∷ t) all = all_complete t all
 all_complete (Out c i ∷ t) all = (completes t c i all.1 all.0, all_complete t all.1)
 all_complete (Took c k ∷ t) all = all_complete t all
 all_complete (Bound b ∷ t) all = all_complete t all
+all_complete (Booked acts ∷ t) all = all_complete t all
 all_complete (Began g ∷ t) all = all_complete t all
 
 -- the bytes sent are always a beginning
@@ -340,6 +343,7 @@ begins_later (Out c i ∷ later) t b all small =
     (begins_later later t b all.1 small) all.0
 begins_later (Took c k ∷ later) t b all small = begins_later later t b all small
 begins_later (Bound a ∷ later) t b all small = begins_later later t b all (lower (bindings (later ++ Bound b ∷ t)) small)
+begins_later (Booked acts ∷ later) t b all small = begins_later later t b all small
 begins_later (Began g ∷ later) t b all small = begins_later later t b all small
 
 pub goes_in_order : (u : List Entry) → AllCarried u → GoesInOrder u

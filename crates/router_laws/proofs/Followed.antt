@@ -173,6 +173,7 @@ entry_follows (Did s) t n given = changed (behind_event s.event (theirs t) (name
 entry_follows (Out c i) t n given = changed (behind_put i c n (sending t c)) (item_follows i c n (sending t c)) (delivery t n)
 entry_follows (Took c k) t n given = all_same (delivery t n)
 entry_follows (Began g) t n given = all_same (delivery t n)
+entry_follows (Booked acts) t n given = all_same (delivery t n)
 entry_follows (Bound b) t n given =
     by_test (bindings t + 1 == n) (λ e. absurd (too_high n (bindings t) given (eqb-true (bindings t + 1) n e))) (λ e. rw e (all_same (delivery t n)))
   where
@@ -184,6 +185,7 @@ more_bound (Did s) t n h = h
 more_bound (Out c i) t n h = h
 more_bound (Took c k) t n h = h
 more_bound (Began g) t n h = h
+more_bound (Booked acts) t n h = h
 more_bound (Bound b) t n h = one_more n (bindings t) h
   where
     one_more : (n k : ℕ) → n ≤ k → n ≤ k + 1

@@ -242,6 +242,7 @@ outcomes_given (Out c i ∷ t) n d s h e =
     in either_decided (Out c i) t n was.0 s was.1 (outcomes_given t n was.0 s was.1)
     (put_from c i t n was.0 s (sym (ap (λ (f : Delivery). f.outcome) was.2) ∙ e))
 outcomes_given (Took c k ∷ t) n d s h e = later_decided (Took c k) t n s (outcomes_given t n d s h e)
+outcomes_given (Booked acts ∷ t) n d s h e = later_decided (Booked acts) t n s (outcomes_given t n d s h e)
 outcomes_given (Began g ∷ t) n d s h e = later_decided (Began g) t n s (outcomes_given t n d s h e)
 outcomes_given (Bound b ∷ t) n d s h e =
     by_test (bindings t + 1 == n)

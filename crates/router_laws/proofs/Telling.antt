@@ -10,7 +10,7 @@ use Rattle.amqp_perf.specs.declared.perf.Role.TheVariants.{Sender, Receiver}
 use Rattle.amqp_frames.specs.declared.item.Item.{Item}
 use Rattle.amqp_frames.specs.declared.item.Item.TheVariants as item
 use Rattle.router_trace.specs.declared.binding.Origin.{Origin}
-use Rattle.router_trace.specs.Trace.{Entry, Did, Out, Took, Bound, Began}
+use Rattle.router_trace.specs.Trace.{Entry, Did, Out, Took, Bound, Booked, Began}
 use Rattle.router_trace.specs.Deliveries.{Delivery, bindings, delivery, sending, named, unless_over, told, is_meant, last_of, origin_id, ended_by, behind_put, behind_event}
 use Rattle.router_trace.specs.Sessions.{theirs}
 use Rattle.amqp_session.specs.Serials.{distance}
@@ -151,6 +151,11 @@ spent (Began g ∷ t) n = by (spent t n)
     by : Spent t n → Spent (Began g ∷ t) n
     by (inl none) = inl none
     by (inr was) = inr (record { once = was.once; given = was.given; none = was.none })
+spent (Booked acts ∷ t) n = by (spent t n)
+  where
+    by : Spent t n → Spent (Booked acts ∷ t) n
+    by (inl none) = inl none
+    by (inr was) = inr (record { once = was.once; given = was.given; none = was.none })
 spent (Bound b ∷ t) n = by (spent t n)
   where
     higher : (a k : ℕ) → a ≤ k → a ≤ k + 1
@@ -225,6 +230,7 @@ entry_under c own id (Out d i) t n given none =
     not_under c own id (behind_put i d n (sending t d)) (item_left (WasUnder c own id) (was_left c own id) (was_frames c own id) i d n (sending t d)) (delivery t n) none
 entry_under c own id (Took d k) t n given none = none
 entry_under c own id (Began g) t n given none = none
+entry_under c own id (Booked acts) t n given none = none
 entry_under c own id (Bound b) t n given none =
     by_test (bindings t + 1 == n) (λ e. absurd (too_high n (bindings t) given (eqb-true (bindings t + 1) n e))) (λ e. rw e none)
   where

@@ -12,7 +12,7 @@ use Rattle.router_trace.specs.declared.binding.Origin.{Origin}
 use Rattle.router_trace.specs.declared.channel.PeerChannel.TheVariants.{Mapped}
 use Rattle.router_trace.specs.declared.event.ConnectionId.{ConnectionId}
 use Rattle.router_trace.specs.declared.event.Event.TheVariants as event
-use Rattle.router_trace.specs.Trace.{Trace, Did, Out, Took, Bound, Began, Step}
+use Rattle.router_trace.specs.Trace.{Trace, Did, Out, Took, Bound, Booked, Began, Step}
 use Rattle.router_trace.specs.Sessions.{theirs}
 use Rattle.router_trace.specs.Links.{Link, receives, link, link_place, on}
 use Rattle.router_trace.specs.Settling.{is_claimed_on}
@@ -31,6 +31,7 @@ just_handled (Did s ∷ t) = Some (record { step = s; found = t })
 just_handled (Out c i ∷ t) = just_handled t
 just_handled (Took c n ∷ t) = None
 just_handled (Bound b ∷ t) = None
+just_handled (Booked acts ∷ t) = None
 just_handled (Began g ∷ t) = None
 
 -- how many messages were bound after the last event handled
@@ -40,6 +41,7 @@ bound_since (Did s ∷ t) = 0
 bound_since (Out c i ∷ t) = bound_since t
 bound_since (Took c n ∷ t) = bound_since t
 bound_since (Bound b ∷ t) = bound_since t + 1
+bound_since (Booked acts ∷ t) = bound_since t
 bound_since (Began g ∷ t) = bound_since t
 
 -- A message is complete, on a link of a connection on which the peer is the sender, by the router's channel and handle: the frame just received,

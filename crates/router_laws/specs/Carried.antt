@@ -7,7 +7,7 @@ use Rattle.amqp_perf.specs.declared.perf.Transfer.{Transfer}
 use Rattle.amqp_frames.specs.declared.item.Item.{Item}
 use Rattle.amqp_frames.specs.declared.item.Item.TheVariants as item
 use Rattle.router_trace.specs.declared.binding.Binding.{Binding}
-use Rattle.router_trace.specs.Trace.{Trace, Did, Out, Took, Bound, Began}
+use Rattle.router_trace.specs.Trace.{Trace, Did, Out, Took, Bound, Booked, Began}
 use Rattle.router_trace.specs.Deliveries.{Delivery, bindings, delivery, sending, carried, tag_in, tag_of, is_number}
 
 -- The first frame of a delivery: it has an id, the delivery's tag and the message format, and nothing of the delivery was sent before.
@@ -67,6 +67,7 @@ bytes_out (Did s ∷ t) n = bytes_out t n
 bytes_out (Out c i ∷ t) n = bytes_by i n (sending t c) (bytes_out t n)
 bytes_out (Took c k ∷ t) n = bytes_out t n
 bytes_out (Bound b ∷ t) n = bytes_out t n
+bytes_out (Booked acts ∷ t) n = bytes_out t n
 bytes_out (Began g ∷ t) n = bytes_out t n
 
 -- It is a beginning of the message that was bound, and after a frame that says that no more are to come it is the whole message. (A tag has

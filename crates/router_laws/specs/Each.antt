@@ -3,7 +3,7 @@
 use Rattle.std.specs.Prelude.{ℕ, [], ◌∷◌}
 use Rattle.amqp_frames.specs.declared.item.Item.{Item}
 use Rattle.router_trace.specs.declared.binding.Binding.{Binding}
-use Rattle.router_trace.specs.Trace.{Trace, Did, Out, Took, Bound, Began}
+use Rattle.router_trace.specs.Trace.{Trace, Did, Out, Took, Bound, Booked, Began}
 
 abbrev pub EachOut : (Trace → ℕ → Item → Type 0) → Trace → Type 0
 EachOut P [] = Unit {0}
@@ -11,6 +11,7 @@ EachOut P (Did s ∷ t) = EachOut P t
 EachOut P (Out c i ∷ t) = P t c i × EachOut P t
 EachOut P (Took c n ∷ t) = EachOut P t
 EachOut P (Bound b ∷ t) = EachOut P t
+EachOut P (Booked acts ∷ t) = EachOut P t
 EachOut P (Began g ∷ t) = EachOut P t
 
 abbrev pub EachBound : (Trace → Binding → Type 0) → Trace → Type 0
@@ -19,4 +20,5 @@ EachBound P (Did s ∷ t) = EachBound P t
 EachBound P (Out c i ∷ t) = EachBound P t
 EachBound P (Took c n ∷ t) = EachBound P t
 EachBound P (Bound b ∷ t) = P t b × EachBound P t
+EachBound P (Booked acts ∷ t) = EachBound P t
 EachBound P (Began g ∷ t) = EachBound P t

@@ -11,7 +11,7 @@ use Rattle.amqp_frames.specs.declared.item.Item.{Item}
 use Rattle.amqp_frames.specs.declared.item.Item.TheVariants as item
 use Rattle.amqp_link.specs.declared.part.Delivery.{Delivery as Told}
 use Rattle.router_trace.specs.declared.binding.Origin.{Origin}
-use Rattle.router_trace.specs.Trace.{Trace, Did, Out, Took, Bound, Began}
+use Rattle.router_trace.specs.Trace.{Trace, Did, Out, Took, Bound, Booked, Began}
 use Rattle.router_trace.specs.Deliveries.{Delivery, bindings, delivery, is_meant, origin_id}
 use Rattle.router_trace.specs.DeliveryFrames.{kept_outcome}
 use Rattle.router_trace.specs.Links.{link}
@@ -42,6 +42,7 @@ tellings (Did s ∷ t) n = tellings t n
 tellings (Out c i ∷ t) n = tellings t n + (if tells i c (delivery t n) then 1 else 0)
 tellings (Took c k ∷ t) n = tellings t n
 tellings (Bound b ∷ t) n = tellings t n
+tellings (Booked acts ∷ t) n = tellings t n
 tellings (Began g ∷ t) n = tellings t n
 
 -- at most once, whatever happens

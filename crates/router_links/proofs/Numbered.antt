@@ -15,7 +15,7 @@ use Rattle.router_trace.specs.declared.event.Event.TheVariants as event
 use Rattle.router_trace.specs.declared.handle.Asked.{Asked}
 use Rattle.router_trace.specs.declared.handle.Attachment.{Attachment}
 use Rattle.router_trace.specs.declared.handle.PeerHandle.{PeerHandle}
-use Rattle.router_trace.specs.Trace.{Trace, Did, Out, Took, Bound, Began, did}
+use Rattle.router_trace.specs.Trace.{Trace, Did, Out, Took, Bound, Booked, Began, did}
 use Rattle.router_trace.specs.Sessions.{theirs, maps}
 use Rattle.router_trace.specs.Links.{Link, address_by, is_taken, is_taken_in, attachments, attached, asked, key_at, link, link_in, link_behind, link_at, link_by, heard_link, names, names_by, their_handle, is_handle, ends_handle_in, has_number, is_attached, newest_in, newest_by, last_of_key, numbered, same_key, behind_their_flow, behind_their_transfer, behind_our_flow, behind_our_transfer}
 
@@ -49,6 +49,7 @@ old_key (Did s ∷ t) k a e = old_key t k a e
 old_key (Out d i ∷ t) k a e = bound_by i d (attachments t) (λ x. same_key (key_at t d x) k) (last_of_key t k) a (old_key t k) e
 old_key (Took d n ∷ t) k a e = old_key t k a e
 old_key (Bound b ∷ t) k a e = old_key t k a e
+old_key (Booked acts ∷ t) k a e = old_key t k a e
 old_key (Began g ∷ t) k a e = old_key t k a e
 
 pub old_number : (t : Trace) (m : ℕ) (a : Attachment) → numbered t m ≡ Some a → a.number ≤ attachments t
@@ -57,6 +58,7 @@ old_number (Did s ∷ t) m a e = old_number t m a e
 old_number (Out d i ∷ t) m a e = bound_by i d (attachments t) (λ x. attachments t + 1 == m) (numbered t m) a (old_number t m) e
 old_number (Took d n ∷ t) m a e = old_number t m a e
 old_number (Bound b ∷ t) m a e = old_number t m a e
+old_number (Booked acts ∷ t) m a e = old_number t m a e
 old_number (Began g ∷ t) m a e = old_number t m a e
 
 -- an item that takes no link doesn't change the newest

@@ -8,7 +8,7 @@ use Rattle.amqp_perf.specs.declared.perf.Perf.TheVariants as perf
 use Rattle.amqp_frames.specs.declared.item.Item.{Item}
 use Rattle.amqp_frames.specs.declared.item.Item.TheVariants as item
 use Rattle.router_trace.specs.declared.handle.Attachment.{Attachment}
-use Rattle.router_trace.specs.Trace.{Trace, Did, Out, Took, Bound, Began}
+use Rattle.router_trace.specs.Trace.{Trace, Did, Out, Took, Bound, Booked, Began}
 use Rattle.router_trace.specs.Links.{address_by, attachments, newest_in, newest_by, numbered}
 use Rattle.router_links.proofs.Numbered.{old_number}
 
@@ -39,6 +39,7 @@ number_is (Did s ∷ t) n a e = number_is t n a e
 number_is (Out d i ∷ t) n a e = is_by i d (attachments t + 1) n (numbered t n) a (number_is t n a) e
 number_is (Took d k ∷ t) n a e = number_is t n a e
 number_is (Bound b ∷ t) n a e = number_is t n a e
+number_is (Booked acts ∷ t) n a e = number_is t n a e
 number_is (Began g ∷ t) n a e = number_is t n a e
 
 -- no attachment has the number 0
@@ -64,6 +65,7 @@ none_first (Did s ∷ t) = none_first t
 none_first (Out d i ∷ t) = none_by i d (attachments t + 1) 0 (numbered t 0) (not_zero (attachments t)) (none_first t)
 none_first (Took d k ∷ t) = none_first t
 none_first (Bound b ∷ t) = none_first t
+none_first (Booked acts ∷ t) = none_first t
 none_first (Began g ∷ t) = none_first t
 
 -- or one above the count

@@ -9,7 +9,8 @@ use Rattle.router_trace.specs.declared.event.ConnectionId.{ConnectionId}
 use Rattle.router_trace.specs.declared.event.Peer.{Peer}
 use Rattle.router_trace.specs.declared.event.Event.TheVariants as event
 use Rattle.router_trace.specs.declared.handle.Attachment.{Attachment}
-use Rattle.router_trace.specs.Trace.{Trace, Took, did}
+use Rattle.book_core.specs.declared.act.Act.{Act}
+use Rattle.router_trace.specs.Trace.{Trace, Took, Booked, did}
 use Rattle.router_trace.specs.Configuration.{distribution}
 use Rattle.router_trace.specs.Links.{asked, told_handle_max, highest_handle, answered_handle, their_handle, link, attachments, last_of_key, numbered, holder, place_of, if_attached, has_number}
 use Rattle.router_trace.specs.Deliveries.{bindings, delivery, sending, named, next_id}
@@ -118,6 +119,30 @@ pub taken_fits : (s : Passing) (d k : ℕ) (t : Trace) → PassingFit s t → Pa
 taken_fits s d k t old = quiet_fits s t (Took d k ∷ t) quiet old
   where
     quiet : IsQuiet t (Took d k ∷ t)
+    quiet = record {
+      handle_max = λ c. refl;
+      told_max = λ c. refl;
+      highest = λ c o. refl;
+      answered = λ c o h. refl;
+      theirs = λ c o p. refl;
+      links = λ c o h. refl;
+      count = refl;
+      keys = λ q. refl;
+      numbers = λ n. refl;
+      bound = refl;
+      deliveries = λ n. refl;
+      handles = λ c o h. refl;
+      names = λ c o id. refl;
+      next_ids = λ c o. refl;
+      claimed = λ c o id. refl;
+      shared = λ a. refl;
+      chosen = λ a. refl;
+    }
+
+pub booked_fits : (s : Passing) (acts : List Act) (t : Trace) → PassingFit s t → PassingFit s (Booked acts ∷ t)
+booked_fits s acts t old = quiet_fits s t (Booked acts ∷ t) quiet old
+  where
+    quiet : IsQuiet t (Booked acts ∷ t)
     quiet = record {
       handle_max = λ c. refl;
       told_max = λ c. refl;

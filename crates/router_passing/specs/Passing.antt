@@ -12,7 +12,7 @@ use Rattle.router_pools.specs.Sharing.{Figure, producer, sharing}
 use Rattle.router_trace.specs.declared.binding.Binding.{Binding}
 use Rattle.router_trace.specs.declared.binding.Origin.{Origin}
 use Rattle.router_trace.specs.declared.handle.Attachment.{Attachment}
-use Rattle.router_trace.specs.Trace.{Trace, Put, Did, Out, Took, Bound, Began}
+use Rattle.router_trace.specs.Trace.{Trace, Put, Did, Out, Took, Bound, Booked, Began}
 use Rattle.router_trace.specs.Configuration.{distribution}
 use Rattle.router_trace.specs.Frames.{told_of}
 use Rattle.router_trace.specs.LinkFrames.{link_flow_item}
@@ -33,6 +33,7 @@ last_chosen (Did s ∷ t) address = last_chosen t address
 last_chosen (Out c i ∷ t) address = last_chosen t address
 last_chosen (Took c n ∷ t) address = last_chosen t address
 last_chosen (Bound b ∷ t) address = if is_of address (link_of t b.consumer) b.consumer.number then b.consumer.number else last_chosen t address
+last_chosen (Booked acts ∷ t) address = last_chosen t address
 last_chosen (Began g ∷ t) address = last_chosen t address
 
 -- the same after this consumer is chosen too, if there is one

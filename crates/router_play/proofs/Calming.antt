@@ -7,7 +7,7 @@ use Rattle.router_trace.specs.declared.condition.Condition.TheVariants.{Resource
 use Rattle.router_trace.specs.declared.binding.Binding.{Binding}
 use Rattle.router_trace.specs.declared.event.Event.{Event}
 use Rattle.router_trace.specs.declared.event.Event.TheVariants as event
-use Rattle.router_trace.specs.Trace.{Entry, Did, Out, Took, Bound, Began, Put, Step, goes, each_to, puts, newest, newer}
+use Rattle.router_trace.specs.Trace.{Entry, Did, Out, Took, Bound, Booked, Began, Put, Step, goes, each_to, puts, newest, newer}
 use Rattle.router_trace.specs.Connection.{conn, due, is_full}
 use Rattle.router_trace.specs.Refusing.{refuses, rises}
 use Rattle.router_passing.specs.Passing.{with_bound}
@@ -30,6 +30,7 @@ room_calm (Did s ∷ t) room = (room.0, room_calm t room.1)
 room_calm (Out c i ∷ t) room = room_calm t room
 room_calm (Took c n ∷ t) room = room_calm t room
 room_calm (Bound b ∷ t) room = room_calm t room
+room_calm (Booked acts ∷ t) room = room_calm t room
 room_calm (Began g ∷ t) room = room_calm t room
 
 -- the state before
@@ -73,6 +74,7 @@ same_newest (Did s ∷ t) = ap (newer s.event) (same_newest t)
 same_newest (Out c i ∷ t) = same_newest t
 same_newest (Took c n ∷ t) = same_newest t
 same_newest (Bound b ∷ t) = same_newest t
+same_newest (Booked acts ∷ t) = same_newest t
 same_newest (Began g ∷ t) = same_newest t
 
 pub same_refused : (t : List Entry) (e : Event) → Calm t → refuses t e ≡ plain_refuses (untaken t) e

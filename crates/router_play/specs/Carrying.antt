@@ -14,7 +14,7 @@ use Rattle.router_play.specs.declared.line.Line.{Line}
 use Rattle.router_play.specs.declared.line.Line.TheVariants as line
 use Rattle.router_play.specs.declared.script.Step.{Step}
 use Rattle.router_play.specs.declared.script.Step.TheVariants as step
-use Rattle.router_trace.specs.Trace.{Trace, Did, Out, Took, Bound, Began}
+use Rattle.router_trace.specs.Trace.{Trace, Did, Out, Took, Bound, Booked, Began}
 use Rattle.router_trace.specs.Connection.{conn, is_live}
 use Rattle.router_trace.specs.Refusing.{rises}
 use Rattle.router_core.specs.Door.{Verdict, says, passes, ends, door, door_behind}
@@ -32,6 +32,7 @@ was_lost (Did s ∷ t) c = is_loss_of s.event c || was_lost t c
 was_lost (Out d i ∷ t) c = was_lost t c
 was_lost (Took d n ∷ t) c = was_lost t c
 was_lost (Bound b ∷ t) c = was_lost t c
+was_lost (Booked acts ∷ t) c = was_lost t c
 was_lost (Began g ∷ t) c = was_lost t c
 
 -- the steps after a connection is made: its number is above that of each connection made before

@@ -2,7 +2,7 @@
 use Rattle.std.specs.Prelude.{◌≡◌, ℕ, false, ◌==◌, if◌then◌else◌, List, [], ◌∷◌, ◌++◌}
 use Rattle.route_table.specs.Settings.{Settings}
 use Rattle.router_trace.specs.declared.event.ConnectionId.{ConnectionId}
-use Rattle.router_trace.specs.Trace.{Trace, Did, Out, Took, Bound, Began}
+use Rattle.router_trace.specs.Trace.{Trace, Did, Out, Took, Bound, Booked, Began}
 use Rattle.router_trace.specs.Connection.{conn, is_full}
 use Rattle.router_core.specs.Laws.{untaken}
 use Rattle.router_play.specs.declared.script.Step.{Step}
@@ -34,6 +34,7 @@ AlwaysRoom (Did s ∷ t) = ((c : ℕ) → is_full (conn t c) ≡ false) × Alway
 AlwaysRoom (Out c i ∷ t) = AlwaysRoom t
 AlwaysRoom (Took c n ∷ t) = AlwaysRoom t
 AlwaysRoom (Bound b ∷ t) = AlwaysRoom t
+AlwaysRoom (Booked acts ∷ t) = AlwaysRoom t
 AlwaysRoom (Began g ∷ t) = AlwaysRoom t
 
 -- Pieces make no difference: two scripts that differ only in how bytes of a connection are cut, whether into many steps or into one, have

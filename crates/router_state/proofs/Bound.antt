@@ -1,18 +1,19 @@
--- A binding changes only the table `passing`, and a take from an outbox doesn't change that.
-use Rattle.std.proofs.Common.{◌≡◌, ◌∙◌, ℕ, Bool, true, false, ap, Option, Some, None, ◌∷◌}
+-- A binding changes only the table `passing`, and a take from an outbox doesn't change that; a batch of the journal changes no table.
+use Rattle.std.proofs.Common.{◌≡◌, ◌∙◌, ℕ, Bool, true, false, ap, Option, Some, None, ◌∷◌, List}
 use Rattle.std.specs.Prelude.{◌==◌}
 use Rattle.std.proofs.lemmas.Bool.{eqb-true}
 use Rattle.amqp_frames.specs.declared.item.Item.{Item}
 use Rattle.amqp_link.specs.declared.part.Part.{Part}
 use Rattle.router_trace.specs.declared.binding.Binding.{Binding}
-use Rattle.router_trace.specs.Trace.{Trace, Took}
+use Rattle.book_core.specs.declared.act.Act.{Act}
+use Rattle.router_trace.specs.Trace.{Trace, Took, Booked}
 use Rattle.router_trace.specs.Links.{link_place}
 use Rattle.router_trace.specs.Sessions.{is_channel}
 use Rattle.router_trace.specs.Settling.{part_at, part_of}
 use Rattle.router_passing.specs.declared.passing.Passing.{Passing}
 use Rattle.router_passing.specs.Fits.{PassingFit}
 use Rattle.router_passing.specs.Passing.{with_bound}
-use Rattle.router_passing.proofs.Quiet.{taken_fits}
+use Rattle.router_passing.proofs.Quiet.{taken_fits, booked_fits as passing_booked}
 use Rattle.router_state.specs.declared.tables.State.{State}
 use Rattle.router_state.specs.Tables.{TablesFit}
 
@@ -39,6 +40,19 @@ bound_fits s new t (Some b) fit p = record {
     marks = fit.sessions.marks;
   };
   passing = p;
+}
+
+pub booked_fits : (s : State) (acts : List Act) (t : Trace) → TablesFit s t → TablesFit s (Booked acts ∷ t)
+booked_fits s acts t fit = record {
+  connections = record { rows = fit.connections.rows; live = fit.connections.live; last = fit.connections.last; rise = fit.connections.rise; roomy = fit.connections.roomy };
+  ready = fit.ready;
+  clocks = record { moment = fit.clocks.moment; terms = fit.clocks.terms; written = fit.clocks.written };
+  peers = record { users = fit.peers.users; containers = fit.peers.containers };
+  sessions = record {
+    rows = record { offered = fit.sessions.rows.offered; answered = fit.sessions.rows.answered; theirs = fit.sessions.rows.theirs; windows = fit.sessions.rows.windows };
+    marks = fit.sessions.marks;
+  };
+  passing = passing_booked s.passing acts t fit.passing;
 }
 
 -- what a transfer makes of its delivery, on the session of this channel

@@ -16,7 +16,7 @@ use Rattle.router_trace.specs.declared.event.Event.TheVariants as event
 use Rattle.router_trace.specs.declared.channel.PeerChannel.{PeerChannel}
 use Rattle.router_trace.specs.declared.handle.PeerHandle.{PeerHandle}
 use Rattle.router_trace.specs.declared.handle.PeerHandle.TheVariants.{Mapped, Detaching}
-use Rattle.router_trace.specs.Trace.{Did, Out, Took, Bound, Began, Trace}
+use Rattle.router_trace.specs.Trace.{Did, Out, Took, Bound, Booked, Began, Trace}
 use Rattle.router_trace.specs.Links.{Link, Happened, sends, receives, link, their_handle, ends_handle_in}
 use Rattle.router_trace.specs.Sessions.{maps, theirs}
 use Rattle.router_trace.specs.Deliveries.{last_of}
@@ -110,4 +110,5 @@ claims (Did s ∷ t) c o id = claim_at s.event c o (theirs t c) (their_handle t 
 claims (Out d i ∷ t) c o id = if d == c then claim_behind i o id (claims t c o id) else claims t c o id
 claims (Took d n ∷ t) c o id = claims t c o id
 claims (Bound b ∷ t) c o id = claims t c o id
+claims (Booked acts ∷ t) c o id = claims t c o id
 claims (Began g ∷ t) c o id = claims t c o id

@@ -3,7 +3,7 @@ use Rattle.std.specs.Prelude.{ℕ, Bool, true, false, List, [], ◌∷◌}
 use Rattle.route_table.specs.declared.sections.Distribution.{Distribution}
 use Rattle.route_table.specs.declared.sections.Distribution.TheVariants.{Balanced, Closest, Multicast}
 use Rattle.route_table.specs.Places.{Routing, distribution_of}
-use Rattle.router_trace.specs.Trace.{Did, Out, Took, Bound, Began, Beginning, Trace}
+use Rattle.router_trace.specs.Trace.{Did, Out, Took, Bound, Booked, Began, Beginning, Trace}
 
 -- the trace before the first event
 abbrev pub beginning : Beginning → Trace
@@ -20,6 +20,7 @@ routing (Did s ∷ t) = routing t
 routing (Out c i ∷ t) = routing t
 routing (Took c n ∷ t) = routing t
 routing (Bound b ∷ t) = routing t
+routing (Booked acts ∷ t) = routing t
 routing (Began g ∷ t) = g.routing
 
 -- how the links of an address share its messages

@@ -8,7 +8,7 @@ use Rattle.amqp_frames.specs.declared.item.Item.TheVariants as item
 use Rattle.amqp_conn.specs.declared.conn.Conn.{Conn}
 use Rattle.router_trace.specs.declared.event.Event.{Event}
 use Rattle.router_trace.specs.declared.event.Event.TheVariants as event
-use Rattle.router_trace.specs.Trace.{Did, Out, Took, Bound, Began, Trace, ups}
+use Rattle.router_trace.specs.Trace.{Did, Out, Took, Bound, Booked, Began, Trace, ups}
 
 -- a connection: whether its header and open are written and whether it is over, the items waiting in its outbox, and
 -- how many have left it
@@ -118,6 +118,7 @@ conn (Did s ∷ t) c =
 conn (Out d i ∷ t) c = if d == c then option_map (with_item i) (conn t c) else conn t c
 conn (Took d n ∷ t) c = if d == c then option_and_then (took n) (conn t c) else conn t c
 conn (Bound b ∷ t) c = conn t c
+conn (Booked acts ∷ t) c = conn t c
 conn (Began g ∷ t) c = conn t c
 
 -- the connections that an event ends because their outboxes are full, by number

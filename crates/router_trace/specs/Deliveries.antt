@@ -18,7 +18,7 @@ use Rattle.router_trace.specs.declared.event.Event.{Event}
 use Rattle.router_trace.specs.declared.event.Event.TheVariants as event
 use Rattle.router_trace.specs.declared.channel.PeerChannel.{PeerChannel}
 use Rattle.router_trace.specs.declared.handle.Attachment.{Attachment}
-use Rattle.router_trace.specs.Trace.{Did, Out, Took, Bound, Began, Trace}
+use Rattle.router_trace.specs.Trace.{Did, Out, Took, Bound, Booked, Began, Trace}
 use Rattle.router_trace.specs.Links.{ends_handle, ends_handle_in, is_lost}
 use Rattle.router_trace.specs.Sessions.{maps, theirs}
 
@@ -29,6 +29,7 @@ bindings (Did s ∷ t) = bindings t
 bindings (Out d i ∷ t) = bindings t
 bindings (Took d n ∷ t) = bindings t
 bindings (Bound b ∷ t) = bindings t + 1
+bindings (Booked acts ∷ t) = bindings t
 bindings (Began g ∷ t) = bindings t
 
 -- A delivery: its consumer's link, the producer's delivery to which its outcome is reported, and its progress.
@@ -105,6 +106,7 @@ sending (Did s ∷ t) c o h = if is_lost s.event c then None else sending t c o 
 sending (Out d i ∷ t) c o h = if d == c then sending_by i o h (sending t c o h) else sending t c o h
 sending (Took d n ∷ t) c o h = sending t c o h
 sending (Bound b ∷ t) c o h = sending t c o h
+sending (Booked acts ∷ t) c o h = sending t c o h
 sending (Began g ∷ t) c o h = sending t c o h
 
 abbrev pub is_id : Option ℕ → ℕ → Bool
@@ -131,6 +133,7 @@ named (Did s ∷ t) c o id = if is_lost s.event c then None else named t c o id
 named (Out d i ∷ t) c o id = if d == c then named_by i o id (named t c o id) else named t c o id
 named (Took d n ∷ t) c o id = named t c o id
 named (Bound b ∷ t) c o id = named t c o id
+named (Booked acts ∷ t) c o id = named t c o id
 named (Began g ∷ t) c o id = named t c o id
 
 -- A transfer that carries the delivery: the id is that of its first frame; a delivery that was settled before is decided with its last frame.
@@ -256,6 +259,7 @@ delivery (Did s ∷ t) n = option_and_then (λ d. unless_over (behind_event s.ev
 delivery (Out c i ∷ t) n = option_and_then (λ d. unless_over (behind_put i c n (sending t c) d)) (delivery t n)
 delivery (Took c k ∷ t) n = delivery t n
 delivery (Bound b ∷ t) n = if bindings t + 1 == n then Some (bound b) else delivery t n
+delivery (Booked acts ∷ t) n = delivery t n
 delivery (Began g ∷ t) n = delivery t n
 
 -- Tests of a delivery: it waits to start on a link, it is undecided there, its outcome must be reported to its producer.
@@ -301,4 +305,5 @@ next_id (Did s ∷ t) c o = if is_lost s.event c then 0 else next_id t c o
 next_id (Out d i ∷ t) c o = if d == c then next_id_by i o (next_id t c o) else next_id t c o
 next_id (Took d n ∷ t) c o = next_id t c o
 next_id (Bound b ∷ t) c o = next_id t c o
+next_id (Booked acts ∷ t) c o = next_id t c o
 next_id (Began g ∷ t) c o = next_id t c o

@@ -1,6 +1,7 @@
 -- A trace: what happened, as a list of entries, the newest first. All definitions search it; the router keeps none of it.
 use Rattle.std.specs.Prelude.{ℕ, List, [], ◌∷◌, ◌++◌, map, Option, Some, None}
 use Rattle.amqp_frames.specs.declared.item.Item.{Item}
+use Rattle.book_core.specs.declared.act.Act.{Act}
 use Rattle.book_core.specs.Book.{BookView}
 use Rattle.route_table.specs.Places.{Routing}
 use Rattle.router_trace.specs.declared.event.Event.{Event}
@@ -35,6 +36,8 @@ pub data Entry : Type 0 where
   Took : (conn : ℕ) (count : ℕ) → Entry
   -- a message was bound to a consumer's link; no item says so
   Bound : (binding : Binding) → Entry
+  -- these acts were done to the book, and written to the journal as one batch; their event comes next
+  Booked : (acts : List Act) → Entry
   -- the router was opened
   Began : (beginning : Beginning) → Entry
 
@@ -76,6 +79,7 @@ ups (Did s ∷ t) = with_up s.event (ups t)
 ups (Out c i ∷ t) = ups t
 ups (Took c n ∷ t) = ups t
 ups (Bound b ∷ t) = ups t
+ups (Booked acts ∷ t) = ups t
 ups (Began g ∷ t) = ups t
 
 -- the number of the last connection that came up
@@ -89,4 +93,5 @@ newest (Did s ∷ t) = newer s.event (newest t)
 newest (Out c i ∷ t) = newest t
 newest (Took c n ∷ t) = newest t
 newest (Bound b ∷ t) = newest t
+newest (Booked acts ∷ t) = newest t
 newest (Began g ∷ t) = newest t
