@@ -3,12 +3,13 @@ use Rattle.std.proofs.Common.{◌≡◌, ◌∙◌, sym, ap, refl, subst, true�
 use Rattle.std.specs.Prelude.{is_some, if◌then◌else◌, Option, Some, None}
 use Rattle.std.specs.List.{list_any}
 use Rattle.std.proofs.lemmas.Bool.{eqb-true}
+use Rattle.book_core.specs.declared.act.Act.{Act}
 use Rattle.router_trace.specs.Trace.{Beginning}
 use Rattle.router_trace.specs.Configuration.{beginning}
 use Rattle.router_trace.specs.declared.binding.Binding.{Binding}
 use Rattle.router_trace.specs.declared.event.Event.{Event}
 use Rattle.router_trace.specs.declared.event.Event.TheVariants as event
-use Rattle.router_trace.specs.Trace.{Entry, Did, Put, Step, goes, each_to, ups}
+use Rattle.router_trace.specs.Trace.{Entry, Did, Booked, Put, Step, goes, each_to, ups}
 use Rattle.router_trace.specs.Connection.{conn, due, found, has, is_due, is_full, is_live, standing}
 use Rattle.router_trace.specs.Clocks.{terms, written, needs_beat}
 use Rattle.router_trace.specs.Following.{tells, sends_due, drains_due}
@@ -20,12 +21,14 @@ use Rattle.router_passing.specs.Passing.{grants_due, with_bound}
 use Rattle.router_rows.specs.Finding.{finds}
 use Rattle.router_reply.specs.Replies.{heard, bound_by, own_row, replied}
 use Rattle.router_after.specs.After.{widened}
-use Rattle.router_core.specs.Replies.{answered}
+use Rattle.router_core.specs.Books.{booked}
+use Rattle.router_core.specs.Replies.{answered, handled}
 use Rattle.router_core.specs.Runs.{Taking, took_one}
 use Rattle.router_core.specs.Moves.{Move, handles, takes, Goes, outs}
 use Rattle.router_core.specs.Laws.{events_of, is_about, own_events, own_part, comes_up, brings_attach, NeverAttaches, Undisturbed}
 use Rattle.router_conns.proofs.Lists.{by_test}
 use Rattle.router_conns.proofs.Turns.{due_none}
+use Rattle.router_core.proofs.Booking.{booked_keeps, booked_same, taken_booked}
 use Rattle.router_core.proofs.Once.{NoTwice, neither, filter_has}
 use Rattle.router_core.proofs.Attachless.{said_to, row_said, less_row, less_windows, Unlinked, Unnamed, unlinked_did, unlinked_goes}
 use Rattle.router_core.proofs.MineLinks.{linkless, Unclaimed, own_finds}
@@ -33,7 +36,7 @@ use Rattle.router_core.proofs.Idle.{unnamed_goes, unnamed_did, unclaimed_did, un
 use Rattle.router_core.proofs.Kept.{none_row, none_window}
 use Rattle.router_core.proofs.Ordered.{Ordered, Spares, Without, goes_spares, spares_self, spares_on, bound_spares}
 use Rattle.router_core.proofs.PassedOrder.{passed_turns}
-use Rattle.router_core.proofs.Order.{took_turns, ordered_start}
+use Rattle.router_core.proofs.Order.{took_turns, batch_turns, ordered_start}
 use Rattle.router_core.proofs.Told.{Told}
 use Rattle.router_core.proofs.Replied.{heard_spares, replied_turns, answered_turns, answered_told}
 use Rattle.router_core.proofs.Headed.{item_without, on_without, took_told}
@@ -251,6 +254,17 @@ fine_took c t x fine = record {
   settled = fine.settled;
 }
 
+fine_batch : (c : ℕ) (t : List Entry) (acts : List Act) → Fine c t → Fine c (Booked acts ∷ t)
+fine_batch c t acts fine = record {
+  ordered = batch_turns t acts fine.ordered;
+  told = record { told = fine.told.told; strange = fine.told.strange };
+  eased = fine.eased;
+  unlinked = fine.unlinked;
+  unnamed = fine.unnamed;
+  unclaimed = fine.unclaimed;
+  settled = fine.settled;
+}
+
 -- an event about a connection on which no attach is received brings none
 never_first : (c : ℕ) (s : Step) (ss : List Step) → NeverAttaches c (s ∷ ss) → is_about c s.event ≡ true → brings_attach s.event ≡ false
 never_first c s ss never own = (neither (brings_attach s.event) _ (rw own at never)).0
@@ -262,12 +276,18 @@ own_moves : (id : List ℕ) (c : ℕ) (ms : List Move) (t u : List Entry) → Fi
     → own_part c u ≡ own_all id c (own_events c (events_of ms)) (own_part c t)
 own_moves id c [] t u fine alone never went = ap (own_part c) went
 own_moves id c (handles s ∷ ms) t u fine alone never went =
-    let next : Stepped id c t s = stepped id c t s fine went.0 alone.0 alone.1 (never_first c s (events_of ms) never)
-    in let rest : own_part c u ≡ own_all id c (own_events c (events_of ms)) (own_part c (answered id t s))
-    = own_moves id c ms (answered id t s) u next.fine alone.2 (never_rest c s (events_of ms) never) went.1
+    let b : List Entry = booked t s.event
+    in let next : Stepped id c b s = stepped id c b s (booked_keeps (Fine c) t s.event (λ acts f. fine_batch c t acts f) fine)
+    (taken_booked t s.event went.0)
+    (booked_same (λ (v : List Entry). is_full (conn v c)) t s.event (λ acts. refl) ∙ alone.0)
+    (λ up. booked_same (λ (v : List Entry). is_live (conn (Did s ∷ v) c)) t s.event (λ acts. refl) ∙ alone.1 up)
+    (never_first c s (events_of ms) never)
+    in let part : own_part c b ≡ own_part c t = booked_same (own_part c) t s.event (λ acts. refl)
+    in let rest : own_part c u ≡ own_all id c (own_events c (events_of ms)) (own_part c (handled id t s))
+    = own_moves id c ms (handled id t s) u next.fine alone.2 (never_rest c s (events_of ms) never) went.1
     in by_test (is_about c s.event)
-    (λ e. rw e (rest ∙ ap (own_all id c (own_events c (events_of ms))) (next.about e)))
-    (λ e. rw e (rest ∙ ap (own_all id c (own_events c (events_of ms))) (next.other e)))
+    (λ e. rw e (rest ∙ ap (own_all id c (own_events c (events_of ms))) (next.about e ∙ ap (λ (x : List Entry). own_answered id c x s) part)))
+    (λ e. rw e (rest ∙ ap (own_all id c (own_events c (events_of ms))) (next.other e ∙ part)))
 own_moves id c (takes x ∷ ms) t u fine alone never went = own_moves id c ms (took_one x t) u (fine_took c t x fine) alone never went
 
 fine_start : (c : ℕ) (g : Beginning) → Fine c (beginning g)

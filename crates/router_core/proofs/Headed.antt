@@ -9,6 +9,7 @@ use Rattle.amqp_conn.specs.declared.conn.Conn.{Conn}
 use Rattle.amqp_session.specs.Session.{Session}
 use Rattle.router_trace.specs.Trace.{Beginning}
 use Rattle.router_trace.specs.Configuration.{beginning}
+use Rattle.book_core.specs.declared.act.Act.{Act}
 use Rattle.router_trace.specs.declared.binding.Binding.{Binding}
 use Rattle.router_trace.specs.declared.terms.Terms.{Terms}
 use Rattle.router_trace.specs.declared.condition.Condition.TheVariants.{ResourceLimitExceeded}
@@ -33,7 +34,8 @@ use Rattle.router_after.specs.After.{followed}
 use Rattle.router_rows.specs.Rows.{said, item_reply}
 use Rattle.router_rows.specs.Finding.{finds}
 use Rattle.router_reply.specs.Replies.{closing_of, ends, heard, stolen_by, refused, part_put, settled_answers, bound_by, item_row, own_row, replied}
-use Rattle.router_core.specs.Replies.{answered}
+use Rattle.router_core.specs.Books.{booked}
+use Rattle.router_core.specs.Replies.{answered, handled}
 use Rattle.router_core.specs.Runs.{waiting_of, took_one}
 use Rattle.router_core.specs.Moves.{Move, handles, takes, Goes, IsTrace, with_came, ins, outs}
 use Rattle.router_trace.specs.Order.{unwritten, of_session}
@@ -41,6 +43,7 @@ use Rattle.router_core.specs.Laws.{is_header, begins_with_header, HeaderFirst, K
 use Rattle.router_conns.proofs.Lists.{by_test}
 use Rattle.router_conns.proofs.Turns.{due_none}
 use Rattle.router_core.proofs.Attachless.{Unlinked}
+use Rattle.router_core.proofs.Booking.{booked_keeps, taken_booked}
 use Rattle.router_core.proofs.Coming.{ins_answered}
 use Rattle.router_core.proofs.Due.{AllOnLinks, tells_on, sends_on, drains_on, grants_on}
 use Rattle.router_core.proofs.Following.{Steps, passed_on, passed_keeps, all_keep}
@@ -50,7 +53,7 @@ use Rattle.router_core.proofs.Lively.{Lively, answered_lively, took_lively}
 use Rattle.router_core.proofs.Once.{filter_has}
 use Rattle.router_core.proofs.Ordered.{Ordered, Without, written_all, goes_spares, each_without, bound_spares, ends_spares}
 use Rattle.router_core.proofs.Told.{Told, goes_strange}
-use Rattle.router_core.proofs.Order.{push_some, heard_turns, no_session, took_inv, took_turns, ordered_start}
+use Rattle.router_core.proofs.Order.{push_some, heard_turns, no_session, took_inv, took_turns, batch_turns, ordered_start}
 use Rattle.router_core.proofs.PassedOrder.{passed_steps}
 use Rattle.router_core.proofs.Replied.{replied_turns, answered_turns, answered_told}
 
@@ -370,14 +373,28 @@ pub record Kept (t : List Entry) : Type 0 where
   pub told : Told t
   pub headed : Headed t
 
+batch_kept : (t : List Entry) (acts : List Act) → Kept t → Kept (Booked acts ∷ t)
+batch_kept t acts was = record {
+  ordered = batch_turns t acts was.ordered;
+  lively = was.lively;
+  told = record { told = was.told.told; strange = was.told.strange };
+  headed = record { header = was.headed.header; silent = was.headed.silent };
+}
+
+pub kept_booked : (t : List Entry) (e : Event) → Kept t → Kept (booked t e)
+kept_booked t e was = booked_keeps Kept t e (λ acts w. batch_kept t acts w) was
+
 goes_kept : (id : List ℕ) (ms : List Move) (t u : List Entry) → Kept t → Goes id ms t u → Kept u
 goes_kept id [] t u was goes = subst (λ (w : List Entry). Kept w) (sym goes) was
 goes_kept id (handles s ∷ ms) t u was goes =
-    goes_kept id ms (answered id t s) u (record {
-      ordered = answered_turns id t s.event was.ordered was.told goes.0;
-      lively = answered_lively id t s.event was.ordered was.lively goes.0;
-      told = answered_told id t s.event was.ordered was.told goes.0;
-      headed = answered_headed id t s.event was.ordered was.told goes.0 was.headed;
+    let b : List Entry = booked t s.event
+    in let now : Kept b = kept_booked t s.event was
+    in let taken : refuses b s.event ≡ false = taken_booked t s.event goes.0
+    in goes_kept id ms (handled id t s) u (record {
+      ordered = answered_turns id b s.event now.ordered now.told taken;
+      lively = answered_lively id b s.event now.ordered now.lively taken;
+      told = answered_told id b s.event now.ordered now.told taken;
+      headed = answered_headed id b s.event now.ordered now.told taken now.headed;
     })
     goes.1
 goes_kept id (takes x ∷ ms) t u was goes =

@@ -41,7 +41,9 @@ use Rattle.router_rows.specs.declared.answer.Answer.TheVariants.{Nothing, Header
 use Rattle.router_rows.specs.Rows.{said, item_reply}
 use Rattle.router_rows.specs.Finding.{finds}
 use Rattle.router_reply.specs.Replies.{closing_of, ends, heard, stolen_by, attach_answer, refused, claimed_id, ignored_put, unbound_put, whole_put, part_put, settled_answers, bound_by, item_row, own_row, replied}
-use Rattle.router_core.specs.Replies.{answered}
+use Rattle.router_core.specs.Books.{booked}
+use Rattle.router_core.specs.Replies.{answered, handled}
+use Rattle.router_core.proofs.Booking.{booked_keeps}
 use Rattle.router_core.specs.Runs.{took_one}
 use Rattle.router_core.specs.Moves.{Move, handles, takes, Goes, IsTrace}
 use Rattle.router_core.specs.Laws.{has_room, keeps_window, WindowKept}
@@ -299,7 +301,7 @@ answered_keeps id t s kept =
 
 pub moves_keep : (id : List ℕ) (ms : List Move) (t u : List Entry) → WindowKept t → Goes id ms t u → WindowKept u
 moves_keep id [] t u kept went = subst (λ (w : List Entry). WindowKept w) (sym went) kept
-moves_keep id (handles s ∷ ms) t u kept went = moves_keep id ms (answered id t s) u (answered_keeps id t s kept) went.1
+moves_keep id (handles s ∷ ms) t u kept went = moves_keep id ms (handled id t s) u (answered_keeps id (booked t s.event) s (booked_keeps WindowKept t s.event (λ acts k. k) kept)) went.1
 moves_keep id (takes x ∷ ms) t u kept went = moves_keep id ms (took_one x t) u kept went
 
 pub trace_keeps_windows : (id : List ℕ) (g : Beginning) (u : List Entry) → IsTrace id g u → WindowKept u

@@ -8,6 +8,7 @@ pub mod Linked
 pub mod RowOrder
 pub mod ItemRows
 pub mod Following
+pub mod Booking
 pub mod Books
 pub mod Written
 pub mod Granting

@@ -6,7 +6,7 @@ use Rattle.router_trace.specs.declared.event.Event.{Event}
 use Rattle.router_core.specs.declared.driving.Sent.{Sent}
 use Rattle.router_trace.specs.Trace.{Entry, step_of}
 use Rattle.router_trace.specs.Refusing.{refuses}
-use Rattle.router_core.specs.Replies.{answered}
+use Rattle.router_core.specs.Replies.{handled}
 use Rattle.router_core.specs.Runs.{Taking, took_one, took_all, MayStep, Run}
 use Rattle.router_core.specs.Moves.{Move, handles, takes, Goes, IsTrace}
 use Rattle.router_core.proofs.Books.{not_refused}
@@ -14,7 +14,7 @@ use Rattle.router_core.proofs.Books.{not_refused}
 -- moves, then more of them
 pub goes_on : (id : List ℕ) (ms ns : List Move) (t u v : List Entry) → Goes id ms t u → Goes id ns u v → Goes id (ms ++ ns) t v
 goes_on id [] ns t u v first rest = subst (λ (w : List Entry). Goes id ns w v) first rest
-goes_on id (handles s ∷ ms) ns t u v first rest = (first.0, goes_on id ms ns (answered id t s) u v first.1 rest)
+goes_on id (handles s ∷ ms) ns t u v first rest = (first.0, goes_on id ms ns (handled id t s) u v first.1 rest)
 goes_on id (takes x ∷ ms) ns t u v first rest = goes_on id ms ns (took_one x t) u v first rest
 
 -- the traces that moves lead to
@@ -27,7 +27,7 @@ leads_on id t u v first rest = (first.0 ++ rest.0, goes_on id first.0 rest.0 t u
 pub leads_same : (id : List ℕ) (t u : List Entry) → u ≡ t → Leads id t u
 leads_same id t u e = ([], e)
 
-pub leads_event : (id : List ℕ) (t : List Entry) (e : Event) → refuses t e ≡ false → Leads id t (answered id t (step_of e))
+pub leads_event : (id : List ℕ) (t : List Entry) (e : Event) → refuses t e ≡ false → Leads id t (handled id t (step_of e))
 leads_event id t e taken = (handles (step_of e) ∷ [], (taken, refl))
 
 pub leads_take : (id : List ℕ) (t : List Entry) (x : Taking) → Leads id t (took_one x t)

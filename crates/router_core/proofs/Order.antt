@@ -6,6 +6,7 @@ use Rattle.amqp_frames.specs.declared.item.Item.{Item}
 use Rattle.amqp_frames.specs.declared.item.Item.TheVariants as item
 use Rattle.amqp_conn.specs.declared.conn.Conn.{Conn}
 use Rattle.amqp_session.specs.Session.{Session}
+use Rattle.book_core.specs.declared.act.Act.{Act}
 use Rattle.router_trace.specs.Trace.{Beginning}
 use Rattle.router_trace.specs.Configuration.{beginning}
 use Rattle.router_trace.specs.declared.channel.PeerChannel.{PeerChannel}
@@ -211,6 +212,18 @@ took_turns t d n ord = record {
   begun = λ c w is live. by_test (d == c)
       (λ e. let v = took_inv n (conn t c) w (rw e at is) live in ord.begun c v.0 v.1 (ap (λ (p : Conn). p.closed) v.2 ∙ live))
       (λ e. ord.begun c w (rw e at is) live);
+  opened = ord.opened;
+  linked = ord.linked;
+  unknown = ord.unknown;
+  rise = ord.rise;
+  once = ord.once;
+}
+
+pub batch_turns : (t : List Entry) (acts : List Act) → Ordered t → Ordered (Booked acts ∷ t)
+batch_turns t acts ord = record {
+  turns = ord.turns;
+  phases = ord.phases;
+  begun = ord.begun;
   opened = ord.opened;
   linked = ord.linked;
   unknown = ord.unknown;

@@ -17,7 +17,9 @@ use Rattle.router_trace.specs.Following.{tells, has_credit, sends_due, drains_du
 use Rattle.router_sessions.specs.Windows.{windows}
 use Rattle.router_passing.specs.Passing.{grants_due, with_bound}
 use Rattle.router_reply.specs.Replies.{closing_of, ends, heard, bound_by, own_row, replied}
-use Rattle.router_core.specs.Replies.{answered}
+use Rattle.router_core.specs.Books.{booked}
+use Rattle.router_core.specs.Replies.{answered, handled}
+use Rattle.router_core.proofs.Booking.{booked_keeps}
 use Rattle.router_core.specs.Runs.{took_one}
 use Rattle.router_core.specs.Moves.{Move, handles, takes, Goes, IsTrace}
 use Rattle.router_core.specs.Laws.{credit_left, unless_going_on, starts_within, within_credit, WithinCredit}
@@ -107,7 +109,7 @@ answered_within id t s within =
 
 moves_within : (id : List ℕ) (ms : List Move) (t u : List Entry) → WithinCredit t → Goes id ms t u → WithinCredit u
 moves_within id [] t u within went = subst (λ (w : List Entry). WithinCredit w) (sym went) within
-moves_within id (handles s ∷ ms) t u within went = moves_within id ms (answered id t s) u (answered_within id t s within) went.1
+moves_within id (handles s ∷ ms) t u within went = moves_within id ms (handled id t s) u (answered_within id (booked t s.event) s (booked_keeps WithinCredit t s.event (λ acts w. w) within)) went.1
 moves_within id (takes x ∷ ms) t u within went = moves_within id ms (took_one x t) u within went
 
 pub trace_starts_within : (id : List ℕ) (g : Beginning) (u : List Entry) → IsTrace id g u → WithinCredit u

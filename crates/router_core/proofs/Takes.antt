@@ -2,12 +2,14 @@
 use Rattle.std.proofs.Common.{◌≡◌, ◌∙◌, sym, ap, refl, subst, ℕ, false, List, [], ◌∷◌}
 use Rattle.std.specs.Prelude.{Option, Some, None}
 use Rattle.amqp_conn.specs.declared.conn.Conn.{Conn}
+use Rattle.book_core.specs.declared.act.Act.{Act}
+use Rattle.book_core.specs.Book.{BookView, effects}
 use Rattle.router_trace.specs.Trace.{Beginning}
 use Rattle.router_trace.specs.Configuration.{beginning}
 use Rattle.router_trace.specs.declared.binding.Binding.{Binding}
 use Rattle.router_trace.specs.declared.event.Event.{Event}
 use Rattle.router_trace.specs.declared.event.Event.TheVariants as event
-use Rattle.router_trace.specs.Trace.{Entry, Did, Put, Step, goes, each_to}
+use Rattle.router_trace.specs.Trace.{Entry, Did, Out, Took, Bound, Booked, Began, Put, Step, goes, each_to}
 use Rattle.router_trace.specs.Connection.{conn, due, is_full, live}
 use Rattle.router_sessions.specs.Windows.{windows_over}
 use Rattle.router_passing.specs.Passing.{with_bound}
@@ -15,10 +17,12 @@ use Rattle.router_state.specs.Tables.{beats_over}
 use Rattle.router_rows.specs.Rows.{down_reply}
 use Rattle.router_reply.specs.Replies.{ends, item_bound, bound_by, item_row, own_row, replied_behind}
 use Rattle.router_after.specs.After.{widened, followed}
-use Rattle.router_core.specs.Replies.{answered}
+use Rattle.router_core.specs.Books.{acts_of, book_in, with_acts, booked}
+use Rattle.router_core.specs.Replies.{answered, handled}
 use Rattle.router_core.specs.Runs.{took_one}
 use Rattle.router_core.specs.Moves.{Move, handles, takes, Goes, outs}
 use Rattle.router_core.specs.Laws.{untaken, events_of, NeverFull}
+use Rattle.router_core.proofs.Booking.{booked_keeps}
 use Rattle.router_core.proofs.Untaken.{untaken_goes, same_outs, same_beats, same_windows}
 use Rattle.router_core.proofs.UntakenPassed.{untaken_bound, same_passed}
 use Rattle.router_core.proofs.UntakenRows.{same_item_row, same_item_bound}
@@ -48,10 +52,13 @@ plain_replied id x s = goes (plain_row id x (Did s ∷ x) s.event) (with_bound (
 abbrev pub plain_answered : List ℕ → List Entry → Step → List Entry
 plain_answered id x s = plain_followed (plain_replied id x s)
 
+abbrev pub plain_handled : List ℕ → List Entry → Step → List Entry
+plain_handled id x s = plain_answered id (booked x s.event) s
+
 -- the trace that events alone make
 abbrev plain_all : List ℕ → List Step → List Entry → List Entry
 plain_all id [] x = x
-plain_all id (s ∷ ss) x = plain_all id ss (plain_answered id x s)
+plain_all id (s ∷ ss) x = plain_all id ss (plain_handled id x s)
 
 same_row : (id : List ℕ) (t u : List Entry) (e : Event) → Calm t → due t e ≡ [] → own_row id t u e ≡ plain_row id (untaken t) (untaken u) e
 same_row id t u (event.Item c i) calm none =
@@ -104,12 +111,36 @@ same_answered id t s calm roomy =
     in subst (λ (x : List Entry). Calm (followed (replied_behind id t x s.event)) × (untaken (followed (replied_behind id t x s.event)) ≡ plain_answered id (untaken t) s))
     (sym (ap (λ (ks : List ℕ). ends id ks (Did s ∷ t)) none)) both
 
+-- an event with its batch
+same_book : (t : List Entry) → book_in t ≡ book_in (untaken t)
+same_book [] = refl
+same_book (Did s ∷ t) = same_book t
+same_book (Out d i ∷ t) = same_book t
+same_book (Took d n ∷ t) = same_book t
+same_book (Bound b ∷ t) = same_book t
+same_book (Booked acts ∷ t) = ap (λ (b : BookView). effects b acts) (same_book t)
+same_book (Began g ∷ t) = refl
+
+same_with : (acts : List Act) (t : List Entry) → untaken (with_acts acts t) ≡ with_acts acts (untaken t)
+same_with [] t = refl
+same_with (act ∷ acts) t = refl
+
+pub same_booked : (t : List Entry) (e : Event) → untaken (booked t e) ≡ booked (untaken t) e
+same_booked t e = same_with (acts_of (book_in t) e) t ∙ ap (λ (b : BookView). with_acts (acts_of b e) (untaken t)) (same_book t)
+
+pub same_handled : (id : List ℕ) (t : List Entry) (s : Step) → Calm t → ((c : ℕ) → is_full (conn t c) ≡ false)
+    → Calm (handled id t s) × (untaken (handled id t s) ≡ plain_handled id (untaken t) s)
+same_handled id t s calm roomy =
+    let next = same_answered id (booked t s.event) s (booked_keeps Calm t s.event (λ acts c. c) calm)
+    (booked_keeps (λ (v : List Entry). (c : ℕ) → is_full (conn v c) ≡ false) t s.event (λ acts r. r) roomy)
+    in (next.0, next.1 ∙ ap (λ (x : List Entry). plain_answered id x s) (same_booked t s.event))
+
 -- moves
 same_moves : (id : List ℕ) (ms : List Move) (t u : List Entry) → Calm t → NeverFull id ms t → Goes id ms t u → untaken u ≡ plain_all id (events_of ms) (untaken t)
 same_moves id [] t u calm roomy went = ap untaken went
 same_moves id (handles s ∷ ms) t u calm roomy went =
-    let next = same_answered id t s calm roomy.0
-    in same_moves id ms (answered id t s) u next.0 roomy.1 went.1 ∙ ap (plain_all id (events_of ms)) next.1
+    let next = same_handled id t s calm roomy.0
+    in same_moves id ms (handled id t s) u next.0 roomy.1 went.1 ∙ ap (plain_all id (events_of ms)) next.1
 same_moves id (takes x ∷ ms) t u calm roomy went = same_moves id ms (took_one x t) u calm roomy went
 
 pub takes_alike : (id : List ℕ) (g : Beginning) (ms ns : List Move) (t u : List Entry) → Goes id ms (beginning g) t → Goes id ns (beginning g) u

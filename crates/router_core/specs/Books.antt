@@ -13,19 +13,27 @@ abbrev pub acts_of : BookView → Event → List Act
 acts_of b event.Start = start_acts b
 acts_of b _ = []
 
+-- the book in which a trace ends
+abbrev pub book_in : Trace → BookView
+book_in [] = empty_book
+book_in (Did s ∷ t) = book_in t
+book_in (Out c i ∷ t) = book_in t
+book_in (Took c n ∷ t) = book_in t
+book_in (Bound x ∷ t) = book_in t
+book_in (Booked acts ∷ t) = effects (book_in t) acts
+book_in (Began g ∷ t) = g.book
+
 -- the book after an event
 abbrev pub book_behind : BookView → Event → BookView
 book_behind b e = effects b (acts_of b e)
 
--- the book in which a trace ends
-abbrev pub book_in : Trace → BookView
-book_in [] = empty_book
-book_in (Did s ∷ t) = book_behind (book_in t) s.event
-book_in (Out c i ∷ t) = book_in t
-book_in (Took c n ∷ t) = book_in t
-book_in (Bound x ∷ t) = book_in t
-book_in (Booked acts ∷ t) = book_in t
-book_in (Began g ∷ t) = g.book
+-- The acts of an event are written as one batch, before the event's entry; where there are none, nothing is written.
+abbrev pub with_acts : List Act → Trace → Trace
+with_acts [] t = t
+with_acts (act ∷ acts) t = Booked (act ∷ acts) ∷ t
+
+abbrev pub booked : Trace → Event → Trace
+booked t e = with_acts (acts_of (book_in t) e) t
 
 -- Start comes first, and once.
 abbrev pub is_start : Event → Bool

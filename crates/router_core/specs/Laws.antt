@@ -16,7 +16,7 @@ use Rattle.router_trace.specs.Configuration.{beginning}
 use Rattle.router_trace.specs.Connection.{conn, is_full, is_live}
 use Rattle.router_trace.specs.Links.{Link, Happened, sends, receives, link}
 use Rattle.router_trace.specs.Sessions.{session}
-use Rattle.router_core.specs.Replies.{answered}
+use Rattle.router_core.specs.Replies.{handled}
 use Rattle.router_trace.specs.Order.{unwritten, have_turns}
 use Rattle.router_core.specs.Runs.{Run, took_one}
 use Rattle.router_core.specs.Moves.{Move, handles, takes, Goes, IsTrace, ins, outs}
@@ -132,7 +132,7 @@ untaken (Did s ∷ t) = Did s ∷ untaken t
 untaken (Out c i ∷ t) = Out c i ∷ untaken t
 untaken (Took c n ∷ t) = untaken t
 untaken (Bound b ∷ t) = Bound b ∷ untaken t
-untaken (Booked acts ∷ t) = Booked w ∷ untaken t
+untaken (Booked acts ∷ t) = Booked acts ∷ untaken t
 untaken (Began g ∷ t) = Began g ∷ untaken t
 
 abbrev pub events_of : List Move → List Step
@@ -143,7 +143,7 @@ events_of (takes x ∷ ms) = events_of ms
 -- no outbox of a live connection is full when an event comes
 abbrev pub NeverFull : List ℕ → List Move → Trace → Type 0
 NeverFull id [] t = Unit {0}
-NeverFull id (handles s ∷ ms) t = ((c : ℕ) → is_full (conn t c) ≡ false) × NeverFull id ms (answered id t s)
+NeverFull id (handles s ∷ ms) t = ((c : ℕ) → is_full (conn t c) ≡ false) × NeverFull id ms (handled id t s)
 NeverFull id (takes x ∷ ms) t = NeverFull id ms (took_one x t)
 
 -- Takes make no difference: if the same events are handled in the same order and no outbox is ever full, the same is put out,
@@ -182,7 +182,7 @@ comes_up c _ = false
 abbrev pub Undisturbed : List ℕ → ℕ → List Move → Trace → Type 0
 Undisturbed id c [] t = Unit {0}
 Undisturbed id c (handles s ∷ ms) t =
-    (is_full (conn t c) ≡ false) × (comes_up c s.event ≡ true → is_live (conn (Did s ∷ t) c) ≡ true) × Undisturbed id c ms (answered id t s)
+    (is_full (conn t c) ≡ false) × (comes_up c s.event ≡ true → is_live (conn (Did s ∷ t) c) ≡ true) × Undisturbed id c ms (handled id t s)
 Undisturbed id c (takes x ∷ ms) t = Undisturbed id c ms (took_one x t)
 
 -- no attach is received on the connection

@@ -8,7 +8,7 @@ use Rattle.router_trace.specs.declared.event.Event.TheVariants as event
 use Rattle.router_trace.specs.Trace.{Trace, Did, Out, Took, Bound, Booked, Began, Step}
 use Rattle.router_trace.specs.Configuration.{beginning}
 use Rattle.router_trace.specs.Refusing.{refuses}
-use Rattle.router_core.specs.Replies.{answered}
+use Rattle.router_core.specs.Replies.{handled}
 use Rattle.router_core.specs.Runs.{Taking, took_one}
 
 -- the router handles an event, or items are taken from an outbox
@@ -16,10 +16,10 @@ pub data Move : Type 0 where
   handles : Step → Move
   takes : Taking → Move
 
--- u is t after these moves, one after another: no event is refused, and its replies come after it
+-- u is t after these moves, one after another: no event is refused, its batch comes before it and its replies after it
 abbrev pub Goes : List ℕ → List Move → Trace → Trace → Type 0
 Goes id [] t u = u ≡ t
-Goes id (handles s ∷ ms) t u = (refuses t s.event ≡ false) × Goes id ms (answered id t s) u
+Goes id (handles s ∷ ms) t u = (refuses t s.event ≡ false) × Goes id ms (handled id t s) u
 Goes id (takes x ∷ ms) t u = Goes id ms (took_one x t) u
 
 -- a trace of the router with this id, opened with this configuration

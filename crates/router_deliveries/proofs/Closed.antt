@@ -16,7 +16,7 @@ use Rattle.router_trace.specs.declared.event.Event.{Event}
 use Rattle.router_trace.specs.declared.event.Event.TheVariants as event
 use Rattle.router_trace.specs.declared.channel.PeerChannel.{PeerChannel}
 use Rattle.router_trace.specs.declared.handle.Attachment.{Attachment}
-use Rattle.router_trace.specs.Trace.{Entry, Trace, Did, Out, Took, Bound, Began}
+use Rattle.router_trace.specs.Trace.{Entry, Trace, Did, Out, Took, Booked, Bound, Began}
 use Rattle.router_trace.specs.Deliveries.{Delivery, delivery, bindings, bound, unless_over, is_over, is_undecided, behind_ends, is_gone_with, ended, untold, behind_put, behind_frame, behind_event, put_in, is_number, carried, tag_in, told, is_meant, origin_id, heard, heard_in, disposed, decided, is_settled_at, is_on, ended_by, lost_with, named, sending}
 use Rattle.router_trace.specs.Sessions.{theirs}
 use Rattle.amqp_perf.specs.declared.state.DeliveryState.TheVariants as state

@@ -142,8 +142,8 @@ none_beyond (Did s ∷ t) n l = none_is (λ d. unless_over (behind_event s.event
 none_beyond (Out c i ∷ t) n l = none_is (λ d. unless_over (behind_put i c n (sending t c) d)) (delivery t n) (none_beyond t n l)
 none_beyond (Took c k ∷ t) n l = none_beyond t n l
 none_beyond (Began g ∷ t) n l = none_beyond t n l
-none_beyond (Bound b ∷ t) n l = fresh (bindings t + 1 == n) (Some (fresh_delivery b)) (delivery t n) (apart (bindings t) n l) (none_beyond t n (omega (arith, l)))
 none_beyond (Booked acts ∷ t) n l = none_beyond t n l
+none_beyond (Bound b ∷ t) n l = fresh (bindings t + 1 == n) (Some (fresh_delivery b)) (delivery t n) (apart (bindings t) n l) (none_beyond t n (omega (arith, l)))
   where
     apart : (k n : ℕ) → k + 1 < n → (k + 1 == n) ≡ false
     apart k n l = grind (arith, nat_tests)
@@ -154,8 +154,8 @@ none_before (Did s ∷ t) = none_is (λ d. unless_over (behind_event s.event (th
 none_before (Out c i ∷ t) = none_is (λ d. unless_over (behind_put i c 0 (sending t c) d)) (delivery t 0) (none_before t)
 none_before (Took c k ∷ t) = none_before t
 none_before (Began g ∷ t) = none_before t
-none_before (Bound b ∷ t) = fresh (bindings t + 1 == 0) (Some (fresh_delivery b)) (delivery t 0) (apart (bindings t)) (none_before t)
 none_before (Booked acts ∷ t) = none_before t
+none_before (Bound b ∷ t) = fresh (bindings t + 1 == 0) (Some (fresh_delivery b)) (delivery t 0) (apart (bindings t)) (none_before t)
   where
     apart : (k : ℕ) → (k + 1 == 0) ≡ false
     apart k = grind (arith, nat_tests)

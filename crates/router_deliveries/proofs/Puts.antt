@@ -41,8 +41,8 @@ kept (Did s ∷ t) n = kept_behind _ (delivery t n)
 kept (Out c i ∷ t) n = kept_behind _ (delivery t n)
 kept (Took c k ∷ t) n = kept t n
 kept (Began g ∷ t) n = kept t n
-kept (Bound b ∷ t) n = fresh (bindings t + 1 == n) (kept t n)
 kept (Booked acts ∷ t) n = kept t n
+kept (Bound b ∷ t) n = fresh (bindings t + 1 == n) (kept t n)
   where
     fresh : (new : Bool) → IsKept (delivery t n) → IsKept (if new then Some (bound b) else delivery t n)
     fresh true keeps = refl

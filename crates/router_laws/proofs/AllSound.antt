@@ -32,15 +32,17 @@ use Rattle.router_rows.specs.declared.answer.Answer.TheVariants.{Attach, Refuse,
 use Rattle.router_rows.specs.Rows.{said, item_reply}
 use Rattle.router_rows.specs.Finding.{finds}
 use Rattle.router_reply.specs.Replies.{closing_of, ends, heard, refused, bound_for, item_put, behind_answer, item_bound, item_row, replied_behind, replied}
-use Rattle.router_core.specs.Replies.{answered}
+use Rattle.router_core.specs.Books.{booked}
+use Rattle.router_core.specs.Replies.{answered, handled}
 use Rattle.router_core.specs.Runs.{took_one}
 use Rattle.router_core.specs.Moves.{Move, handles, takes, Goes, IsTrace}
+use Rattle.router_core.proofs.Booking.{booked_keeps}
 use Rattle.router_core.proofs.Following.{Steps, passed_on, passed_keeps}
 use Rattle.router_laws.specs.Each.{EachBound}
 use Rattle.router_laws.specs.Came.{Handled, just_handled, BindsMessage}
 use Rattle.router_laws.specs.Laws.{CameAndWasBound}
 use Rattle.router_laws.proofs.Bindings.{of_messages, each_bound}
-use Rattle.router_laws.proofs.Sound.{Sound, sound_start, did_sound, took_sound, goes_sound, quiet_sound, QuietPut, quiet_both, quiet_to, still_handled}
+use Rattle.router_laws.proofs.Sound.{Sound, sound_start, did_sound, took_sound, batch_sound, goes_sound, quiet_sound, QuietPut, quiet_both, quiet_to, still_handled}
 use Rattle.router_laws.proofs.Quiet.{closing_of_quiet, said_quiet, taken_quiet, refused_quiet, settled_quiet, beats_quiet, windows_quiet, drains_quiet, grants_quiet}
 use Rattle.router_laws.proofs.Transfers.{IfTaken, transfer_taken}
 use Rattle.router_laws.proofs.Arriving.{transfer_sound}
@@ -163,7 +165,7 @@ answered_sound id t s sound =
 
 moves_sound : (id : List ℕ) (ms : List Move) (t u : List Entry) → Sound t → Goes id ms t u → Sound u
 moves_sound id [] t u sound went = subst (λ (w : List Entry). Sound w) (sym went) sound
-moves_sound id (handles s ∷ ms) t u sound went = moves_sound id ms (answered id t s) u (answered_sound id t s sound) went.1
+moves_sound id (handles s ∷ ms) t u sound went = moves_sound id ms (handled id t s) u (answered_sound id (booked t s.event) s (booked_keeps Sound t s.event (λ acts w. batch_sound t acts w) sound)) went.1
 moves_sound id (takes x ∷ ms) t u sound went = moves_sound id ms (took_one x t) u (took_sound _ _ t sound) went
 
 pub trace_sound : (id : List ℕ) (g : Beginning) (u : List Entry) → IsTrace id g u → Sound u

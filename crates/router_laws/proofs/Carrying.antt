@@ -191,8 +191,8 @@ none_early (Out c i ∷ t) n all small early =
         (λ test. rw test before)
 none_early (Began g ∷ t) n all small early = none_early t n all small early
 none_early (Took c k ∷ t) n all small early = none_early t n all small early
-none_early (Bound b ∷ t) n all small early = none_early t n all (lower_by (bindings t) small) (lower_still (bindings t) n early)
 none_early (Booked acts ∷ t) n all small early = none_early t n all small early
+none_early (Bound b ∷ t) n all small early = none_early t n all (lower_by (bindings t) small) (lower_still (bindings t) n early)
   where
     lower_by : (k : ℕ) → k + 1 < 2 ^ 64 → k < 2 ^ 64
     lower_by k h = omega (arith, h)
@@ -267,12 +267,12 @@ went (Did s ∷ t) n all small d there =
 went (Out c i ∷ t) n all small d there = out_went t c n i small (went t n all.1 small) all.0 d there
 went (Began g ∷ t) n all small d there = went t n all small d there
 went (Took c k ∷ t) n all small d there = went t n all small d there
+went (Booked acts ∷ t) n all small d there = went t n all small d there
 went (Bound b ∷ t) n all small d there =
     by_test (bindings t + 1 == n)
     (λ e. none_early t n all (lower (bindings t) small) (just_below (bindings t) n (eqb-true (bindings t + 1) n e))
     ∙ ap (λ (f : Delivery). take f.sent f.payload) (some_same (rw e at there)))
     (λ e. went t n all (lower (bindings t) small) d (rw e at there))
-went (Booked acts ∷ t) n all small d there = went t n all small d there
   where
     just_below : (k n : ℕ) → k + 1 ≡ n → k < n
     just_below k n h = omega (arith, h)

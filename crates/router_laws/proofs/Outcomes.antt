@@ -18,7 +18,7 @@ use Rattle.router_trace.specs.declared.event.ConnectionId.{ConnectionId}
 use Rattle.router_trace.specs.declared.event.Event.{Event}
 use Rattle.router_trace.specs.declared.event.Event.TheVariants as event
 use Rattle.router_trace.specs.declared.handle.Attachment.{Attachment}
-use Rattle.router_trace.specs.Trace.{Entry, Did, Out, Took, Bound, Began, Step}
+use Rattle.router_trace.specs.Trace.{Entry, Did, Out, Took, Booked, Bound, Began, Step}
 use Rattle.router_trace.specs.Links.{ends_handle}
 use Rattle.router_trace.specs.Sessions.{maps, theirs}
 use Rattle.router_trace.specs.Deliveries.{Delivery, bindings, delivery, sending, named, failed, behind_frame, decided, untold, told, ended, is_undecided, is_meant, is_named, is_number, last_of, decision, terminal, is_gone_with, behind_origin, behind_ends, ended_by, put_in, behind_put, carried, tag_in, is_on, is_settled_at, disposed, heard_in, heard, lost_with, behind_event, origin_id}

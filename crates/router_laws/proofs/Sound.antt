@@ -11,7 +11,8 @@ use Rattle.amqp_frames.specs.declared.item.Item.TheVariants as item
 use Rattle.router_trace.specs.Trace.{Beginning}
 use Rattle.router_trace.specs.Configuration.{beginning}
 use Rattle.router_trace.specs.declared.binding.Binding.{Binding}
-use Rattle.router_trace.specs.Trace.{Entry, Put, Did, Out, Took, Bound, Step, goes, each_to}
+use Rattle.book_core.specs.declared.act.Act.{Act}
+use Rattle.router_trace.specs.Trace.{Entry, Put, Did, Out, Took, Bound, Booked, Step, goes, each_to}
 use Rattle.router_laws.specs.Each.{EachOut, EachBound}
 use Rattle.router_laws.specs.Carried.{CarriesWhatWasBound}
 use Rattle.router_laws.specs.Came.{Handled, just_handled, BindsMessage}
@@ -38,6 +39,9 @@ did_sound s t sound = record { carries = sound.carries; tells = sound.tells; bin
 
 pub took_sound : (c n : ℕ) (t : List Entry) → Sound t → Sound (Took c n ∷ t)
 took_sound c n t sound = record { carries = sound.carries; tells = sound.tells; binds = sound.binds; unstarted = sound.unstarted }
+
+pub batch_sound : (t : List Entry) (acts : List Act) → Sound t → Sound (Booked acts ∷ t)
+batch_sound t acts sound = record { carries = sound.carries; tells = sound.tells; binds = sound.binds; unstarted = sound.unstarted }
 
 pub bound_sound : (b : Binding) (t : List Entry) → BindsMessage t b → Sound t → Sound (Bound b ∷ t)
 bound_sound b t is sound = record { carries = sound.carries; tells = sound.tells; binds = (is, sound.binds); unstarted = bound_unstarted t b sound.unstarted }

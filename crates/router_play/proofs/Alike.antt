@@ -10,10 +10,12 @@ use Rattle.router_trace.specs.Trace.{Entry, Out, Put, did, goes, each_to, puts, 
 use Rattle.router_trace.specs.Connection.{Connection, conn, behind, with_item, took, unless_empty, drained, is_live, has, due, found, live_of, at_event}
 use Rattle.router_passing.specs.Passing.{with_bound}
 use Rattle.router_reply.specs.Replies.{closing_of, ends as ends_of, heard, bound_by, own_row, replied}
-use Rattle.router_core.specs.Replies.{answered}
+use Rattle.router_core.specs.Books.{booked}
+use Rattle.router_core.specs.Replies.{answered, handled}
 use Rattle.router_core.specs.Moves.{ins, with_came}
 use Rattle.router_conns.proofs.Lists.{by_test}
 use Rattle.router_conns.proofs.Turns.{over_lives, stays}
+use Rattle.router_core.proofs.Booking.{booked_same}
 use Rattle.router_core.proofs.Following.{all_keep}
 
 -- a connection that isn't live stays so, until it comes up
@@ -85,11 +87,14 @@ over_bound : (b : Option Binding) (t : List Entry) (c : ℕ) → is_live (conn t
 over_bound None t c h = h
 over_bound (Some b) t c h = h
 
-pub over_answered : (id : List ℕ) (t : List Entry) (e : Event) (c : ℕ) → is_about e c ≡ false → is_live (conn t c) ≡ false → is_live (conn (answered id t (step_of e)) c) ≡ false
+over_answered : (id : List ℕ) (t : List Entry) (e : Event) (c : ℕ) → is_about e c ≡ false → is_live (conn t c) ≡ false → is_live (conn (answered id t (step_of e)) c) ≡ false
 over_answered id t e c other h =
     let u : List Entry = heard id t (step_of e)
     in all_keep (λ (v : List Entry). is_live (conn v c) ≡ false) (λ ps v over. over_goes ps v c over) (replied id t (step_of e))
     (over_goes (own_row id t u e) (with_bound (bound_by t u e) u) c (over_bound (bound_by t u e) u c (over_ends id (due t e) (did e ∷ t) c (over_did t e c other h))))
+
+pub over_handled : (id : List ℕ) (t : List Entry) (e : Event) (c : ℕ) → is_about e c ≡ false → is_live (conn t c) ≡ false → is_live (conn (handled id t (step_of e)) c) ≡ false
+over_handled id t e c other h = over_answered id (booked t e) e c other (booked_same (λ (u : List Entry). is_live (conn u c)) t e (λ acts. refl) ∙ h)
 
 pub came_other : (e : Event) (c : ℕ) (is : List Item) → is_about e c ≡ false → with_came e c is ≡ is
 came_other (event.Item d i) c is other = rw other refl

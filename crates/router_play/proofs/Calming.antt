@@ -1,5 +1,5 @@
 -- If no outbox was full when an event came, none was before, and the router receives the same of an event as without takes.
-use Rattle.std.proofs.Common.{◌≡◌, ap, refl, subst, ℕ, false, not, List, [], ◌∷◌}
+use Rattle.std.proofs.Common.{◌≡◌, ◌∙◌, sym, ap, refl, subst, ℕ, false, not, List, [], ◌∷◌}
 use Rattle.std.specs.Prelude.{Option, Some, None, is_some}
 use Rattle.amqp_frames.specs.declared.item.Item.{Item}
 use Rattle.amqp_conn.specs.declared.conn.Conn.{Conn}
@@ -13,10 +13,12 @@ use Rattle.router_trace.specs.Refusing.{refuses, rises}
 use Rattle.router_passing.specs.Passing.{with_bound}
 use Rattle.router_reply.specs.Replies.{closing_of, ends, heard, bound_by, own_row, replied}
 use Rattle.router_after.specs.After.{followed}
-use Rattle.router_core.specs.Replies.{answered}
+use Rattle.router_core.specs.Books.{booked}
+use Rattle.router_core.specs.Replies.{answered, handled}
 use Rattle.router_core.specs.Runs.{took_one}
 use Rattle.router_core.specs.Moves.{Move, handles, takes, Goes}
 use Rattle.router_core.specs.Laws.{untaken}
+use Rattle.router_core.proofs.Booking.{booked_keeps, booked_same}
 use Rattle.router_core.proofs.Following.{all_keep}
 use Rattle.router_core.proofs.Plain.{Calm, stood}
 use Rattle.router_play.specs.Script.{Scene}
@@ -52,15 +54,24 @@ bound_before (Some b) t calm = calm
 followed_before : (t : List Entry) → Calm (followed t) → Calm t
 followed_before t = all_keep (λ (u : List Entry). Calm u → Calm t) (λ ps u before calm. before (goes_before ps u calm)) t (λ calm. calm)
 
-pub answered_before : (id : List ℕ) (t : List Entry) (s : Step) → Calm (answered id t s) → ((c : ℕ) → is_full (conn t c) ≡ false) × Calm t
+answered_before : (id : List ℕ) (t : List Entry) (s : Step) → Calm (answered id t s) → ((c : ℕ) → is_full (conn t c) ≡ false) × Calm t
 answered_before id t s calm =
     let u : List Entry = heard id t s
     in ends_before id (due t s.event) (Did s ∷ t)
     (bound_before (bound_by t u s.event) u (goes_before (own_row id t u s.event) (with_bound (bound_by t u s.event) u) (followed_before (replied id t s) calm)))
 
+pub handled_before : (id : List ℕ) (t : List Entry) (s : Step) → Calm (handled id t s) → ((c : ℕ) → is_full (conn t c) ≡ false) × Calm t
+handled_before id t s calm =
+    let b : List Entry = booked t s.event
+    in let was = answered_before id b s calm
+    in (
+      λ c. sym (booked_same (λ (u : List Entry). is_full (conn u c)) t s.event (λ acts. refl)) ∙ was.0 c,
+      booked_keeps (λ (u : List Entry). Calm u → Calm t) t s.event (λ acts f. f) (λ f. f) was.1,
+    )
+
 moves_before : (id : List ℕ) (ms : List Move) (t u : List Entry) → Goes id ms t u → Calm u → Calm t
 moves_before id [] t u went calm = subst (λ (w : List Entry). Calm w) went calm
-moves_before id (handles s ∷ ms) t u went calm = (answered_before id t s (moves_before id ms (answered id t s) u went.1 calm)).1
+moves_before id (handles s ∷ ms) t u went calm = (handled_before id t s (moves_before id ms (handled id t s) u went.1 calm)).1
 moves_before id (takes x ∷ ms) t u went calm = moves_before id ms (took_one x t) u went calm
 
 pub calm_before : (s u : Scene) → Onward s u → Calm u.trace → Calm s.trace

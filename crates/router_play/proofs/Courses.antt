@@ -13,7 +13,7 @@ use Rattle.router_trace.specs.Refusing.{rises}
 use Rattle.router_core.specs.declared.door.Door.{Door as DoorState}
 use Rattle.router_core.specs.Door.{Verdict, says, passes, ends, door, door_behind}
 use Rattle.router_core.proofs.Plain.{plain}
-use Rattle.router_core.proofs.Takes.{plain_answered}
+use Rattle.router_core.proofs.Takes.{plain_handled}
 use Rattle.router_play.specs.declared.script.Step.{Step}
 use Rattle.router_play.specs.declared.script.Step.TheVariants as step
 use Rattle.router_play.specs.Listening.{door_for}
@@ -52,7 +52,7 @@ plain_refuses x (event.Down c) = not (is_some (plain x c.0))
 plain_refuses x _ = false
 
 abbrev pub tell : Event → Course → Course
-tell e p = if plain_refuses p.trace e then p else on_trace (plain_answered p.id p.trace (step_of e)) p
+tell e p = if plain_refuses p.trace e then p else on_trace (plain_handled p.id p.trace (step_of e)) p
 
 -- items
 abbrev pub judge : ConnectionId → Item → Spot → DoorState → Course → Verdict → Course
@@ -127,8 +127,8 @@ spots_same p f g h = λ j. with_spots (λ n. h n j) p
 
 -- an event changes no connection
 pub tell_cases : (G : Course → Type 0) (e : Event) (p : Course) → (plain_refuses p.trace e ≡ true → G p)
-    → (plain_refuses p.trace e ≡ false → G (on_trace (plain_answered p.id p.trace (step_of e)) p)) → G (tell e p)
-tell_cases G e p f g = pick (plain_refuses p.trace e) p (on_trace (plain_answered p.id p.trace (step_of e)) p) f g
+    → (plain_refuses p.trace e ≡ false → G (on_trace (plain_handled p.id p.trace (step_of e)) p)) → G (tell e p)
+tell_cases G e p f g = pick (plain_refuses p.trace e) p (on_trace (plain_handled p.id p.trace (step_of e)) p) f g
   where
     pick : (b : Bool) (x y : Course) → (b ≡ true → G x) → (b ≡ false → G y) → G (if b then x else y)
     pick true x y f g = f refl

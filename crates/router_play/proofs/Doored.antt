@@ -11,23 +11,23 @@ use Rattle.router_play.specs.declared.socket.Socket.{Socket}
 use Rattle.router_trace.specs.Trace.{Entry, step_of}
 use Rattle.router_trace.specs.Connection.{conn, is_live}
 use Rattle.router_trace.specs.Refusing.{refuses, rises}
-use Rattle.router_core.specs.Replies.{answered}
+use Rattle.router_core.specs.Replies.{handled}
 use Rattle.router_play.specs.Script.{Scene, refused, say, say_all, with_socket, with_trace, hand}
 use Rattle.router_core.specs.Moves.{ins}
 use Rattle.router_core.specs.Laws.{is_header}
 use Rattle.router_conns.proofs.Lists.{by_test}
-use Rattle.router_core.proofs.Coming.{ins_answered}
-use Rattle.router_play.proofs.Alike.{Alike, alike_same, came_other, is_about, over_answered}
+use Rattle.router_core.proofs.Coming.{ins_handled}
+use Rattle.router_play.proofs.Alike.{Alike, alike_same, came_other, is_about, over_handled}
 
 -- an event is handed to the router
 pub hand_alike : (e : Event) (s : Scene) (c : ℕ) → is_about e c ≡ false → Alike s.trace (hand e s).trace c
 hand_alike e s c other = by_answer (refuses s.trace e)
   where
-    by_answer : (b : Bool) → Alike s.trace (if b then say refused s else with_trace (answered s.id s.trace (step_of e)) s).trace c
+    by_answer : (b : Bool) → Alike s.trace (if b then say refused s else with_trace (handled s.id s.trace (step_of e)) s).trace c
     by_answer true = alike_same s.trace s.trace c refl
     by_answer false = record {
-      came = ins_answered s.id s.trace e c ∙ came_other e c (ins s.trace c) other;
-      over = over_answered s.id s.trace e c other;
+      came = ins_handled s.id s.trace e c ∙ came_other e c (ins s.trace c) other;
+      over = over_handled s.id s.trace e c other;
     }
 
 -- where the connections of a scene are
@@ -85,11 +85,11 @@ closed c s was = record {
 pub handed : (e : Event) (s : Scene) → ((c : ℕ) → is_about e c ≡ false) → Doored s → Doored (hand e s)
 handed e s none was = by_answer (refuses s.trace e)
   where
-    by_answer : (b : Bool) → Doored (if b then say refused s else with_trace (answered s.id s.trace (step_of e)) s)
+    by_answer : (b : Bool) → Doored (if b then say refused s else with_trace (handled s.id s.trace (step_of e)) s)
     by_answer true = said (refused ∷ []) s was
-    by_answer false = grown s (answered s.id s.trace (step_of e)) (λ c. record {
-      came = ins_answered s.id s.trace e c ∙ came_other e c (ins s.trace c) (none c);
-      over = over_answered s.id s.trace e c (none c);
+    by_answer false = grown s (handled s.id s.trace (step_of e)) (λ c. record {
+      came = ins_handled s.id s.trace e c ∙ came_other e c (ins s.trace c) (none c);
+      over = over_handled s.id s.trace e c (none c);
     }) was
 
 -- the change of one connection that was made, and of no other

@@ -15,17 +15,17 @@ use Rattle.router_play.specs.declared.socket.Socket.{Socket}
 use Rattle.router_trace.specs.Trace.{Entry, step_of}
 use Rattle.router_trace.specs.Connection.{Connection, conn, is_live}
 use Rattle.router_trace.specs.Refusing.{refuses}
-use Rattle.router_core.specs.Replies.{answered}
+use Rattle.router_core.specs.Replies.{handled}
 use Rattle.router_core.specs.Runs.{waiting_of}
 use Rattle.router_core.specs.Door.{Verdict, says, passes, ends, door, door_behind}
 use Rattle.router_play.specs.Script.{Scene, say_all, say, refused, out_line, with_socket, with_trace, hand, judged_by, enter_at, enter_by, enter, enter_all}
 use Rattle.router_core.specs.Moves.{with_came, ins, outs}
 use Rattle.router_play.specs.Carrying.{is_loss_of, was_lost, bytes_out, spelled, door_says, passed, Begins}
 use Rattle.router_conns.proofs.Lists.{by_test}
-use Rattle.router_core.proofs.Coming.{ins_answered as answered_ins}
+use Rattle.router_core.proofs.Coming.{ins_handled}
 use Rattle.router_play.proofs.Scenes.{back}
 use Rattle.router_play.proofs.PlayMoves.{Onward, Real, onward_on, onward_real, stays_put, answered_onward}
-use Rattle.router_play.proofs.Levels.{Level, Even, even_refl, even_trans, moves, answered_even, answered_kept, still_kept, none_of, same}
+use Rattle.router_play.proofs.Levels.{Level, Even, even_refl, even_trans, moves, handled_even, handled_kept, still_kept, none_of, same}
 
 -- lines and bytes
 
@@ -53,8 +53,8 @@ other_lines d c (i ∷ is) apart = rw apart (other_lines d c is apart)
 
 -- an event is refused, or handled
 pub hand_cases : (G : Scene → Type 0) (e : Event) (s : Scene) → (refuses s.trace e ≡ true → G (say refused s))
-    → (refuses s.trace e ≡ false → G (with_trace (answered s.id s.trace (step_of e)) s)) → G (hand e s)
-hand_cases G e s f g = pick (refuses s.trace e) (say refused s) (with_trace (answered s.id s.trace (step_of e)) s) f g
+    → (refuses s.trace e ≡ false → G (with_trace (handled s.id s.trace (step_of e)) s)) → G (hand e s)
+hand_cases G e s f g = pick (refuses s.trace e) (say refused s) (with_trace (handled s.id s.trace (step_of e)) s) f g
   where
     pick : (b : Bool) (x y : Scene) → (b ≡ true → G x) → (b ≡ false → G y) → G (if b then x else y)
     pick true x y f g = f refl
@@ -67,7 +67,7 @@ pub hand_last : (e : Event) (s : Scene) → (hand e s).last ≡ s.last
 hand_last e s = hand_cases (λ u. u.last ≡ s.last) e s (λ r. refl) (λ r. refl)
 
 pub hand_kept : (e : Event) (s : Scene) (c : ℕ) → is_loss_of e c ≡ false → was_lost (hand e s).trace c ≡ was_lost s.trace c
-hand_kept e s c other = hand_cases (λ u. was_lost u.trace c ≡ was_lost s.trace c) e s (λ r. refl) (λ r. answered_kept s.id s.trace e c other)
+hand_kept e s c other = hand_cases (λ u. was_lost u.trace c ≡ was_lost s.trace c) e s (λ r. refl) (λ r. handled_kept s.id s.trace e c other)
 
 -- nothing happened to this connection except items in its outbox
 pub record Quiet (s u : Scene) (c : ℕ) : Type 0 where
@@ -131,10 +131,10 @@ hand_quiet e s c still none =
       socket = refl;
       bytes = refl;
       onward = answered_onward e s r;
-      even = λ real. answered_even s.id (new_router s.config) s.trace e c real r still;
-      came = answered_ins s.id s.trace e c ∙ none (ins s.trace c);
+      even = λ real. handled_even s.id (new_router s.config) s.trace e c real r still;
+      came = ins_handled s.id s.trace e c ∙ none (ins s.trace c);
       last = refl;
-      kept = answered_kept s.id s.trace e c (still_kept e c still);
+      kept = handled_kept s.id s.trace e c (still_kept e c still);
     })
 
 -- items of another connection

@@ -7,8 +7,8 @@ use Rattle.router_core.specs.declared.fault.CoreFault.{CoreFault}
 use Rattle.router_core.specs.declared.fault.CoreFault.TheVariants.{Disk, Memory, Failed, NoConnection}
 use Rattle.router_core.specs.Books.{is_start, is_started, declines}
 use Rattle.router_core.specs.Handling.{Fits, id_of, is_failed}
-use Rattle.router_core.proofs.Books.{started_answered, not_refused}
-use Rattle.router_core.specs.Replies.{Replies, answered}
+use Rattle.router_core.proofs.Books.{started_handled, not_refused}
+use Rattle.router_core.specs.Replies.{Replies, handled}
 use Rattle.router_trace.specs.declared.event.Event.TheVariants as event
 use Rattle.router_trace.specs.declared.event.Event.{Event}
 use Rattle.router_trace.specs.Refusing.{refuses}
@@ -46,10 +46,10 @@ pub handled_follows : (p q : Player) (e : Event) (s : Scene) → ((t : Trace) �
 handled_follows p q e s fits taken named config newest sockets lines f =
     let was : declines s.trace e ≡ false = taken s.trace f.core in
     let w : (u : Trace) × Replies (id_of p.core) s.trace (step_of e) u × Fits q.core u = fits s.trace f.core in
-    let after : w.0 ≡ answered s.id s.trace (step_of e) = w.1.answers ∙ ap (λ (i : List ℕ). answered i s.trace (step_of e)) f.named in
+    let after : w.0 ≡ handled s.id s.trace (step_of e) = w.1.answers ∙ ap (λ (i : List ℕ). handled i s.trace (step_of e)) f.named in
     rw (not_refused s.trace e was) (record {
       core = subst (λ (u : Trace). Fits q.core u) after w.2;
-      started = started_answered s.id s.trace e was;
+      started = started_handled s.id s.trace e was;
       named = named ∙ f.named;
       config = subst (λ k. k.now ≡ s.config) (sym config) f.config;
       last = newest ∙ f.last;
@@ -66,7 +66,7 @@ pub fault_follows : (p q r : Player) (fault : CoreFault) (e : Event) (s : Scene)
     → Said q r (line.Failed fault ∷ []) → is_failed r.core ≡ false → Follows p s → Follows r (hand e s)
 fault_follows p q r NoConnection e s later refused_as failed memory disk config newest sockets lines said works f =
     let is : (q.core ≡ p.core) × ((t : Trace) → Fits p.core t → declines t e ≡ true) = refused_as refl in
-    subst (λ (b : Bool). Follows r (if b then say refused s else with_trace (answered s.id s.trace (step_of e)) s)) (sym (sym (declines_later s.trace e later f.started) ∙ is.1 s.trace f.core))
+    subst (λ (b : Bool). Follows r (if b then say refused s else with_trace (handled s.id s.trace (step_of e)) s)) (sym (sym (declines_later s.trace e later f.started) ∙ is.1 s.trace f.core))
     (refused_follows p q r s is.0 config newest sockets lines said f)
 fault_follows p q r Failed e s later refused_as failed memory disk config newest sockets lines said works f =
     let wrong : true ≡ false = sym (failed refl).1 ∙ ap is_failed (sym (said.core ∙ (failed refl).0)) ∙ works in absurd cc

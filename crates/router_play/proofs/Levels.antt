@@ -31,10 +31,12 @@ use Rattle.router_rows.specs.Rows.{said, item_reply}
 use Rattle.router_rows.specs.Finding.{finds}
 use Rattle.router_reply.specs.Replies.{closing_of, ends, heard, stolen_by, refused, part_put, settled_answers, bound_by, item_row, own_row, replied}
 use Rattle.router_after.specs.After.{widened, followed}
-use Rattle.router_core.specs.Replies.{answered}
+use Rattle.router_core.specs.Books.{booked}
+use Rattle.router_core.specs.Replies.{answered, handled}
 use Rattle.router_core.specs.Runs.{waiting_of}
 use Rattle.router_core.specs.Moves.{IsTrace, outs}
-use Rattle.router_core.proofs.Headed.{Kept, trace_kept}
+use Rattle.router_core.proofs.Booking.{booked_keeps, booked_same, taken_booked}
+use Rattle.router_core.proofs.Headed.{Kept, kept_booked, trace_kept}
 use Rattle.router_core.proofs.ItemRows.{item_cases}
 use Rattle.router_core.proofs.Linked.{holder_linked}
 use Rattle.router_core.proofs.Due.{AllOnLinks, tells_on, sends_on, drains_on, grants_on}
@@ -319,18 +321,25 @@ row_even id t (event.Tick ms) c links =
 row_even id t event.Start c links = even_refl (heard id t (step_of event.Start)) c
 
 -- an event with its replies
-behind_even : (id : List ℕ) (g : Beginning) (t : List Entry) (e : Event) (c : ℕ) → IsTrace id g t → refuses t e ≡ false → Even (did e ∷ t) (answered id t (step_of e)) c
+behind_even : (id : List ℕ) (g : Beginning) (t : List Entry) (e : Event) (c : ℕ) → IsTrace id g t → refuses t e ≡ false → Even (did e ∷ booked t e) (handled id t (step_of e)) c
 behind_even id g t e c real taken =
-    let u : List Entry = heard id t (step_of e)
-    in let v : List Entry = replied id t (step_of e)
-    in let was : Kept t = trace_kept id g t real
-    in let lively : Lively u = heard_lively id t e was.ordered was.lively taken
+    let b : List Entry = booked t e
+    in let u : List Entry = heard id b (step_of e)
+    in let v : List Entry = replied id b (step_of e)
+    in let was : Kept b = kept_booked t e (trace_kept id g t real)
+    in let lively : Lively u = heard_lively id b e was.ordered was.lively (taken_booked t e taken)
     in let links : LinksKnown u = λ k o h some. live_known (conn u k) (lively k o h some)
-    in even_trans (did e ∷ t) u (answered id t (step_of e)) c (ends_even id (due t e) (did e ∷ t) c)
-    (even_trans u v (answered id t (step_of e)) c (row_even id t e c links) (followed_even v c (replied_lively id t e lively)))
+    in even_trans (did e ∷ b) u (handled id t (step_of e)) c (ends_even id (due b e) (did e ∷ b) c)
+    (even_trans u v (handled id t (step_of e)) c (row_even id b e c links) (followed_even v c (replied_lively id b e lively)))
 
-pub answered_even : (id : List ℕ) (g : Beginning) (t : List Entry) (e : Event) (c : ℕ) → IsTrace id g t → refuses t e ≡ false → moves e c ≡ false → Even t (answered id t (step_of e)) c
-answered_even id g t e c real taken h = even_trans t (did e ∷ t) (answered id t (step_of e)) c (did_even t e c h) (behind_even id g t e c real taken)
+batch_even : (t : List Entry) (e : Event) (c : ℕ) → Even t (booked t e) c
+batch_even t e c = booked_keeps (λ (u : List Entry). Even t u c) t e
+    (λ acts h. record { level = record { added = h.level.added; written = h.level.written; waits = h.level.waits }; known = h.known; lives = h.lives }) (even_refl t c)
+
+pub handled_even : (id : List ℕ) (g : Beginning) (t : List Entry) (e : Event) (c : ℕ) → IsTrace id g t → refuses t e ≡ false → moves e c ≡ false → Even t (handled id t (step_of e)) c
+handled_even id g t e c real taken h =
+    even_trans t (booked t e) (handled id t (step_of e)) c (batch_even t e c)
+    (even_trans (booked t e) (did e ∷ booked t e) (handled id t (step_of e)) c (did_even (booked t e) e c h) (behind_even id g t e c real taken))
 
 pub same : (n : ℕ) → (n == n) ≡ true
 same n = eq-eqb n n refl
@@ -386,8 +395,9 @@ answered_lost id t e c =
     in all_keep (λ (v : List Entry). was_lost v c ≡ (is_loss_of e c || was_lost t c)) (λ ps v h. goes_lost ps v c ∙ h) (replied id t (step_of e))
     (goes_lost (own_row id t u e) (with_bound (bound_by t u e) u) c ∙ bound_lost (bound_by t u e) u c ∙ ends_lost id (due t e) (did e ∷ t) c)
 
-pub answered_kept : (id : List ℕ) (t : List Entry) (e : Event) (c : ℕ) → is_loss_of e c ≡ false → was_lost (answered id t (step_of e)) c ≡ was_lost t c
-answered_kept id t e c other = answered_lost id t e c ∙ ap (λ b. b || was_lost t c) other
+pub handled_kept : (id : List ℕ) (t : List Entry) (e : Event) (c : ℕ) → is_loss_of e c ≡ false → was_lost (handled id t (step_of e)) c ≡ was_lost t c
+handled_kept id t e c other =
+    answered_lost id (booked t e) e c ∙ ap (λ b. b || was_lost (booked t e) c) other ∙ booked_same (λ (u : List Entry). was_lost u c) t e (λ acts. refl)
 
 pub still_kept : (e : Event) (c : ℕ) → moves e c ≡ false → is_loss_of e c ≡ false
 still_kept (event.Up d p) c h = refl

@@ -22,7 +22,7 @@ use Rattle.router_conns.proofs.Lists.{by_test}
 use Rattle.router_core.proofs.Coming.{ins_answered as answered_ins}
 use Rattle.router_play.proofs.Scenes.{not_true, not_false}
 use Rattle.router_play.proofs.PlayMoves.{Real, onward_real, answered_onward, took_onward}
-use Rattle.router_play.proofs.Levels.{answered_even, up_level, took_waits, took_lives, same}
+use Rattle.router_play.proofs.Levels.{handled_even, up_level, took_waits, took_lives, same}
 use Rattle.router_play.proofs.Entering.{bytes_more, spelled_more, own_lines, other_lines, level_balance, hand_cases, hand_sockets, hand_last, hand_kept, Quiet, quiet_refl, quiet_trans, say_quiet, socket_quiet, Through, AtDoor, StandsAt, Stands, Balances, Entered, entered_as, quiet_entered}
 
 -- a connection past the door, wherever its socket is
@@ -59,7 +59,7 @@ item_past d i s D P h =
     in record {
       real = onward_real s (with_trace u s) (answered_onward (event.Item d i) s r) h.real;
       said = h.said;
-      balance = level_balance h.said t u d.0 (bytes_out d.0 s.lines) (answered_even s.id (new_router s.config) t (event.Item d i) d.0 h.real r refl).level h.balance;
+      balance = level_balance h.said t u d.0 (bytes_out d.0 s.lines) (handled_even s.id (new_router s.config) t (event.Item d i) d.0 h.real r refl).level h.balance;
       through = record {
         silent = λ m. h.through.silent (i ∷ m);
         begins = λ m. (m, goes m);

@@ -15,7 +15,7 @@ use Rattle.router_play.specs.declared.script.Step.{Step}
 use Rattle.router_play.specs.declared.script.Step.TheVariants as step
 use Rattle.router_trace.specs.Connection.{conn}
 use Rattle.router_trace.specs.Refusing.{refuses, rises}
-use Rattle.router_core.specs.Replies.{answered}
+use Rattle.router_core.specs.Replies.{handled}
 use Rattle.router_core.specs.Runs.{Taking, items_of, took_one}
 use Rattle.router_core.specs.Door.{Verdict, says, passes, ends, door}
 use Rattle.router_play.specs.Script.{Scene, opening, refused, say, say_all, out_line, with_socket, with_trace, stream_of, hand, judged_by, enter_at, enter_by, enter, enter_all, Reads, BytesCome, made, make, told, lose_by, lose, Takes, is_last, close_if, take_one, take_all, Plays}
@@ -46,7 +46,7 @@ stays_put s u id config trace = record {
 }
 
 -- an event that is handled, and a take
-pub answered_onward : (e : Event) (s : Scene) → refuses s.trace e ≡ false → Onward s (with_trace (answered s.id s.trace (step_of e)) s)
+pub answered_onward : (e : Event) (s : Scene) → refuses s.trace e ≡ false → Onward s (with_trace (handled s.id s.trace (step_of e)) s)
 answered_onward e s is = record { id = refl; config = refl; leads = leads_event s.id s.trace e is }
 
 pub took_onward : (x : Taking) (s : Scene) → Onward s (with_trace (took_one x s.trace) s)
@@ -65,7 +65,7 @@ onward_real s u onward real =
 pub hand_onward : (e : Event) (s : Scene) → Onward s (hand e s)
 hand_onward e s = by_answer (refuses s.trace e) refl
   where
-    by_answer : (b : Bool) → refuses s.trace e ≡ b → Onward s (if b then say refused s else with_trace (answered s.id s.trace (step_of e)) s)
+    by_answer : (b : Bool) → refuses s.trace e ≡ b → Onward s (if b then say refused s else with_trace (handled s.id s.trace (step_of e)) s)
     by_answer true is = stays_put s (say refused s) refl refl refl
     by_answer false is = answered_onward e s is
 

@@ -13,18 +13,18 @@ use Rattle.router_trace.specs.Connection.{conn, is_live}
 use Rattle.router_trace.specs.Refusing.{refuses, rises}
 use Rattle.router_core.specs.declared.door.Door.{Door as DoorState}
 use Rattle.router_core.specs.Door.{Verdict, says, passes, ends, door}
-use Rattle.router_core.specs.Replies.{answered}
+use Rattle.router_core.specs.Replies.{handled}
 use Rattle.router_core.specs.Laws.{untaken}
 use Rattle.router_core.proofs.Plain.{Calm}
-use Rattle.router_core.proofs.Takes.{plain_answered, same_answered}
+use Rattle.router_core.proofs.Takes.{plain_handled, same_handled}
 use Rattle.router_play.specs.declared.socket.Socket.{Socket}
 use Rattle.router_play.specs.Script.{Scene, refused, say, with_socket, with_trace, hand, judged_by, enter_at, enter_by, enter, enter_all}
 use Rattle.router_conns.proofs.Lists.{by_test}
 use Rattle.router_play.proofs.Scenes.{back}
-use Rattle.router_play.proofs.Levels.{Even, even_refl, even_trans, moves, answered_even, same}
+use Rattle.router_play.proofs.Levels.{Even, even_refl, even_trans, moves, handled_even, same}
 use Rattle.router_play.proofs.Entering.{hand_cases, hand_sockets, hand_last, even_unknown}
 use Rattle.router_play.proofs.PlayMoves.{Real, onward_real, hand_onward, enter_all_onward}
-use Rattle.router_play.proofs.Calming.{answered_before, calm_before, same_refused}
+use Rattle.router_play.proofs.Calming.{handled_before, calm_before, same_refused}
 use Rattle.router_play.proofs.Courses.{Spot, Course, with_spot, on_trace, tell, judge, come_at, come_by, come, come_all, kept, plain_refuses, tell_spots}
 
 -- a connection at the door is unknown to the router
@@ -69,7 +69,7 @@ shades_even t u c even (Some k) (Some q) h = (h.0, h.1, unknown_even t u c even 
 -- an event
 
 pub hand_even : (e : Event) (s : Scene) (c : ℕ) → Real s → moves e c ≡ false → Even s.trace (hand e s).trace c
-hand_even e s c real still = hand_cases (λ u. Even s.trace u.trace c) e s (λ r. even_refl s.trace c) (λ r. answered_even s.id (new_router s.config) s.trace e c real r still)
+hand_even e s c real still = hand_cases (λ u. Even s.trace u.trace c) e s (λ r. even_refl s.trace c) (λ r. handled_even s.id (new_router s.config) s.trace e c real r still)
 
 pub hand_kin : (e : Event) (s : Scene) (p : Course) → Calm (hand e s).trace → Kin s p → Kin (hand e s) (tell e p)
 hand_kin e s p calm kin =
@@ -78,20 +78,20 @@ hand_kin e s p calm kin =
     in pick (refuses s.trace e) (plain_refuses p.trace e) same_test calm (onward_real s (hand e s) (hand_onward e s) kin.real)
   where
     pick : (a b : Bool) → a ≡ b
-        → Calm (if a then say refused s else with_trace (answered s.id s.trace (step_of e)) s).trace
-        → Real (if a then say refused s else with_trace (answered s.id s.trace (step_of e)) s)
-        → Kin (if a then say refused s else with_trace (answered s.id s.trace (step_of e)) s) (if b then p else on_trace (plain_answered p.id p.trace (step_of e)) p)
+        → Calm (if a then say refused s else with_trace (handled s.id s.trace (step_of e)) s).trace
+        → Real (if a then say refused s else with_trace (handled s.id s.trace (step_of e)) s)
+        → Kin (if a then say refused s else with_trace (handled s.id s.trace (step_of e)) s) (if b then p else on_trace (plain_handled p.id p.trace (step_of e)) p)
     pick true true is calm real = record { id = kin.id; config = kin.config; last = kin.last; trace = kin.trace; real = real }
     pick true false is calm real = absurd (true≢false is)
     pick false true is calm real = absurd (true≢false (sym is))
     pick false false is calm real =
-        let was = answered_before s.id s.trace (step_of e) calm
+        let was = handled_before s.id s.trace (step_of e) calm
         in record {
           id = kin.id;
           config = kin.config;
           last = kin.last;
-          trace = (same_answered s.id s.trace (step_of e) was.1 was.0).1
-              ∙ (λ j. plain_answered (sym kin.id j) (kin.trace j) (step_of e));
+          trace = (same_handled s.id s.trace (step_of e) was.1 was.0).1
+              ∙ (λ j. plain_handled (sym kin.id j) (kin.trace j) (step_of e));
           real = real;
         }
 
@@ -190,12 +190,12 @@ refused_in false x y h = absurd (true≢false (sym h))
 
 pub dead_item : (c : ConnectionId) (i : Item) (s : Scene) (p : Course) → Calm s.trace → Kin s p → is_live (conn s.trace c.0) ≡ false → tell (event.Item c i) p ≡ p
 dead_item c i s p calm kin dead =
-    refused_in (plain_refuses p.trace (event.Item c i)) p (on_trace (plain_answered p.id p.trace (step_of (event.Item c i))) p)
+    refused_in (plain_refuses p.trace (event.Item c i)) p (on_trace (plain_handled p.id p.trace (step_of (event.Item c i))) p)
     (sym (same_refused s.trace (event.Item c i) calm ∙ ap (λ (x : List Entry). plain_refuses x (event.Item c i)) kin.trace) ∙ ap not dead)
 
 pub dead_down : (c : ConnectionId) (s : Scene) (p : Course) → Calm s.trace → Kin s p → is_live (conn s.trace c.0) ≡ false → tell (event.Down c) p ≡ p
 dead_down c s p calm kin dead =
-    refused_in (plain_refuses p.trace (event.Down c)) p (on_trace (plain_answered p.id p.trace (step_of (event.Down c))) p)
+    refused_in (plain_refuses p.trace (event.Down c)) p (on_trace (plain_handled p.id p.trace (step_of (event.Down c))) p)
     (sym (same_refused s.trace (event.Down c) calm ∙ ap (λ (x : List Entry). plain_refuses x (event.Down c)) kin.trace) ∙ ap not dead)
 
 -- an item is received

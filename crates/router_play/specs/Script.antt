@@ -21,7 +21,7 @@ use Rattle.router_play.specs.declared.script.Step.TheVariants as step
 use Rattle.router_trace.specs.Trace.{Trace, Beginning, did, step_of}
 use Rattle.router_trace.specs.Connection.{Connection, conn, took, is_ready}
 use Rattle.router_trace.specs.Refusing.{refuses, rises}
-use Rattle.router_core.specs.Replies.{answered}
+use Rattle.router_core.specs.Replies.{handled}
 use Rattle.router_core.specs.Runs.{Taking, IsNext, items_of, took_one}
 use Rattle.router_core.specs.Door.{Verdict, says, passes, ends, door, door_behind}
 use Rattle.router_play.specs.Listening.{door_for}
@@ -73,7 +73,7 @@ with_trace t s = record { id = s.id; config = s.config; trace = t; last = s.last
 
 -- an event is handed to the router: it is refused, or its replies come after it
 abbrev pub hand : Event → Scene → Scene
-hand e s = if refuses s.trace e then say refused s else with_trace (answered s.id s.trace (step_of e)) s
+hand e s = if refuses s.trace e then say refused s else with_trace (handled s.id s.trace (step_of e)) s
 
 -- the effect of the door's verdict on an item
 abbrev pub judged_by : ConnectionId → Item → Socket → DoorState → Scene → Verdict → Scene
