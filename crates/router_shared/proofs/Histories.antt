@@ -13,7 +13,7 @@ use Rattle.router_trace.specs.Connection.{Connection, conn}
 use Rattle.router_core.specs.declared.router.Core.{Core}
 use Rattle.router_core.specs.declared.router.Batch.{Batch}
 use Rattle.router_core.specs.declared.counts.Counts.{Counts}
-use Rattle.router_core.specs.Replies.{Replies, answered}
+use Rattle.router_core.specs.Replies.{Replies}
 use Rattle.router_core.specs.Runs.{Taking, taking, items_of, waiting_of, took_one}
 use Rattle.router_core.specs.Moves.{Move, handles, takes, Goes}
 use Rattle.router_core.specs.Counting.{uncounted, with_event, with_batch}
