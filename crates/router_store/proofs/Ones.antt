@@ -9,7 +9,7 @@ use Rattle.book_core.specs.declared.fault.BookFault.TheVariants.{NoTerminus, Lim
 use Rattle.book_core.specs.declared.terminus.Terminus.{Terminus}
 use Rattle.book_core.specs.declared.terminus.TerminusNumber.{TerminusNumber}
 use Rattle.book_core.specs.Book.{BookView, refusal, make_refusal, first_fault, unless, same_key, is_short, has_short_texts}
-use Rattle.gate_journal.specs.Format.{in_2, in_8, role_byte, text_bytes, act_bytes, acts_bytes}
+use Rattle.gate_journal.specs.Format.{in_2, in_8, role_byte, text_bytes, act_bytes}
 use Rattle.gate_journal.specs.Reserve.{is_full}
 use Rattle.gate_journal.proofs.Fulls.{not_full_tested}
 use Rattle.gate_journal.proofs.Releases.{releases_fit}
@@ -23,9 +23,6 @@ one_some act e = absurd cc
 pub one_applies : (b : BookView) (act : Act) → refusal b act ≡ None → first_fault b (act ∷ []) ≡ None
 unfolding first_fault
 one_applies b act applies = rw applies refl
-
-pub one_small : (act : Act) → length (act_bytes act) ≤ 4194304 → length (acts_bytes (act ∷ [])) ≤ 4194304
-one_small act small = omega (arith, small, length-append (act_bytes act) [])
 
 -- the bytes of a text that isn't long
 short : (n : ℕ) → nat_le n 1024 ≡ true → n ≤ 1024
