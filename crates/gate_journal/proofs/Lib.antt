@@ -5,6 +5,7 @@ pub mod Spelled
 pub mod Ordered
 pub mod Reserves
 pub mod Nexts
+pub mod Fulls
 pub mod Texts
 pub mod Tools
 pub mod Back

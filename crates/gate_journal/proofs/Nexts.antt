@@ -1,12 +1,13 @@
 -- What batches that apply leave, and what the next one needs.
-use Rattle.std.proofs.Common.{◌≡◌, ℕ, ◌+◌, ◌-◌, List, [], ◌∷◌, ◌++◌, sym, ap, ◌∙◌, arith}
+use Rattle.std.proofs.Common.{◌≡◌, ℕ, ◌+◌, ◌-◌, List, [], ◌∷◌, ◌++◌, None, sym, ap, ◌∙◌, arith}
 use Rattle.std.specs.Prelude.{sum_by}
 use Rattle.book_core.specs.declared.act.Act.{Act}
-use Rattle.book_core.specs.Book.{BookView, empty_book, effects}
+use Rattle.book_core.specs.Book.{BookView, empty_book, first_fault, effects}
 use Rattle.gate_journal.specs.Batches.{IsBatch, IsNext, AllApply, book_after, HaveOutcomes, HaveTermini, AreWritable}
 use Rattle.gate_journal.specs.Reserve.{reserve, growth, release}
 use Rattle.gate_journal.proofs.Fronts.{book_more}
-use Rattle.gate_journal.proofs.Ordered.{IsOrdered, empty_ordered}
+use Rattle.gate_journal.specs.Ordered.{IsOrdered}
+use Rattle.gate_journal.proofs.Ordered.{empty_ordered}
 use Rattle.gate_journal.proofs.Reserves.{acts_follow}
 
 all_ordered : (b : BookView) (bs : List (List Act)) → IsOrdered b → AllApply b bs → IsOrdered (book_after b bs)
@@ -24,9 +25,15 @@ next_is_batch bs acts all next writable = record {
   writable = writable next.outcomes (acts_follow (book_after empty_book bs) acts (after_ordered bs all) next.applies).termini;
 }
 
+-- what is kept free behind acts, of any book whose numbers rise
+pub reserve_behind : (b : BookView) (acts : List Act) (old new : ℕ) → IsOrdered b → first_fault b acts ≡ None → old ≡ reserve b
+    → new ≡ old + sum_by growth acts - sum_by release acts → new ≡ reserve (effects b acts)
+reserve_behind b acts old new ordered applies was is = omega (arith, was, is, (acts_follow b acts ordered applies).sums)
+
 pub next_reserve : (bs : List (List Act)) (acts : List Act) (old new : ℕ) → AllApply empty_book bs → IsNext bs acts → old ≡ reserve (book_after empty_book bs)
     → new ≡ old + sum_by growth acts - sum_by release acts → new ≡ reserve (book_after empty_book (bs ++ acts ∷ []))
 next_reserve bs acts old new all next was is =
-    let follows = (acts_follow (book_after empty_book bs) acts (after_ordered bs all) next.applies).sums in
-    let sum : new ≡ reserve (effects (book_after empty_book bs) acts) = omega (arith, was, is, follows) in
-    sum ∙ ap reserve (sym (book_more empty_book bs acts))
+    reserve_behind (book_after empty_book bs) acts old new (after_ordered bs all) next.applies was is ∙ ap reserve (sym (book_more empty_book bs acts))
+
+pub made_ordered : (acts : List Act) → first_fault empty_book acts ≡ None → IsOrdered (effects empty_book acts)
+made_ordered acts applies = (acts_follow empty_book acts empty_ordered applies).ordered

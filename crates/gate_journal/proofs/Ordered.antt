@@ -6,25 +6,11 @@ use Rattle.amqp_perf.specs.declared.state.DeliveryState.{DeliveryState}
 use Rattle.book_core.specs.declared.act.Act.{Act}
 use Rattle.book_core.specs.declared.act.Act.TheVariants.{Make, Admit, Decide, Forget, Drop}
 use Rattle.book_core.specs.declared.row.Row.{Row}
-use Rattle.book_core.specs.declared.terminus.Terminus.{Terminus}
 use Rattle.book_core.specs.Book.{BookView, empty_book, refusal, effect, decided, forgotten, admitted}
 use Rattle.book_core.specs.Rising.{Rises, AllAbove, AllBelow}
 use Rattle.book_core.proofs.Shown as shown
 use Rattle.book_core.proofs.Steps.{makes_next, admits_next}
-
-abbrev number_of_row : Row → ℕ
-number_of_row r = r.number.0
-
-abbrev number_of_terminus : Terminus → ℕ
-number_of_terminus t = t.number.0
-
-pub record IsOrdered (b : BookView) : Type 0 where
-  pub rows_rise : Rises number_of_row b.rows
-  pub rows_below : AllBelow number_of_row b.next_row b.rows
-  pub termini_rise : Rises number_of_terminus b.termini
-  pub termini_below : AllBelow number_of_terminus b.next_terminus b.termini
-  pub termini_above : AllAbove number_of_terminus 0 b.termini
-  pub next_above : 0 < b.next_terminus
+use Rattle.gate_journal.specs.Ordered.{IsOrdered, number_of_row, number_of_terminus}
 
 pub empty_ordered : IsOrdered empty_book
 empty_ordered = record { rows_rise = tt; rows_below = tt; termini_rise = tt; termini_below = tt; termini_above = tt; next_above = omega arith }

@@ -17,7 +17,8 @@ use Rattle.book_core.specs.Rising.{Rises, AllAbove}
 use Rattle.book_core.proofs.Shown as shown
 use Rattle.gate_journal.specs.Batches.{HasTerminus, HaveTermini, IsAboveZero}
 use Rattle.gate_journal.specs.Reserve.{row_reserve, reserve, growth, release}
-use Rattle.gate_journal.proofs.Ordered.{IsOrdered, ordered_step}
+use Rattle.gate_journal.specs.Ordered.{IsOrdered}
+use Rattle.gate_journal.proofs.Ordered.{ordered_step}
 
 by_test : {P : Type 0} (b : Bool) → ((b ≡ true) → P) → ((b ≡ false) → P) → P
 by_test true f g = f refl

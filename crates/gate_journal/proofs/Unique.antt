@@ -1,12 +1,13 @@
 -- One encoding: a file holds only one list of batches.
-use Rattle.std.proofs.Common.{◌≡◌, ◌≢◌, ℕ, ◌<◌, ◌≤◌, ◌^◌, List, [], ◌∷◌, ◌++◌, length, Err, refl, sym, ap, ◌∙◌, subst, arith, append_assoc}
+use Rattle.std.proofs.Common.{◌≡◌, ◌≢◌, ℕ, ◌+◌, ◌<◌, ◌≤◌, ◌^◌, List, [], ◌∷◌, ◌++◌, length, Err, refl, sym, ap, ◌∙◌, subst, arith, append_assoc}
 use Rattle.std.specs.Int.{w32}
 use Rattle.std.proofs.lemmas.List.{append_cancel_left, append-nil}
 use Rattle.book_core.specs.declared.act.Act.{Act}
 use Rattle.book_core.specs.Book.{BookView, empty_book, effects}
 use Rattle.gate_journal.specs.declared.read.ReadFault.TheVariants.{Misspelt}
-use Rattle.gate_journal.specs.Format.{magic, in_4, act_bytes, acts_bytes, batch, blocks}
+use Rattle.gate_journal.specs.Format.{magic, in_4, act_bytes, acts_bytes, batch, blocks, front}
 use Rattle.gate_journal.specs.Batches.{IsWritable, AreWritable, IsBatch, AllApply, Holds}
+use Rattle.gate_journal.specs.Opening.{IsFound}
 use Rattle.gate_journal.specs.Reading.{number_at, chunk_at, act_at}
 use Rattle.gate_journal.proofs.Back.{act_back}
 use Rattle.gate_journal.proofs.Tools.{done, same_read, same_rest, back_4, chunk_back}
@@ -90,3 +91,10 @@ holds_unique file xs ys h i =
     blocks_unique empty_book xs ys h.gate i.gate h.rest i.rest h.shut i.shut h.valid i.valid
     (append_cancel_left magic (blocks xs ++ h.gate ∷ h.rest) (blocks ys ++ i.gate ∷ i.rest)
     (sym (append_assoc magic (blocks xs) (h.gate ∷ h.rest)) ∙ sym h.is ∙ i.is ∙ append_assoc magic (blocks ys) (i.gate ∷ i.rest)))
+
+-- the length of what was found in a file, by whichever batches it holds
+pub found_length : (bytes file : List ℕ) (book : BookView) (place count : ℕ) (bs : List (List Act)) → IsFound bytes book place count → bytes ≡ file → Holds file bs
+    → place + 1 ≡ length (front bs) + 1
+found_length bytes file book place count bs found same holds =
+    let one = holds_unique file found.batches bs (subst (λ (f : List ℕ). Holds f found.batches) same found.holds) holds in
+    ap (λ (n : ℕ). n + 1) (found.is_place ∙ ap (λ (b : List (List Act)). length (front b)) one)

@@ -5,6 +5,7 @@ pub mod Journal
 pub mod Listed
 pub mod Listing
 pub mod Opening
+pub mod Ordered
 pub mod Reading
 pub mod Reserve
 pub mod Scanning

@@ -1,7 +1,7 @@
 -- The room that a journal keeps free, so that what is begun can be finished: an undecided row can be decided, an unforgotten
 -- row forgotten, and a terminus dropped, each in a batch of its own.
 use Rattle.amqp_perf.specs.Spelling.{state_spelling}
-use Rattle.std.specs.Prelude.{ℕ, ◌+◌, ◌*◌, ◌≤◌, List, [], ◌∷◌, length, sum_by, if◌then◌else◌, ◌<◌}
+use Rattle.std.specs.Prelude.{ℕ, ◌+◌, ◌*◌, ◌≤◌, Bool, ◌&&◌, nat_lt, List, [], ◌∷◌, length, sum_by, if◌then◌else◌, ◌<◌}
 use Rattle.book_core.specs.declared.act.Act.{Act}
 use Rattle.book_core.specs.declared.act.Act.TheVariants.{Make, Admit, Decide, Forget, Drop}
 use Rattle.book_core.specs.declared.row.Row.{Row}
@@ -32,6 +32,10 @@ release (Forget n) = 14
 release (Drop n) = 14
 release _ = 0
 
+-- the bytes that a batch adds to a journal: its length, its acts, and the gate behind it
+abbrev pub batch_bytes : List Act → ℕ
+batch_bytes acts = 5 + length (acts_bytes acts)
+
 -- A batch costs five bytes, those of its acts, and the growth of the reserve: this is above 0 where Costs holds.
 abbrev pub Costs : List Act → Type 0
 Costs acts = sum_by release acts < 5 + length (acts_bytes acts) + sum_by growth acts
@@ -43,6 +47,13 @@ Exceeds used kept acts = journal_limit + sum_by release acts < 5 + length (acts_
 -- a batch costs more than nothing, and more than the room
 abbrev pub IsFull : ℕ → ℕ → List Act → Type 0
 IsFull used kept acts = Costs acts × Exceeds used kept acts
+
+-- The same as a test: whether a batch costs more than nothing, and more than the room, in a journal that is this long and keeps
+-- this much free.
+abbrev pub is_full : ℕ → ℕ → List Act → Bool
+is_full used kept acts =
+    nat_lt (sum_by release acts) (batch_bytes acts + sum_by growth acts)
+    && nat_lt (journal_limit + sum_by release acts) (batch_bytes acts + sum_by growth acts + used + kept)
 
 -- acts that decide, forget and drop, each outcome of at most 400 bytes
 abbrev pub Releases : Act → Type 0

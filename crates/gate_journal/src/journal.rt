@@ -3,9 +3,10 @@ ghost use Rattle.std.specs.Prelude.{◌≡◌, ◌≢◌, ◌⊎◌, pos, ◌-�
 ghost use Rattle.disk_core.specs.Disk.{LeavesOnly, NoMore, Elapses};
 ghost use Rattle.book_core.specs.declared.act.Act.{Act};
 ghost use Rattle.book_core.specs.Book.{empty_book, first_fault, effects};
-ghost use Rattle.gate_journal.specs.Format.{acts_bytes};
+ghost use Rattle.gate_journal.specs.Format.{acts_bytes, front};
 ghost use Rattle.gate_journal.specs.Batches.{Holds, HaveOutcomes, IsNext, book_after};
-ghost use Rattle.gate_journal.specs.Reserve.{growth, release, IsFull};
+ghost use Rattle.gate_journal.specs.Ordered.{IsOrdered};
+ghost use Rattle.gate_journal.specs.Reserve.{reserve, batch_bytes, growth, release, IsFull};
 ghost use Rattle.gate_journal.specs.Journal.{Keeps, disk_of, batch_count, used_bytes, kept_bytes, has_failed};
 ghost use Rattle.gate_journal.specs.Opening.{Explains};
 ghost use Rattle.gate_journal.specs.Stands.{IsAt};
@@ -51,6 +52,7 @@ fn added<D: Disk>(
 ) -> Result<Figures, JournalFault>
     ensures done { IfOk result (λ new. (bs : List (List Act)) → IsAt (D.seen disk.old) (D.may_leave disk.old) figures.place bs → IsNext bs acts.now
         → IsAt (D.seen disk.new) (D.may_leave disk.new) new.place (bs ++ acts.now ∷ [])) }
+    ensures place { IfOk result (λ new. new.place ≡ figures.place + batch_bytes acts.now) }
     ensures reserve { IfOk result (λ new. new.reserve ≡ figures.reserve + sum_by growth acts.now - sum_by release acts.now) }
     ensures count { IfOk result (λ new. new.count ≡ figures.count + 1) }
     ensures any_moment { (bs : List (List Act)) → IsAt (D.seen disk.old) (D.may_leave disk.old) figures.place bs → IsNext bs acts.now
@@ -99,6 +101,11 @@ impl<D: Disk> Journal<D> {
         ensures number { IfOk result (λ n. n ≡ batch_count self.old + 1) }
         ensures count { OnOk result (batch_count self.new ≡ batch_count self.old + 1) }
 
+        // By how much it is longer; and that it keeps free what the book behind the acts needs, where that was so before. A book's
+        // numbers rise where batches, or acts, made it (`books_are_ordered`).
+        ensures length { OnOk result (used_bytes self.new ≡ used_bytes self.old + batch_bytes acts.now) }
+        ensures kept { OnOk result (IsOrdered book.now → kept_bytes self.old ≡ reserve book.now → kept_bytes self.new ≡ reserve (effects book.now acts.now)) }
+
         // A crash at any moment of the call leaves the batches before it, or this one too.
         ensures any_moment { (bs : List (List Act)) → Keeps D.seen D.may_leave self.old bs → book_after empty_book bs ≡ book.now
             → LeavesOnly D.moment D.left_since (disk_of self.old) (disk_of self.new)
@@ -138,6 +145,8 @@ impl<D: Disk> Journal<D> {
     /// what was read. At an `Err` the disk is dropped: `Disk` comes where it failed, `Memory` where memory was refused.
     pub fn open(alloc: Global, disk: D) -> Result<(Journal<D>, Book), OpenFault>
         ensures opened { IfOk result (λ r. (bs : List (List Act)) × Keeps D.seen D.may_leave r.0 bs × (r.1 ≡ book_after empty_book bs)) }
+        ensures kept { IfOk result (λ r. kept_bytes r.0 ≡ reserve r.1) }
+        ensures length { IfOk result (λ r. (bs : List (List Act)) → Holds (D.seen disk) bs → used_bytes r.0 ≡ length (front bs) + 1) }
         ensures works { IfOk result (λ r. has_failed r.0 ≡ false) }
         ensures seen { IfOk result (λ r. D.seen (disk_of r.0) ≡ D.seen disk) }
         ensures crash { IfOk result (λ r. NoMore (D.may_leave disk) (D.may_leave (disk_of r.0))) }

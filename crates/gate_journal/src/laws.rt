@@ -1,12 +1,13 @@
 //! Laws of the journal's definitions. Each is the clause of a function that does nothing.
-ghost use Rattle.std.specs.Prelude.{◌≡◌, ◌≢◌, ◌⊎◌, ◌+◌, ◌<◌, [], List, ℕ, None, get_or, sum_by};
+ghost use Rattle.std.specs.Prelude.{◌≡◌, ◌≢◌, ◌⊎◌, ◌↔◌, ◌+◌, ◌<◌, [], List, ℕ, true, None, get_or, sum_by};
 ghost use Rattle.amqp_perf.specs.declared.state.DeliveryState.{DeliveryState};
 ghost use Rattle.amqp_perf.specs.Fitting.{FitsState};
 ghost use Rattle.book_core.specs.declared.act.Act.{Act};
 ghost use Rattle.book_core.specs.Book.{empty_book, first_fault, effects};
 ghost use Rattle.gate_journal.specs.Batches.{AllApply, Holds, IsTerminal, IsOutcome, book_after};
 ghost use Rattle.gate_journal.specs.Opening.{Explains, IsDamagedAt};
-ghost use Rattle.gate_journal.specs.Reserve.{OnlyRelease, Costs, reserve, growth, release};
+ghost use Rattle.gate_journal.specs.Ordered.{IsOrdered};
+ghost use Rattle.gate_journal.specs.Reserve.{OnlyRelease, Costs, IsFull, is_full, reserve, growth, release};
 ghost use Rattle.gate_journal.specs.declared.fault.OpenFault.TheVariants.{NotAJournal};
 
 /// A file holds only one list of batches.
@@ -30,6 +31,17 @@ pub fn one_judgement()
 pub fn reserve_follows()
     ensures { (bs : List (List Act)) (acts : List Act) → AllApply empty_book bs → first_fault (book_after empty_book bs) acts ≡ None
         → reserve (effects (book_after empty_book bs) acts) + sum_by release acts ≡ reserve (book_after empty_book bs) + sum_by growth acts }
+{}
+
+/// A book that batches leave, or acts that apply to the empty one, has numbers that rise.
+pub fn books_are_ordered()
+    ensures batches { (bs : List (List Act)) → AllApply empty_book bs → IsOrdered (book_after empty_book bs) }
+    ensures acts { (acts : List Act) → first_fault empty_book acts ≡ None → IsOrdered (effects empty_book acts) }
+{}
+
+/// A batch costs more than nothing, and more than the room, exactly where the test says so.
+pub fn fullness_is_tested()
+    ensures { (used kept : ℕ) (acts : List Act) → IsFull used kept acts ↔ (is_full used kept acts ≡ true) }
 {}
 
 /// A batch that only decides, forgets and drops, with outcomes of at most 400 bytes, costs nothing: it is never refused as

@@ -2,3 +2,4 @@ pub mod Makes
 pub mod Few
 pub mod Opened
 pub mod Started
+pub mod Ones

@@ -1,6 +1,7 @@
 -- Books that acts made.
 use Rattle.std.proofs.Common.{◌≡◌, ◌∙◌, sym, ap, refl, subst, ◌≤◌, List, [], ◌∷◌, ◌++◌, length, None, arith, Result, Ok, Err, OnOk, OnErr}
 use Rattle.std.proofs.Math.Logic.{∥∥₁_elim, ∥∥₁_map}
+use Rattle.std.proofs.Math.Nat.{ℕ_set}
 use Rattle.std.specs.Prelude.{◌==◌, ℕ, Option, Some, nat_le, Bool, true, false}
 use Rattle.std.proofs.lemmas.Bool.Decides.{nat_tests}
 use Rattle.std.proofs.lemmas.List.{nil_from_length}
@@ -11,6 +12,9 @@ use Rattle.book_core.specs.declared.fault.BookFault.{BookFault}
 use Rattle.book_core.specs.Book.{BookView, empty_book, refusal, effect, effects, first_fault}
 use Rattle.gate_journal.specs.Batches.{AllApply, book_after}
 use Rattle.gate_journal.specs.Format.{acts_bytes}
+use Rattle.gate_journal.specs.Ordered.{IsOrdered}
+use Rattle.gate_journal.specs.Reserve.{reserve}
+use Rattle.gate_journal.proofs.Nexts.{made_ordered}
 use Rattle.gate_journal.proofs.Ordered.{empty_ordered}
 use Rattle.gate_journal.proofs.Reserves.{acts_follow}
 use Rattle.router_store.specs.Lost.{start_acts}
@@ -93,3 +97,13 @@ no_acts n acts is h = nil_from_length acts (grind (arith, nat_tests))
 pub nothing_done : (b : BookView) (acts : List Act) → acts ≡ [] → b ≡ effects b acts
 unfolding effects
 nothing_done b acts none = subst (λ (xs : List Act). b ≡ effects b xs) (sym none) refl
+
+-- what is kept free behind acts, of a book that acts made
+made_is_ordered : (b : BookView) → IsMade b → IsOrdered b
+made_is_ordered b made = subst IsOrdered (sym made.2) (made_ordered made.0 made.1)
+
+pub kept_behind : (b given : BookView) (acts : List Act) (old new : ℕ) → ∥ IsMade b ∥₁ → given ≡ b
+    → (IsOrdered given → old ≡ reserve given → new ≡ reserve (effects given acts)) → old ≡ reserve b → new ≡ reserve (effects b acts)
+kept_behind b given acts old new made same behind was =
+    let P : BookView → Type 0 = λ x. IsOrdered x → old ≡ reserve x → new ≡ reserve (effects x acts) in
+    ∥∥₁_elim made (ℕ_set new (reserve (effects b acts))) (λ m. subst P same behind (made_is_ordered b m) was)

@@ -1,10 +1,11 @@
 -- The delivery store: a book, and the journal that keeps it on a disk.
-use Rattle.std.specs.Prelude.{◌≡◌, ℕ, List}
+use Rattle.std.specs.Prelude.{◌≡◌, ℕ, ◌+◌, List, [], ◌∷◌}
 use Rattle.book_core.specs.declared.act.Act.{Act}
-use Rattle.book_core.specs.Book.{BookView, empty_book}
+use Rattle.book_core.specs.Book.{BookView, empty_book, effects}
 use Rattle.gate_journal.specs.declared.journal.Journal.{Journal}
 use Rattle.gate_journal.specs.Batches.{Holds, book_after}
-use Rattle.gate_journal.specs.Journal.{Keeps}
+use Rattle.gate_journal.specs.Journal.{Keeps, used_bytes, kept_bytes}
+use Rattle.gate_journal.specs.Reserve.{reserve, batch_bytes}
 use Rattle.router_store.specs.declared.store.Store.{Store}
 
 -- its journal, the disk of that, and its book
@@ -16,6 +17,26 @@ disk_of s = s.journal.disk
 
 abbrev pub book_of : {D : Type 0} → Store D → BookView
 book_of s = s.kept.book
+
+-- how long its journal is, with the gate that ends it, and what that keeps free
+abbrev pub used_of : {D : Type 0} → Store D → ℕ
+used_of s = used_bytes (journal_of s)
+
+abbrev pub kept_of : {D : Type 0} → Store D → ℕ
+kept_of s = kept_bytes (journal_of s)
+
+-- a journal's length after these acts: where there are none, nothing is written
+abbrev pub used_behind : ℕ → List Act → ℕ
+used_behind used [] = used
+used_behind used (act ∷ acts) = used + batch_bytes (act ∷ acts)
+
+-- the journal is as long as it was, and keeps as much free
+abbrev pub IsAsLong : {D : Type 0} → Store D → Store D → Type 0
+IsAsLong old new = (used_of new ≡ used_of old) × (kept_of new ≡ kept_of old)
+
+-- the journal is longer by a batch of these acts, and keeps free what the book behind them needs, where it kept what the book needs
+abbrev pub IsLonger : {D : Type 0} → Store D → List Act → Store D → Type 0
+IsLonger old acts new = (used_of new ≡ used_of old + batch_bytes acts) × (kept_of old ≡ reserve (book_of old) → kept_of new ≡ reserve (effects (book_of old) acts))
 
 -- A file opens to a book: it holds batches, and they leave that book.
 pub record OpensTo (file : List ℕ) (book : BookView) : Type 0 where

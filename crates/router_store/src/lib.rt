@@ -5,6 +5,7 @@
 mod kept;
 pub mod laws;
 mod lost;
+mod one;
 mod store;
 
 pub use lost::start_acts;

@@ -1,14 +1,15 @@
 //! The store.
-ghost use Rattle.std.specs.Prelude.{◌≡◌, ◌≢◌, ◌⊎◌, ◌+◌, ◌-ℤ◌, ◌<◌, ◌≤◌, pos, [], ℕ, None, false, true, length, IfOk, IfErr, IfSome, IfNone, OnOk, OnErr, IsErrOf};
+ghost use Rattle.std.specs.Prelude.{◌≡◌, ◌≢◌, ◌⊎◌, ◌+◌, ◌-ℤ◌, ◌<◌, ◌≤◌, pos, [], List, ℕ, None, false, true, length, IfOk, IfErr, IfSome, IfNone, OnOk, OnErr, IsErrOf};
 ghost use Rattle.disk_core.specs.Disk.{LeavesOnly, NoMore};
+ghost use Rattle.book_core.specs.declared.act.Act.{Act as AnAct};
 ghost use Rattle.book_core.specs.Book.{first_fault, effects};
-ghost use Rattle.gate_journal.specs.Batches.{HaveOutcomes};
-ghost use Rattle.gate_journal.specs.Format.{acts_bytes};
+ghost use Rattle.gate_journal.specs.Batches.{Holds, HaveOutcomes};
+ghost use Rattle.gate_journal.specs.Format.{acts_bytes, front};
 ghost use Rattle.gate_journal.specs.Journal.{batch_count, used_bytes, kept_bytes, has_failed};
 ghost use Rattle.gate_journal.specs.Opening.{Explains};
-ghost use Rattle.gate_journal.specs.Reserve.{IsFull};
+ghost use Rattle.gate_journal.specs.Reserve.{reserve, batch_bytes, is_full};
 ghost use Rattle.router_store.specs.Lost.{start_acts};
-ghost use Rattle.router_store.specs.Store.{OpensTo, Stands, journal_of, disk_of, book_of};
+ghost use Rattle.router_store.specs.Store.{OpensTo, Stands, IsAsLong, IsLonger, journal_of, disk_of, book_of, used_of, kept_of, used_behind};
 
 use crate::kept::Kept;
 use book_core::{Act, Book};
@@ -31,6 +32,10 @@ impl<D: Disk> Store<D> {
         ensures stands { IfOk result (Stands D.seen D.may_leave) }
         ensures book { IfOk result (λ store. OpensTo (D.seen disk) (book_of store)) }
         ensures works { IfOk result (λ store. has_failed (journal_of store) ≡ false) }
+
+        // How long its journal is, and what that keeps free. (A file holds only one list of batches.)
+        ensures length { IfOk result (λ store. (bs : List (List AnAct)) → Holds (D.seen disk) bs → used_of store ≡ length (front bs) + 1) }
+        ensures kept { IfOk result (λ store. kept_of store ≡ reserve (book_of store)) }
 
         // A crash at any moment of the call leaves what it might have left before.
         ensures any_moment { IfOk result (λ store. LeavesOnly D.moment D.left_since disk (disk_of store) (D.may_leave disk)) }
@@ -66,11 +71,20 @@ impl<D: Disk> Store<D> {
         ensures any_moment { Stands D.seen D.may_leave self.old → LeavesOnly D.moment D.left_since (disk_of self.old) (disk_of self.new)
             (λ c. OpensTo c (book_of self.old) ⊎ OpensTo c (effects (book_of self.old) acts.now)) }
 
-        ensures full { IsErrOf result JournalFault.Full → IsFull (used_bytes (journal_of self.old)) (kept_bytes (journal_of self.old)) acts.now }
-        ensures room { OnOk result (IsFull (used_bytes (journal_of self.old)) (kept_bytes (journal_of self.old)) acts.now → ⊥) }
+        // By how much the journal is longer; and that it keeps free what the book needs, where that was so before.
+        ensures length { OnOk result (used_of self.new ≡ used_of self.old + batch_bytes acts.now) }
+        ensures kept { OnOk result (kept_of self.old ≡ reserve (book_of self.old) → kept_of self.new ≡ reserve (book_of self.new)) }
+
+        ensures full { IsErrOf result JournalFault.Full → is_full (used_of self.old) (kept_of self.old) acts.now ≡ true }
+        ensures room { OnOk result (is_full (used_of self.old) (kept_of self.old) acts.now ≡ false) }
         ensures unchanged { IsErrOf result JournalFault.Full → self.new ≡ self.old }
         ensures still_failed { IsErrOf result JournalFault.Failed → self.new ≡ self.old }
-        ensures kept { OnErr result (book_of self.new ≡ book_of self.old) }
+        ensures unwritten { OnErr result (book_of self.new ≡ book_of self.old) }
+
+        // No Err changes the journal's length, or what it keeps free, but for one: where memory is refused to the book, the batch is on
+        // the disk already.
+        ensures length_at_fault { IfErr result (λ fault. (fault ≡ JournalFault.Memory → ⊥) → IsAsLong self.old self.new) }
+        ensures length_at_memory { IsErrOf result JournalFault.Memory → IsAsLong self.old self.new ⊎ IsLonger self.old acts.now self.new }
 
         ensures disk { IsErrOf result JournalFault.Disk → D.failures (disk_of self.old) < D.failures (disk_of self.new) }
         ensures failed { IsErrOf result JournalFault.Failed → has_failed (journal_of self.old) ≡ true }
@@ -95,8 +109,13 @@ impl<D: Disk> Store<D> {
         ensures any_moment { Stands D.seen D.may_leave self.old → LeavesOnly D.moment D.left_since (disk_of self.old) (disk_of self.new)
             (λ c. OpensTo c (book_of self.old) ⊎ OpensTo c (effects (book_of self.old) (start_acts (book_of self.old)))) }
 
+        ensures length { OnOk result (used_of self.new ≡ used_behind (used_of self.old) (start_acts (book_of self.old))) }
+        ensures kept { OnOk result (kept_of self.old ≡ reserve (book_of self.old) → kept_of self.new ≡ reserve (book_of self.new)) }
+
         ensures never_full { IsErrOf result JournalFault.Full → ⊥ }
-        ensures kept { OnErr result (book_of self.new ≡ book_of self.old) }
+        ensures unwritten { OnErr result (book_of self.new ≡ book_of self.old) }
+        ensures length_at_fault { IfErr result (λ fault. (fault ≡ JournalFault.Memory → ⊥) → IsAsLong self.old self.new) }
+        ensures length_at_memory { IsErrOf result JournalFault.Memory → IsAsLong self.old self.new ⊎ IsLonger self.old (start_acts (book_of self.old)) self.new }
         ensures disk { IsErrOf result JournalFault.Disk → D.failures (disk_of self.old) < D.failures (disk_of self.new) }
         ensures failed { IsErrOf result JournalFault.Failed → has_failed (journal_of self.old) ≡ true }
         ensures works { has_failed (journal_of self.old) ≡ false → OnOk result (has_failed (journal_of self.new) ≡ false) }
@@ -160,6 +179,7 @@ impl<D: Crash> Store<D> {
     pub fn fuse(&mut self, calls: u64)
         ensures stands { Stands D.Disk.seen D.Disk.may_leave self.old → Stands D.Disk.seen D.Disk.may_leave self.new }
         ensures book { book_of self.new ≡ book_of self.old }
+        ensures same { (used_of self.new ≡ used_of self.old) × (kept_of self.new ≡ kept_of self.old) × (book_of self.new ≡ book_of self.old) }
         ensures set { D.lets_through (disk_of self.new) ≡ D.fused calls }
         ensures failures { D.Disk.failures (disk_of self.new) ≡ D.Disk.failures (disk_of self.old) }
     {

@@ -1,7 +1,7 @@
 use Rattle.std.proofs.Common.{◌≡◌, None, ◌∷◌, [], sym, subst, arith, length-append}
 use Rattle.book_core.specs.Book.{BookView, first_fault}
 use Rattle.gate_journal.specs.Batches.{IsNext}
-use Rattle.gate_journal.proofs.Nexts.{next_reserve}
+use Rattle.gate_journal.proofs.Nexts.{next_reserve, reserve_behind}
 use Rattle.gate_journal.proofs.journal.Journal.append.Goals as goal
 
 pub returns-in-Ok-clause-done : goal.returns-in-Ok-clause-done
@@ -13,3 +13,6 @@ returns-in-Ok-clause-done g c bs keeps is_book =
       kept = next_reserve bs c.args.acts.now _ _ keeps.at.file.valid next keeps.kept c.in-Ok.ensures.reserve;
       count = omega (arith, c.in-Ok.ensures.count, keeps.count, length-append bs (c.args.acts.now ∷ []));
     }
+
+pub returns-in-Ok-clause-kept : goal.returns-in-Ok-clause-kept
+returns-in-Ok-clause-kept g c ordered was = reserve_behind _ c.args.acts.now _ _ ordered c.requires.applies was c.in-Ok.ensures.reserve

@@ -1,10 +1,10 @@
-use Rattle.std.proofs.Common.{◌≡◌, ◌≢◌, ◌∙◌, [], List, Err, ap, sym, subst, vec_len, arith, rules}
+use Rattle.std.proofs.Common.{◌≡◌, ◌≢◌, ◌∙◌, [], List, Err, ap, true, sym, subst, vec_len, arith, rules}
 use Rattle.book_core.specs.declared.act.Act.{Act}
-use Rattle.gate_journal.specs.Journal.{used_bytes, kept_bytes}
-use Rattle.gate_journal.specs.Reserve.{IsFull}
+use Rattle.gate_journal.specs.Reserve.{is_full}
+use Rattle.gate_journal.proofs.Fulls.{test_full}
 use Rattle.gate_journal.specs.declared.fault.JournalFault.TheVariants.{Full}
 use Rattle.router_store.specs.Lost.{start_acts}
-use Rattle.router_store.specs.Store.{book_of, journal_of}
+use Rattle.router_store.specs.Store.{book_of, used_of, kept_of}
 use Rattle.router_store.proofs.Makes.{no_acts, nothing_done}
 use Rattle.router_store.proofs.Started.{start_fits}
 use Rattle.router_store.proofs.store.Store.start.Goals as goal
@@ -17,5 +17,6 @@ pub returns-in-Err-clause-never_full : goal.returns-in-Err-clause-never_full
 returns-in-Err-clause-never_full g c = λ is.
     let same : c.in-Err.fault ≡ Full = cc in
     let some : start_acts (book_of c.args.self.now) ≢ [] = search rules in
-    start_fits (book_of c.args.self.now) (used_bytes (journal_of c.args.self.now)) (kept_bytes (journal_of c.args.self.now)) some
-    (subst (λ (acts : List Act). IsFull (used_bytes (journal_of c.args.self.now)) (kept_bytes (journal_of c.args.self.now)) acts) (c.deref.ensures.value ∙ c.in-Ok.ensures.acts) (c.in-Err.ensures.full (ap Err same)))
+    start_fits (book_of c.args.self.now) (used_of c.args.self.now) (kept_of c.args.self.now) some
+    (test_full (used_of c.args.self.now) (kept_of c.args.self.now) (start_acts (book_of c.args.self.now))
+    (subst (λ (acts : List Act). is_full (used_of c.args.self.now) (kept_of c.args.self.now) acts ≡ true) (c.deref.ensures.value ∙ c.in-Ok.ensures.acts) (c.in-Err.ensures.full (ap Err same))))

@@ -1,5 +1,8 @@
-use Rattle.std.proofs.Common.{◌++◌, [], ◌∷◌, sym, ◌∙◌}
+use Rattle.std.proofs.Common.{◌++◌, [], ◌∷◌, inr, sym, ap, ◌∙◌}
+use Rattle.gate_journal.specs.Reserve.{reserve}
 use Rattle.disk_core.specs.DiskLaws.{widened}
+use Rattle.gate_journal.proofs.Fulls.{not_full_tested}
+use Rattle.router_store.proofs.Makes.{kept_behind}
 use Rattle.router_store.proofs.Opened.{leaves_more, before_or_after}
 use Rattle.router_store.proofs.store.Store.write.Goals as goal
 
@@ -24,3 +27,14 @@ pub returns-in-Err-clause-any_moment : goal.returns-in-Err-clause-any_moment
 returns-in-Err-clause-any_moment g c stands =
     widened g.D.Disk.moment g.D.Disk.left_since _ _ _ _ (c.append.ensures.any_moment stands.batches stands.keeps (sym stands.leaves ∙ sym c.book.ensures))
     (before_or_after _ stands.batches _ stands.leaves)
+
+pub returns-in-Ok-clause-kept : goal.returns-in-Ok-clause-kept
+returns-in-Ok-clause-kept g c was =
+    kept_behind _ _ _ _ _ c.args.self.now.kept.made c.book.ensures c.in_ok-number.ensures.kept was ∙ ap reserve (sym c.in-Ok.ensures.applied)
+
+pub returns-in-Ok-clause-room : goal.returns-in-Ok-clause-room
+returns-in-Ok-clause-room g c = not_full_tested _ _ _ c.in_ok-number.ensures.room
+
+pub returns-in-Err-clause-length_at_memory : goal.returns-in-Err-clause-length_at_memory
+returns-in-Err-clause-length_at_memory g c is =
+    inr (c.in_ok-number.ensures.length, kept_behind _ _ _ _ _ c.args.self.now.kept.made c.book.ensures c.in_ok-number.ensures.kept)
