@@ -41,6 +41,7 @@ use Rattle.router_trace.specs.declared.event.ConnectionId.{ConnectionId}
 use Rattle.router_trace.specs.Trace.{Did, Out, Took, Bound, Began, Trace}
 use Rattle.router_trace.specs.Sessions.{maps, unless_close, theirs}
 use Rattle.router_trace.specs.Peers.{user, container, container_id, Container}
+use Rattle.router_trace.specs.Durable.{is_durable}
 
 -- What the last attach received on a connection asks for; none if the connection is closed or lost.
 abbrev pub asked_of : Attach → Asked
@@ -199,6 +200,7 @@ pub record Link : Type 0 where
   pub number : ℕ
   pub key : LinkKey
   pub address : List ℕ
+  pub durable : Bool
   pub happened : Happened
   -- the router has begun a delivery on it, of which more frames remain to be sent
   pub going_on : Bool
@@ -220,6 +222,7 @@ begun_link number key a last address = record {
   number = number;
   key = key;
   address = address;
+  durable = is_durable a.role a;
   happened = begins a.role a.initial_delivery_count (initial_of last);
   going_on = false;
   drains = false;
@@ -372,6 +375,18 @@ numbered (Began g ∷ t) n = numbered t n
 -- the link with a key, and the link with a number, while they are attached
 abbrev pub holder : Trace → LinkKey → Option Attachment
 holder t k = if_attached t (last_of_key t k)
+
+-- a durable link is attached with this key
+abbrev pub durable_key : Option Link → Option LinkKey
+durable_key None = None
+durable_key (Some l) = if l.durable then Some l.key else None
+
+abbrev pub is_durable_at : Trace → Option Attachment → Bool
+is_durable_at t None = false
+is_durable_at t (Some a) = is_some (durable_key (link t a.conn.0 a.channel a.handle))
+
+abbrev pub holds_durable : Trace → LinkKey → Bool
+holds_durable t k = is_durable_at t (holder t k)
 
 abbrev pub place_of : Trace → ℕ → Option Attachment
 place_of t n = if_attached t (numbered t n)
