@@ -1,9 +1,8 @@
 -- Links in a trace (AMQP 1.0 part 2, section 2.6): the peer's attach and the router's answer make a link, on a handle of the
 -- router and one of the peer. A link that the router takes has an address at the router's own terminus; one that it refuses has none.
-use Rattle.std.specs.Prelude.{ℕ, zero, suc, ◌+◌, Bool, true, false, not, ◌&&◌, ◌==◌, nat_eq, nat_le, if◌then◌else◌, is_none, is_some, List, ◌∷◌, [], Option, Some, None, option_map, unwrap_or}
+use Rattle.std.specs.Prelude.{ℕ, zero, suc, ◌+◌, Bool, true, false, not, ◌&&◌, ◌==◌, nat_le, if◌then◌else◌, is_none, is_some, List, ◌∷◌, [], Option, Some, None, option_map, unwrap_or}
 use Rattle.std.specs.BTreeMap.{is_at}
 use Rattle.amqp_perf.specs.declared.perf.Attach.{Attach}
-use Rattle.amqp_perf.specs.declared.perf.Detach.{Detach}
 use Rattle.amqp_perf.specs.declared.perf.Flow.{Flow}
 use Rattle.amqp_perf.specs.declared.perf.Perf.{Perf}
 use Rattle.amqp_perf.specs.declared.perf.Perf.TheVariants as perf
@@ -12,7 +11,6 @@ use Rattle.amqp_perf.specs.declared.perf.Role.TheVariants.{Sender, Receiver}
 use Rattle.amqp_perf.specs.declared.perf.Transfer.{Transfer}
 use Rattle.amqp_perf.specs.declared.terminus.Address.{Address}
 use Rattle.amqp_perf.specs.declared.terminus.Address.TheVariants as address
-use Rattle.amqp_perf.specs.declared.terminus.Source.{Source as ASource}
 use Rattle.amqp_perf.specs.declared.terminus.SourceTerminus.{SourceTerminus}
 use Rattle.amqp_perf.specs.declared.terminus.SourceTerminus.TheVariants as source
 use Rattle.amqp_perf.specs.declared.terminus.TargetTerminus.{TargetTerminus}
@@ -37,7 +35,6 @@ use Rattle.router_trace.specs.declared.handle.Asked.{Asked}
 use Rattle.router_trace.specs.declared.handle.Attachment.{Attachment}
 use Rattle.router_trace.specs.declared.handle.LinkAt.{LinkAt}
 use Rattle.router_trace.specs.declared.handle.LinkAt.TheVariants as found
-use Rattle.router_trace.specs.declared.event.ConnectionId.{ConnectionId}
 use Rattle.router_trace.specs.Trace.{Did, Out, Took, Bound, Began, Trace}
 use Rattle.router_trace.specs.Sessions.{maps, unless_close, theirs}
 use Rattle.router_trace.specs.Peers.{user, container, container_id, Container}
