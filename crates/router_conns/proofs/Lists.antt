@@ -1,5 +1,5 @@
 -- Lemmas on lists of numbers, their filters, and tests.
-use Rattle.std.proofs.Common.{◌≡◌, ◌∙◌, sym, ap, refl, ℕ, Bool, true, false, ◌&&◌, ◌||◌, List, [], ◌∷◌, ◌++◌}
+use Rattle.std.proofs.Common.{◌≡◌, ◌∙◌, sym, ap, refl, ℕ, Bool, true, false, true≢false, ◌&&◌, ◌||◌, List, [], ◌∷◌, ◌++◌}
 use Rattle.std.specs.Prelude.{filter, nat_eq}
 use Rattle.std.proofs.lemmas.Bool.{eqb-true, eq-eqb}
 use Rattle.std.proofs.lemmas.List.Folds.{list_any-append}
@@ -62,3 +62,18 @@ from_push k c xs old new h =
 pub has_filter : (p : ℕ → Bool) (k : ℕ) (xs : List ℕ) → p k ≡ true → has k xs ≡ true → has k (filter p xs) ≡ true
 has_filter p k xs passes h =
     any-filter_same (λ y. nat_eq y k) p true (λ y e. ap p (eqb-true y k e) ∙ passes) xs ∙ h
+
+-- one that doesn't pass the filter isn't in it
+pub has_no_filter : (p : ℕ → Bool) (k : ℕ) (xs : List ℕ) → p k ≡ false → has k (filter p xs) ≡ false
+has_no_filter p k [] fails = refl
+has_no_filter p k (x ∷ xs) fails =
+    by_test (p x)
+    (λ e. rw e (neither (nat_eq x k) (has k (filter p xs)) (other x e) (has_no_filter p k xs fails)))
+    (λ e. rw e (has_no_filter p k xs fails))
+  where
+    neither : (a b : Bool) → a ≡ false → b ≡ false → (a || b) ≡ false
+    neither true b f g = absurd cc
+    neither false b f g = g
+
+    other : (x : ℕ) → p x ≡ true → nat_eq x k ≡ false
+    other x e = by_test (nat_eq x k) (λ h. absurd (true≢false (sym e ∙ ap p (eqb-true x k h) ∙ fails))) (λ h. h)

@@ -5,7 +5,7 @@ ghost use Rattle.std.specs.BTreeMap.{get};
 ghost use Rattle.router_trace.specs.Trace.{Beginning};
 ghost use Rattle.router_trace.specs.Configuration.{beginning};
 ghost use Rattle.router_trace.specs.Trace.{Entry, Out, Took, did, newest};
-ghost use Rattle.router_trace.specs.Connection.{conn as known, took, standing, is_live, is_full, is_ready, with_item, is_due, has, ended, unless_due, due};
+ghost use Rattle.router_trace.specs.Connection.{conn as known, took, standing, is_live, is_full, is_ready, with_item, is_due, has, ended, unless_due, due, found};
 ghost use Rattle.router_conns.specs.Fits.{IsBatch, count, ConnectionsFit, ConnectionsAt};
 ghost use Rattle.router_trace.specs.Refusing.{refuses, rises, is_loss};
 ghost use Rattle.router_trace.specs.declared.event.Event.TheVariants as event;
@@ -68,6 +68,18 @@ impl Connections {
             None => None,
             Some(row) => row.standing(),
         }
+    }
+
+    /// The phase of a live connection as an event finds it: a connection whose outbox is full is over then, unless the event is its
+    /// own loss.
+    #[tactic(auto, using(crate::proofs::Turns::found_over, crate::proofs::Turns::found_left))]
+    pub fn found(&self, event: &Event, conn: u64) -> Option<Conn>
+        ensures { (t : List Entry) → ConnectionsFit self.now t → result ≡ standing (found t event.now conn) }
+    {
+        if self.is_due(event, conn) {
+            return None;
+        }
+        self.standing(conn)
     }
 
     /// The live connections, by number.

@@ -1,19 +1,19 @@
 -- What is looked up of a table's link agrees with the view's.
 use Rattle.std.proofs.Common.{◌≡◌, ◌∙◌, ℕ, refl, ap, List, [], ◌∷◌, Option, Some, None}
-use Rattle.std.specs.Prelude.{option_map}
+use Rattle.std.specs.Prelude.{is_some, option_map}
 use Rattle.amqp_link.specs.Deliveries.{Frame}
 use Rattle.amqp_link.specs.Gathering.{gathered}
 use Rattle.amqp_link.specs.Receiving.{middle}
 use Rattle.router_trace.specs.declared.handle.PeerHandle.{PeerHandle}
 use Rattle.router_trace.specs.declared.handle.PeerHandle.TheVariants.{Mapped, Detaching}
 use Rattle.router_trace.specs.Links as view
-use Rattle.router_trace.specs.Links.{Happened, sends, receives, link_place_by, on_link}
+use Rattle.router_trace.specs.Links.{Happened, sends, receives, link_place_by, on_link, durable_key}
 use Rattle.router_trace.specs.Settling.{told_first, middle_by, middle_on}
 use Rattle.router_trace.specs.Following.{is_sending}
 use Rattle.router_links.specs.declared.link.Link.{Link}
 use Rattle.router_links.specs.Ends.{end_of, link_of}
 use Rattle.router_links.specs.Giving.{handle_of}
-use Rattle.router_links.specs.Looking.{credit_on, credit_at, unused_on, unused_end, count_on, count_at, sends_at, middle_at, middle_here, middle_named, is_new, is_in_middle, attachment_of, attachment_on}
+use Rattle.router_links.specs.Looking.{credit_on, credit_at, unused_on, unused_end, count_on, count_at, sends_at, middle_at, middle_here, middle_named, is_new, is_in_middle, durable_at, attachment_of, attachment_on}
 
 credit_same : (h : Happened) → credit_at (end_of h) ≡ credit_on h
 credit_same (sends list) = refl
@@ -67,6 +67,17 @@ middle_on_handle (Some (Mapped h)) known views fit = ap middle_here (fit h) ∙ 
 pub middle_follows : (p q : Option PeerHandle) (known : ℕ → Option Link) (views : ℕ → Option view.Link)
     → p ≡ q → ((h : ℕ) → known h ≡ option_map link_of (views h)) → middle_named (handle_of p) known ≡ middle_on (link_place_by q views)
 middle_follows p q known views is fit = ap (λ x. middle_named (handle_of x) known) is ∙ middle_on_handle q known views fit
+
+durable_same : (v : Option view.Link) → durable_at (option_map link_of v) ≡ durable_key v
+durable_same None = refl
+durable_same (Some l) = refl
+
+-- the key of a durable link, and whether there is one
+pub durable_follows : (k : Option Link) (v : Option view.Link) → k ≡ option_map link_of v → durable_at k ≡ durable_key v
+durable_follows k v is = ap durable_at is ∙ durable_same v
+
+pub durable_there : (k : Option Link) (v : Option view.Link) → k ≡ option_map link_of v → is_some (durable_at k) ≡ is_some (durable_key v)
+durable_there k v is = ap is_some (durable_follows k v is)
 
 attached_there : (c o h : ℕ) (v : Option view.Link) → option_map (attachment_of c o h) (option_map link_of v) ≡ attachment_on c o h v
 attached_there c o h None = refl

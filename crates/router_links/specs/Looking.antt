@@ -1,9 +1,10 @@
 -- What can be looked up of a link: its credit state, the delivery in its middle, and its attachment.
-use Rattle.std.specs.Prelude.{ℕ, Bool, true, false, not, Option, Some, None, option_map}
+use Rattle.std.specs.Prelude.{ℕ, Bool, true, false, not, if◌then◌else◌, Option, Some, None, option_map}
 use Rattle.amqp_link.specs.declared.part.Delivery.{Delivery as Told}
 use Rattle.amqp_link.specs.Credit as credit
 use Rattle.amqp_link.specs.Figures.{left_at, unused_at}
 use Rattle.amqp_link.specs.Receiving as receiving
+use Rattle.book_core.specs.declared.terminus.LinkKey.{LinkKey}
 use Rattle.router_trace.specs.declared.handle.Attachment.{Attachment}
 use Rattle.router_trace.specs.Links.{Link as View, Happened, sends, receives}
 use Rattle.router_trace.specs.Settling.{middle_by}
@@ -64,6 +65,11 @@ is_new (Some d) = not d.resume
 
 abbrev pub is_in_middle : View → Bool
 is_in_middle l = is_new (middle_by l.happened)
+
+-- the key of a durable link
+abbrev pub durable_at : Option Link → Option LinkKey
+durable_at None = None
+durable_at (Some l) = if l.durable then Some l.key else None
 
 -- the attachment of the link at a place
 abbrev pub attachment_of : ℕ → ℕ → ℕ → Link → Attachment

@@ -1,12 +1,12 @@
 //! Links as the table keeps them.
-ghost use Rattle.std.specs.Prelude.{◌≡◌, List, ℕ, if◌then◌else◌, IfOk, OnOk};
+ghost use Rattle.std.specs.Prelude.{◌≡◌, List, ℕ, Some, if◌then◌else◌, IfOk, OnOk};
 ghost use Rattle.std.specs.Option.{option_map};
 ghost use Rattle.router_trace.specs.Links.{address_by, source_address, target_address, text_of};
 ghost use Rattle.amqp_link.specs.Figures.{behind_start};
 ghost use Rattle.router_links.specs.declared.link.Side.TheVariants.{Peer, Router};
 ghost use Rattle.router_links.specs.Ends.{link_of, begun, begun_end, behind_their_flow, behind_their_transfer, behind_our_flow, behind_our_transfer, noted, with_grant, with_count, with_our_count, with_our_grant};
 ghost use Rattle.router_links.specs.Giving.{given_at, part_noted};
-ghost use Rattle.router_links.specs.Looking.{credit_on, credit_at, unused_on, unused_end, count_on, count_at, sends_at, middle_at, is_new, is_in_middle};
+ghost use Rattle.router_links.specs.Looking.{credit_on, credit_at, unused_on, unused_end, count_on, count_at, sends_at, middle_at, is_new, is_in_middle, durable_at};
 ghost use Rattle.router_trace.specs.Links.{Link as View};
 ghost use Rattle.router_trace.specs.Following.{is_sending};
 
@@ -17,6 +17,7 @@ use amqp_perf::{
 use amqp_session::Serial;
 use book_core::LinkKey;
 use bytes::Bytes;
+use router_trace::is_durable;
 use std::alloc::{AllocError, Global};
 
 /// The router's end of a link.
@@ -46,6 +47,8 @@ pub struct Link {
     pub key: LinkKey,
     /// The address at the router's own terminus.
     pub address: Text,
+    /// Whether the router's terminus outlives its connections.
+    pub durable: bool,
     /// The router's end.
     pub end: LinkEnd,
     /// Whether the router has begun a delivery of which more frames remain to be sent.
@@ -171,6 +174,7 @@ impl Link {
             number,
             key,
             address,
+            durable: is_durable(attach.role, attach),
             end: LinkEnd::begun(alloc, attach, theirs),
             going_on: false,
             drains: false,
@@ -223,6 +227,13 @@ impl Link {
         ensures { option_map (λ d. d.now) result ≡ middle_at self.now.end }
     {
         self.end.middle()
+    }
+
+    /// The link's key, if it is durable.
+    pub(crate) fn durable_key(&self) -> Option<&LinkKey>
+        ensures { option_map (λ k. k.now) result ≡ durable_at (Some self.now) }
+    {
+        if self.durable { Some(&self.key) } else { None }
     }
 
     /// Applies a flow or a transfer of one side, and returns what a transfer of the peer makes of its delivery; other performatives

@@ -5,7 +5,7 @@ ghost use Rattle.router_trace.specs.Trace.{Beginning};
 ghost use Rattle.router_trace.specs.Configuration.{beginning};
 ghost use Rattle.router_trace.specs.Trace.{Entry, Out, did};
 ghost use Rattle.router_trace.specs.Sessions.{is_channel, maps, theirs};
-ghost use Rattle.router_trace.specs.Links.{link, link_place, found_link, free_handle, holder, place_of};
+ghost use Rattle.router_trace.specs.Links.{link, link_place, found_link, free_handle, holder, place_of, durable_key, holds_durable};
 ghost use Rattle.router_trace.specs.Settling.{part_at, middle_on};
 ghost use Rattle.router_links.specs.Ends.{link_of};
 ghost use Rattle.router_links.specs.Looking.{attachment_on};
@@ -85,6 +85,14 @@ impl Links {
         self.table.attachment(conn, own, handle)
     }
 
+    /// The key of the durable link on a router's handle, of the session with the router's channel `own`.
+    #[tactic(auto, using(crate::proofs::Looks::durable_follows))]
+    pub fn durable_key(&self, conn: u64, own: u16, handle: u32) -> Option<&LinkKey>
+        ensures { (t : List Entry) → LinksFit self.now t → option_map (λ k. k.now) result ≡ durable_key (link t conn own handle) }
+    {
+        self.table.durable_key(conn, own, handle)
+    }
+
     /// The router's lowest handle, of 64, that the session's peer accepts too and on which nothing is attached.
     pub fn free_handle(&self, conn: u64, own: u16) -> Option<u32>
         ensures { (t : List Entry) → LinksFit self.now t → result ≡ free_handle t conn own }
@@ -111,6 +119,13 @@ impl Links {
         ensures { (t : List Entry) → LinksFit self.now t → result ≡ holder t key.now }
     {
         self.table.holder(key)
+    }
+
+    /// Whether a durable link is attached with a key.
+    pub fn holds_durable(&self, key: &LinkKey) -> bool
+        ensures { (t : List Entry) → LinksFit self.now t → result ≡ holds_durable t key.now }
+    {
+        self.table.holds_durable(key)
     }
 
     /// The attachment with a number, if it still has its link.

@@ -14,12 +14,12 @@ ghost use Rattle.router_trace.specs.Trace.{Beginning};
 ghost use Rattle.router_trace.specs.Configuration.{beginning};
 ghost use Rattle.router_trace.specs.Trace.{Entry, Out, did};
 ghost use Rattle.router_trace.specs.Sessions.{is_channel, maps, theirs};
-ghost use Rattle.router_trace.specs.Links.{is_handle, their_handle, asked, initial_of, key_at, is_attached, if_attached, holder, place_of};
+ghost use Rattle.router_trace.specs.Links.{is_handle, their_handle, asked, initial_of, key_at, is_attached, if_attached, holder, place_of, is_durable_at, holds_durable};
 ghost use Rattle.router_trace.specs.declared.event.Event.TheVariants as event;
 ghost use Rattle.router_links.specs.declared.link.Side.TheVariants.{Peer, Router};
 ghost use Rattle.router_links.specs.Ends.{begun, noted};
 ghost use Rattle.router_links.specs.Giving.{part_named};
-ghost use Rattle.router_links.specs.Looking.{middle_named, attachment_of};
+ghost use Rattle.router_links.specs.Looking.{middle_named, durable_at, attachment_of};
 ghost use Rattle.router_links.specs.Fits.{TableFit, with_mark, asks_drain, names_in, key_in, found_at, attachment, IsNoted};
 ghost use Rattle.router_links.specs.Naming.{on_conn, on_session, on_handle, Thinned};
 ghost use Rattle.router_links.specs.Places.{at};
@@ -119,6 +119,36 @@ impl LinkTable {
                 channel: own,
                 handle,
             }),
+        }
+    }
+
+    /// The key of the link on a handle of the router, if that link is durable.
+    pub fn durable_key(&self, conn: u64, own: u16, handle: u32) -> Option<&LinkKey>
+        ensures { option_map (λ k. k.now) result ≡ durable_at (at self.now.links conn own handle) }
+    {
+        match self.links.get(conn, own, handle) {
+            None => None,
+            Some(link) => link.durable_key(),
+        }
+    }
+
+    /// Whether a durable link is attached with a key.
+    pub fn holds_durable(&self, key: &LinkKey) -> bool
+        ensures { (t : List Entry) → TableFit self.now t → result ≡ holds_durable t key.now }
+    {
+        self.is_durable_at(self.holder(key))
+    }
+
+    /// Whether a durable link is at an attachment's place.
+    #[tactic(auto, using(crate::proofs::Looks::durable_there))]
+    fn is_durable_at(&self, attachment: Option<Attachment>) -> bool
+        ensures { (t : List Entry) → TableFit self.now t → result ≡ is_durable_at t attachment }
+    {
+        match attachment {
+            None => false,
+            Some(attachment) => self
+                .durable_key(attachment.conn.0, attachment.channel, attachment.handle)
+                .is_some(),
         }
     }
 

@@ -7,7 +7,7 @@ ghost use Rattle.router_trace.specs.Trace.{Beginning};
 ghost use Rattle.router_trace.specs.Configuration.{beginning, distribution, is_multicast};
 ghost use Rattle.router_trace.specs.Sessions.{theirs, maps, session};
 ghost use Rattle.router_trace.specs.Frames.{told_of};
-ghost use Rattle.router_trace.specs.Links.{place_of, is_attached};
+ghost use Rattle.router_trace.specs.Links.{link, place_of, is_attached, durable_key, holds_durable};
 ghost use Rattle.router_trace.specs.Settling.{part_of, middle_on, is_claimed, is_claimed_on, open_ids, ignored};
 ghost use Rattle.router_trace.specs.Deliveries.{delivery, is_to_tell, sending, named, next_id};
 ghost use Rattle.router_trace.specs.Following.{link_of, first_delivery, is_unsent_on, is_wide, is_busy, is_used, takes_more};
@@ -100,6 +100,13 @@ impl State {
         self.connections.standing(conn)
     }
 
+    /// The phase of a live connection as this event finds it: a connection whose outbox is full is over then, unless the event is its own loss.
+    pub fn found(&self, event: &Event, conn: u64) -> Option<Conn>
+        ensures { (t : List Entry) → TablesFit self.now t → result ≡ standing (found t event.now conn) }
+    {
+        self.connections.found(event, conn)
+    }
+
     /// The phase of a connection, whether live or over; none if the connection is unknown.
     pub fn phase(&self, conn: u64) -> Option<Conn>
         ensures { (t : List Entry) → TablesFit self.now t → result ≡ option_map (λ v. v.phase) (known t conn) }
@@ -151,6 +158,20 @@ impl State {
         ensures at { (t : List Entry) (e : E) (ends : List ℕ) → TablesAt self.now t e ends → result ≡ holder t key.now }
     {
         self.passing.links().holder(key)
+    }
+
+    /// Whether a durable link is attached with a key.
+    pub fn holds_durable(&self, key: &LinkKey) -> bool
+        ensures { (t : List Entry) → TablesFit self.now t → result ≡ holds_durable t key.now }
+    {
+        self.passing.links().holds_durable(key)
+    }
+
+    /// The key of the durable link on a handle of the router.
+    pub fn durable_key(&self, conn: u64, own: u16, handle: u32) -> Option<&LinkKey>
+        ensures { (t : List Entry) → TablesFit self.now t → option_map (λ k. k.now) result ≡ durable_key (link t conn own handle) }
+    {
+        self.passing.links().durable_key(conn, own, handle)
     }
 
     /// The key of the link that an attach names on a connection. Fails if memory is refused.
