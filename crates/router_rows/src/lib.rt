@@ -2,12 +2,13 @@
 #![tactic(auto)]
 
 mod answer;
+mod booking;
 mod deciding;
 mod link_rows;
 mod multicast;
 mod rows;
 
 pub use answer::Answer;
-pub use deciding::item_reply;
+pub use booking::{answer_at, wanted_address, wanted_key, wants_durable};
 pub use link_rows::LINK_TEXT;
 pub use rows::CONTAINER_ID;
