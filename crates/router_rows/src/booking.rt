@@ -1,18 +1,14 @@
 //! Durable links and the book of durable deliveries: why a link that its row would take is refused after all.
 ghost use Rattle.std.specs.Prelude.{◌≡◌, [], List, option_map, unwrap_or, IfOk};
 ghost use Rattle.router_trace.specs.Trace.{Entry};
-ghost use Rattle.router_trace.specs.Links.{free_handle, holds_durable};
 ghost use Rattle.router_trace.specs.LinkFrames.{other};
 ghost use Rattle.router_state.specs.Tables.{TablesFind};
-ghost use Rattle.router_rows.specs.Booking.{wanted_key, wanted_address, wants_durable, new_terminus, has_room, if_receiver, durable_refusal, volatile_refusal, refusal_with, book_refusal, attach_unless, attach_in, booked_attach, booked, answer_at};
+ghost use Rattle.router_rows.specs.Booking.{wanted_key, wanted_address, wants_durable, new_terminus, has_room, if_receiver, durable_refusal, volatile_refusal, attach_unless};
 ghost use Rattle.book_core.specs.Book.{terminus_of, same_bytes, is_short};
 
 use crate::answer::Answer;
-use crate::deciding::item_reply;
 use crate::link_rows::LINK_TEXT;
-use amqp_conn::Conn;
-use amqp_frames::Item;
-use amqp_perf::{Attach, Perf, Role, Text};
+use amqp_perf::{Attach, Role, Text};
 use book_core::{Book, LinkKey, LinkRole, Terminus};
 use router_links::address_by;
 use router_state::State;
@@ -97,7 +93,7 @@ fn has_address(terminus: &Terminus, address: Option<&Text>) -> bool
 }
 
 /// Why a durable link is refused, by the terminus that its key has in the book, if it is.
-fn durable_refusal(
+pub fn durable_refusal(
     book: &Book,
     full: bool,
     key: &LinkKey,
@@ -118,7 +114,7 @@ fn durable_refusal(
 }
 
 /// Why a link is refused as its key is that of a durable link that is attached, if it is.
-fn volatile_refusal(held: bool) -> Option<Condition>
+pub fn volatile_refusal(held: bool) -> Option<Condition>
     ensures { result ≡ volatile_refusal held }
 {
     if held {
@@ -128,28 +124,8 @@ fn volatile_refusal(held: bool) -> Option<Condition>
     }
 }
 
-/// Why the book stands in the way of a link that its row would take, if it does; `full` says that the journal has no room for a terminus.
-pub fn book_refusal(
-    state: &State,
-    book: &Book,
-    full: bool,
-    conn: u64,
-    attach: &Attach,
-) -> Result<Option<Condition>, AllocError>
-    ensures { IfOk result (λ refusal. (t : List Entry) → TablesFind state.now t → refusal ≡ book_refusal full book.now t conn attach.now) }
-{
-    let key = wanted_key(state, conn, attach)?;
-    let refusal = if wants_durable(attach) {
-        durable_refusal(book, full, &key, attach)
-    } else {
-        volatile_refusal(state.holds_durable(&key))
-    };
-    drop(key);
-    Ok(refusal)
-}
-
 /// The answer to an attach that its row takes, on the router's lowest free handle, if the book refuses it.
-fn attach_unless(own: u16, free: Option<u32>, refusal: Option<Condition>) -> Answer
+pub fn attach_unless(own: u16, free: Option<u32>, refusal: Option<Condition>) -> Answer
     ensures { result ≡ attach_unless own free refusal }
 {
     let Some(error) = refusal else {
@@ -162,36 +138,4 @@ fn attach_unless(own: u16, free: Option<u32>, refusal: Option<Condition>) -> Ans
             error: Some(Condition::ResourceLimitExceeded),
         },
     }
-}
-
-/// The attach in a frame, if there is one.
-fn attach_in(item: &Item) -> Option<&Attach>
-    ensures { option_map (λ a. a.now) result ≡ attach_in item.now }
-{
-    match item {
-        Item::Frame {
-            perf: Perf::Attach(attach),
-            ..
-        } => Some(attach),
-        _ => None,
-    }
-}
-
-/// The router's answer to an item on a live connection in this phase: that of its row, unless the book stands in the way of a link.
-pub fn answer_at(
-    state: &State,
-    book: &Book,
-    full: bool,
-    conn: u64,
-    phase: Conn,
-    item: &Item,
-) -> Result<Answer, AllocError>
-    ensures { IfOk result (λ answer. (t : List Entry) → TablesFind state.now t → answer ≡ answer_at full book.now t conn phase item.now) }
-{
-    let answer = item_reply(state, conn, phase, item);
-    let (Answer::Attach { own }, Some(attach)) = (answer, attach_in(item)) else {
-        return Ok(answer);
-    };
-    let refusal = book_refusal(state, book, full, conn, attach)?;
-    Ok(attach_unless(own, state.free_handle(conn, own), refusal))
 }

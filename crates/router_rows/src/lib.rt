@@ -9,6 +9,9 @@ mod multicast;
 mod rows;
 
 pub use answer::Answer;
-pub use booking::{answer_at, wanted_address, wanted_key, wants_durable};
+pub use booking::{
+    attach_unless, durable_refusal, volatile_refusal, wanted_address, wanted_key, wants_durable,
+};
+pub use deciding::item_reply;
 pub use link_rows::LINK_TEXT;
 pub use rows::CONTAINER_ID;
