@@ -14,7 +14,7 @@ use Rattle.router_reply.specs.Replies.{closing_of, ends, heard, bound_by, own_ro
 use Rattle.router_passing.specs.Passing.{with_bound}
 use Rattle.router_state.specs.Tables.{TablesFit}
 use Rattle.router_core.specs.Replies.{answered}
-use Rattle.router_core.specs.Books.{book_behind, book_in, is_start, is_started, is_out_of_turn, declines}
+use Rattle.router_core.specs.Turns.{book_behind, book_in, is_start, is_started, is_out_of_turn, declines}
 use Rattle.router_core.specs.Handling.{Fits, kept_book, state_of}
 use Rattle.router_core.specs.declared.router.Core.{Core}
 use Rattle.router_core.proofs.Following.{all_keep}

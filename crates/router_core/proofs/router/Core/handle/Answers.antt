@@ -3,7 +3,7 @@ use Rattle.router_store.specs.Store.{book_of}
 use Rattle.router_state.specs.declared.tables.State.{State}
 use Rattle.router_state.specs.Tables.{TablesFit}
 use Rattle.router_trace.specs.Trace.{step_of}
-use Rattle.router_core.specs.Books.{declines}
+use Rattle.router_core.specs.Turns.{declines}
 use Rattle.router_core.specs.Handling.{id_of, state_of}
 use Rattle.router_core.specs.Replies.{answered}
 use Rattle.router_core.proofs.Books.{fits_answered, not_refused}
