@@ -16,6 +16,7 @@ use Rattle.amqp_link.proofs.Receives as received
 use Rattle.book_core.specs.declared.terminus.LinkKey.{LinkKey}
 use Rattle.router_trace.specs.declared.handle.Asked.{Asked}
 use Rattle.router_trace.specs.Links as view
+use Rattle.router_trace.specs.Durable.{is_durable}
 use Rattle.router_trace.specs.Links.{Happened, sends, receives, initial_of, begun_link}
 use Rattle.router_links.specs.declared.link.Link.{Link}
 use Rattle.router_links.specs.declared.link.LinkEnd.{LinkEnd}
@@ -69,25 +70,25 @@ start_same going_on (receives h) = refl
 pub begun_follows : (number : ℕ) (key : LinkKey) (a : Attach) (last : Option Asked) (address : List ℕ)
     → begun number key a (initial_of last) address ≡ link_of (begun_link number key a last address)
 begun_follows number key a last address =
-    let P : LinkEnd → Link = λ e. record { number = number; key = key; address = address; end = e; going_on = false; drains = false; owes_drain = false } in
+    let P : LinkEnd → Link = λ e. record { number = number; key = key; address = address; durable = is_durable a.role a; end = e; going_on = false; drains = false; owes_drain = false } in
     ap P (begun_same a.role a.initial_delivery_count (initial_of last))
 
 pub their_flow_follows : (f : Flow) (l : view.Link) → behind_their_flow f (link_of l) ≡ link_of (view.behind_their_flow f l)
 their_flow_follows f l =
-    let P : LinkEnd → Link = λ e. record { number = l.number; key = l.key; address = l.address; end = e; going_on = l.going_on; drains = f.drain; owes_drain = f.drain } in
+    let P : LinkEnd → Link = λ e. record { number = l.number; key = l.key; address = l.address; durable = l.durable; end = e; going_on = l.going_on; drains = f.drain; owes_drain = f.drain } in
     ap P (their_flow_same f l.happened)
 
 pub their_transfer_follows : (x : Transfer) (payload : List ℕ) (l : view.Link) → behind_their_transfer x payload (link_of l) ≡ link_of (view.behind_their_transfer x payload l)
 their_transfer_follows x payload l =
-    let P : LinkEnd → Link = λ e. record { number = l.number; key = l.key; address = l.address; end = e; going_on = l.going_on; drains = l.drains; owes_drain = l.owes_drain } in
+    let P : LinkEnd → Link = λ e. record { number = l.number; key = l.key; address = l.address; durable = l.durable; end = e; going_on = l.going_on; drains = l.drains; owes_drain = l.owes_drain } in
     ap P (their_transfer_same x payload l.happened)
 
 pub our_flow_follows : (f : Flow) (l : view.Link) → behind_our_flow f (link_of l) ≡ link_of (view.behind_our_flow f l)
 our_flow_follows f l =
-    let P : LinkEnd → Link = λ e. record { number = l.number; key = l.key; address = l.address; end = e; going_on = l.going_on; drains = l.drains; owes_drain = l.owes_drain && not f.drain } in
+    let P : LinkEnd → Link = λ e. record { number = l.number; key = l.key; address = l.address; durable = l.durable; end = e; going_on = l.going_on; drains = l.drains; owes_drain = l.owes_drain && not f.drain } in
     ap P (our_flow_same f l.happened)
 
 pub our_transfer_follows : (x : Transfer) (l : view.Link) → behind_our_transfer x (link_of l) ≡ link_of (view.behind_our_transfer x l)
 our_transfer_follows x l =
-    let P : LinkEnd → Link = λ e. record { number = l.number; key = l.key; address = l.address; end = e; going_on = x.more && not x.aborted; drains = l.drains; owes_drain = l.owes_drain } in
+    let P : LinkEnd → Link = λ e. record { number = l.number; key = l.key; address = l.address; durable = l.durable; end = e; going_on = x.more && not x.aborted; drains = l.drains; owes_drain = l.owes_drain } in
     ap P (start_same l.going_on l.happened)

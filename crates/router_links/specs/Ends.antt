@@ -13,6 +13,7 @@ use Rattle.amqp_link.specs.Deliveries.{frame}
 use Rattle.amqp_link.specs.Gathering.{RecvFigures}
 use Rattle.amqp_link.specs.Figures.{send_end_of, begun_at, behind_grant, behind_start, behind_told_count, recv_end_of, unused_at, awaiting_at, behind_our_grant, behind_count, behind_transfer}
 use Rattle.book_core.specs.declared.terminus.LinkKey.{LinkKey}
+use Rattle.router_trace.specs.Durable.{is_durable}
 use Rattle.router_trace.specs.Links.{Link as View, Happened, sends, receives}
 use Rattle.router_links.specs.declared.link.Link.{Link}
 use Rattle.router_links.specs.declared.link.LinkEnd.{LinkEnd}
@@ -29,6 +30,7 @@ link_of l = record {
   number = l.number;
   key = l.key;
   address = l.address;
+  durable = l.durable;
   end = end_of l.happened;
   going_on = l.going_on;
   drains = l.drains;
@@ -45,6 +47,7 @@ begun number key a theirs address = record {
   number = number;
   key = key;
   address = address;
+  durable = is_durable a.role a;
   end = begun_end a.role a.initial_delivery_count theirs;
   going_on = false;
   drains = false;

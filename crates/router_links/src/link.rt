@@ -17,6 +17,7 @@ use amqp_perf::{
 use amqp_session::Serial;
 use book_core::LinkKey;
 use bytes::Bytes;
+use router_trace::is_durable;
 use std::alloc::{AllocError, Global};
 
 /// The router's end of a link.
@@ -46,6 +47,8 @@ pub struct Link {
     pub key: LinkKey,
     /// The address at the router's own terminus.
     pub address: Text,
+    /// Whether the router's terminus outlives its connections.
+    pub durable: bool,
     /// The router's end.
     pub end: LinkEnd,
     /// Whether the router has begun a delivery of which more frames remain to be sent.
@@ -171,6 +174,7 @@ impl Link {
             number,
             key,
             address,
+            durable: is_durable(attach.role, attach),
             end: LinkEnd::begun(alloc, attach, theirs),
             going_on: false,
             drains: false,

@@ -1,6 +1,6 @@
 -- The deliveries that the router passes on, in a trace (AMQP 1.0 part 2, sections 2.6.12, 2.6.14, 2.7.5 and 2.7.6). Each is a message
 -- bound to one consumer link. Bindings are numbered from 1 in their order, and a delivery has its binding's number.
-use Rattle.std.specs.Prelude.{ℕ, ◌+◌, ◌*◌, ◌/◌, ◌%◌, ◌^◌, Bool, true, false, not, ◌&&◌, ◌||◌, ◌==◌, nat_eq, nat_lt, nat_le, if◌then◌else◌, is_none, is_some, List, ◌∷◌, [], length, Option, Some, None, option_map, option_and_then, unwrap_or}
+use Rattle.std.specs.Prelude.{ℕ, ◌+◌, ◌*◌, ◌/◌, ◌%◌, ◌^◌, Bool, true, false, not, ◌&&◌, ◌==◌, if◌then◌else◌, is_none, is_some, List, ◌∷◌, [], length, Option, Some, None, option_map, option_and_then, unwrap_or}
 use Rattle.amqp_perf.specs.declared.perf.Disposition.{Disposition}
 use Rattle.amqp_perf.specs.declared.perf.Perf.{Perf}
 use Rattle.amqp_perf.specs.declared.perf.Perf.TheVariants as perf

@@ -7,6 +7,7 @@ pub mod Frames
 pub mod Sessions
 pub mod Clocks
 pub mod Peers
+pub mod Durable
 pub mod Links
 pub mod LinkFrames
 pub mod Deliveries

@@ -1,16 +1,12 @@
 -- The link frames that the router writes (AMQP 1.0 part 2, sections 2.7.3, 2.7.4 and 2.7.7).
-use Rattle.std.specs.Prelude.{ℕ, Bool, true, false, ◌==◌, nat_le, if◌then◌else◌, List, [], ◌∷◌, length, Option, Some, None, option_map}
+use Rattle.std.specs.Prelude.{ℕ, Bool, false, ◌==◌, nat_le, if◌then◌else◌, [], length, codes, Option, Some, None, option_map}
 use Rattle.amqp_perf.specs.declared.perf.Attach.{Attach}
-use Rattle.amqp_perf.specs.declared.perf.Detach.{Detach}
 use Rattle.amqp_perf.specs.declared.perf.Flow.{Flow}
-use Rattle.amqp_perf.specs.declared.perf.Perf.{Perf}
 use Rattle.amqp_perf.specs.declared.perf.Perf.TheVariants as perf
 use Rattle.amqp_perf.specs.declared.perf.Role.{Role}
 use Rattle.amqp_perf.specs.declared.perf.Role.TheVariants.{Sender, Receiver}
-use Rattle.amqp_perf.specs.declared.terminus.Source.{Source as ASource}
 use Rattle.amqp_perf.specs.declared.terminus.SourceTerminus.{SourceTerminus}
 use Rattle.amqp_perf.specs.declared.terminus.SourceTerminus.TheVariants as source
-use Rattle.amqp_perf.specs.declared.terminus.Target.{Target as ATarget}
 use Rattle.amqp_perf.specs.declared.terminus.TargetTerminus.{TargetTerminus}
 use Rattle.amqp_perf.specs.declared.terminus.TargetTerminus.TheVariants as target
 use Rattle.amqp_frames.specs.declared.item.Item.{Item}
@@ -19,6 +15,7 @@ use Rattle.amqp_session.specs.declared.states.FlowState.{FlowState}
 use Rattle.router_trace.specs.declared.condition.Condition.{Condition}
 use Rattle.router_trace.specs.declared.frames.LinkState.{LinkState}
 use Rattle.router_trace.specs.Frames.{frame_on, error_of, session_flow}
+use Rattle.router_trace.specs.Durable.{is_durable}
 
 -- a detach on a handle of the router
 abbrev pub detach_item : ℕ → ℕ → Bool → Option Condition → Item
@@ -59,8 +56,8 @@ abbrev pub largest_message : Role → Option ℕ
 largest_message Sender = Some 65536
 largest_message Receiver = None
 
-abbrev pub answer_to : Attach → ℕ → Attach
-answer_to a handle = record {
+abbrev pub plain_answer : Attach → ℕ → Attach
+plain_answer a handle = record {
   name = a.name;
   handle = handle;
   role = other a.role;
@@ -77,7 +74,27 @@ answer_to a handle = record {
   properties = None;
 }
 
--- the answer that refuses a link: the same, without the terminus at the router's side
+-- The answer for a durable link: the router's terminus never expires, it tells which deliveries it holds as unsettled (none), and
+-- as a receiver it settles second.
+abbrev pub lasting_source : Option SourceTerminus → Option SourceTerminus
+lasting_source (Some (source.Source s)) = Some (source.Source (record s { expiry_policy = codes "never"; timeout = 0 }))
+lasting_source s = s
+
+abbrev pub lasting_target : Option TargetTerminus → Option TargetTerminus
+lasting_target (Some (target.Target x)) = Some (target.Target (record x { expiry_policy = codes "never"; timeout = 0 }))
+lasting_target x = x
+
+abbrev pub lasting_by : Role → Attach → Attach
+lasting_by Sender a = record a { source = lasting_source a.source; unsettled = Some [] }
+lasting_by Receiver a = record a { target = lasting_target a.target; unsettled = Some []; rcv_settle_mode = 1 }
+
+abbrev pub lasting : Attach → Attach
+lasting a = if is_durable a.role a then lasting_by a.role a else a
+
+abbrev pub answer_to : Attach → ℕ → Attach
+answer_to a handle = lasting (plain_answer a handle)
+
+-- the answer that refuses a link: that of a link which isn't durable, without the terminus at the router's side
 abbrev pub refused_source : Role → Option SourceTerminus → Option SourceTerminus
 refused_source Sender s = s
 refused_source Receiver s = None
@@ -87,7 +104,7 @@ refused_target Sender x = None
 refused_target Receiver x = x
 
 abbrev pub refusal_of : Attach → ℕ → Attach
-refusal_of a handle = record (answer_to a handle) { source = refused_source a.role (source_answer a.source); target = refused_target a.role (target_answer a.target) }
+refusal_of a handle = record (plain_answer a handle) { source = refused_source a.role (source_answer a.source); target = refused_target a.role (target_answer a.target) }
 
 abbrev pub attach_item : ℕ → Attach → Item
 attach_item own a = frame_on own (perf.Attach a)

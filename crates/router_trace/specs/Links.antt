@@ -1,9 +1,8 @@
 -- Links in a trace (AMQP 1.0 part 2, section 2.6): the peer's attach and the router's answer make a link, on a handle of the
 -- router and one of the peer. A link that the router takes has an address at the router's own terminus; one that it refuses has none.
-use Rattle.std.specs.Prelude.{ℕ, zero, suc, ◌+◌, Bool, true, false, not, ◌&&◌, ◌==◌, nat_eq, nat_le, if◌then◌else◌, is_none, is_some, List, ◌∷◌, [], Option, Some, None, option_map, unwrap_or}
+use Rattle.std.specs.Prelude.{ℕ, zero, suc, ◌+◌, Bool, true, false, not, ◌&&◌, ◌==◌, nat_le, if◌then◌else◌, is_none, is_some, List, ◌∷◌, [], Option, Some, None, option_map, unwrap_or}
 use Rattle.std.specs.BTreeMap.{is_at}
 use Rattle.amqp_perf.specs.declared.perf.Attach.{Attach}
-use Rattle.amqp_perf.specs.declared.perf.Detach.{Detach}
 use Rattle.amqp_perf.specs.declared.perf.Flow.{Flow}
 use Rattle.amqp_perf.specs.declared.perf.Perf.{Perf}
 use Rattle.amqp_perf.specs.declared.perf.Perf.TheVariants as perf
@@ -12,7 +11,6 @@ use Rattle.amqp_perf.specs.declared.perf.Role.TheVariants.{Sender, Receiver}
 use Rattle.amqp_perf.specs.declared.perf.Transfer.{Transfer}
 use Rattle.amqp_perf.specs.declared.terminus.Address.{Address}
 use Rattle.amqp_perf.specs.declared.terminus.Address.TheVariants as address
-use Rattle.amqp_perf.specs.declared.terminus.Source.{Source as ASource}
 use Rattle.amqp_perf.specs.declared.terminus.SourceTerminus.{SourceTerminus}
 use Rattle.amqp_perf.specs.declared.terminus.SourceTerminus.TheVariants as source
 use Rattle.amqp_perf.specs.declared.terminus.TargetTerminus.{TargetTerminus}
@@ -37,10 +35,10 @@ use Rattle.router_trace.specs.declared.handle.Asked.{Asked}
 use Rattle.router_trace.specs.declared.handle.Attachment.{Attachment}
 use Rattle.router_trace.specs.declared.handle.LinkAt.{LinkAt}
 use Rattle.router_trace.specs.declared.handle.LinkAt.TheVariants as found
-use Rattle.router_trace.specs.declared.event.ConnectionId.{ConnectionId}
 use Rattle.router_trace.specs.Trace.{Did, Out, Took, Bound, Began, Trace}
 use Rattle.router_trace.specs.Sessions.{maps, unless_close, theirs}
 use Rattle.router_trace.specs.Peers.{user, container, container_id, Container}
+use Rattle.router_trace.specs.Durable.{is_durable}
 
 -- What the last attach received on a connection asks for; none if the connection is closed or lost.
 abbrev pub asked_of : Attach → Asked
@@ -199,6 +197,7 @@ pub record Link : Type 0 where
   pub number : ℕ
   pub key : LinkKey
   pub address : List ℕ
+  pub durable : Bool
   pub happened : Happened
   -- the router has begun a delivery on it, of which more frames remain to be sent
   pub going_on : Bool
@@ -220,6 +219,7 @@ begun_link number key a last address = record {
   number = number;
   key = key;
   address = address;
+  durable = is_durable a.role a;
   happened = begins a.role a.initial_delivery_count (initial_of last);
   going_on = false;
   drains = false;
@@ -372,6 +372,18 @@ numbered (Began g ∷ t) n = numbered t n
 -- the link with a key, and the link with a number, while they are attached
 abbrev pub holder : Trace → LinkKey → Option Attachment
 holder t k = if_attached t (last_of_key t k)
+
+-- a durable link is attached with this key
+abbrev pub durable_key : Option Link → Option LinkKey
+durable_key None = None
+durable_key (Some l) = if l.durable then Some l.key else None
+
+abbrev pub is_durable_at : Trace → Option Attachment → Bool
+is_durable_at t None = false
+is_durable_at t (Some a) = is_some (durable_key (link t a.conn.0 a.channel a.handle))
+
+abbrev pub holds_durable : Trace → LinkKey → Bool
+holds_durable t k = is_durable_at t (holder t k)
 
 abbrev pub place_of : Trace → ℕ → Option Attachment
 place_of t n = if_attached t (numbered t n)

@@ -1,5 +1,5 @@
 -- Numbers that pass a test.
-use Rattle.std.specs.Prelude.{ℕ, zero, suc, ◌+◌, Bool, true, false, nat_lt, ◌==◌, ◌&&◌, ◌||◌, if◌then◌else◌, Option, Some, None}
+use Rattle.std.specs.Prelude.{ℕ, zero, suc, ◌+◌, Bool, nat_lt, ◌==◌, ◌&&◌, ◌||◌, if◌then◌else◌, Option, Some, None}
 use Rattle.router_trace.specs.declared.handle.Attachment.{Attachment}
 
 -- the first number if there is one, else the second

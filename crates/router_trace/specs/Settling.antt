@@ -1,6 +1,6 @@
 -- What a peer's dispositions and transfers refer to: the deliveries that a range of ids names, in order, and what a transfer makes of its delivery (AMQP
 -- 1.0 part 2, sections 2.6.12, 2.6.14, 2.7.5 and 2.7.6).
-use Rattle.std.specs.Prelude.{ℕ, zero, suc, ◌+◌, ◌%◌, ◌^◌, Bool, true, false, ◌&&◌, ◌==◌, nat_lt, nat_eq, if◌then◌else◌, is_some, List, [], ◌∷◌, ◌++◌, filter, Option, Some, None}
+use Rattle.std.specs.Prelude.{ℕ, zero, suc, ◌+◌, ◌%◌, ◌^◌, Bool, false, ◌&&◌, ◌==◌, nat_lt, nat_eq, if◌then◌else◌, is_some, List, [], ◌∷◌, ◌++◌, filter, Option, Some, None}
 use Rattle.amqp_perf.specs.declared.perf.Perf.{Perf}
 use Rattle.amqp_perf.specs.declared.perf.Perf.TheVariants as perf
 use Rattle.amqp_perf.specs.declared.perf.Transfer.{Transfer}
@@ -12,7 +12,7 @@ use Rattle.amqp_link.specs.declared.part.Part.{Part}
 use Rattle.amqp_link.specs.Deliveries.{Frame, frame, delivery as told_of}
 use Rattle.amqp_link.specs.Receiving.{middle, given}
 use Rattle.router_trace.specs.Trace.{Trace}
-use Rattle.router_trace.specs.Links.{LinkPlace, nowhere, detaching, on, Happened, sends, receives, link_place}
+use Rattle.router_trace.specs.Links.{LinkPlace, on, Happened, sends, receives, link_place}
 use Rattle.router_trace.specs.Deliveries.{Delivery, delivery, named, stands_on, is_undecided, is_id}
 use Rattle.router_trace.specs.Claims.{Claim, claims}
 use Rattle.router_trace.specs.Numbers.{count_below}

@@ -1,13 +1,16 @@
 //! The link frames that the router writes.
-ghost use Rattle.std.specs.Prelude.{◌≡◌, IfOk};
-ghost use Rattle.router_trace.specs.LinkFrames.{detach_item, kept, source_answer, target_answer, other, sender_mode, receiver_mode, first_count, largest_message, answer_to, refusal_of, attach_item, link_flow_item};
+ghost use Rattle.std.specs.Prelude.{◌≡◌, codes, IfOk};
+ghost use Rattle.router_trace.specs.LinkFrames.{detach_item, kept, source_answer, target_answer, other, sender_mode, receiver_mode, first_count, largest_message, plain_answer, lasting_source, lasting_target, lasting_by, lasting, answer_to, refusal_of, attach_item, link_flow_item};
 
 use crate::condition::Condition;
+use crate::durable::is_durable;
 use crate::router_id::{RouterId, SESSION_WINDOW, frame_on};
 use amqp_frames::Item;
-use amqp_perf::{Attach, Detach, Flow, Perf, Role, SourceTerminus, Symbols, TargetTerminus};
+use amqp_perf::{
+    Attach, Detach, Flow, Perf, Role, SourceTerminus, Symbol, Symbols, TargetTerminus, Unsettled,
+};
 use amqp_session::{FlowState, Serial};
-use std::alloc::AllocError;
+use std::alloc::{AllocError, Global};
 
 /// The largest message that the router accepts, in bytes.
 pub const MAX_MESSAGE_SIZE: u64 = 65_536;
@@ -124,41 +127,94 @@ fn other(role: Role) -> Role
     }
 }
 
+/// The router's answer to an attach, but for what a durable link's has beyond it.
+fn plain_answer(alloc: Global, attach: Attach, handle: u32) -> Attach
+    ensures { result ≡ plain_answer attach handle }
+{
+    let receives = attach.role == Role::Sender;
+    Attach {
+        name: attach.name,
+        handle,
+        role: other(attach.role),
+        snd_settle_mode: if receives { attach.snd_settle_mode } else { 2 },
+        rcv_settle_mode: if receives { 0 } else { attach.rcv_settle_mode },
+        source: source_answer(attach.source),
+        target: target_answer(attach.target),
+        unsettled: None,
+        incomplete_unsettled: false,
+        initial_delivery_count: if receives { None } else { Some(0) },
+        max_message_size: if receives {
+            Some(MAX_MESSAGE_SIZE)
+        } else {
+            None
+        },
+        offered_capabilities: Symbols::new(Vec::new(alloc)),
+        desired_capabilities: Symbols::new(Vec::new(alloc)),
+        properties: None,
+    }
+}
+
+/// The source of a durable link: it never expires.
+fn lasting_source(source: Option<SourceTerminus>, never: Symbol) -> Option<SourceTerminus>
+    ensures { never ≡ codes "never" → result ≡ lasting_source source }
+{
+    match source {
+        Some(SourceTerminus::Source(mut source)) => {
+            source.expiry_policy = never;
+            source.timeout = 0;
+            Some(SourceTerminus::Source(source))
+        }
+        source => source,
+    }
+}
+
+/// The target of a durable link: it never expires.
+fn lasting_target(target: Option<TargetTerminus>, never: Symbol) -> Option<TargetTerminus>
+    ensures { never ≡ codes "never" → result ≡ lasting_target target }
+{
+    match target {
+        Some(TargetTerminus::Target(mut target)) => {
+            target.expiry_policy = never;
+            target.timeout = 0;
+            Some(TargetTerminus::Target(target))
+        }
+        target => target,
+    }
+}
+
 impl RouterId {
     /// The router's answer to an attach, on the router's handle (AMQP 1.0 part 2, section 2.7.3). It has the same name, the opposite role and
-    /// both termini as received, except that no filter is in place and no terminus configuration is kept.
-    pub fn answer_to(&self, attach: Attach, handle: u32) -> Attach
-        ensures { result ≡ answer_to attach handle }
+    /// both termini as received, except that no filter is in place and no terminus configuration is kept. On a durable link the router's
+    /// terminus never expires, the answer tells that no delivery is unsettled, and as a receiver the router settles second.
+    pub fn answer_to(&self, attach: Attach, handle: u32) -> Result<Attach, AllocError>
+        ensures { IfOk result (λ answer. answer ≡ answer_to attach handle) }
     {
-        let receives = attach.role == Role::Sender;
-        Attach {
-            name: attach.name,
-            handle,
-            role: other(attach.role),
-            snd_settle_mode: if receives { attach.snd_settle_mode } else { 2 },
-            rcv_settle_mode: if receives { 0 } else { attach.rcv_settle_mode },
-            source: source_answer(attach.source),
-            target: target_answer(attach.target),
-            unsettled: None,
-            incomplete_unsettled: false,
-            initial_delivery_count: if receives { None } else { Some(0) },
-            max_message_size: if receives {
-                Some(MAX_MESSAGE_SIZE)
-            } else {
-                None
-            },
-            offered_capabilities: Symbols::new(Vec::new(self.alloc())),
-            desired_capabilities: Symbols::new(Vec::new(self.alloc())),
-            properties: None,
+        let answer = plain_answer(self.alloc(), attach, handle);
+        if !is_durable(answer.role, &answer) {
+            return Ok(answer);
+        }
+        match self.never() {
+            Ok(never) => Ok(lasting(self.alloc(), answer, never)),
+            Err(error) => {
+                drop(answer);
+                Err(error)
+            }
         }
     }
 
-    /// The answer that refuses a link: the same, but without the terminus at the router's side.
+    /// The expiry policy of a terminus that never expires (AMQP 1.0 part 3, section 3.5.6).
+    fn never(&self) -> Result<Symbol, AllocError>
+        ensures { IfOk result (λ never. never ≡ codes "never") }
+    {
+        Ok(Symbol::new(String::from_str(self.alloc(), "never")?))
+    }
+
+    /// The answer that refuses a link: that of a link which isn't durable, without the terminus at the router's side.
     pub fn refusal_of(&self, attach: Attach, handle: u32) -> Attach
         ensures { result ≡ refusal_of attach handle }
     {
         let receives = attach.role == Role::Sender;
-        let mut answer = self.answer_to(attach, handle);
+        let mut answer = plain_answer(self.alloc(), attach, handle);
         if receives {
             answer.target = None;
         } else {
@@ -166,4 +222,20 @@ impl RouterId {
         }
         answer
     }
+}
+
+/// The answer for a durable link.
+fn lasting(alloc: Global, answer: Attach, never: Symbol) -> Attach
+    ensures { never ≡ codes "never" → result ≡ lasting_by answer.role answer }
+{
+    let mut answer = answer;
+    answer.unsettled = Some(Unsettled::new(Vec::new(alloc)));
+    match answer.role {
+        Role::Sender => answer.source = lasting_source(answer.source, never),
+        Role::Receiver => {
+            answer.target = lasting_target(answer.target, never);
+            answer.rcv_settle_mode = 1;
+        }
+    }
+    answer
 }

@@ -4,6 +4,7 @@
 mod binding;
 mod channel;
 mod condition;
+mod durable;
 mod event;
 mod frames;
 mod handle;
@@ -14,6 +15,7 @@ mod terms;
 pub use binding::{Binding, Origin};
 pub use channel::PeerChannel;
 pub use condition::Condition;
+pub use durable::is_durable;
 pub use event::{ConnectionId, Event, Peer, PeerRole};
 pub use frames::{LinkState, MAX_MESSAGE_SIZE, attach_item, link_flow_item};
 pub use handle::{Asked, Attachment, LinkAt, PeerHandle};
