@@ -2,8 +2,7 @@
 use Rattle.std.proofs.Common.{◌≡◌, ◌∙◌, sym, ap, refl, ℕ, List, [], ◌∷◌, Bool, true, false}
 use Rattle.std.specs.Prelude.{Option, Some, None, not, ◌||◌}
 use Rattle.amqp_frames.specs.declared.item.Item.{Item}
-use Rattle.book_core.specs.declared.act.Act.{Act}
-use Rattle.book_core.specs.Book.{BookView, effects}
+use Rattle.book_core.specs.Book.{BookView}
 use Rattle.router_trace.specs.declared.binding.Binding.{Binding}
 use Rattle.router_trace.specs.declared.event.Event.{Event}
 use Rattle.router_trace.specs.declared.event.Event.TheVariants as event
@@ -14,11 +13,10 @@ use Rattle.router_trace.specs.declared.condition.Condition.TheVariants.{Resource
 use Rattle.router_reply.specs.Replies.{closing_of, ends, heard, bound_by, own_row, replied}
 use Rattle.router_passing.specs.Passing.{with_bound}
 use Rattle.router_state.specs.Tables.{TablesFit}
-use Rattle.router_core.specs.Replies.{answered, handled}
-use Rattle.router_core.specs.Books.{acts_of, book_behind, book_in, with_acts, booked, is_start, is_started, is_out_of_turn, declines}
+use Rattle.router_core.specs.Replies.{answered}
+use Rattle.router_core.specs.Turns.{book_behind, book_in, is_start, is_started, is_out_of_turn, declines}
 use Rattle.router_core.specs.Handling.{Fits, kept_book, state_of}
 use Rattle.router_core.specs.declared.router.Core.{Core}
-use Rattle.router_core.proofs.Booking.{booked_same}
 use Rattle.router_core.proofs.Following.{all_keep}
 
 -- what doesn't look at items and bindings is after an event and its replies as it is after the event
@@ -45,13 +43,8 @@ module _ {A : Type 0} (view : List Entry → A) (out : (c : ℕ) (i : Item) (t :
   view_answered id t e =
       all_keep (λ (u : List Entry). view u ≡ view (did e ∷ t)) (λ ps u h. view_goes ps u ∙ h) (replied id t (step_of e)) (view_replied id t e)
 
-book_with : (acts : List Act) (t : List Entry) → book_in (with_acts acts t) ≡ effects (book_in t) acts
-unfolding effects
-book_with [] t = refl
-book_with (act ∷ acts) t = refl
-
-pub book_handled : (id : List ℕ) (t : List Entry) (e : Event) → book_in (handled id t (step_of e)) ≡ book_behind (book_in t) e
-book_handled id t e = view_answered book_in (λ c i u. refl) (λ x u. refl) id (booked t e) e ∙ book_with (acts_of (book_in t) e) t
+pub book_answered : (id : List ℕ) (t : List Entry) (e : Event) → book_in (answered id t (step_of e)) ≡ book_behind (book_in t) e
+book_answered id t e = view_answered book_in (λ c i u. refl) (λ x u. refl) id t e
 
 -- tests of two things
 or_first : (x y : Bool) → (x || y) ≡ false → x ≡ false
@@ -78,18 +71,15 @@ in_turn t (event.Down c) is = not_false (is_started t) is
 in_turn t (event.Tick ms) is = not_false (is_started t) is
 in_turn t event.Start is = refl
 
-started_booked : (t : List Entry) (e : Event) → is_started (did e ∷ booked t e) ≡ is_started (did e ∷ t)
-started_booked t e = ap (λ (b : Bool). is_start e || b) (booked_same is_started t e (λ acts. refl))
-
-pub started_handled : (id : List ℕ) (t : List Entry) (e : Event) → declines t e ≡ false → is_started (handled id t (step_of e)) ≡ true
-started_handled id t e taken =
-    view_answered is_started (λ c i u. refl) (λ x u. refl) id (booked t e) e ∙ started_booked t e ∙ in_turn t e (or_first (is_out_of_turn t e) (refuses t e) taken)
+pub started_answered : (id : List ℕ) (t : List Entry) (e : Event) → declines t e ≡ false → is_started (answered id t (step_of e)) ≡ true
+started_answered id t e taken =
+    view_answered is_started (λ c i u. refl) (λ x u. refl) id t e ∙ in_turn t e (or_first (is_out_of_turn t e) (refuses t e) taken)
 
 -- the router agrees with the trace after an event
-pub fits_handled : {D : Type 0} (old new : Core D) (id : List ℕ) (t : List Entry) (e : Event) → Fits old t → declines t e ≡ false
-    → TablesFit (state_of new) (handled id t (step_of e)) → new.started ≡ true → kept_book new ≡ book_behind (kept_book old) e → Fits new (handled id t (step_of e))
-fits_handled old new id t e fits taken tables started book = record {
+pub fits_answered : {D : Type 0} (old new : Core D) (id : List ℕ) (t : List Entry) (e : Event) → Fits old t → declines t e ≡ false
+    → TablesFit (state_of new) (answered id t (step_of e)) → new.started ≡ true → kept_book new ≡ book_behind (kept_book old) e → Fits new (answered id t (step_of e))
+fits_answered old new id t e fits taken tables started book = record {
   tables = tables;
-  started = started ∙ sym (started_handled id t e taken);
-  book = book ∙ ap (λ (x : BookView). book_behind x e) fits.book ∙ sym (book_handled id t e);
+  started = started ∙ sym (started_answered id t e taken);
+  book = book ∙ ap (λ (x : BookView). book_behind x e) fits.book ∙ sym (book_answered id t e);
 }

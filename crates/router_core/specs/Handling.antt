@@ -2,7 +2,8 @@
 use Rattle.std.specs.Prelude.{◌≡◌, ◌⊎◌, ℕ, Bool, List, Option, Some, None}
 use Rattle.book_core.specs.Book.{BookView}
 use Rattle.router_store.specs.declared.store.Store.{Store}
-use Rattle.router_store.specs.Store.{OpensTo, Stands, book_of}
+use Rattle.gate_journal.specs.Reserve.{reserve}
+use Rattle.router_store.specs.Store.{OpensTo, Stands, book_of, used_of, kept_of}
 use Rattle.router_core.specs.declared.router.Core.{Core}
 use Rattle.router_core.specs.declared.router.Batch.{Batch}
 use Rattle.router_core.specs.declared.counts.Counts.{Counts}
@@ -11,13 +12,20 @@ use Rattle.router_trace.specs.Trace.{Trace}
 use Rattle.router_trace.specs.Connection.{Connection, Batched}
 use Rattle.router_state.specs.declared.tables.State.{State}
 use Rattle.router_state.specs.Tables.{TablesFit}
-use Rattle.router_core.specs.Books.{book_behind, book_in, is_started}
+use Rattle.router_reply.specs.Acts.{journaled, book_in, book_behind}
+use Rattle.router_core.specs.Turns.{is_started}
 
--- the router agrees with the trace: its tables, whether it was started, and its book
+-- a router's journal agrees with the trace: its book, how long it is, and what it keeps free
+pub record Journals {D : Type 0} (core : Core D) (t : Trace) : Type 0 where
+  pub book : book_of core.store ≡ book_in t
+  pub used : used_of core.store ≡ (journaled t).used
+  pub kept : kept_of core.store ≡ reserve (book_in t)
+
+-- the router agrees with the trace: its tables, whether it was started, and its journal
 pub record Fits {D : Type 0} (core : Core D) (t : Trace) : Type 0 where
   pub tables : TablesFit core.state t
   pub started : core.started ≡ is_started t
-  pub book : book_of core.store ≡ book_in t
+  pub journal : Journals core t
 
 -- it failed with a fault of the disk or of memory, and answers nothing else
 abbrev pub is_failed : {D : Type 0} → Core D → Bool
@@ -47,8 +55,8 @@ IsBatchOf None most b = ⊥
 IsBatchOf (Some v) most b = Batched v most b.first b.items.items b.ended
 
 -- a file opens to the book before an event, or to the book after it
-abbrev pub BeforeOrBehind : BookView → Event → List ℕ → Type 0
-BeforeOrBehind b e file = OpensTo file b ⊎ OpensTo file (book_behind b e)
+abbrev pub BeforeOrBehind : Trace → Event → List ℕ → Type 0
+BeforeOrBehind t e file = OpensTo file (book_in t) ⊎ OpensTo file (book_behind t e)
 
 -- the store keeps this book, and a crash leaves just that
 pub record IsToldBehind {D : Type 0} (seen : D → List ℕ) (may_leave : D → List ℕ → Type 0) (core : Core D) (b : BookView) : Type 0 where

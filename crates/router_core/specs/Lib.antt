@@ -1,6 +1,6 @@
 pub mod Counting
 pub mod Faults
-pub mod Books
+pub mod Turns
 pub mod Handling
 pub mod Replies
 pub mod Runs

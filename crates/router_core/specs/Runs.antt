@@ -7,7 +7,7 @@ use Rattle.router_core.specs.declared.driving.Sent.{Sent}
 use Rattle.router_trace.specs.Trace.{Trace, Took, step_of}
 use Rattle.router_trace.specs.Connection.{Connection, conn, is_ready}
 use Rattle.router_conns.specs.Fits.{IsLeast}
-use Rattle.router_core.specs.Books.{declines}
+use Rattle.router_core.specs.Turns.{declines}
 use Rattle.router_core.specs.Replies.{Replies}
 
 -- the items waiting in an outbox

@@ -3,14 +3,15 @@ ghost use Rattle.std.specs.Prelude.{◌≡◌, ◌≢◌, ◌⊎◌, ◌+◌, �
 ghost use Rattle.disk_core.specs.Disk.{LeavesOnly, NoMore};
 ghost use Rattle.gate_journal.specs.Journal.{batch_count};
 ghost use Rattle.gate_journal.specs.Opening.{Explains};
-ghost use Rattle.router_store.specs.Store.{OpensTo, Stands, journal_of, disk_of};
+ghost use Rattle.router_store.specs.Store.{OpensTo, Stands, journal_of, disk_of, used_of, kept_of, used_behind};
 ghost use Rattle.route_table.specs.Places.{routing_of};
 ghost use Rattle.router_trace.specs.Configuration.{beginning};
 ghost use Rattle.router_trace.specs.Trace.{Entry, Took, step_of};
 ghost use Rattle.router_trace.specs.Connection.{conn as known, is_ready, is_live};
 ghost use Rattle.router_trace.specs.Refusing.{refuses};
 ghost use Rattle.router_conns.specs.Fits.{IsLeast};
-ghost use Rattle.router_core.specs.Books.{acts_of, book_behind, declines};
+ghost use Rattle.router_reply.specs.Acts.{acts_of, book_behind, answer_to_event};
+ghost use Rattle.router_core.specs.Turns.{declines};
 ghost use Rattle.router_core.specs.Replies.{Replies, answered};
 ghost use Rattle.router_state.specs.Tables.{TablesFit};
 ghost use Rattle.router_core.specs.Handling.{Fits, is_failed, id_of, store_of, kept_book, state_of, counts_of, IsBatchOf, BeforeOrBehind, IsToldBehind};
@@ -25,7 +26,8 @@ use disk_core::{Crash, Disk};
 use gate_journal::{JournalFault, OpenFault};
 use route_table::{Config, Table};
 use router_after::after;
-use router_reply::reply;
+use router_reply::{Plan, plan, reply};
+use router_rows::Answer;
 use router_state::State;
 use router_store::Store;
 use router_trace::{ConnectionId, Event, RouterId};
@@ -37,6 +39,9 @@ pub struct Done {
     /// The batch that the event wrote to the journal: its number, from 1 on, and its acts. None where it wrote nothing.
     pub journal: Option<(u64, Vec<Act>)>,
 }
+
+/// The batch that was written, if one was: its number and its acts.
+type Written = Option<(u64, Vec<Act>)>;
 
 /// Items that were taken from an outbox. Only `Core::take` makes one.
 #[derive(Debug, Drop)]
@@ -102,7 +107,7 @@ impl<D: Disk> Core<D> {
     /// comes where it failed, `Memory` where memory was refused, and the others where the disk holds no journal, or a
     /// damaged one.
     pub fn open(alloc: Global, disk: D, config: &Config) -> Result<Core<D>, OpenFault>
-        ensures fits { IfOk result (λ core. Fits core (beginning (record { routing = routing_of config.now; book = kept_book core }))) }
+        ensures fits { IfOk result (λ core. Fits core (beginning (record { routing = routing_of config.now; book = kept_book core; used = used_of (store_of core) }))) }
         ensures works { IfOk result (λ core. is_failed core ≡ false) }
         ensures named { IfOk result (λ core. id_of core ≡ config.now.router_id) }
         ensures counts { IfOk result (λ core. counts_of core ≡ uncounted) }
@@ -201,17 +206,17 @@ impl<D: Disk> Core<D> {
 
         // The event's acts are done to the book, and written as one batch; where there are none, nothing is written.
         ensures stands { OnOk result (Stands D.seen D.may_leave (store_of self.old) → Stands D.seen D.may_leave (store_of self.new)) }
-        ensures book { OnOk result (kept_book self.new ≡ book_behind (kept_book self.old) event) }
-        ensures written { IfOk result (λ done. IfSome done.journal (λ batch.
-            (batch.0 ≡ batch_count (journal_of (store_of self.old)) + 1) × (batch.1.items ≡ acts_of (kept_book self.old) event))) }
-        ensures silent { IfOk result (λ done. IfNone done.journal (acts_of (kept_book self.old) event ≡ [])) }
+        ensures book { OnOk result ((t : List Entry) → Fits self.old t → kept_book self.new ≡ book_behind t event) }
+        ensures written { IfOk result (λ done. (t : List Entry) → Fits self.old t → IfSome done.journal (λ batch.
+            (batch.0 ≡ batch_count (journal_of (store_of self.old)) + 1) × (batch.1.items ≡ acts_of t event))) }
+        ensures silent { IfOk result (λ done. (t : List Entry) → Fits self.old t → IfNone done.journal (acts_of t event ≡ [])) }
 
         // Whatever is answered, a crash at any moment of the call leaves the book before the event or the book after it; and after
         // a fault either no item was put out, or it leaves the book after it.
-        ensures any_moment { Stands D.seen D.may_leave (store_of self.old) → LeavesOnly D.moment D.left_since (disk_of (store_of self.old)) (disk_of (store_of self.new))
-            (BeforeOrBehind (kept_book self.old) event) }
-        ensures told { OnErr result (Stands D.seen D.may_leave (store_of self.old)
-            → (state_of self.new ≡ state_of self.old) ⊎ IsToldBehind D.seen D.may_leave self.new (book_behind (kept_book self.old) event)) }
+        ensures any_moment { (t : List Entry) → Fits self.old t → Stands D.seen D.may_leave (store_of self.old)
+            → LeavesOnly D.moment D.left_since (disk_of (store_of self.old)) (disk_of (store_of self.new)) (BeforeOrBehind t event) }
+        ensures told { OnErr result ((t : List Entry) → Fits self.old t → Stands D.seen D.may_leave (store_of self.old)
+            → (state_of self.new ≡ state_of self.old) ⊎ IsToldBehind D.seen D.may_leave self.new (book_behind t event)) }
 
         // One more event is counted exactly if the call answers Ok.
         ensures counted { OnOk result (counts_of self.new ≡ with_event event (counts_of self.old)) }
@@ -234,15 +239,15 @@ impl<D: Disk> Core<D> {
             drop(event);
             return Err(CoreFault::NoConnection);
         }
-        let journal = match self.write(&event) {
-            Ok(journal) => journal,
+        let (answer, journal) = match self.write(&event) {
+            Ok(written) => written,
             Err(fault) => {
                 drop(event);
                 self.failed = true;
                 return Err(fault);
             }
         };
-        let Ok(()) = self.answer(event) else {
+        let Ok(()) = self.answer(event, answer) else {
             drop(journal);
             self.failed = true;
             return Err(CoreFault::Memory);
@@ -261,34 +266,79 @@ impl<D: Disk> Core<D> {
         out_of_turn || self.state.refuses(event)
     }
 
-    /// Does an event's acts to the book, and writes them as one batch; where there are none, nothing is written.
-    #[tactic(auto, unfolding(book_core::specs::Book::effects))]
-    fn write(&mut self, event: &Event) -> Result<Option<(u64, Vec<Act>)>, CoreFault>
+    /// Does an event's acts to the book, and writes them as one batch; where there are none, nothing is written. Gives the answer to
+    /// the event's item with the batch.
+    fn write(&mut self, event: &Event) -> Result<(Answer, Written), CoreFault>
         ensures rest { self.new ≡ record self.old { store = store_of self.new } }
+        ensures answer { IfOk result (λ w. (t : List Entry) → Fits self.old t → w.0 ≡ answer_to_event t event.now) }
         ensures stands { OnOk result (Stands D.seen D.may_leave (store_of self.old) → Stands D.seen D.may_leave (store_of self.new)) }
-        ensures book { OnOk result (kept_book self.new ≡ book_behind (kept_book self.old) event.now) }
-        ensures written { IfOk result (λ w. IfSome w (λ batch.
-            (batch.0 ≡ batch_count (journal_of (store_of self.old)) + 1) × (batch.1.items ≡ acts_of (kept_book self.old) event.now))) }
-        ensures silent { IfOk result (λ w. IfNone w (acts_of (kept_book self.old) event.now ≡ [])) }
-        ensures any_moment { Stands D.seen D.may_leave (store_of self.old) → LeavesOnly D.moment D.left_since (disk_of (store_of self.old)) (disk_of (store_of self.new))
-            (BeforeOrBehind (kept_book self.old) event.now) }
+        ensures journaled { OnOk result ((t : List Entry) → Fits self.old t → Journals self.new (did event.now ∷ t)) }
+        ensures written { IfOk result (λ w. (t : List Entry) → Fits self.old t → IfSome w.1 (λ batch.
+            (batch.0 ≡ batch_count (journal_of (store_of self.old)) + 1) × (batch.1.items ≡ acts_of t event.now))) }
+        ensures silent { IfOk result (λ w. (t : List Entry) → Fits self.old t → IfNone w.1 (acts_of t event.now ≡ [])) }
+        ensures any_moment { (t : List Entry) → Fits self.old t → Stands D.seen D.may_leave (store_of self.old)
+            → LeavesOnly D.moment D.left_since (disk_of (store_of self.old)) (disk_of (store_of self.new)) (BeforeOrBehind t event.now) }
         ensures not_refused { IfErr result (λ f. f ≢ NoConnection) }
         ensures not_failed { IfErr result (λ f. f ≢ Failed) }
         ensures cause { IfErr result (λ f. f ≡ DiskFailed → D.failures (disk_of (store_of self.old)) < D.failures (disk_of (store_of self.new))) }
     {
-        match event {
-            Event::Start => match self.store.start(self.alloc) {
-                Ok(batch) => Ok(batch),
+        if let Some(written) = self.commit(event, false)? {
+            return Ok(written);
+        }
+        match self.commit(event, true)? {
+            Some(written) => Ok(written),
+            None => Err(CoreFault::Memory),
+        }
+    }
+
+    /// Writes the acts that an event has if the journal is full or not; none if they cost more than its room, and then nothing is
+    /// changed.
+    fn commit(&mut self, event: &Event, full: bool) -> Result<Option<(Answer, Written)>, CoreFault>
+        ensures rest { self.new ≡ record self.old { store = store_of self.new } }
+        ensures answer { IfOk result (λ r. IfSome r (λ w. (t : List Entry) → TablesFit (state_of self.old) t → w.0 ≡ event_answer full (kept_book self.old) t event.now)) }
+        ensures stands { OnOk result (Stands D.seen D.may_leave (store_of self.old) → Stands D.seen D.may_leave (store_of self.new)) }
+        ensures book { IfOk result (λ r. IfSome r (λ w. (t : List Entry) → TablesFit (state_of self.old) t
+            → kept_book self.new ≡ effects (kept_book self.old) (event_acts full (kept_book self.old) t event.now))) }
+        ensures used { IfOk result (λ r. IfSome r (λ w. (t : List Entry) → TablesFit (state_of self.old) t
+            → used_of (store_of self.new) ≡ used_behind (used_of (store_of self.old)) (event_acts full (kept_book self.old) t event.now))) }
+        ensures kept { IfOk result (λ r. IfSome r (λ w. kept_of (store_of self.old) ≡ reserve (kept_book self.old) → kept_of (store_of self.new) ≡ reserve (kept_book self.new))) }
+        ensures written { IfOk result (λ r. IfSome r (λ w. (t : List Entry) → TablesFit (state_of self.old) t → IfSome w.1 (λ batch.
+            (batch.0 ≡ batch_count (journal_of (store_of self.old)) + 1) × (batch.1.items ≡ event_acts full (kept_book self.old) t event.now)))) }
+        ensures silent { IfOk result (λ r. IfSome r (λ w. (t : List Entry) → TablesFit (state_of self.old) t → IfNone w.1 (event_acts full (kept_book self.old) t event.now ≡ []))) }
+        ensures room { IfOk result (λ r. IfSome r (λ w. (t : List Entry) → TablesFit (state_of self.old) t
+            → exceeds (used_of (store_of self.old)) (kept_of (store_of self.old)) (event_acts full (kept_book self.old) t event.now) ≡ false)) }
+        ensures full { IfOk result (λ r. IfNone r ((t : List Entry) → TablesFit (state_of self.old) t
+            → exceeds (used_of (store_of self.old)) (kept_of (store_of self.old)) (event_acts full (kept_book self.old) t event.now) ≡ true)) }
+        ensures unchanged { IfOk result (λ r. IfNone r (self.new ≡ self.old)) }
+        ensures any_moment { (t : List Entry) → TablesFit (state_of self.old) t → Stands D.seen D.may_leave (store_of self.old)
+            → LeavesOnly D.moment D.left_since (disk_of (store_of self.old)) (disk_of (store_of self.new))
+            (λ file. OpensTo file (kept_book self.old) ⊎ OpensTo file (effects (kept_book self.old) (event_acts full (kept_book self.old) t event.now))) }
+        ensures not_refused { IfErr result (λ f. f ≢ NoConnection) }
+        ensures not_failed { IfErr result (λ f. f ≢ Failed) }
+        ensures cause { IfErr result (λ f. f ≡ DiskFailed → D.failures (disk_of (store_of self.old)) < D.failures (disk_of (store_of self.new))) }
+    {
+        if let Event::Start = event {
+            return match self.store.start(self.alloc) {
+                Ok(batch) => Ok(Some((Answer::Nothing, batch))),
                 Err(JournalFault::Disk) => Err(CoreFault::Disk),
                 Err(_) => Err(CoreFault::Memory),
-            },
-            _ => Ok(None),
+            };
+        }
+        let Ok(plan) = plan(&self.state, self.store.book(), full, event) else {
+            return Err(CoreFault::Memory);
+        };
+        let Plan { answer, acts } = plan;
+        match self.store.commit(acts) {
+            Ok(batch) => Ok(Some((answer, batch))),
+            Err(JournalFault::Full) => Ok(None),
+            Err(JournalFault::Disk) => Err(CoreFault::Disk),
+            Err(_) => Err(CoreFault::Memory),
         }
     }
 
     /// Answers an event that is not declined, and counts it.
-    fn answer(&mut self, event: Event) -> Result<(), AllocError>
-        ensures tables { OnOk result ((t : List Entry) → TablesFit (state_of self.old) t → refuses t event ≡ false → TablesFit (state_of self.new) (answered (id_of self.old) t (step_of event))) }
+    fn answer(&mut self, event: Event, answer: Answer) -> Result<(), AllocError>
+        ensures tables { OnOk result ((t : List Entry) → TablesFit (state_of self.old) t → refuses t event ≡ false → answer ≡ answer_to_event t event → TablesFit (state_of self.new) (answered (id_of self.old) t (step_of event))) }
         ensures started { OnOk result (self.new.started ≡ true) }
         ensures counted { OnOk result (counts_of self.new ≡ with_event event (counts_of self.old)) }
         ensures uncounted { OnErr result (counts_of self.new ≡ counts_of self.old) }
@@ -300,7 +350,7 @@ impl<D: Disk> Core<D> {
             drop(event);
             return Err(AllocError);
         };
-        answer(&mut self.state, &self.id, event)?;
+        reply_to(&mut self.state, &self.id, event, answer)?;
         self.counts = counts;
         self.started = true;
         Ok(())
@@ -413,16 +463,17 @@ impl<D: Crash> Core<D> {
     }
 }
 
-/// What an event that is not refused does: it ends connections because their outboxes are full, its rows answer it, and what
-/// follows them is put.
-fn answer(state: &mut State, id: &RouterId, event: Event) -> Result<(), AllocError>
-    ensures { OnOk result ((t : List Entry) → TablesFit state.old t → refuses t event ≡ false → TablesFit state.new (answered id.now t (step_of event))) }
+/// What an event that is not refused does: it ends connections because their outboxes are full, its item is answered, and what
+/// follows is put.
+fn reply_to(state: &mut State, id: &RouterId, event: Event, answer: Answer) -> Result<(), AllocError>
+    ensures { OnOk result ((t : List Entry) → TablesFit state.old t → refuses t event ≡ false → answer ≡ answer_to_event t event
+        → TablesFit state.new (answered id.now t (step_of event))) }
 {
     let Ok(ends) = state.turn(&event) else {
         drop(event);
         return Err(AllocError);
     };
-    reply(state, id, &ends, event)?;
+    reply(state, id, &ends, event, answer)?;
     after(state)?;
     Ok(())
 }

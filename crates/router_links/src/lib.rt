@@ -10,5 +10,5 @@ mod owed;
 mod table;
 mod touched;
 
-pub use link::{Link, LinkEnd, Side};
+pub use link::{Link, LinkEnd, Side, address_by};
 pub use links::Links;

@@ -59,11 +59,11 @@ pub struct Link {
     pub owes_drain: bool,
 }
 
-/// The address at the router's own terminus of its attach; none if the attach refuses the link.
-pub(crate) fn address_of(attach: &Attach) -> Option<&Text>
-    ensures { option_map (λ a. a.now) result ≡ address_by attach.now.role attach.now }
+/// The address of the terminus at the router's side of an attach, in this role of the router; none if there is no such terminus.
+pub fn address_by(router: Role, attach: &Attach) -> Option<&Text>
+    ensures { option_map (λ a. a.now) result ≡ address_by router attach.now }
 {
-    match attach.role {
+    match router {
         Role::Sender => source_address(&attach.source),
         Role::Receiver => target_address(&attach.target),
     }

@@ -27,7 +27,7 @@ ghost use Rattle.router_links.specs.Owed.{owed_of, owes_on};
 ghost use Rattle.router_links.specs.Touching.{is_numbered, in_session, in_connection, Touched, IsLowest};
 
 use crate::by_handle::{ByHandle, InConnection, InSession};
-use crate::link::{Link, LinkEnd, Side, address_of};
+use crate::link::{Link, LinkEnd, Side, address_by};
 use crate::names::Names;
 use crate::owed::{append_all, settle};
 use crate::touched::{touch, touch_at, touch_connection, touch_session};
@@ -329,7 +329,7 @@ impl LinkTable {
             Some(attach.handle),
         )?;
         leave(&mut self.links, &mut self.names, conn, own, attach.handle);
-        let Some(address) = address_of(attach) else {
+        let Some(address) = address_by(attach.role, attach) else {
             return Ok(());
         };
         let Some(key) = key else {

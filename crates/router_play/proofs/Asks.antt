@@ -21,7 +21,7 @@ use Rattle.router_core.specs.declared.router.Core.{Core}
 use Rattle.router_trace.specs.Trace.{Trace}
 use Rattle.disk_core.specs.declared.fuse.FuseDisk.{FuseDisk}
 use Rattle.disk_core.specs.declared.memory.MemDisk.{MemDisk}
-use Rattle.router_core.specs.Books.{is_started}
+use Rattle.router_core.specs.Turns.{is_started}
 use Rattle.router_core.specs.Handling.{Fits, id_of}
 use Rattle.router_play.specs.Playing.{Follows}
 use Rattle.router_conns.proofs.Lists.{by_test}

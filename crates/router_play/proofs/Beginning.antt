@@ -15,7 +15,7 @@ use Rattle.router_sessions.specs.Windows.{windows}
 use Rattle.router_after.specs.After.{sent, drained, granted}
 use Rattle.router_core.specs.Replies.{Replies, answered}
 use Rattle.router_core.specs.Handling.{Fits, id_of, is_failed}
-use Rattle.router_core.specs.Books.{declines}
+use Rattle.router_core.specs.Turns.{declines}
 use Rattle.router_core.specs.declared.fault.CoreFault.{CoreFault}
 use Rattle.router_core.specs.declared.fault.CoreFault.TheVariants.{Disk, Memory, Failed, NoConnection}
 use Rattle.router_core.proofs.Following.{due_keeps}

@@ -23,7 +23,7 @@ use Rattle.router_trace.specs.Trace.{Entry, Took}
 use Rattle.router_trace.specs.Connection.{Connection, conn}
 use Rattle.disk_core.specs.declared.fuse.FuseDisk.{FuseDisk}
 use Rattle.disk_core.specs.declared.memory.MemDisk.{MemDisk}
-use Rattle.router_core.specs.Books.{is_started}
+use Rattle.router_core.specs.Turns.{is_started}
 use Rattle.router_core.specs.Handling.{Fits, id_of, IsBatchOf}
 use Rattle.router_core.specs.Runs.{Taking, IsNext, taking, took_one, waiting_of}
 use Rattle.router_play.specs.Script.{Scene, with_socket, with_trace, say_all, out_line, lose, lose_by, told, is_last, close_if, take_one, take_all, AllInTurn, opening, Takes, Flushes, Plays, PlaysAll}

@@ -14,7 +14,7 @@ use Rattle.router_play.specs.declared.line.Line.{Line}
 use Rattle.route_table.specs.Settings.{Settings}
 use Rattle.router_play.specs.Script.{new_router}
 use Rattle.router_trace.specs.Configuration.{beginning}
-use Rattle.router_core.specs.Books.{is_started}
+use Rattle.router_core.specs.Turns.{is_started}
 use Rattle.router_core.specs.Handling.{Fits, id_of, is_failed}
 use Rattle.router_play.specs.Script.{Scene, refused, say, hand, with_socket, stream_of}
 

@@ -3,7 +3,7 @@ ghost use Rattle.std.specs.Prelude.{◌≡◌, ◌==◌, ◌∷◌, ◌++◌, �
 ghost use Rattle.router_play.specs.Script.{new_router};
 ghost use Rattle.route_table.specs.Settings.{Settings};
 ghost use Rattle.router_trace.specs.Configuration.{beginning};
-ghost use Rattle.router_core.specs.Books.{is_start};
+ghost use Rattle.router_core.specs.Turns.{is_start};
 ghost use Rattle.router_core.specs.Handling.{Fits, id_of, is_failed};
 ghost use Rattle.router_play.specs.Script.{Scene, opening, PlaysAll, book, refused, out_line, say_all, hand, enter, enter_all, BytesCome, make, lose, Takes, take_one, close_if, Flushes, Plays};
 ghost use Rattle.router_play.specs.Carrying.{RunsCarry};

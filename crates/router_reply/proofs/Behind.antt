@@ -13,8 +13,8 @@ use Rattle.router_trace.specs.declared.binding.Binding.{Binding}
 use Rattle.router_passing.specs.Passing.{with_bound}
 use Rattle.router_rows.specs.declared.answer.Answer.{Answer}
 use Rattle.router_rows.specs.declared.answer.Answer.TheVariants.{Taken, Settle}
-use Rattle.router_rows.specs.Rows.{said, item_reply}
-use Rattle.router_rows.specs.Finding.{finds}
+use Rattle.router_rows.specs.Rows.{said}
+use Rattle.router_reply.specs.Acts.{answer_of}
 use Rattle.router_reply.specs.Replies.{item_row, item_bound, item_put, links_put, put_for_transfer, put_for_disposition, bound_for, part_put, part_bound, settled_put, disposition_in, attach_put, given_behind, behind_answer}
 use Rattle.router_reply.proofs.Puts.{goes_both}
 
@@ -96,7 +96,7 @@ settled_left u c _ own = refl
 abbrev pub behind_item : List ℕ → List Entry → List Entry → ℕ → Item → Option Conn → List Entry
 behind_item id t after c i s = goes (item_row id t after c i s) (with_bound (item_bound t after c i s) after)
 
-pub decided : (id : List ℕ) (t after : List Entry) (c : ℕ) (p : Conn) (i : Item) (a : Answer) (s : Option Conn) → a ≡ item_reply p (finds t c) i → Some p ≡ s
+pub decided : (id : List ℕ) (t after : List Entry) (c : ℕ) (p : Conn) (i : Item) (a : Answer) (s : Option Conn) → a ≡ answer_of t c p i → Some p ≡ s
     → behind_answer id t after c p i a ≡ behind_item id t after c i s
 decided id t after c p i a s row live =
     ap (λ (x : Answer). behind_answer id t after c p i x) row ∙ ap (λ (v : Option Conn). behind_item id t after c i v) live

@@ -1,3 +1,4 @@
+pub mod Acts
 pub mod Replies
 pub use Rattle.router_trace.specs.Trace
 pub use Rattle.router_trace.specs.Connection

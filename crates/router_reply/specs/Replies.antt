@@ -33,8 +33,8 @@ use Rattle.router_state.specs.Tables.{beats}
 use Rattle.router_passing.specs.Passing.{passing, consumer_of, with_bound}
 use Rattle.router_rows.specs.declared.answer.Answer.{Answer}
 use Rattle.router_rows.specs.declared.answer.Answer.TheVariants.{Attach, Refuse, Taken, Settle}
-use Rattle.router_rows.specs.Rows.{said, item_reply, down_reply}
-use Rattle.router_rows.specs.Finding.{finds}
+use Rattle.router_rows.specs.Rows.{said, down_reply}
+use Rattle.router_reply.specs.Acts.{answer_of}
 
 -- a connection is closed with an error: its open comes before the close if it isn't written yet
 abbrev pub closing_of : List ℕ → Option Connection → Condition → List Item
@@ -197,11 +197,11 @@ behind_answer id t after c p i answer = goes (item_put id t after c p i answer) 
 -- nothing if the connection isn't live
 abbrev pub item_row : List ℕ → Trace → Trace → ℕ → Item → Option Conn → List Put
 item_row id t after c i None = []
-item_row id t after c i (Some p) = item_put id t after c p i (item_reply p (finds t c) i)
+item_row id t after c i (Some p) = item_put id t after c p i (answer_of t c p i)
 
 abbrev pub item_bound : Trace → Trace → ℕ → Item → Option Conn → Option Binding
 item_bound t after c i None = None
-item_bound t after c i (Some p) = bound_for t after c i (item_reply p (finds t c) i)
+item_bound t after c i (Some p) = bound_for t after c i (answer_of t c p i)
 
 -- the message that an event binds, if it completes one and a consumer is chosen for it
 abbrev pub bound_by : Trace → Trace → Event → Option Binding

@@ -7,8 +7,7 @@ ghost use Rattle.router_trace.specs.Settling.{part_of};
 ghost use Rattle.router_links.specs.Fits.{channel_of};
 ghost use Rattle.router_trace.specs.Refusing.{rises, refuses};
 ghost use Rattle.router_state.specs.Tables.{TablesFit, TablesAt};
-ghost use Rattle.router_rows.specs.Rows.{item_reply};
-ghost use Rattle.router_rows.specs.Finding.{finds};
+ghost use Rattle.router_reply.specs.Acts.{answer_of, answer_to_event};
 ghost use Rattle.router_reply.specs.Replies.{replied, heard, given_behind, behind_answer, attach_put, settled_put, disposition_in};
 ghost use Rattle.router_trace.specs.declared.event.Event.TheVariants as event;
 
@@ -18,7 +17,7 @@ use crate::passing::{disposition_in, last_of, settle, take_part};
 use amqp_conn::Conn;
 use amqp_frames::Item;
 use amqp_link::Part;
-use router_rows::{Answer, item_reply};
+use router_rows::Answer;
 use router_state::State;
 use router_trace::{ConnectionId, Event, Peer, RouterId};
 use std::alloc::AllocError;
@@ -91,7 +90,7 @@ fn begin_item(
     item: &Item,
     answer: &Answer,
 ) -> Result<(), AllocError>
-    ensures { OnOk result ((t : List Entry) → TablesAt state.old t (event.Item conn item.now) ends.now → answer.now ≡ item_reply phase (finds t conn.0) item.now
+    ensures { OnOk result ((t : List Entry) → TablesAt state.old t (event.Item conn item.now) ends.now → answer.now ≡ answer_of t conn.0 phase item.now
         → (u : List Entry) × TablesFit state.new u
         × (goes (attach_put u conn.0 item.now answer.now) u ≡ behind_answer id.now t (heard id.now t (step_of (event.Item conn item.now))) conn.0 phase item.now answer.now)) }
 {
@@ -126,15 +125,17 @@ fn hear_late(
     Ok(())
 }
 
-/// An item: its row decides on the tables as the event finds them, then the event is handled and the answer put.
+/// An item that has this answer: its event is handled and the answer put.
 fn on_item(
     state: &mut State,
     id: &RouterId,
     ends: &[u64],
     conn: ConnectionId,
     item: Item,
+    answer: Answer,
 ) -> Result<(), AllocError>
-    ensures { OnOk result ((t : List Entry) → TablesAt state.old t (event.Item conn item) ends.now → TablesFit state.new (replied id.now t (step_of (event.Item conn item)))) }
+    ensures { OnOk result ((t : List Entry) → TablesAt state.old t (event.Item conn item) ends.now → answer ≡ answer_to_event t (event.Item conn item)
+        → TablesFit state.new (replied id.now t (step_of (event.Item conn item)))) }
 {
     let Some(phase) = state.standing(conn.0) else {
         let heard = hear_late(state, id, ends, conn, &item);
@@ -142,7 +143,6 @@ fn on_item(
         heard?;
         return Ok(());
     };
-    let answer = item_reply(state, conn.0, phase, &item);
     let Ok(()) = begin_item(state, id, ends, conn, phase, &item, &answer) else {
         drop(item);
         return Err(AllocError);
@@ -208,18 +208,25 @@ fn on_start(state: &mut State, id: &RouterId, ends: &[u64]) -> Result<(), AllocE
     Ok(())
 }
 
-/// Replies to an event that is not refused, after the turn that ended these connections because their outboxes were full
-/// (`State::turn`).
+/// Replies to an event that is not refused with the answer that `plan` gave, after the turn that ended these connections because their
+/// outboxes were full (`State::turn`).
 ///
 /// # Errors
 ///
 /// `AllocError` if memory was refused; the tables' contents are unspecified then.
-pub fn reply(state: &mut State, id: &RouterId, ends: &[u64], event: Event) -> Result<(), AllocError>
-    ensures { OnOk result ((t : List Entry) → TablesAt state.old t event ends.now → refuses t event ≡ false → TablesFit state.new (replied id.now t (step_of event))) }
+pub fn reply(
+    state: &mut State,
+    id: &RouterId,
+    ends: &[u64],
+    event: Event,
+    answer: Answer,
+) -> Result<(), AllocError>
+    ensures { OnOk result ((t : List Entry) → TablesAt state.old t event ends.now → refuses t event ≡ false → answer ≡ answer_to_event t event
+        → TablesFit state.new (replied id.now t (step_of event))) }
 {
     match event {
         Event::Up(conn, peer) => on_up(state, id, ends, conn, &peer)?,
-        Event::Item(conn, item) => on_item(state, id, ends, conn, item)?,
+        Event::Item(conn, item) => on_item(state, id, ends, conn, item, answer)?,
         Event::Down(conn) => on_down(state, id, ends, conn)?,
         Event::Tick(moment) => on_tick(state, id, ends, moment)?,
         Event::Start => on_start(state, id, ends)?,

@@ -5,6 +5,8 @@ mod attaching;
 mod closing;
 mod events;
 mod passing;
+mod planning;
 
 pub use events::reply;
 pub use passing::IGNORED;
+pub use planning::{Plan, plan};

@@ -27,15 +27,17 @@ use Rattle.router_trace.specs.declared.channel.PeerChannel.TheVariants.{Mapped, 
 use Rattle.router_trace.specs.declared.condition.Condition.{Condition}
 use Rattle.router_trace.specs.Trace.{Entry}
 use Rattle.router_trace.specs.Sessions.{Place, nowhere, ending, on, on_session, place_by, session, theirs, maps, flow_state}
-use Rattle.router_trace.specs.Links.{LinkPlace, nowhere as no_link, detaching, on as on_link, Happened, sends, receives}
+use Rattle.router_trace.specs.Links.{free_handle, LinkPlace, nowhere as no_link, detaching, on as on_link, Happened, sends, receives}
 use Rattle.router_trace.specs.Settling.{middle_by}
 use Rattle.router_links.specs.Fits.{channel_of}
 use Rattle.router_rows.specs.declared.answer.Answer.{Answer}
-use Rattle.router_rows.specs.declared.answer.Answer.TheVariants.{Taken}
+use Rattle.router_rows.specs.declared.answer.Answer.TheVariants.{Taken, Attach}
 use Rattle.router_rows.specs.Rows.{Finds, Links, header_by, open_by, begin_by, begin_reply, end_reply, echo, flow_on, flow_reply, attach_reply, transfer_reply, detach_reply, disposition_reply, in_turn, out_of_turn, turn_by, perf_reply, item_reply}
 use Rattle.router_rows.specs.LinkRows.{is_multicast_link, refusal, attach_or, attach_at, session_detach_reply, link_echo, is_reached, link_flow_reply, is_anonymous, is_among, is_same_id, is_same_tag, is_unattached, asks, delivery_by, delivery_on, link_transfer_reply}
 use Rattle.router_rows.specs.LinkRows.{flow_on as link_flow_on}
 use Rattle.router_rows.specs.Finding.{finds}
+use Rattle.router_rows.specs.Booking.{attach_unless, booked_attach, attach_in, booked, book_refusal, answer_at}
+use Rattle.book_core.specs.Book.{BookView}
 
 -- if a transfer is taken, this stands for its session
 abbrev pub IsHere : (ℕ → Bool) → Answer → Type 0
@@ -193,3 +195,20 @@ item_here here p k (item.Bad f) place = tt
 pub taken_here : (p : Conn) (t : List Entry) (c : ℕ) (i : Item) → IsHere (maps (theirs t c (channel_of i))) (item_reply p (finds t c) i)
 taken_here p t c i =
     item_here (maps (theirs t c (channel_of i))) p (finds t c) i (place_here (theirs t c (channel_of i)) (session t c))
+
+-- also if the book stands in the way of a link
+booked_here : (here : ℕ → Bool) (own : ℕ) (free : Option ℕ) (refusal : Option Condition) → IsHere here (attach_unless own free refusal)
+booked_here here own free None = tt
+booked_here here own None (Some x) = tt
+booked_here here own (Some handle) (Some x) = tt
+
+attach_here_or : (here : ℕ → Bool) (free : ℕ → Option ℕ) (refusal : Option Condition) (a : Answer) → IsHere here a → IsHere here (booked_attach free refusal a)
+attach_here_or here free refusal (Attach own) is = booked_here here own (free own) refusal
+attach_here_or here free refusal _ is = is
+
+pub answer_here : (full : Bool) (b : BookView) (p : Conn) (t : List Entry) (c : ℕ) (i : Item) → IsHere (maps (theirs t c (channel_of i))) (answer_at full b t c p i)
+answer_here full b p t c i = by (attach_in i)
+  where
+    by : (v : Option AnAttach) → IsHere (maps (theirs t c (channel_of i))) (booked (free_handle t c) (book_refusal full b t c) v (item_reply p (finds t c) i))
+    by None = taken_here p t c i
+    by (Some a) = attach_here_or (maps (theirs t c (channel_of i))) (free_handle t c) (book_refusal full b t c a) (item_reply p (finds t c) i) (taken_here p t c i)

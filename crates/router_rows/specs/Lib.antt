@@ -1,6 +1,7 @@
 pub mod LinkRows
 pub mod Rows
 pub mod Finding
+pub mod Booking
 pub use Rattle.router_trace.specs.Trace
 pub use Rattle.router_trace.specs.Connection
 pub use Rattle.router_trace.specs.Refusing

@@ -32,27 +32,22 @@ use Rattle.router_rows.specs.declared.answer.Answer.{Answer}
 use Rattle.router_rows.specs.declared.answer.Answer.TheVariants.{Nothing, CloseWith, End, Refuse, Attach, Detach, LinkFlow, Taken, Settle}
 
 -- Why a link is refused for its terminus at the router's side: there is none, or not of a kind that the router has, or it would have to be
--- created; its address isn't a string; it is empty; it, or the link's name, is longer than 1,024 bytes. Termini that must outlive a
--- connection aren't served yet.
+-- created; its address isn't a string; it is empty; it, or the link's name, is longer than 1,024 bytes.
 abbrev pub address_refusal : Option Address → List ℕ → Option Condition
 address_refusal (Some (address.Text [])) name = Some NotFound
 address_refusal (Some (address.Text (b ∷ bs))) name =
     if nat_lt 1024 (length (b ∷ bs)) then Some ResourceLimitExceeded else if nat_lt 1024 (length name) then Some ResourceLimitExceeded else None
 address_refusal _ name = Some NotImplemented
 
-abbrev pub unless_durable : ℕ → Option Condition → Option Condition
-unless_durable durable (Some x) = Some x
-unless_durable durable None = if durable == 2 then Some NotImplemented else None
-
-abbrev pub terminus_refusal : Bool → Option Address → ℕ → List ℕ → Option Condition
-terminus_refusal dynamic at durable name = if dynamic then Some NotImplemented else unless_durable durable (address_refusal at name)
+abbrev pub terminus_refusal : Bool → Option Address → List ℕ → Option Condition
+terminus_refusal dynamic at name = if dynamic then Some NotImplemented else address_refusal at name
 
 abbrev pub source_refusal : Option SourceTerminus → List ℕ → Option Condition
-source_refusal (Some (source.Source s)) name = terminus_refusal s.dynamic s.address s.durable name
+source_refusal (Some (source.Source s)) name = terminus_refusal s.dynamic s.address name
 source_refusal _ name = Some NotImplemented
 
 abbrev pub target_refusal : Option TargetTerminus → List ℕ → Option Condition
-target_refusal (Some (target.Target x)) name = terminus_refusal x.dynamic x.address x.durable name
+target_refusal (Some (target.Target x)) name = terminus_refusal x.dynamic x.address name
 target_refusal _ name = Some NotImplemented
 
 abbrev pub side_refusal : Role → AnAttach → Option Condition

@@ -1,16 +1,15 @@
 //! The choice of the row that answers an item.
-ghost use Rattle.std.specs.Prelude.{◌≡◌, ℕ, List};
+ghost use Rattle.std.specs.Prelude.{◌≡◌, List};
 ghost use Rattle.amqp_conn.specs.Phase.{after_frame};
 ghost use Rattle.router_trace.specs.Trace.{Entry};
 ghost use Rattle.router_trace.specs.Sessions.{Place as At};
 ghost use Rattle.router_trace.specs.Links.{link_place, free_handle};
 ghost use Rattle.router_sessions.specs.Fits.{found_of};
-ghost use Rattle.router_state.specs.Tables.{TablesAt};
+ghost use Rattle.router_state.specs.Tables.{TablesFind};
 ghost use Rattle.router_rows.specs.Rows.{attach_reply, flow_reply, transfer_reply, detach_reply, in_turn, turn_by, perf_reply, item_reply};
 ghost use Rattle.router_rows.specs.LinkRows.{is_among};
 ghost use Rattle.router_rows.specs.Finding.{finds, multicast_of};
 ghost use Rattle.router_trace.specs.Settling.{is_claimed};
-ghost use Rattle.router_trace.specs.declared.event.Event.{Event as E};
 
 use crate::answer::Answer;
 use crate::link_rows::{
@@ -29,7 +28,7 @@ use router_state::State;
 
 /// The answer to an attach, by what is on its channel.
 fn attach_reply(state: &State, conn: u64, place: Place, attach: &Attach) -> Answer
-    ensures { (t : List Entry) (e : E) (ends : List ℕ) (at : At) → TablesAt state.now t e ends → place ≡ found_of at
+    ensures { (t : List Entry) (at : At) → TablesFind state.now t → place ≡ found_of at
         → result ≡ attach_reply at (link_place t conn) (free_handle t conn) (multicast_of t) attach.now }
 {
     match place {
@@ -46,7 +45,7 @@ fn attach_reply(state: &State, conn: u64, place: Place, attach: &Attach) -> Answ
 
 /// The answer to a flow, by what is on its channel.
 fn flow_reply(state: &State, conn: u64, place: Place, flow: &Flow) -> Answer
-    ensures { (t : List Entry) (e : E) (ends : List ℕ) (at : At) → TablesAt state.now t e ends → place ≡ found_of at
+    ensures { (t : List Entry) (at : At) → TablesFind state.now t → place ≡ found_of at
         → result ≡ flow_reply at (link_place t conn) flow.now }
 {
     match place {
@@ -64,7 +63,7 @@ fn flow_reply(state: &State, conn: u64, place: Place, flow: &Flow) -> Answer
 
 /// Whether a transfer has a delivery-id whose delivery the peer has not settled.
 fn is_among(state: &State, conn: u64, own: u16, id: Option<u32>) -> bool
-    ensures { (t : List Entry) (e : E) (ends : List ℕ) → TablesAt state.now t e ends → result ≡ is_among (is_claimed t conn own) id }
+    ensures { (t : List Entry) → TablesFind state.now t → result ≡ is_among (is_claimed t conn own) id }
 {
     match id {
         None => false,
@@ -74,7 +73,7 @@ fn is_among(state: &State, conn: u64, own: u16, id: Option<u32>) -> bool
 
 /// The answer to a transfer, by what is on its channel.
 fn transfer_reply(state: &State, conn: u64, place: Place, transfer: &Transfer) -> Answer
-    ensures { (t : List Entry) (e : E) (ends : List ℕ) (at : At) → TablesAt state.now t e ends → place ≡ found_of at
+    ensures { (t : List Entry) (at : At) → TablesFind state.now t → place ≡ found_of at
         → result ≡ transfer_reply at (link_place t conn) (is_claimed t conn) transfer.now }
 {
     match place {
@@ -91,7 +90,7 @@ fn transfer_reply(state: &State, conn: u64, place: Place, transfer: &Transfer) -
 
 /// The answer to a detach, by what is on its channel.
 fn detach_reply(state: &State, conn: u64, place: Place, detach: &Detach) -> Answer
-    ensures { (t : List Entry) (e : E) (ends : List ℕ) (at : At) → TablesAt state.now t e ends → place ≡ found_of at
+    ensures { (t : List Entry) (at : At) → TablesFind state.now t → place ≡ found_of at
         → result ≡ detach_reply at (link_place t conn) detach.now }
 {
     match place {
@@ -106,7 +105,7 @@ fn detach_reply(state: &State, conn: u64, place: Place, detach: &Detach) -> Answ
 
 /// The answer to a performative other than open, on an open connection.
 fn in_turn(state: &State, conn: u64, channel: u16, perf: &Perf) -> Answer
-    ensures { (t : List Entry) (e : E) (ends : List ℕ) → TablesAt state.now t e ends → result ≡ in_turn (finds t conn) channel perf.now }
+    ensures { (t : List Entry) → TablesFind state.now t → result ≡ in_turn (finds t conn) channel perf.now }
 {
     let place = state.place(conn, channel);
     match perf {
@@ -124,7 +123,7 @@ fn in_turn(state: &State, conn: u64, channel: u16, perf: &Perf) -> Answer
 
 /// The answer to a performative other than open, on this channel.
 fn turn_by(state: &State, conn: u64, phase: Conn, channel: u16, perf: &Perf) -> Answer
-    ensures { (t : List Entry) (e : E) (ends : List ℕ) → TablesAt state.now t e ends
+    ensures { (t : List Entry) → TablesFind state.now t
         → result ≡ turn_by (finds t conn) channel perf.now (after_frame channel phase) }
 {
     match phase.take_frame(channel) {
@@ -136,7 +135,7 @@ fn turn_by(state: &State, conn: u64, phase: Conn, channel: u16, perf: &Perf) -> 
 
 /// The answer to a performative in a frame that isn't a SASL frame.
 fn perf_reply(state: &State, conn: u64, phase: Conn, channel: u16, perf: &Perf) -> Answer
-    ensures { (t : List Entry) (e : E) (ends : List ℕ) → TablesAt state.now t e ends → result ≡ perf_reply phase (finds t conn) channel perf.now }
+    ensures { (t : List Entry) → TablesFind state.now t → result ≡ perf_reply phase (finds t conn) channel perf.now }
 {
     match perf {
         Perf::Open(open) => open_reply(phase, open),
@@ -146,7 +145,7 @@ fn perf_reply(state: &State, conn: u64, phase: Conn, channel: u16, perf: &Perf) 
 
 /// The router's answer to an item on a live connection in this phase.
 pub fn item_reply(state: &State, conn: u64, phase: Conn, item: &Item) -> Answer
-    ensures { (t : List Entry) (e : E) (ends : List ℕ) → TablesAt state.now t e ends → result ≡ item_reply phase (finds t conn) item.now }
+    ensures { (t : List Entry) → TablesFind state.now t → result ≡ item_reply phase (finds t conn) item.now }
 {
     match item {
         Item::Header { .. } => header_reply(phase),

@@ -2,12 +2,16 @@
 #![tactic(auto)]
 
 mod answer;
+mod booking;
 mod deciding;
 mod link_rows;
 mod multicast;
 mod rows;
 
 pub use answer::Answer;
+pub use booking::{
+    attach_unless, durable_refusal, volatile_refusal, wanted_address, wanted_key, wants_durable,
+};
 pub use deciding::item_reply;
 pub use link_rows::LINK_TEXT;
 pub use rows::CONTAINER_ID;

@@ -29,9 +29,6 @@ use router_trace::{Condition, HANDLE_MAX, LinkAt, LinkState, SESSION_WINDOW};
 /// The longest name and the longest address of a link that the router accepts, in bytes.
 pub const LINK_TEXT: usize = 1024;
 
-/// The `durable` of a terminus whose unsettled deliveries must outlive a connection.
-const UNSETTLED_STATE: u32 = 2;
-
 /// Why an address at the router's side is refused, if it is.
 fn address_refusal(address: &Option<Address>, name: &Text) -> Option<Condition>
     ensures { result ≡ address_refusal address.now name.now }
@@ -55,19 +52,14 @@ fn address_refusal(address: &Option<Address>, name: &Text) -> Option<Condition>
 fn terminus_refusal(
     dynamic: bool,
     address: &Option<Address>,
-    durable: u32,
     name: &Text,
 ) -> Option<Condition>
-    ensures { result ≡ terminus_refusal dynamic address.now durable name.now }
+    ensures { result ≡ terminus_refusal dynamic address.now name.now }
 {
     if dynamic {
         return Some(Condition::NotImplemented);
     }
-    match address_refusal(address, name) {
-        Some(condition) => Some(condition),
-        None if durable == UNSETTLED_STATE => Some(Condition::NotImplemented),
-        None => None,
-    }
+    address_refusal(address, name)
 }
 
 /// Why a source at the router's side is refused, if it is.
@@ -76,7 +68,7 @@ fn source_refusal(source: &Option<SourceTerminus>, name: &Text) -> Option<Condit
 {
     match source {
         Some(SourceTerminus::Source(source)) => {
-            terminus_refusal(source.dynamic, &source.address, source.durable, name)
+            terminus_refusal(source.dynamic, &source.address, name)
         }
         _ => Some(Condition::NotImplemented),
     }
@@ -88,7 +80,7 @@ fn target_refusal(target: &Option<TargetTerminus>, name: &Text) -> Option<Condit
 {
     match target {
         Some(TargetTerminus::Target(target)) => {
-            terminus_refusal(target.dynamic, &target.address, target.durable, name)
+            terminus_refusal(target.dynamic, &target.address, name)
         }
         _ => Some(Condition::NotImplemented),
     }

@@ -1,8 +1,7 @@
 //! Whether the messages of a link's address go to every consumer.
-ghost use Rattle.std.specs.Prelude.{◌≡◌, ℕ, List};
+ghost use Rattle.std.specs.Prelude.{◌≡◌, List};
 ghost use Rattle.router_trace.specs.Trace.{Entry};
-ghost use Rattle.router_trace.specs.declared.event.Event.{Event as E};
-ghost use Rattle.router_state.specs.Tables.{TablesAt};
+ghost use Rattle.router_state.specs.Tables.{TablesFind};
 ghost use Rattle.router_rows.specs.LinkRows.{is_multicast_at, is_multicast_source, is_multicast_target, is_multicast_link};
 ghost use Rattle.router_rows.specs.Finding.{multicast_of};
 
@@ -11,7 +10,7 @@ use router_state::State;
 
 /// Whether an address is a multicast one.
 fn is_multicast_at(state: &State, address: &Option<Address>) -> bool
-    ensures { (t : List Entry) (e : E) (ends : List ℕ) → TablesAt state.now t e ends → result ≡ is_multicast_at (multicast_of t) address.now }
+    ensures { (t : List Entry) → TablesFind state.now t → result ≡ is_multicast_at (multicast_of t) address.now }
 {
     match address {
         Some(Address::Text(text)) => state.is_multicast(text.as_str()),
@@ -21,7 +20,7 @@ fn is_multicast_at(state: &State, address: &Option<Address>) -> bool
 
 /// Whether a source's address is a multicast one.
 fn is_multicast_source(state: &State, source: &Option<SourceTerminus>) -> bool
-    ensures { (t : List Entry) (e : E) (ends : List ℕ) → TablesAt state.now t e ends → result ≡ is_multicast_source (multicast_of t) source.now }
+    ensures { (t : List Entry) → TablesFind state.now t → result ≡ is_multicast_source (multicast_of t) source.now }
 {
     match source {
         Some(SourceTerminus::Source(source)) => is_multicast_at(state, &source.address),
@@ -31,7 +30,7 @@ fn is_multicast_source(state: &State, source: &Option<SourceTerminus>) -> bool
 
 /// Whether a target's address is a multicast one.
 fn is_multicast_target(state: &State, target: &Option<TargetTerminus>) -> bool
-    ensures { (t : List Entry) (e : E) (ends : List ℕ) → TablesAt state.now t e ends → result ≡ is_multicast_target (multicast_of t) target.now }
+    ensures { (t : List Entry) → TablesFind state.now t → result ≡ is_multicast_target (multicast_of t) target.now }
 {
     match target {
         Some(TargetTerminus::Target(target)) => is_multicast_at(state, &target.address),
@@ -41,7 +40,7 @@ fn is_multicast_target(state: &State, target: &Option<TargetTerminus>) -> bool
 
 /// Whether the address at the router's side of a link is a multicast one.
 pub fn is_multicast_link(state: &State, attach: &Attach) -> bool
-    ensures { (t : List Entry) (e : E) (ends : List ℕ) → TablesAt state.now t e ends
+    ensures { (t : List Entry) → TablesFind state.now t
         → result ≡ is_multicast_link (multicast_of t) attach.now.role attach.now }
 {
     match attach.role {

@@ -7,7 +7,7 @@ use Rattle.router_trace.specs.declared.event.Event.{Event}
 use Rattle.router_trace.specs.declared.event.ConnectionId.{ConnectionId}
 use Rattle.router_trace.specs.Configuration.{beginning}
 use Rattle.router_trace.specs.Trace.{Entry, Took, step_of}
-use Rattle.router_core.specs.Books.{declines}
+use Rattle.router_core.specs.Turns.{declines}
 use Rattle.router_core.proofs.Books.{not_refused}
 use Rattle.router_trace.specs.Connection.{Connection, conn}
 use Rattle.router_core.specs.declared.router.Core.{Core}

@@ -23,6 +23,16 @@ pub record TablesFit (s : State) (t : Trace) : Type 0 where
   pub sessions : SessionsFit s.sessions t
   pub passing : PassingFit s.passing t
 
+-- the tables by which an item is answered agree with the trace: all but those of the connections
+pub record TablesFind (s : State) (t : Trace) : Type 0 where
+  pub clocks : ClocksFit s.clocks t
+  pub peers : PeersFit s.peers t
+  pub sessions : SessionsFit s.sessions t
+  pub passing : PassingFit s.passing t
+
+abbrev pub fit_finds : {s : State} {t : Trace} → TablesFit s t → TablesFind s t
+fit_finds f = record { clocks = f.clocks; peers = f.peers; sessions = f.sessions; passing = f.passing }
+
 -- all tables are what an event finds after the trace; it ends these connections first
 pub record TablesAt (s : State) (t : Trace) (e : Event) (ends : List ℕ) : Type 0 where
   pub connections : ConnectionsAt s.connections t e
@@ -32,6 +42,9 @@ pub record TablesAt (s : State) (t : Trace) (e : Event) (ends : List ℕ) : Type
   pub sessions : SessionsFit s.sessions t
   pub passing : PassingFit s.passing t
   pub are_due : ends ≡ due t e
+
+abbrev pub at_finds : {s : State} {t : Trace} {e : Event} {ends : List ℕ} → TablesAt s t e ends → TablesFind s t
+at_finds f = record { clocks = f.clocks; peers = f.peers; sessions = f.sessions; passing = f.passing }
 
 -- the heartbeats that are due at a moment on these connections, by number
 abbrev pub beat_if : Bool → ℕ → List Put

@@ -30,7 +30,7 @@ ghost use Rattle.router_sessions.specs.Windows.{windows};
 ghost use Rattle.router_trace.specs.Connection.{conn as known, standing, found, is_ready, has};
 ghost use Rattle.router_conns.specs.Fits.{IsLeast, IsBatch, count};
 ghost use Rattle.router_trace.specs.Refusing.{rises, refuses};
-ghost use Rattle.router_state.specs.Tables.{TablesFit, TablesAt, beat_if, beats_over, beats};
+ghost use Rattle.router_state.specs.Tables.{TablesFit, TablesAt, TablesFind, beat_if, beats_over, beats};
 ghost use Rattle.router_trace.specs.declared.event.Event.{Event as E};
 ghost use Rattle.router_trace.specs.declared.event.Event.TheVariants as event;
 
@@ -116,14 +116,14 @@ impl State {
 
     /// What is on a channel of the peer as an event finds it.
     pub fn place(&self, conn: u64, channel: u16) -> Place
-        ensures { (t : List Entry) (e : E) (ends : List ℕ) → TablesAt self.now t e ends → result ≡ found_of (place t conn channel) }
+        ensures { (t : List Entry) → TablesFind self.now t → result ≡ found_of (place t conn channel) }
     {
         self.sessions.place(conn, channel)
     }
 
     /// The router's lowest channel, as an event finds it, that the peer accepts too and that has no session.
     pub fn free_channel(&self, conn: u64) -> Option<u16>
-        ensures { (t : List Entry) (e : E) (ends : List ℕ) → TablesAt self.now t e ends → result ≡ free_channel t conn (channel_max_of (terms t conn)) }
+        ensures { (t : List Entry) → TablesFind self.now t → result ≡ free_channel t conn (channel_max_of (terms t conn)) }
     {
         self.sessions
             .free_channel(conn, self.clocks.channel_max(conn))
@@ -131,7 +131,7 @@ impl State {
 
     /// What is on a handle of the peer, as an event finds it, on the session with the router's channel `own`.
     pub fn link_place(&self, conn: u64, own: u16, handle: u32) -> LinkAt
-        ensures { (t : List Entry) (e : E) (ends : List ℕ) → TablesAt self.now t e ends → result ≡ found_link (link_place t conn own handle) }
+        ensures { (t : List Entry) → TablesFind self.now t → result ≡ found_link (link_place t conn own handle) }
     {
         self.passing.links().place(conn, own, handle)
     }
@@ -139,7 +139,7 @@ impl State {
     /// The router's lowest handle, of 64, that the session's peer accepts too and on which nothing is attached.
     pub fn free_handle(&self, conn: u64, own: u16) -> Option<u32>
         ensures now { (t : List Entry) → TablesFit self.now t → result ≡ free_handle t conn own }
-        ensures at { (t : List Entry) (e : E) (ends : List ℕ) → TablesAt self.now t e ends → result ≡ free_handle t conn own }
+        ensures found { (t : List Entry) → TablesFind self.now t → result ≡ free_handle t conn own }
     {
         self.passing.links().free_handle(conn, own)
     }
@@ -147,7 +147,7 @@ impl State {
     /// Whether each message of an address goes to every consumer.
     pub fn is_multicast(&self, address: &str) -> bool
         ensures now { (t : List Entry) → TablesFit self.now t → result ≡ is_multicast (distribution t address.now) }
-        ensures at { (t : List Entry) (e : E) (ends : List ℕ) → TablesAt self.now t e ends → result ≡ is_multicast (distribution t address.now) }
+        ensures found { (t : List Entry) → TablesFind self.now t → result ≡ is_multicast (distribution t address.now) }
     {
         self.passing.is_multicast(address)
     }
@@ -155,7 +155,7 @@ impl State {
     /// The attachment with a key.
     pub fn holder(&self, key: &LinkKey) -> Option<Attachment>
         ensures now { (t : List Entry) → TablesFit self.now t → result ≡ holder t key.now }
-        ensures at { (t : List Entry) (e : E) (ends : List ℕ) → TablesAt self.now t e ends → result ≡ holder t key.now }
+        ensures found { (t : List Entry) → TablesFind self.now t → result ≡ holder t key.now }
     {
         self.passing.links().holder(key)
     }
@@ -177,7 +177,7 @@ impl State {
     /// The key of the link that an attach names on a connection. Fails if memory is refused.
     pub fn key_of(&self, conn: u64, attach: &Attach) -> Result<LinkKey, AllocError>
         ensures now { IfOk result (λ key. (t : List Entry) → TablesFit self.now t → key ≡ key_of (user t conn) (container t conn) attach.now) }
-        ensures at { IfOk result (λ key. (t : List Entry) (e : E) (ends : List ℕ) → TablesAt self.now t e ends → key ≡ key_of (user t conn) (container t conn) attach.now) }
+        ensures found { IfOk result (λ key. (t : List Entry) → TablesFind self.now t → key ≡ key_of (user t conn) (container t conn) attach.now) }
     {
         self.peers.key_of(conn, attach)
     }
@@ -185,7 +185,7 @@ impl State {
     /// The largest frame that a peer accepts, in bytes; 4,294,967,295 if it states none.
     pub fn largest_frame(&self, conn: u64) -> u32
         ensures now { (t : List Entry) → TablesFit self.now t → result ≡ largest_frame t conn }
-        ensures at { (t : List Entry) (e : E) (ends : List ℕ) → TablesAt self.now t e ends → result ≡ largest_frame t conn }
+        ensures found { (t : List Entry) → TablesFind self.now t → result ≡ largest_frame t conn }
     {
         self.peers.largest_frame(conn)
     }
@@ -353,7 +353,7 @@ impl State {
 
     /// The delivery in the middle of a link of the peer, as an event finds it.
     pub fn middle(&self, conn: u64, own: u16, handle: u32) -> Option<&Delivery>
-        ensures { (t : List Entry) (e : E) (ends : List ℕ) → TablesAt self.now t e ends → option_map (λ d. d.now) result ≡ middle_on (link_place t conn own handle) }
+        ensures { (t : List Entry) → TablesFind self.now t → option_map (λ d. d.now) result ≡ middle_on (link_place t conn own handle) }
     {
         self.passing.links().middle(conn, own, handle)
     }
@@ -361,7 +361,7 @@ impl State {
     /// Whether a peer has not settled the delivery with this id of its own.
     pub fn is_claimed(&self, conn: u64, own: u16, id: u32) -> bool
         ensures now { (t : List Entry) → TablesFit self.now t → result ≡ is_claimed t conn own id }
-        ensures at { (t : List Entry) (e : E) (ends : List ℕ) → TablesAt self.now t e ends → result ≡ is_claimed t conn own id }
+        ensures found { (t : List Entry) → TablesFind self.now t → result ≡ is_claimed t conn own id }
     {
         self.passing.claims().is_claimed(conn, own, id)
     }
@@ -381,7 +381,7 @@ impl State {
         first: u32,
         last: u32,
     ) -> Result<Vec<u32>, AllocError>
-        ensures { IfOk result (λ ids. (t : List Entry) (e : E) (ends : List ℕ) → TablesAt self.now t e ends → ids.items ≡ open_ids t conn own first last) }
+        ensures { IfOk result (λ ids. (t : List Entry) → TablesFind self.now t → ids.items ≡ open_ids t conn own first last) }
     {
         self.passing.deliveries().open_ids(conn, own, first, last)
     }

@@ -9,10 +9,10 @@ use Rattle.router_rows.proofs.Placed.{IsOn, is_on}
 use Rattle.router_rows.proofs.deciding.attach_reply.Goals as goal
 
 pub returns-in-On : goal.returns-in-On
-returns-in-On c = λ t e ends at fit found.
+returns-in-On c = λ t at fit found.
     let here : IsOn c.in-On.own c.in-On.window at = is_on at c.in-On.own c.in-On.window (sym c.in-On.is ∙ found) in
     let links = link_place t c.args.conn c.in-On.own c.args.attach.now.handle in
     subst (λ (p : At). c.session_attach_reply.result ≡ attach_reply p (link_place t c.args.conn) (free_handle t c.args.conn) (multicast_of t) c.args.attach.now) (sym here.place)
-    (c.session_attach_reply.ensures links (c.link_place-at.ensures t e ends fit)
-    ∙ ap (λ (f : Option ℕ). session_attach_reply c.in-On.own links f c.is_multicast_link-multicast.result c.args.attach.now) (c.free_handle-free.ensures.at t e ends fit)
-    ∙ ap (λ (b : Bool). session_attach_reply c.in-On.own links (free_handle t c.args.conn c.in-On.own) b c.args.attach.now) (c.is_multicast_link-multicast.ensures t e ends fit))
+    (c.session_attach_reply.ensures links (c.link_place-at.ensures t fit)
+    ∙ ap (λ (f : Option ℕ). session_attach_reply c.in-On.own links f c.is_multicast_link-multicast.result c.args.attach.now) (c.free_handle-free.ensures.found t fit)
+    ∙ ap (λ (b : Bool). session_attach_reply c.in-On.own links (free_handle t c.args.conn c.in-On.own) b c.args.attach.now) (c.is_multicast_link-multicast.ensures t fit))

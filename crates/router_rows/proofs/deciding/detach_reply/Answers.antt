@@ -6,7 +6,7 @@ use Rattle.router_rows.proofs.Placed.{IsOn, is_on}
 use Rattle.router_rows.proofs.deciding.detach_reply.Goals as goal
 
 pub returns-in-On : goal.returns-in-On
-returns-in-On c = λ t e ends at fit found.
+returns-in-On c = λ t at fit found.
     let here : IsOn c.in-On.own c.in-On.window at = is_on at c.in-On.own c.in-On.window (sym c.in-On.is ∙ found) in
     subst (λ (p : At). c.session_detach_reply.result ≡ detach_reply p (link_place t c.args.conn) c.args.detach.now) (sym here.place)
-    (c.session_detach_reply.ensures (link_place t c.args.conn c.in-On.own c.args.detach.now.handle) (c.link_place-at.ensures t e ends fit))
+    (c.session_detach_reply.ensures (link_place t c.args.conn c.in-On.own c.args.detach.now.handle) (c.link_place-at.ensures t fit))

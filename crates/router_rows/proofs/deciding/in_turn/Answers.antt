@@ -7,37 +7,37 @@ use Rattle.router_rows.specs.Finding.{finds}
 use Rattle.router_rows.proofs.deciding.in_turn.Goals as goal
 
 pub returns-in-Begin : goal.returns-in-Begin
-returns-in-Begin c = λ t e ends at.
-    c.begin_reply.ensures (place t c.args.conn c.args.channel) (c.place-place.ensures t e ends at)
-    ∙ ap (λ (free : Option ℕ). begin_reply (place t c.args.conn c.args.channel) free c.args.channel c.in-Begin.begin) (c.free_channel.ensures t e ends at)
+returns-in-Begin c = λ t at.
+    c.begin_reply.ensures (place t c.args.conn c.args.channel) (c.place-place.ensures t at)
+    ∙ ap (λ (free : Option ℕ). begin_reply (place t c.args.conn c.args.channel) free c.args.channel c.in-Begin.begin) (c.free_channel.ensures t at)
     ∙ ap (λ (p : Perf). in_turn (finds t c.args.conn) c.args.channel p) (sym c.in-Begin.is)
 
 pub returns-in-Attach : goal.returns-in-Attach
-returns-in-Attach c = λ t e ends at.
-    c.attach_reply.ensures t e ends (place t c.args.conn c.args.channel) at (c.place-place.ensures t e ends at)
+returns-in-Attach c = λ t at.
+    c.attach_reply.ensures t (place t c.args.conn c.args.channel) at (c.place-place.ensures t at)
     ∙ ap (λ (p : Perf). in_turn (finds t c.args.conn) c.args.channel p) (sym c.in-Attach.is)
 
 pub returns-in-Flow : goal.returns-in-Flow
-returns-in-Flow c = λ t e ends at.
-    c.flow_reply.ensures t e ends (place t c.args.conn c.args.channel) at (c.place-place.ensures t e ends at)
+returns-in-Flow c = λ t at.
+    c.flow_reply.ensures t (place t c.args.conn c.args.channel) at (c.place-place.ensures t at)
     ∙ ap (λ (p : Perf). in_turn (finds t c.args.conn) c.args.channel p) (sym c.in-Flow.is)
 
 pub returns-in-Transfer : goal.returns-in-Transfer
-returns-in-Transfer c = λ t e ends at.
-    c.transfer_reply.ensures t e ends (place t c.args.conn c.args.channel) at (c.place-place.ensures t e ends at)
+returns-in-Transfer c = λ t at.
+    c.transfer_reply.ensures t (place t c.args.conn c.args.channel) at (c.place-place.ensures t at)
     ∙ ap (λ (p : Perf). in_turn (finds t c.args.conn) c.args.channel p) (sym c.in-Transfer.is)
 
 pub returns-in-Disposition : goal.returns-in-Disposition
-returns-in-Disposition c = λ t e ends at.
-    c.disposition_reply.ensures (place t c.args.conn c.args.channel) (c.place-place.ensures t e ends at)
+returns-in-Disposition c = λ t at.
+    c.disposition_reply.ensures (place t c.args.conn c.args.channel) (c.place-place.ensures t at)
     ∙ ap (λ (p : Perf). in_turn (finds t c.args.conn) c.args.channel p) (sym c.in-Disposition.is)
 
 pub returns-in-Detach : goal.returns-in-Detach
-returns-in-Detach c = λ t e ends at.
-    c.detach_reply.ensures t e ends (place t c.args.conn c.args.channel) at (c.place-place.ensures t e ends at)
+returns-in-Detach c = λ t at.
+    c.detach_reply.ensures t (place t c.args.conn c.args.channel) at (c.place-place.ensures t at)
     ∙ ap (λ (p : Perf). in_turn (finds t c.args.conn) c.args.channel p) (sym c.in-Detach.is)
 
 pub returns-in-End : goal.returns-in-End
-returns-in-End c = λ t e ends at.
-    c.end_reply.ensures (place t c.args.conn c.args.channel) (c.place-place.ensures t e ends at)
+returns-in-End c = λ t at.
+    c.end_reply.ensures (place t c.args.conn c.args.channel) (c.place-place.ensures t at)
     ∙ ap (λ (p : Perf). in_turn (finds t c.args.conn) c.args.channel p) (sym c.in-End.is)

@@ -6,8 +6,8 @@ use Rattle.router_rows.specs.Finding.{finds}
 use Rattle.router_rows.proofs.deciding.item_reply.Goals as goal
 
 pub returns-else-sasl : goal.returns-else-sasl
-returns-else-sasl c = λ t e ends at.
+returns-else-sasl c = λ t at.
     let it = c.in-Frame in
-    c.perf_reply.ensures t e ends at
+    c.perf_reply.ensures t at
     ∙ ap (λ (b : Bool). item_reply c.args.phase (finds t c.args.conn) (item.Frame b it.channel it.perf it.payload)) (sym c.if-sasl.false)
     ∙ ap (λ (i : Item). item_reply c.args.phase (finds t c.args.conn) i) (sym it.is)

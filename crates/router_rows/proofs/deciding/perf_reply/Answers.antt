@@ -5,8 +5,8 @@ use Rattle.router_rows.specs.Finding.{finds}
 use Rattle.router_rows.proofs.deciding.perf_reply.Goals as goal
 
 pub returns-in_default : goal.returns-in_default
-returns-in_default c = λ t e ends at.
+returns-in_default c = λ t at.
     let turns : perf_reply c.args.phase (finds t c.args.conn) c.args.channel c.args.perf.now
     ≡ turn_by (finds t c.args.conn) c.args.channel c.args.perf.now (after_frame c.args.channel c.args.phase)
     = search rules in
-    c.turn_by.ensures t e ends at ∙ sym turns
+    c.turn_by.ensures t at ∙ sym turns

@@ -7,6 +7,6 @@ use Rattle.router_rows.specs.Finding.{finds}
 use Rattle.router_rows.proofs.deciding.turn_by.Goals as goal
 
 pub returns-in-Ok : goal.returns-in-Ok
-returns-in-Ok c = λ t e ends at.
-    c.in_turn.ensures t e ends at
+returns-in-Ok c = λ t at.
+    c.in_turn.ensures t at
     ∙ ap (λ (r : Result Conn ConnFault). turn_by (finds t c.args.conn) c.args.channel c.args.perf.now r) (sym c.in-Ok.ensures)

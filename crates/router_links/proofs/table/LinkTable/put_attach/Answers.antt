@@ -22,7 +22,7 @@ returns-in_default-clause-fits c = λ t sasl payload key last fit.
     let a = c.args.attach.now in
     let conn = c.args.conn in
     let own = c.args.own in
-    let none : None ≡ address_by a.role a = ap (option_map (λ x. x.now)) (sym c.in_default.is) ∙ c.address_of.ensures in
+    let none : None ≡ address_by a.role a = ap (option_map (λ x. x.now)) (sym c.in_default.is) ∙ c.address_by.ensures in
     record {
       links = λ d o h. attached_row (conn == d) (own == o) (a.handle == h) None _ (at c.args.self.now.links d o h)
           (attached (attachments t + 1) (key_at t d a) a (asked t d) (address_by a.role a)) (link t d o h)
@@ -39,7 +39,7 @@ returns-clause-fits c = λ t sasl payload key last fit.
     let conn = c.args.conn in
     let own = c.args.own in
     let count = c.args.self.now.count in
-    let there : Some c.in-Some.address.now ≡ address_by a.role a = ap (option_map (λ x. x.now)) (sym c.in-Some.is) ∙ c.address_of.ensures in
+    let there : Some c.in-Some.address.now ≡ address_by a.role a = ap (option_map (λ x. x.now)) (sym c.in-Some.is) ∙ c.address_by.ensures in
     let known : c.in-Some-key.key ≡ key_at t conn a = same_key_of _ _ (sym c.in-Some-key.is ∙ key) in
     let n = Some (begun (count + 1) c.in-Some-key.key a (initial_of c.args.last) c.in-Some.address.now) in
     record {

@@ -1,0 +1,141 @@
+//! Durable links and the book of durable deliveries: why a link that its row would take is refused after all.
+ghost use Rattle.std.specs.Prelude.{◌≡◌, [], List, option_map, unwrap_or, IfOk};
+ghost use Rattle.router_trace.specs.Trace.{Entry};
+ghost use Rattle.router_trace.specs.LinkFrames.{other};
+ghost use Rattle.router_state.specs.Tables.{TablesFind};
+ghost use Rattle.router_rows.specs.Booking.{wanted_key, wanted_address, wants_durable, new_terminus, has_room, if_receiver, durable_refusal, volatile_refusal, attach_unless};
+ghost use Rattle.book_core.specs.Book.{terminus_of, same_bytes, is_short};
+
+use crate::answer::Answer;
+use crate::link_rows::LINK_TEXT;
+use amqp_perf::{Attach, Role, Text};
+use book_core::{Book, LinkKey, LinkRole, Terminus};
+use router_links::address_by;
+use router_state::State;
+use router_trace::{Condition, is_durable};
+use std::alloc::AllocError;
+
+/// The most termini that a book keeps.
+const TERMINI: usize = 1_024;
+
+/// The router's role on a link on which the peer has this one.
+fn other(role: Role) -> Role
+    ensures { result ≡ other role }
+{
+    match role {
+        Role::Sender => Role::Receiver,
+        Role::Receiver => Role::Sender,
+    }
+}
+
+/// Whether a peer's attach asks for a durable link.
+pub fn wants_durable(attach: &Attach) -> bool
+    ensures { result ≡ wants_durable attach.now }
+{
+    is_durable(other(attach.role), attach)
+}
+
+/// The address, at the router's side, of the link that a peer's attach asks for; none if it names none.
+pub fn wanted_address(attach: &Attach) -> Option<&Text>
+    ensures { unwrap_or (option_map (λ a. a.now) result) [] ≡ wanted_address attach.now }
+{
+    address_by(other(attach.role), attach)
+}
+
+/// The key of the link that a peer's attach asks for.
+pub fn wanted_key(state: &State, conn: u64, attach: &Attach) -> Result<LinkKey, AllocError>
+    ensures { IfOk result (λ key. (t : List Entry) → TablesFind state.now t → key ≡ wanted_key t conn attach.now) }
+{
+    let mut key = state.key_of(conn, attach)?;
+    key.role = match attach.role {
+        Role::Sender => LinkRole::Producer,
+        Role::Receiver => LinkRole::Consumer,
+    };
+    Ok(key)
+}
+
+/// Whether the text has at most 1,024 bytes.
+fn is_short(text: &Text) -> bool
+    ensures { result ≡ is_short text.now }
+{
+    text.as_str().len() <= LINK_TEXT
+}
+
+/// Whether the text of an address, if there is one, has at most 1,024 bytes.
+fn is_short_address(address: Option<&Text>) -> bool
+    ensures { result ≡ is_short (unwrap_or (option_map (λ a. a.now) address) []) }
+{
+    match address {
+        None => true,
+        Some(text) => is_short(text),
+    }
+}
+
+/// Whether there is room for one more terminus, with this key and address.
+fn has_room(full: bool, book: &Book, key: &LinkKey, address: Option<&Text>) -> bool
+    ensures { result ≡ has_room full book.now (new_terminus book.now key.now (unwrap_or (option_map (λ a. a.now) address) [])) }
+{
+    let short = is_short(&key.user)
+        && is_short(&key.container)
+        && is_short(&key.name)
+        && is_short_address(address);
+    !full && book.terminus_count() < TERMINI && short
+}
+
+/// Whether a terminus has this address.
+fn has_address(terminus: &Terminus, address: Option<&Text>) -> bool
+    ensures { result ≡ same_bytes terminus.now.address (unwrap_or (option_map (λ a. a.now) address) []) }
+{
+    match address {
+        None => terminus.address.as_str().is_empty(),
+        Some(text) => terminus.address.as_str() == text.as_str(),
+    }
+}
+
+/// Why a durable link is refused, by the terminus that its key has in the book, if it is.
+pub fn durable_refusal(
+    book: &Book,
+    full: bool,
+    key: &LinkKey,
+    attach: &Attach,
+) -> Option<Condition>
+    ensures { result ≡ durable_refusal (terminus_of key.now book.now.termini) attach.now (has_room full book.now (new_terminus book.now key.now (wanted_address attach.now))) }
+{
+    let address = wanted_address(attach);
+    match book.terminus_of(key) {
+        Some(terminus) if has_address(terminus, address) => Some(Condition::NotImplemented),
+        Some(_) => Some(Condition::NotAllowed),
+        None if !has_room(full, book, key, address) => Some(Condition::ResourceLimitExceeded),
+        None => match attach.role {
+            Role::Sender => Some(Condition::NotImplemented),
+            Role::Receiver => None,
+        },
+    }
+}
+
+/// Why a link is refused as its key is that of a durable link that is attached, if it is.
+pub fn volatile_refusal(held: bool) -> Option<Condition>
+    ensures { result ≡ volatile_refusal held }
+{
+    if held {
+        Some(Condition::NotImplemented)
+    } else {
+        None
+    }
+}
+
+/// The answer to an attach that its row takes, on the router's lowest free handle, if the book refuses it.
+pub fn attach_unless(own: u16, free: Option<u32>, refusal: Option<Condition>) -> Answer
+    ensures { result ≡ attach_unless own free refusal }
+{
+    let Some(error) = refusal else {
+        return Answer::Attach { own };
+    };
+    match free {
+        Some(handle) => Answer::Refuse { own, handle, error },
+        None => Answer::End {
+            own,
+            error: Some(Condition::ResourceLimitExceeded),
+        },
+    }
+}
