@@ -2,8 +2,7 @@
 use Rattle.std.proofs.Common.{◌≡◌, ◌∙◌, sym, ap, refl, ℕ, List, [], ◌∷◌, Bool, true, false}
 use Rattle.std.specs.Prelude.{Option, Some, None, not, ◌||◌}
 use Rattle.amqp_frames.specs.declared.item.Item.{Item}
-use Rattle.book_core.specs.declared.act.Act.{Act}
-use Rattle.book_core.specs.Book.{BookView, effects}
+use Rattle.book_core.specs.Book.{BookView}
 use Rattle.router_trace.specs.declared.binding.Binding.{Binding}
 use Rattle.router_trace.specs.declared.event.Event.{Event}
 use Rattle.router_trace.specs.declared.event.Event.TheVariants as event
@@ -15,7 +14,7 @@ use Rattle.router_reply.specs.Replies.{closing_of, ends, heard, bound_by, own_ro
 use Rattle.router_passing.specs.Passing.{with_bound}
 use Rattle.router_state.specs.Tables.{TablesFit}
 use Rattle.router_core.specs.Replies.{answered, handled}
-use Rattle.router_core.specs.Books.{acts_of, book_behind, book_in, with_acts, booked, is_start, is_started, is_out_of_turn, declines}
+use Rattle.router_core.specs.Books.{book_behind, book_in, booked, is_start, is_started, is_out_of_turn, declines}
 use Rattle.router_core.specs.Handling.{Fits, kept_book, state_of}
 use Rattle.router_core.specs.declared.router.Core.{Core}
 use Rattle.router_core.proofs.Booking.{booked_same}
@@ -45,13 +44,8 @@ module _ {A : Type 0} (view : List Entry → A) (out : (c : ℕ) (i : Item) (t :
   view_answered id t e =
       all_keep (λ (u : List Entry). view u ≡ view (did e ∷ t)) (λ ps u h. view_goes ps u ∙ h) (replied id t (step_of e)) (view_replied id t e)
 
-book_with : (acts : List Act) (t : List Entry) → book_in (with_acts acts t) ≡ effects (book_in t) acts
-unfolding effects
-book_with [] t = refl
-book_with (act ∷ acts) t = refl
-
 pub book_handled : (id : List ℕ) (t : List Entry) (e : Event) → book_in (handled id t (step_of e)) ≡ book_behind (book_in t) e
-book_handled id t e = view_answered book_in (λ c i u. refl) (λ x u. refl) id (booked t e) e ∙ book_with (acts_of (book_in t) e) t
+book_handled id t e = view_answered book_in (λ c i u. refl) (λ x u. refl) id (booked t e) e
 
 -- tests of two things
 or_first : (x y : Bool) → (x || y) ≡ false → x ≡ false

@@ -27,13 +27,9 @@ book_in (Began g ∷ t) = g.book
 abbrev pub book_behind : BookView → Event → BookView
 book_behind b e = effects b (acts_of b e)
 
--- The acts of an event are written as one batch, before the event's entry; where there are none, nothing is written.
-abbrev pub with_acts : List Act → Trace → Trace
-with_acts [] t = t
-with_acts (act ∷ acts) t = Booked (act ∷ acts) ∷ t
-
+-- the acts of an event stand before it
 abbrev pub booked : Trace → Event → Trace
-booked t e = with_acts (acts_of (book_in t) e) t
+booked t e = Booked (acts_of (book_in t) e) ∷ t
 
 -- Start comes first, and once.
 abbrev pub is_start : Event → Bool

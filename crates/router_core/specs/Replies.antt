@@ -9,10 +9,10 @@ use Rattle.router_core.specs.Books.{booked}
 abbrev pub answered : List ℕ → Trace → Step → Trace
 answered id t s = followed (replied id t s)
 
--- the batch that the event writes, and then the event with its items
+-- the acts of the event, and then the event with its items
 abbrev pub handled : List ℕ → Trace → Step → Trace
 handled id t s = answered id (booked t s.event) s
 
--- the trace u is t with the batch that the event wrote, the event, and the items that it put into outboxes
+-- the trace u is t with the acts of the event, the event, and the items that it put into outboxes
 pub record Replies (id : List ℕ) (t : Trace) (s : Step) (u : Trace) : Type 0 where
   pub answers : u ≡ handled id t s
