@@ -110,7 +110,7 @@ pass_changes c i k d s user known at_door is was =
     up_came : (inside : Scene) (p : Peer) → ins (hand (event.Up c p) inside).trace c.0 ≡ ins inside.trace c.0
     up_came inside p = by_answer (refuses inside.trace (event.Up c p))
       where
-        by_answer : (b : Bool) → ins (if b then say refused inside else with_trace (answered inside.id inside.trace (step_of (event.Up c p))) inside).trace c.0 ≡ ins inside.trace c.0
+        by_answer : (b : Bool) → ins (if b then say refused inside else with_trace (handled inside.id inside.trace (step_of (event.Up c p))) inside).trace c.0 ≡ ins inside.trace c.0
         by_answer true = refl
         by_answer false = ins_handled inside.id inside.trace (event.Up c p) c.0
 
