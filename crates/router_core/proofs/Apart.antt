@@ -21,7 +21,7 @@ use Rattle.router_passing.specs.Passing.{grants_due, with_bound}
 use Rattle.router_rows.specs.Finding.{finds}
 use Rattle.router_reply.specs.Replies.{heard, bound_by, own_row, replied}
 use Rattle.router_after.specs.After.{widened}
-use Rattle.router_core.specs.Books.{booked}
+use Rattle.router_reply.specs.Acts.{booked}
 use Rattle.router_core.specs.Replies.{answered, handled}
 use Rattle.router_core.specs.Runs.{Taking, took_one}
 use Rattle.router_core.specs.Moves.{Move, handles, takes, Goes, outs}

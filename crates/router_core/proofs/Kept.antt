@@ -41,7 +41,7 @@ use Rattle.router_rows.specs.declared.answer.Answer.TheVariants.{Nothing, Header
 use Rattle.router_rows.specs.Rows.{said, item_reply}
 use Rattle.router_rows.specs.Finding.{finds}
 use Rattle.router_reply.specs.Replies.{closing_of, ends, heard, stolen_by, attach_answer, refused, claimed_id, ignored_put, unbound_put, whole_put, part_put, settled_answers, bound_by, item_row, own_row, replied}
-use Rattle.router_core.specs.Books.{booked}
+use Rattle.router_reply.specs.Acts.{booked}
 use Rattle.router_core.specs.Replies.{answered, handled}
 use Rattle.router_core.proofs.Booking.{booked_keeps}
 use Rattle.router_core.specs.Runs.{took_one}

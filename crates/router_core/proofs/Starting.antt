@@ -17,7 +17,7 @@ use Rattle.router_trace.specs.Following.{tells, has_credit, sends_due, drains_du
 use Rattle.router_sessions.specs.Windows.{windows}
 use Rattle.router_passing.specs.Passing.{grants_due, with_bound}
 use Rattle.router_reply.specs.Replies.{closing_of, ends, heard, bound_by, own_row, replied}
-use Rattle.router_core.specs.Books.{booked}
+use Rattle.router_reply.specs.Acts.{booked}
 use Rattle.router_core.specs.Replies.{answered, handled}
 use Rattle.router_core.proofs.Booking.{booked_keeps}
 use Rattle.router_core.specs.Runs.{took_one}

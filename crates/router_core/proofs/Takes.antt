@@ -2,7 +2,6 @@
 use Rattle.std.proofs.Common.{◌≡◌, ◌∙◌, sym, ap, refl, subst, ℕ, false, List, [], ◌∷◌}
 use Rattle.std.specs.Prelude.{Option, Some, None}
 use Rattle.amqp_conn.specs.declared.conn.Conn.{Conn}
-use Rattle.book_core.specs.declared.act.Act.{Act}
 use Rattle.book_core.specs.Book.{BookView, effects}
 use Rattle.router_trace.specs.Trace.{Beginning}
 use Rattle.router_trace.specs.Configuration.{beginning}
@@ -17,7 +16,7 @@ use Rattle.router_state.specs.Tables.{beats_over}
 use Rattle.router_rows.specs.Rows.{down_reply}
 use Rattle.router_reply.specs.Replies.{ends, item_bound, bound_by, item_row, own_row, replied_behind}
 use Rattle.router_after.specs.After.{widened, followed}
-use Rattle.router_core.specs.Books.{acts_of, book_in, with_acts, booked}
+use Rattle.router_reply.specs.Acts.{acts_of, book_in, booked}
 use Rattle.router_core.specs.Replies.{answered, handled}
 use Rattle.router_core.specs.Runs.{took_one}
 use Rattle.router_core.specs.Moves.{Move, handles, takes, Goes, outs}
@@ -111,7 +110,7 @@ same_answered id t s calm roomy =
     in subst (λ (x : List Entry). Calm (followed (replied_behind id t x s.event)) × (untaken (followed (replied_behind id t x s.event)) ≡ plain_answered id (untaken t) s))
     (sym (ap (λ (ks : List ℕ). ends id ks (Did s ∷ t)) none)) both
 
--- an event with its batch
+-- an event with its acts
 same_book : (t : List Entry) → book_in t ≡ book_in (untaken t)
 same_book [] = refl
 same_book (Did s ∷ t) = same_book t
@@ -121,12 +120,8 @@ same_book (Bound b ∷ t) = same_book t
 same_book (Booked acts ∷ t) = ap (λ (b : BookView). effects b acts) (same_book t)
 same_book (Began g ∷ t) = refl
 
-same_with : (acts : List Act) (t : List Entry) → untaken (with_acts acts t) ≡ with_acts acts (untaken t)
-same_with [] t = refl
-same_with (act ∷ acts) t = refl
-
 pub same_booked : (t : List Entry) (e : Event) → untaken (booked t e) ≡ booked (untaken t) e
-same_booked t e = same_with (acts_of (book_in t) e) t ∙ ap (λ (b : BookView). with_acts (acts_of b e) (untaken t)) (same_book t)
+same_booked t e = ap (λ (b : BookView). Booked (acts_of b e) ∷ untaken t) (same_book t)
 
 pub same_handled : (id : List ℕ) (t : List Entry) (s : Step) → Calm t → ((c : ℕ) → is_full (conn t c) ≡ false)
     → Calm (handled id t s) × (untaken (handled id t s) ≡ plain_handled id (untaken t) s)

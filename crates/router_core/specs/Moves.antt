@@ -16,7 +16,7 @@ pub data Move : Type 0 where
   handles : Step → Move
   takes : Taking → Move
 
--- u is t after these moves, one after another: no event is refused, its batch comes before it and its replies after it
+-- u is t after these moves, one after another: no event is refused, its acts come before it and its replies after it
 abbrev pub Goes : List ℕ → List Move → Trace → Trace → Type 0
 Goes id [] t u = u ≡ t
 Goes id (handles s ∷ ms) t u = (refuses t s.event ≡ false) × Goes id ms (handled id t s) u

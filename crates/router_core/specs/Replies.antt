@@ -3,16 +3,16 @@ use Rattle.std.specs.Prelude.{◌≡◌, ℕ, List}
 use Rattle.router_trace.specs.Trace.{Trace, Step}
 use Rattle.router_reply.specs.Replies.{replied}
 use Rattle.router_after.specs.After.{followed}
-use Rattle.router_core.specs.Books.{booked}
+use Rattle.router_reply.specs.Acts.{booked}
 
 -- the event with all items put into outboxes: those of its rows, and those that follow
 abbrev pub answered : List ℕ → Trace → Step → Trace
 answered id t s = followed (replied id t s)
 
--- the batch that the event writes, and then the event with its items
+-- the acts of the event, and then the event with its items
 abbrev pub handled : List ℕ → Trace → Step → Trace
 handled id t s = answered id (booked t s.event) s
 
--- the trace u is t with the batch that the event wrote, the event, and the items that it put into outboxes
+-- the trace u is t with the acts of the event, the event, and the items that it put into outboxes
 pub record Replies (id : List ℕ) (t : Trace) (s : Step) (u : Trace) : Type 0 where
   pub answers : u ≡ handled id t s

@@ -32,7 +32,7 @@ use Rattle.router_rows.specs.declared.answer.Answer.TheVariants.{Attach, Refuse,
 use Rattle.router_rows.specs.Rows.{said, item_reply}
 use Rattle.router_rows.specs.Finding.{finds}
 use Rattle.router_reply.specs.Replies.{closing_of, ends, heard, refused, bound_for, item_put, behind_answer, item_bound, item_row, replied_behind, replied}
-use Rattle.router_core.specs.Books.{booked}
+use Rattle.router_reply.specs.Acts.{booked}
 use Rattle.router_core.specs.Replies.{answered, handled}
 use Rattle.router_core.specs.Runs.{took_one}
 use Rattle.router_core.specs.Moves.{Move, handles, takes, Goes, IsTrace}

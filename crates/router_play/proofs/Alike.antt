@@ -10,7 +10,7 @@ use Rattle.router_trace.specs.Trace.{Entry, Out, Put, did, goes, each_to, puts, 
 use Rattle.router_trace.specs.Connection.{Connection, conn, behind, with_item, took, unless_empty, drained, is_live, has, due, found, live_of, at_event}
 use Rattle.router_passing.specs.Passing.{with_bound}
 use Rattle.router_reply.specs.Replies.{closing_of, ends as ends_of, heard, bound_by, own_row, replied}
-use Rattle.router_core.specs.Books.{booked}
+use Rattle.router_reply.specs.Acts.{booked}
 use Rattle.router_core.specs.Replies.{answered, handled}
 use Rattle.router_core.specs.Moves.{ins, with_came}
 use Rattle.router_conns.proofs.Lists.{by_test}

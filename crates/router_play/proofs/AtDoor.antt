@@ -18,7 +18,7 @@ use Rattle.router_play.specs.declared.script.Step.TheVariants as step
 use Rattle.router_trace.specs.Trace.{Entry, Took, step_of}
 use Rattle.router_trace.specs.Connection.{conn, is_live}
 use Rattle.router_trace.specs.Refusing.{refuses, rises}
-use Rattle.router_core.specs.Replies.{answered}
+use Rattle.router_core.specs.Replies.{handled}
 use Rattle.router_core.specs.Runs.{Taking, items_of, took_one}
 use Rattle.router_core.specs.Door.{Verdict, says, passes, ends, door, door_behind}
 use Rattle.router_play.specs.Script.{Scene, opening, refused, say, say_all, out_line, with_socket, with_trace, stream_of, hand, judged_by, enter_at, enter_by, enter, enter_all, Reads, BytesCome, made, make, told, lose_by, lose, Takes, is_last, close_if, take_one, take_all, Plays}
@@ -27,7 +27,7 @@ use Rattle.router_core.specs.Laws.{is_header, begins_with_header, HeaderFirst, N
 use Rattle.router_conns.proofs.Lists.{by_test}
 use Rattle.router_play.proofs.PlayMoves.{play_is_trace}
 use Rattle.router_core.proofs.OnlyHeaders.{door_header}
-use Rattle.router_core.proofs.Coming.{ins_answered}
+use Rattle.router_core.proofs.Coming.{ins_handled}
 use Rattle.router_core.proofs.Headed.{trace_keeps_order}
 use Rattle.router_play.proofs.Alike.{Alike, alike_on, alike_same, over_took}
 use Rattle.router_play.proofs.Doored.{AtDoor, AtSocket, Doored, changed, closed, grown, hand_alike, handed, header_or_none, said}
@@ -58,12 +58,12 @@ item_enters c i s first why = by_answer (refuses s.trace (event.Item c i)) refl
     live_header taken (inr over) = absurd (true≢false (sym (ap not over) ∙ taken))
 
     by_answer : (b : Bool) → refuses s.trace (event.Item c i) ≡ b
-        → Entered (if b then say refused s else with_trace (answered s.id s.trace (step_of (event.Item c i))) s).trace c.0
+        → Entered (if b then say refused s else with_trace (handled s.id s.trace (step_of (event.Item c i))) s).trace c.0
     by_answer true is = (first, λ none. not_no (is_live (conn s.trace c.0)) is)
     by_answer false is =
-        let came : ins (answered s.id s.trace (step_of (event.Item c i))) c.0 ≡ ins s.trace c.0 ++ i ∷ []
-        = ins_answered s.id s.trace (event.Item c i) c.0 ∙ (let same : (c.0 == c.0) ≡ true = eq-eqb c.0 c.0 refl in rw same refl)
-        in let both = pushed (ins s.trace c.0) (ins (answered s.id s.trace (step_of (event.Item c i))) c.0) came first (λ none. live_header is (why none))
+        let came : ins (handled s.id s.trace (step_of (event.Item c i))) c.0 ≡ ins s.trace c.0 ++ i ∷ []
+        = ins_handled s.id s.trace (event.Item c i) c.0 ∙ (let same : (c.0 == c.0) ≡ true = eq-eqb c.0 c.0 refl in rw same refl)
+        in let both = pushed (ins s.trace c.0) (ins (handled s.id s.trace (step_of (event.Item c i))) c.0) came first (λ none. live_header is (why none))
         in (both.0, λ none. absurd (both.1 none))
 
 item_changes : (c : ConnectionId) (i : Item) (s : Scene) (k : Socket) → s.sockets c.0 ≡ Some k → k.door ≡ None → Doored s → Doored (hand (event.Item c i) s)
@@ -110,9 +110,9 @@ pass_changes c i k d s user known at_door is was =
     up_came : (inside : Scene) (p : Peer) → ins (hand (event.Up c p) inside).trace c.0 ≡ ins inside.trace c.0
     up_came inside p = by_answer (refuses inside.trace (event.Up c p))
       where
-        by_answer : (b : Bool) → ins (if b then say refused inside else with_trace (answered inside.id inside.trace (step_of (event.Up c p))) inside).trace c.0 ≡ ins inside.trace c.0
+        by_answer : (b : Bool) → ins (if b then say refused inside else with_trace (handled inside.id inside.trace (step_of (event.Up c p))) inside).trace c.0 ≡ ins inside.trace c.0
         by_answer true = refl
-        by_answer false = ins_answered inside.id inside.trace (event.Up c p) c.0
+        by_answer false = ins_handled inside.id inside.trace (event.Up c p) c.0
 
 -- a connection stays at the door
 kept_at_door : (c : ConnectionId) (s : Scene) (k : Socket) (new : Socket) → s.sockets c.0 ≡ Some k → AtSocket s.trace c.0 (Some new) → Doored s → Doored (with_socket c (Some new) s)

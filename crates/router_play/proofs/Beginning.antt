@@ -13,8 +13,9 @@ use Rattle.router_trace.specs.Numbers.{first_below, first_placed}
 use Rattle.router_passing.specs.Passing.{grants, grants_due, lowest_below}
 use Rattle.router_sessions.specs.Windows.{windows}
 use Rattle.router_after.specs.After.{sent, drained, granted}
-use Rattle.router_core.specs.Replies.{Replies, answered}
+use Rattle.router_core.specs.Replies.{Replies, handled}
 use Rattle.router_core.specs.Handling.{Fits, id_of, is_failed}
+use Rattle.router_reply.specs.Acts.{booked}
 use Rattle.router_core.specs.Turns.{declines}
 use Rattle.router_core.specs.declared.fault.CoreFault.{CoreFault}
 use Rattle.router_core.specs.declared.fault.CoreFault.TheVariants.{Disk, Memory, Failed, NoConnection}
@@ -32,7 +33,7 @@ quiet next t none =
     (λ u is. subst (λ (v : List Entry). goes (next v) v ≡ t) (sym is) (ap (λ (ps : List Put). goes ps t) none)) t refl
 
 abbrev begins : Beginning → List Entry
-begins g = did event.Start ∷ beginning g
+begins g = did event.Start ∷ booked (beginning g) event.Start
 
 no_outcome : (g : Beginning) → tells (begins g) ≡ []
 unfolding first_below
@@ -50,7 +51,7 @@ no_grant : (g : Beginning) → grants_due (begins g) ≡ []
 unfolding grants lowest_below
 no_grant g = refl
 
-pub start_is_silent : (id : List ℕ) (g : Beginning) → answered id (beginning g) (step_of event.Start) ≡ begins g
+pub start_is_silent : (id : List ℕ) (g : Beginning) → handled id (beginning g) (step_of event.Start) ≡ begins g
 start_is_silent id g =
     let t : List Entry = begins g in
     ap (λ (u : List Entry). goes (windows u) u)

@@ -13,7 +13,7 @@ use Rattle.router_trace.specs.Refusing.{refuses, rises}
 use Rattle.router_passing.specs.Passing.{with_bound}
 use Rattle.router_reply.specs.Replies.{closing_of, ends, heard, bound_by, own_row, replied}
 use Rattle.router_after.specs.After.{followed}
-use Rattle.router_core.specs.Books.{booked}
+use Rattle.router_reply.specs.Acts.{booked}
 use Rattle.router_core.specs.Replies.{answered, handled}
 use Rattle.router_core.specs.Runs.{took_one}
 use Rattle.router_core.specs.Moves.{Move, handles, takes, Goes}

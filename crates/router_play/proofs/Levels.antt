@@ -31,7 +31,7 @@ use Rattle.router_rows.specs.Rows.{said, item_reply}
 use Rattle.router_rows.specs.Finding.{finds}
 use Rattle.router_reply.specs.Replies.{closing_of, ends, heard, stolen_by, refused, part_put, settled_answers, bound_by, item_row, own_row, replied}
 use Rattle.router_after.specs.After.{widened, followed}
-use Rattle.router_core.specs.Books.{booked}
+use Rattle.router_reply.specs.Acts.{booked}
 use Rattle.router_core.specs.Replies.{answered, handled}
 use Rattle.router_core.specs.Runs.{waiting_of}
 use Rattle.router_core.specs.Moves.{IsTrace, outs}
@@ -350,29 +350,29 @@ none_of (Some v) h = absurd (true≢false h)
 
 -- a connection comes up
 pub up_level : (id : List ℕ) (g : Beginning) (t : List Entry) (d : ConnectionId) (p : Peer) → IsTrace id g t → refuses t (event.Up d p) ≡ false → conn t d.0 ≡ None
-    → Level t (answered id t (step_of (event.Up d p))) d.0
+    → Level t (handled id t (step_of (event.Up d p))) d.0
 up_level id g t d p real taken none =
     let e : Event = event.Up d p
     in let here : (d.0 == d.0) ≡ true = same d.0
-    in level_trans t (did e ∷ t) (answered id t (step_of e)) d.0
+    in level_trans t (did e ∷ booked t e) (handled id t (step_of e)) d.0
     (record { added = []; written = sym (append-nil (outs t d.0)); waits = rw here (sym (ap (λ (o : Option Connection). waiting_of o ++ []) none)) })
     (behind_even id g t e d.0 real taken).level
 
 -- a connection for which nothing is waiting is lost
 pub down_level : (id : List ℕ) (g : Beginning) (t : List Entry) (d : ConnectionId) → IsTrace id g t → refuses t (event.Down d) ≡ false → waiting_of (conn t d.0) ≡ []
-    → Level t (answered id t (step_of (event.Down d))) d.0
+    → Level t (handled id t (step_of (event.Down d))) d.0
 down_level id g t d real taken none =
     let e : Event = event.Down d
     in let here : (d.0 == d.0) ≡ true = same d.0
-    in level_trans t (did e ∷ t) (answered id t (step_of e)) d.0
+    in level_trans t (did e ∷ booked t e) (handled id t (step_of e)) d.0
     (record { added = []; written = sym (append-nil (outs t d.0)); waits = rw here (sym (ap (λ (xs : List Item). xs ++ []) none)) })
     (behind_even id g t e d.0 real taken).level
 
-pub down_dead : (id : List ℕ) (g : Beginning) (t : List Entry) (d : ConnectionId) → IsTrace id g t → refuses t (event.Down d) ≡ false → conn (answered id t (step_of (event.Down d))) d.0 ≡ None
+pub down_dead : (id : List ℕ) (g : Beginning) (t : List Entry) (d : ConnectionId) → IsTrace id g t → refuses t (event.Down d) ≡ false → conn (handled id t (step_of (event.Down d))) d.0 ≡ None
 down_dead id g t d real taken =
     let e : Event = event.Down d
     in let here : (d.0 == d.0) ≡ true = same d.0
-    in none_of (conn (answered id t (step_of e)) d.0) ((behind_even id g t e d.0 real taken).known ∙ (rw here refl))
+    in none_of (conn (handled id t (step_of e)) d.0) ((behind_even id g t e d.0 real taken).known ∙ (rw here refl))
 
 -- the losses: those of the events
 

@@ -11,11 +11,11 @@ use Rattle.router_trace.specs.Trace.{Entry, step_of}
 use Rattle.router_trace.specs.Connection.{conn, is_live}
 use Rattle.router_trace.specs.Refusing.{reaches}
 use Rattle.router_core.specs.Runs.{waiting_of}
-use Rattle.router_core.specs.Replies.{answered}
+use Rattle.router_core.specs.Replies.{handled}
 use Rattle.router_play.specs.Script.{Scene, say, refused, with_socket, with_trace, told, lose_by}
 use Rattle.router_core.specs.Moves.{ins}
 use Rattle.router_play.specs.Carrying.{was_lost, bytes_out, door_says, passed, Begins}
-use Rattle.router_core.proofs.Coming.{ins_answered as answered_ins}
+use Rattle.router_core.proofs.Coming.{ins_handled as handled_ins}
 use Rattle.router_play.proofs.Scenes.{not_true, not_false}
 use Rattle.router_play.proofs.PlayMoves.{Real, onward_real, answered_onward}
 use Rattle.router_play.proofs.Levels.{down_level, down_dead, ready_waits, same}
@@ -49,13 +49,13 @@ told_lost d s real said D P ds ps spoken let_in none closed balance None h =
       stands = subst (λ (o : Option Socket). Stands said s.trace d.0 (λ m. ds) (λ m. ps) o) (sym closed)
           (through_ends said s.trace s.trace d.0 D P ds ps spoken let_in refl (not_true (is_live (conn s.trace d.0)) r) h);
     })
-    (λ r. let u : List Entry = answered s.id s.trace (step_of (event.Down d))
+    (λ r. let u : List Entry = handled s.id s.trace (step_of (event.Down d))
     in record {
       real = onward_real s (with_trace u s) (answered_onward (event.Down d) s r) real;
       said = said;
       balance = level_balance said s.trace u d.0 (bytes_out d.0 s.lines) (down_level s.id (new_router s.config) s.trace d real r none) balance;
       stands = subst (λ (o : Option Socket). Stands said u d.0 (λ m. ds) (λ m. ps) o) (sym closed)
-          (through_ends said s.trace u d.0 D P ds ps spoken let_in (answered_ins s.id s.trace (event.Down d) d.0) (ap is_live (down_dead s.id (new_router s.config) s.trace d real r)) h);
+          (through_ends said s.trace u d.0 D P ds ps spoken let_in (handled_ins s.id s.trace (event.Down d) d.0) (ap is_live (down_dead s.id (new_router s.config) s.trace d real r)) h);
     })
 told_lost d s real said D P ds ps spoken let_in none closed balance (Some dd) h = record {
   real = real;
@@ -77,7 +77,7 @@ told_until : (d : ConnectionId) (s : Scene) (said : List Item) (D P : List Item 
 told_until d s said D P ps let_in kept None h =
     hand_cases (λ u. was_lost u.trace d.0 ≡ true → ins u.trace d.0 ≡ ps) (event.Down d) s
     (λ r l. absurd (true≢false (sym l ∙ kept)))
-    (λ r l. answered_ins s.id s.trace (event.Down d) d.0
+    (λ r l. handled_ins s.id s.trace (event.Down d) d.0
     ∙ sym (let_in ∙ h.whole (not_false (is_live (conn s.trace d.0)) r) [] ∙ append-nil (ins s.trace d.0)))
 told_until d s said D P ps let_in kept (Some dd) h = λ l. absurd (true≢false (sym l ∙ kept))
 

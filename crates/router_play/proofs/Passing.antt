@@ -12,14 +12,14 @@ use Rattle.router_play.specs.declared.line.Line.TheVariants as line
 use Rattle.router_play.specs.declared.socket.Socket.{Socket}
 use Rattle.router_trace.specs.Trace.{Entry, Took, step_of}
 use Rattle.router_trace.specs.Connection.{Connection, conn, took, is_live}
-use Rattle.router_core.specs.Replies.{answered}
+use Rattle.router_core.specs.Replies.{handled}
 use Rattle.router_core.specs.Runs.{Taking, waiting_of, items_of, took_one}
 use Rattle.router_core.specs.Door.{Verdict, says, passes, ends, door, door_behind}
 use Rattle.router_play.specs.Script.{Scene, say_all, say, refused, out_line, with_socket, with_trace, hand, judged_by, enter_at, enter_by, enter, enter_all, is_last, close_if, take_one, take_all}
 use Rattle.router_core.specs.Moves.{ins, outs}
 use Rattle.router_play.specs.Carrying.{was_lost, bytes_out, spelled, said_by, door_says, passed_by, passed}
 use Rattle.router_conns.proofs.Lists.{by_test}
-use Rattle.router_core.proofs.Coming.{ins_answered as answered_ins}
+use Rattle.router_core.proofs.Coming.{ins_handled as handled_ins}
 use Rattle.router_play.proofs.Scenes.{not_true, not_false}
 use Rattle.router_play.proofs.PlayMoves.{Real, onward_real, answered_onward, took_onward}
 use Rattle.router_play.proofs.Levels.{handled_even, up_level, took_waits, took_lives, same}
@@ -51,9 +51,9 @@ item_past d i s D P h =
       };
     })
     (λ r. let t : List Entry = s.trace
-    in let u : List Entry = answered s.id t (step_of (event.Item d i))
+    in let u : List Entry = handled s.id t (step_of (event.Item d i))
     in let here : (d.0 == d.0) ≡ true = same d.0
-    in let came : ins u d.0 ≡ ins t d.0 ++ i ∷ [] = answered_ins s.id t (event.Item d i) d.0 ∙ (rw here refl)
+    in let came : ins u d.0 ≡ ins t d.0 ++ i ∷ [] = handled_ins s.id t (event.Item d i) d.0 ∙ (rw here refl)
     in let goes : (m : List Item) → ins u d.0 ++ m ≡ P (i ∷ m)
     = λ m. ap (λ xs. xs ++ m) came ∙ append_assoc (ins t d.0) (i ∷ []) m ∙ sym (h.through.whole (not_false (is_live (conn t d.0)) r) (i ∷ m))
     in record {
@@ -78,12 +78,12 @@ up_past d p s said real unknown none balance =
       balance = subst (λ (bs : List ℕ). Balances said s.trace d.0 bs) (sym (unsaid d.0 s)) balance;
       through = new s.trace none;
     })
-    (λ r. let u : List Entry = answered s.id s.trace (step_of (event.Up d p))
+    (λ r. let u : List Entry = handled s.id s.trace (step_of (event.Up d p))
     in record {
       real = onward_real s (with_trace u s) (answered_onward (event.Up d p) s r) real;
       said = said;
       balance = level_balance said s.trace u d.0 (bytes_out d.0 s.lines) (up_level s.id (new_router s.config) s.trace d p real r unknown) balance;
-      through = new u (answered_ins s.id s.trace (event.Up d p) d.0 ∙ none);
+      through = new u (handled_ins s.id s.trace (event.Up d p) d.0 ∙ none);
     })
   where
     new : (t : List Entry) → ins t d.0 ≡ [] → Through said t d.0 (λ m. said) (λ m. m)

@@ -11,7 +11,7 @@ use Rattle.router_trace.specs.declared.event.ConnectionId.{ConnectionId}
 use Rattle.router_trace.specs.declared.event.PeerRole.{PeerRole}
 use Rattle.router_trace.specs.declared.event.Event.{Event}
 use Rattle.router_trace.specs.declared.event.Event.TheVariants as event
-use Rattle.router_trace.specs.Trace.{Entry, Took, did}
+use Rattle.router_trace.specs.Trace.{Entry, Took, Booked, did}
 use Rattle.router_trace.specs.Connection.{Connection, conn, is_live}
 use Rattle.router_trace.specs.Refusing.{rises}
 use Rattle.router_core.specs.declared.door.Door.{Door as DoorState}
@@ -286,7 +286,7 @@ plays_shadows (x ∷ xs) s p u plays calm h =
 -- from the opening on
 
 abbrev pub first : Settings → Course
-first config = record { id = config.router_id; config = config; trace = did event.Start ∷ beginning (new_router config); last = None; spots = λ c. None }
+first config = record { id = config.router_id; config = config; trace = did event.Start ∷ Booked [] ∷ beginning (new_router config); last = None; spots = λ c. None }
 
 pub play_course : (config : Settings) (xs : List Step) (u : Scene) → Plays xs (opening config) u → Calm u.trace → untaken u.trace ≡ (course xs (first config)).trace
 play_course config xs u plays calm = (plays_shadows xs (opening config) (first config) u plays calm (record {

@@ -18,7 +18,7 @@ use Rattle.router_play.specs.declared.line.Line.TheVariants as line
 use Rattle.router_play.specs.declared.socket.Socket.{Socket}
 use Rattle.router_play.specs.declared.script.Step.{Step}
 use Rattle.router_play.specs.declared.script.Step.TheVariants as step
-use Rattle.router_trace.specs.Trace.{Trace, Beginning, did, step_of}
+use Rattle.router_trace.specs.Trace.{Trace, Booked, Beginning, did, step_of}
 use Rattle.router_trace.specs.Connection.{Connection, conn, took, is_ready}
 use Rattle.router_trace.specs.Refusing.{refuses, rises}
 use Rattle.router_core.specs.Replies.{handled}
@@ -40,9 +40,9 @@ pub record Scene : Type 0 where
 abbrev pub new_router : Settings → Beginning
 new_router config = record { routing = routing_of config; book = empty_book }
 
--- before the first step: the router is started, which puts nothing out
+-- before the first step: the router is started, which does nothing to an empty book and puts nothing out
 abbrev pub opening : Settings → Scene
-opening config = record { id = config.router_id; config = config; trace = did event.Start ∷ beginning (new_router config); last = None; sockets = λ c. None; lines = [] }
+opening config = record { id = config.router_id; config = config; trace = did event.Start ∷ Booked [] ∷ beginning (new_router config); last = None; sockets = λ c. None; lines = [] }
 
 -- more lines
 abbrev pub say_all : List Line → Scene → Scene

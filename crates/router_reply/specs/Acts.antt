@@ -18,7 +18,7 @@ use Rattle.router_store.specs.Store.{used_behind, exceeds}
 use Rattle.router_trace.specs.declared.event.ConnectionId.{ConnectionId}
 use Rattle.router_trace.specs.declared.event.Event.{Event}
 use Rattle.router_trace.specs.declared.event.Event.TheVariants as event
-use Rattle.router_trace.specs.Trace.{Trace, Did, Out, Took, Bound, Began}
+use Rattle.router_trace.specs.Trace.{Trace, Did, Out, Took, Bound, Booked, Began}
 use Rattle.router_trace.specs.Connection.{standing, found}
 use Rattle.router_trace.specs.Links.{link, durable_key}
 use Rattle.router_trace.specs.declared.condition.Condition.{Condition}
@@ -101,12 +101,13 @@ pub record Journaled : Type 0 where
   pub book : BookView
   pub used : ℕ
 
--- An event finds the journal full exactly if the acts that it would have cost more than nothing, and more than the room.
+-- An event finds the journal full exactly if the acts that it would have cost more than nothing, and more than the room; so does an item, by the
+-- answer of its row.
 abbrev pub finds_full : Journaled → Trace → Event → Bool
 finds_full j t e = exceeds j.used (reserve j.book) (event_acts false j.book t e)
 
-abbrev pub acts_at : Journaled → Trace → Event → List Act
-acts_at j t e = event_acts (finds_full j t e) j.book t e
+abbrev pub item_finds_full : Journaled → Trace → ℕ → Conn → Item → Bool
+item_finds_full j t c p i = exceeds j.used (reserve j.book) (item_acts false j.book t c i (item_reply p (finds t c) i))
 
 -- the journal after acts: they are done to the book and written as one batch
 abbrev pub with_acts : Journaled → List Act → Journaled
@@ -115,25 +116,42 @@ with_acts j acts = record { book = effects j.book acts; used = used_behind j.use
 -- the journal in which a trace ends
 abbrev pub journaled : Trace → Journaled
 journaled [] = record { book = empty_book; used = 0 }
-journaled (Did s ∷ t) = with_acts (journaled t) (acts_at (journaled t) t s.event)
+journaled (Did s ∷ t) = journaled t
 journaled (Out c i ∷ t) = journaled t
 journaled (Took c n ∷ t) = journaled t
 journaled (Bound b ∷ t) = journaled t
+journaled (Booked acts ∷ t) = with_acts (journaled t) acts
 journaled (Began g ∷ t) = record { book = g.book; used = g.used }
 
 abbrev pub book_in : Trace → BookView
 book_in t = (journaled t).book
 
--- the acts of an event after a trace, and the book after them
+-- The acts of an event after a trace, and the book after them; they stand before the event.
 abbrev pub acts_of : Trace → Event → List Act
-acts_of t e = acts_at (journaled t) t e
+acts_of t e = event_acts (finds_full (journaled t) t e) (book_in t) t e
 
 abbrev pub book_behind : Trace → Event → BookView
 book_behind t e = effects (book_in t) (acts_of t e)
 
--- the answer to an event's item, and to an item on a live connection in this phase
-abbrev pub answer_to_event : Trace → Event → Answer
-answer_to_event t e = event_answer (finds_full (journaled t) t e) (book_in t) t e
+abbrev pub booked : Trace → Event → Trace
+booked t e = Booked (acts_of t e) ∷ t
+
+-- the journal that an event finds, behind its own acts: that before them
+abbrev pub found_journal : Trace → Journaled
+found_journal (Booked acts ∷ t) = journaled t
+found_journal t = journaled t
+
+-- the answer to an item on a live connection in this phase, and to an event's item, behind the event's acts
+abbrev pub answer_with : Journaled → Trace → ℕ → Conn → Item → Answer
+answer_with j t c p i = answer_at (item_finds_full j t c p i) j.book t c p i
 
 abbrev pub answer_of : Trace → ℕ → Conn → Item → Answer
-answer_of t c p i = answer_at (finds_full (journaled t) t (event.Item (record { 0 = c }) i)) (book_in t) t c p i
+answer_of t c p i = answer_with (found_journal t) t c p i
+
+abbrev pub answer_by : Trace → ℕ → Item → Option Conn → Answer
+answer_by t c i None = Nothing
+answer_by t c i (Some p) = answer_of t c p i
+
+abbrev pub answer_to_event : Trace → Event → Answer
+answer_to_event t (event.Item c i) = answer_by t c.0 i (standing (found t (event.Item c i) c.0))
+answer_to_event t _ = Nothing

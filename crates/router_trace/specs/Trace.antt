@@ -38,7 +38,7 @@ pub data Entry : Type 0 where
   Took : (conn : ℕ) (count : ℕ) → Entry
   -- a message was bound to a consumer's link; no item says so
   Bound : (binding : Binding) → Entry
-  -- these acts were done to the book, and written to the journal as one batch; their event comes next
+  -- the event that comes next does these acts to the book; they are written to the journal as one batch, if there are any
   Booked : (acts : List Act) → Entry
   -- the router was opened
   Began : (beginning : Beginning) → Entry
