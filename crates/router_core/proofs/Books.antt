@@ -1,22 +1,28 @@
 -- The book of a trace and its start depend on the events only, not on what is put out.
-use Rattle.std.proofs.Common.{◌≡◌, ◌∙◌, sym, ap, refl, ℕ, List, [], ◌∷◌, Bool, true, false}
+use Rattle.std.proofs.Common.{◌≡◌, ◌∙◌, sym, ap, refl, subst, ℕ, List, [], ◌∷◌, Bool, true, false, ◌⊎◌, inl, inr}
 use Rattle.std.specs.Prelude.{Option, Some, None, not, ◌||◌}
 use Rattle.amqp_frames.specs.declared.item.Item.{Item}
-use Rattle.book_core.specs.Book.{BookView}
+use Rattle.amqp_conn.specs.declared.conn.Conn.{Conn}
+use Rattle.book_core.specs.declared.act.Act.{Act}
+use Rattle.book_core.specs.Book.{BookView, effects}
+use Rattle.gate_journal.specs.Reserve.{reserve}
+use Rattle.router_store.specs.Store.{OpensTo, used_of, kept_of, used_behind, exceeds}
 use Rattle.router_trace.specs.declared.binding.Binding.{Binding}
 use Rattle.router_trace.specs.declared.event.Event.{Event}
 use Rattle.router_trace.specs.declared.event.Event.TheVariants as event
 use Rattle.router_trace.specs.Trace.{Entry, Out, Bound, Put, did, goes, each_to, puts, step_of}
-use Rattle.router_trace.specs.Connection.{conn, due}
+use Rattle.router_trace.specs.Connection.{conn, due, standing, found}
 use Rattle.router_trace.specs.Refusing.{refuses}
 use Rattle.router_trace.specs.declared.condition.Condition.TheVariants.{ResourceLimitExceeded}
+use Rattle.router_reply.specs.Acts.{Journaled, live_acts, live_answer, event_acts, event_answer, finds_full, journaled, book_in, acts_of, book_behind, booked, answer_with, answer_of, answer_by, answer_to_event}
 use Rattle.router_reply.specs.Replies.{closing_of, ends, heard, bound_by, own_row, replied}
 use Rattle.router_passing.specs.Passing.{with_bound}
 use Rattle.router_state.specs.Tables.{TablesFit}
-use Rattle.router_core.specs.Replies.{answered}
-use Rattle.router_core.specs.Turns.{book_behind, book_in, is_start, is_started, is_out_of_turn, declines}
-use Rattle.router_core.specs.Handling.{Fits, kept_book, state_of}
+use Rattle.router_core.specs.Replies.{answered, handled}
+use Rattle.router_core.specs.Turns.{is_start, is_started, is_out_of_turn, declines}
+use Rattle.router_core.specs.Handling.{Journals, Fits, BeforeOrBehind, kept_book, state_of}
 use Rattle.router_core.specs.declared.router.Core.{Core}
+use Rattle.router_core.proofs.Booking.{booked_same}
 use Rattle.router_core.proofs.Following.{all_keep}
 
 -- what doesn't look at items and bindings is after an event and its replies as it is after the event
@@ -43,8 +49,16 @@ module _ {A : Type 0} (view : List Entry → A) (out : (c : ℕ) (i : Item) (t :
   view_answered id t e =
       all_keep (λ (u : List Entry). view u ≡ view (did e ∷ t)) (λ ps u h. view_goes ps u ∙ h) (replied id t (step_of e)) (view_replied id t e)
 
-pub book_answered : (id : List ℕ) (t : List Entry) (e : Event) → book_in (answered id t (step_of e)) ≡ book_behind (book_in t) e
-book_answered id t e = view_answered book_in (λ c i u. refl) (λ x u. refl) id t e
+-- the journal after an event and its replies is that after its acts
+journal_handled : (id : List ℕ) (t : List Entry) (e : Event) → journaled (booked t e) ≡ journaled (handled id t (step_of e))
+journal_handled id t e = sym (view_answered journaled (λ c i u. refl) (λ x u. refl) id (booked t e) e)
+
+pub journals_handled : {D : Type 0} (core : Core D) (id : List ℕ) (t : List Entry) (e : Event) → Journals core (booked t e) → Journals core (handled id t (step_of e))
+journals_handled core id t e j = record {
+  book = j.book ∙ ap (λ (x : Journaled). x.book) (journal_handled id t e);
+  used = j.used ∙ ap (λ (x : Journaled). x.used) (journal_handled id t e);
+  kept = j.kept ∙ ap (λ (x : Journaled). reserve x.book) (journal_handled id t e);
+}
 
 -- tests of two things
 or_first : (x y : Bool) → (x || y) ≡ false → x ≡ false
@@ -71,15 +85,75 @@ in_turn t (event.Down c) is = not_false (is_started t) is
 in_turn t (event.Tick ms) is = not_false (is_started t) is
 in_turn t event.Start is = refl
 
-pub started_answered : (id : List ℕ) (t : List Entry) (e : Event) → declines t e ≡ false → is_started (answered id t (step_of e)) ≡ true
-started_answered id t e taken =
-    view_answered is_started (λ c i u. refl) (λ x u. refl) id t e ∙ in_turn t e (or_first (is_out_of_turn t e) (refuses t e) taken)
+started_booked : (t : List Entry) (e : Event) → is_started (did e ∷ booked t e) ≡ is_started (did e ∷ t)
+started_booked t e = ap (λ (b : Bool). is_start e || b) (booked_same is_started t e (λ acts. refl))
+
+pub started_handled : (id : List ℕ) (t : List Entry) (e : Event) → declines t e ≡ false → is_started (handled id t (step_of e)) ≡ true
+started_handled id t e taken =
+    view_answered is_started (λ c i u. refl) (λ x u. refl) id (booked t e) e ∙ started_booked t e ∙ in_turn t e (or_first (is_out_of_turn t e) (refuses t e) taken)
 
 -- the router agrees with the trace after an event
-pub fits_answered : {D : Type 0} (old new : Core D) (id : List ℕ) (t : List Entry) (e : Event) → Fits old t → declines t e ≡ false
-    → TablesFit (state_of new) (answered id t (step_of e)) → new.started ≡ true → kept_book new ≡ book_behind (kept_book old) e → Fits new (answered id t (step_of e))
-fits_answered old new id t e fits taken tables started book = record {
+pub fits_handled : {D : Type 0} (new : Core D) (id : List ℕ) (t : List Entry) (e : Event) → declines t e ≡ false
+    → TablesFit (state_of new) (handled id t (step_of e)) → new.started ≡ true → Journals new (booked t e) → Fits new (handled id t (step_of e))
+fits_handled new id t e taken tables started journal = record {
   tables = tables;
-  started = started ∙ sym (started_answered id t e taken);
-  book = book ∙ ap (λ (x : BookView). book_behind x e) fits.book ∙ sym (book_answered id t e);
+  started = started ∙ sym (started_handled id t e taken);
+  journal = journals_handled new id t e journal;
 }
+
+-- whether an event finds the journal full
+pub full_is : {D : Type 0} (core : Core D) (t : List Entry) (e : Event) (b : Bool) → Fits core t
+    → exceeds (used_of core.store) (kept_of core.store) (event_acts false (kept_book core) t e) ≡ b → finds_full (journaled t) t e ≡ b
+full_is core t e b f is =
+    ap (λ (u : ℕ). exceeds u (reserve (book_in t)) (event_acts false (book_in t) t e)) (sym f.journal.used)
+    ∙ ap (λ (k : ℕ). exceeds (used_of core.store) k (event_acts false (book_in t) t e)) (sym f.journal.kept)
+    ∙ ap (λ (x : BookView). exceeds (used_of core.store) (kept_of core.store) (event_acts false x t e)) (sym f.journal.book)
+    ∙ is
+
+-- the acts of an event, by what it finds
+pub acts_are : {D : Type 0} (core : Core D) (t : List Entry) (e : Event) (b : Bool) → Fits core t → finds_full (journaled t) t e ≡ b → event_acts b (kept_book core) t e ≡ acts_of t e
+acts_are core t e b f is =
+    ap (λ (x : BookView). event_acts b x t e) f.journal.book ∙ ap (λ (y : Bool). event_acts y (book_in t) t e) (sym is)
+
+-- the answer to its item, by what it finds: it is the same behind its acts
+answer_behind : (t : List Entry) (e : Event) (c : ℕ) (p : Conn) (i : Item) → answer_with (journaled t) t c p i ≡ answer_of (booked t e) c p i
+answer_behind t e c p i = sym (booked_same (λ (u : List Entry). answer_with (journaled t) u c p i) t e (λ acts. refl))
+
+answer_found : (t : List Entry) (e : Event) → event_answer (finds_full (journaled t) t e) (book_in t) t e ≡ answer_to_event (booked t e) e
+answer_found t (event.Item c i) =
+    by (standing (found t e c.0)) ∙ ap (answer_by (booked t e) c.0 i) (sym (booked_same (λ (u : List Entry). standing (found u e c.0)) t e (λ acts. refl)))
+  where
+    e : Event
+    e = event.Item c i
+
+    by : (v : Option Conn) → live_answer (exceeds (journaled t).used (reserve (book_in t)) (live_acts false (book_in t) t c.0 i v)) (book_in t) t c.0 i v ≡ answer_by (booked t e) c.0 i v
+    by None = refl
+    by (Some p) = answer_behind t e c.0 p i
+answer_found t (event.Up c p) = refl
+answer_found t (event.Down c) = refl
+answer_found t (event.Tick ms) = refl
+answer_found t event.Start = refl
+
+pub answer_is : {D : Type 0} (core : Core D) (t : List Entry) (e : Event) (b : Bool) → Fits core t → finds_full (journaled t) t e ≡ b → event_answer b (kept_book core) t e ≡ answer_to_event (booked t e) e
+answer_is core t e b f is =
+    ap (λ (x : BookView). event_answer b x t e) f.journal.book ∙ ap (λ (y : Bool). event_answer y (book_in t) t e) (sym is) ∙ answer_found t e
+
+-- the journal after an event's acts are written
+pub journals_behind : {D : Type 0} (old new : Core D) (t : List Entry) (e : Event) (acts : List Act) → Fits old t → acts ≡ acts_of t e
+    → kept_book new ≡ effects (kept_book old) acts → used_of new.store ≡ used_behind (used_of old.store) acts
+    → (kept_of old.store ≡ reserve (kept_book old) → kept_of new.store ≡ reserve (kept_book new)) → Journals new (booked t e)
+journals_behind old new t e acts f are book used kept =
+    let now : kept_book new ≡ book_behind t e
+    = book ∙ ap (λ (x : BookView). effects x acts) f.journal.book ∙ ap (effects (book_in t)) are
+    in record {
+      book = now;
+      used = used ∙ ap (λ (u : ℕ). used_behind u acts) f.journal.used ∙ ap (used_behind (journaled t).used) are;
+      kept = kept (f.journal.kept ∙ ap reserve (sym f.journal.book)) ∙ ap reserve now;
+    }
+
+-- a file opens to the book before the event or after it
+pub before_or_behind : {D : Type 0} (core : Core D) (t : List Entry) (e : Event) (acts : List Act) (file : List ℕ) → Fits core t → acts ≡ acts_of t e
+    → OpensTo file (kept_book core) ⊎ OpensTo file (effects (kept_book core) acts) → BeforeOrBehind t e file
+before_or_behind core t e acts file f are (inl opens) = inl (subst (λ (b : BookView). OpensTo file b) f.journal.book opens)
+before_or_behind core t e acts file f are (inr opens) =
+    inr (subst (λ (b : BookView). OpensTo file b) (ap (λ (x : BookView). effects x acts) f.journal.book ∙ ap (effects (book_in t)) are) opens)

@@ -3,18 +3,20 @@ ghost use Rattle.std.specs.Prelude.{◌≡◌, ◌≢◌, ◌⊎◌, ◌+◌, �
 ghost use Rattle.disk_core.specs.Disk.{LeavesOnly, NoMore};
 ghost use Rattle.gate_journal.specs.Journal.{batch_count};
 ghost use Rattle.gate_journal.specs.Opening.{Explains};
-ghost use Rattle.router_store.specs.Store.{OpensTo, Stands, journal_of, disk_of, used_of, kept_of, used_behind};
+ghost use Rattle.router_store.specs.Store.{OpensTo, Stands, journal_of, disk_of, used_of, kept_of, used_behind, exceeds};
 ghost use Rattle.route_table.specs.Places.{routing_of};
 ghost use Rattle.router_trace.specs.Configuration.{beginning};
 ghost use Rattle.router_trace.specs.Trace.{Entry, Took, step_of};
 ghost use Rattle.router_trace.specs.Connection.{conn as known, is_ready, is_live};
 ghost use Rattle.router_trace.specs.Refusing.{refuses};
 ghost use Rattle.router_conns.specs.Fits.{IsLeast};
-ghost use Rattle.router_reply.specs.Acts.{acts_of, book_behind, answer_to_event};
+ghost use Rattle.book_core.specs.Book.{effects};
+ghost use Rattle.gate_journal.specs.Reserve.{reserve};
+ghost use Rattle.router_reply.specs.Acts.{event_acts, event_answer, acts_of, book_behind, booked, answer_to_event};
 ghost use Rattle.router_core.specs.Turns.{declines};
 ghost use Rattle.router_core.specs.Replies.{Replies, answered};
 ghost use Rattle.router_state.specs.Tables.{TablesFit};
-ghost use Rattle.router_core.specs.Handling.{Fits, is_failed, id_of, store_of, kept_book, state_of, counts_of, IsBatchOf, BeforeOrBehind, IsToldBehind};
+ghost use Rattle.router_core.specs.Handling.{Fits, Journals, is_failed, id_of, store_of, kept_book, state_of, counts_of, IsBatchOf, BeforeOrBehind, IsToldBehind};
 ghost use Rattle.router_core.specs.Counting.{uncounted, with_event, with_batch};
 ghost use Rattle.router_core.specs.declared.fault.CoreFault.TheVariants.{Disk as DiskFailed, Memory, Failed, NoConnection};
 
@@ -270,9 +272,9 @@ impl<D: Disk> Core<D> {
     /// the event's item with the batch.
     fn write(&mut self, event: &Event) -> Result<(Answer, Written), CoreFault>
         ensures rest { self.new ≡ record self.old { store = store_of self.new } }
-        ensures answer { IfOk result (λ w. (t : List Entry) → Fits self.old t → w.0 ≡ answer_to_event t event.now) }
+        ensures answer { IfOk result (λ w. (t : List Entry) → Fits self.old t → w.0 ≡ answer_to_event (booked t event.now) event.now) }
         ensures stands { OnOk result (Stands D.seen D.may_leave (store_of self.old) → Stands D.seen D.may_leave (store_of self.new)) }
-        ensures journaled { OnOk result ((t : List Entry) → Fits self.old t → Journals self.new (did event.now ∷ t)) }
+        ensures journaled { OnOk result ((t : List Entry) → Fits self.old t → Journals self.new (booked t event.now)) }
         ensures written { IfOk result (λ w. (t : List Entry) → Fits self.old t → IfSome w.1 (λ batch.
             (batch.0 ≡ batch_count (journal_of (store_of self.old)) + 1) × (batch.1.items ≡ acts_of t event.now))) }
         ensures silent { IfOk result (λ w. (t : List Entry) → Fits self.old t → IfNone w.1 (acts_of t event.now ≡ [])) }

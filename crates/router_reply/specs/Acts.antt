@@ -93,8 +93,9 @@ planned_acts full b t _ = []
 
 -- The acts of an event: those of its item; a start decides the rows that have lost their consumers.
 abbrev pub event_acts : Bool → BookView → Trace → Event → List Act
+event_acts full b t (event.Item c i) = live_acts full b t c.0 i (standing (found t (event.Item c i) c.0))
 event_acts full b t event.Start = start_acts b
-event_acts full b t e = planned_acts full b t e
+event_acts full b t _ = []
 
 -- What a journal keeps: its book, and how many bytes it has.
 pub record Journaled : Type 0 where
