@@ -34,6 +34,7 @@ use Rattle.router_rows.specs.declared.answer.Answer.{Answer}
 use Rattle.router_rows.specs.declared.answer.Answer.TheVariants.{Nothing, Header, Open, Close, CloseWith, Begin, End, Flow, Attach, Refuse, Detach, LinkFlow, Taken, Settle}
 use Rattle.router_rows.specs.Rows.{Finds, said, item_reply}
 use Rattle.router_rows.specs.Finding.{finds}
+use Rattle.router_reply.specs.Acts.{answer_of}
 use Rattle.router_reply.specs.Replies.{closing_of, claimed_id, ignored_put, unbound_put, part_put, settled_answers, links_put, item_row, own_row}
 use Rattle.router_core.specs.Laws.{is_attach_in, is_attach, brings_attach}
 use Rattle.router_conns.proofs.Lists.{by_test, filter_none}
@@ -190,13 +191,23 @@ no_links t after c (item.Frame sasl channel body payload) a unlinked unnamed non
     by _ none = refl
 no_links t after c _ a unlinked unnamed none = refl
 
+-- the book stands in the way of attaches alone
+unbooked : (t : List Entry) (c : ℕ) (p : Conn) (i : Item) → is_attach i ≡ false → answer_of t c p i ≡ item_reply p (finds t c) i
+unbooked t c p (item.Frame sasl channel body payload) none = by body none
+  where
+    by : (body : Perf) → is_attach (item.Frame sasl channel body payload) ≡ false → answer_of t c p (item.Frame sasl channel body payload) ≡ item_reply p (finds t c) (item.Frame sasl channel body payload)
+    by (perf.Attach x) none = absurd cc
+    by _ none = refl
+unbooked t c p _ none = refl
+
 pub row_said : (id : List ℕ) (t u : List Entry) (c : ℕ) (i : Item) (p : Option Conn) → Unlinked c t → Unnamed c t → is_attach i ≡ false
     → item_row id t u c i p ≡ each_to c (said_to id p (finds t c) i)
 row_said id t u c i None unlinked unnamed none = refl
 row_said id t u c i (Some p) unlinked unnamed none =
-    ap (λ (ps : List Put). each_to c (said id p (item_reply p (finds t c) i)) ++ ps)
-    (no_links t (puts c (said id p (item_reply p (finds t c) i)) u) c i (item_reply p (finds t c) i) unlinked unnamed none)
-    ∙ append-nil (each_to c (said id p (item_reply p (finds t c) i)))
+    ap (λ (ps : List Put). each_to c (said id p (answer_of t c p i)) ++ ps)
+    (no_links t (puts c (said id p (answer_of t c p i)) u) c i (answer_of t c p i) unlinked unnamed none)
+    ∙ append-nil (each_to c (said id p (answer_of t c p i)))
+    ∙ ap (λ (a : Answer). each_to c (said id p a)) (unbooked t c p i none)
 
 less_links : (t after : List Entry) (c : ℕ) (i : Item) (a : Answer) → is_attach i ≡ false → Attachless (links_put t after c i a)
 less_links t after c (item.Frame sasl channel body payload) a none = by body none
@@ -219,7 +230,7 @@ less_links t after c _ a none = tt
 less_item : (id : List ℕ) (t u : List Entry) (c : ℕ) (i : Item) (p : Option Conn) → is_attach i ≡ false → Attachless (item_row id t u c i p)
 less_item id t u c i None none = tt
 less_item id t u c i (Some p) none =
-    less_both (each_to c (said id p (item_reply p (finds t c) i))) _ (less_said id c p (item_reply p (finds t c) i)) (less_links t (puts c (said id p (item_reply p (finds t c) i)) u) c i (item_reply p (finds t c) i) none)
+    less_both (each_to c (said id p (answer_of t c p i))) _ (less_said id c p (answer_of t c p i)) (less_links t (puts c (said id p (answer_of t c p i)) u) c i (answer_of t c p i) none)
 
 pub less_row : (id : List ℕ) (t u : List Entry) (e : Event) → brings_attach e ≡ false → Attachless (own_row id t u e)
 less_row id t u (event.Item d i) none = less_item id t u d.0 i (standing (found t (event.Item d i) d.0)) none

@@ -31,10 +31,9 @@ use Rattle.router_sessions.specs.Windows.{is_narrow, flow_due, flows_below, wind
 use Rattle.router_state.specs.Tables.{beat_if, beats_over}
 use Rattle.router_passing.specs.Passing.{grants_due, with_bound}
 use Rattle.router_after.specs.After.{followed}
-use Rattle.router_rows.specs.Rows.{said, item_reply}
-use Rattle.router_rows.specs.Finding.{finds}
+use Rattle.router_rows.specs.Rows.{said}
 use Rattle.router_reply.specs.Replies.{closing_of, ends, heard, stolen_by, refused, part_put, settled_answers, bound_by, item_row, own_row, replied}
-use Rattle.router_reply.specs.Acts.{booked}
+use Rattle.router_reply.specs.Acts.{answer_of, booked}
 use Rattle.router_core.specs.Replies.{answered, handled}
 use Rattle.router_core.specs.Runs.{waiting_of, took_one}
 use Rattle.router_core.specs.Moves.{Move, handles, takes, Goes, IsTrace, with_came, ins, outs}
@@ -196,7 +195,7 @@ item_without id t u d k i (Some p) none apart =
     (λ own handle e x. each_without (refused (largest_frame u d) own handle e x) d k apart)
     (λ own handle q. each_without (part_put u d own handle q) d k apart)
     (λ own s ids. each_without (settled_answers own s ids) d k apart)
-    i (item_reply p (finds t d) i)
+    i (answer_of t d p i)
 
 -- no link is attached if nothing was put out
 unlinked : (t : List Entry) (k : ℕ) → Ordered t → outs t k ≡ [] → Unlinked k t

@@ -38,10 +38,9 @@ use Rattle.router_state.specs.Tables.{beat_if, beats_over}
 use Rattle.router_passing.specs.Passing.{grants_due, consumer_of, with_bound}
 use Rattle.router_rows.specs.declared.answer.Answer.{Answer}
 use Rattle.router_rows.specs.declared.answer.Answer.TheVariants.{Nothing, Header, Open, Close, CloseWith, Begin, End, Flow, Attach, Refuse, Detach, LinkFlow, Taken, Settle}
-use Rattle.router_rows.specs.Rows.{said, item_reply}
-use Rattle.router_rows.specs.Finding.{finds}
+use Rattle.router_rows.specs.Rows.{said}
 use Rattle.router_reply.specs.Replies.{closing_of, ends, heard, stolen_by, attach_answer, refused, claimed_id, ignored_put, unbound_put, whole_put, part_put, settled_answers, bound_by, item_row, own_row, replied}
-use Rattle.router_reply.specs.Acts.{booked}
+use Rattle.router_reply.specs.Acts.{answer_of, booked}
 use Rattle.router_core.specs.Replies.{answered, handled}
 use Rattle.router_core.proofs.Booking.{booked_keeps}
 use Rattle.router_core.specs.Runs.{took_one}
@@ -179,7 +178,7 @@ none_item id t after c i (Some p) =
     (λ own handle e x. none_to c _ (none_refused (largest_frame after c) own handle e x))
     (λ own handle q. none_to c _ (none_part after c own handle q))
     (λ own s ids. none_to c _ (none_settled own s ids))
-    i (item_reply p (finds t c) i)
+    i (answer_of t c p i)
 
 none_beat : (b : Bool) (c : ℕ) → NonePut (beat_if b c)
 none_beat true c = (refl, tt)

@@ -27,8 +27,8 @@ use Rattle.router_trace.specs.Sessions.{theirs}
 use Rattle.router_trace.specs.Following.{tells, sends_due, drains_due}
 use Rattle.router_sessions.specs.Windows.{windows}
 use Rattle.router_passing.specs.Passing.{grants_due, with_bound}
-use Rattle.router_rows.specs.Rows.{said, item_reply}
-use Rattle.router_rows.specs.Finding.{finds}
+use Rattle.router_rows.specs.Rows.{said}
+use Rattle.router_reply.specs.Acts.{answer_of}
 use Rattle.router_reply.specs.Replies.{closing_of, ends, heard, stolen_by, attach_answer, taken_behind, taken, refused, bound_by, item_row, own_row, replied}
 use Rattle.router_core.specs.Replies.{answered}
 use Rattle.router_core.specs.Laws.{is_attach}
@@ -203,7 +203,7 @@ item_lively id t d i was =
     (λ own handle f x. goes_lively _ v before (refused_steady v (largest_frame u d.0) d.0 own handle f x there))
     (λ own handle p. goes_lively _ v before (less_steady _ v (less_part u d.0 own handle p)))
     (λ own s ids. goes_lively _ v before (less_steady _ v (less_settled d.0 own s ids)))
-    i (item_reply here.view.phase (finds t d.0) i)))
+    i (answer_of t d.0 here.view.phase i)))
     (λ q. subst (λ (s : Option Conn). Lively (goes (item_row id t u d.0 i s) v)) (sym (nothing_stands (standing (found t (event.Item d i) d.0)) q)) before)
   where
     u : List Entry

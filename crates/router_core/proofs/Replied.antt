@@ -24,13 +24,13 @@ use Rattle.router_trace.specs.Order.{Written, unwritten, is_open, of_session, ha
 use Rattle.router_state.specs.Tables.{beats}
 use Rattle.router_passing.specs.Passing.{with_bound}
 use Rattle.router_rows.specs.declared.answer.Answer.{Answer}
-use Rattle.router_rows.specs.Rows.{Finds, said, perf_reply, item_reply}
-use Rattle.router_rows.specs.Finding.{finds}
+use Rattle.router_rows.specs.Rows.{said}
+use Rattle.router_reply.specs.Acts.{answer_of}
 use Rattle.router_reply.specs.Replies.{heard, taken, refused, part_put, settled_answers, bound_by, item_row, own_row, replied}
 use Rattle.router_core.specs.Replies.{answered}
 use Rattle.router_conns.proofs.Lists.{by_test, has_push}
 use Rattle.router_conns.proofs.Turns.{known}
-use Rattle.router_core.proofs.RowOrder.{written_of, AreOffered, AnswerFits, reply_fits, place_fits, free_fits, said_turns, said_offered, Opens, open_opens}
+use Rattle.router_core.proofs.RowOrder.{written_of, AreOffered, AnswerFits, answer_fits, place_fits, free_fits, said_turns, said_offered, Opens, open_opens}
 use Rattle.router_core.proofs.Once.{filter_has, taken_up}
 use Rattle.router_core.proofs.Ordered.{Ordered, Spares, wrote, written_all, puts_turns, bound_turns, bound_ups, spares_on, bound_spares, ends_spares, ends_ups, goes_ups, some_is}
 use Rattle.router_core.proofs.Told.{ToldAt, Told, goes_told_at, bound_told_at, ends_told_at, goes_strange, bound_strange, ends_strange, said_told}
@@ -104,8 +104,8 @@ row_turns id t d i ord here heard_ord there =
     in let b : ℕ → Bool = (wrote t c).begun
     in let asked : Option BeginState = offered_by i (offered t c)
     in let begun : (o : ℕ) → b o ≡ is_some (session t c o) = ord.begun c here.view here.known_as here.live
-    in let a : Answer = item_reply p (finds t c) i
-    in let all : AnswerFits p b asked a = reply_fits p b (offered t c) (finds t c) i here.live (record {
+    in let a : Answer = answer_of t c p i
+    in let all : AnswerFits p b asked a = answer_fits t c p b (offered t c) i here.live (record {
       places = λ k. place_fits (theirs t c k) (session t c) b begun;
       room = free_fits t c (channel_max_of (terms t c)) b begun;
     })
@@ -193,14 +193,14 @@ answered_turns id t e ord told taken = followed_turns (replied id t (step_of e))
 
 -- an open is answered by an open or a close; nothing else sets the terms
 
-perf_opens : (body : Perf) (channel : ℕ) (v : Option Terms)
-    → ((p : Conn) (k : Finds) → Opens (perf_reply p k channel body)) ⊎ (terms_in body v ≡ v)
-perf_opens (perf.Open x) channel v = inl (λ p k. open_opens p x)
-perf_opens _ channel v = inr refl
+perf_opens : (body : Perf) (channel : ℕ) (payload : List ℕ) (v : Option Terms)
+    → ((t : List Entry) (c : ℕ) (p : Conn) → Opens (answer_of t c p (item.Frame false channel body payload))) ⊎ (terms_in body v ≡ v)
+perf_opens (perf.Open x) channel payload v = inl (λ t c p. open_opens p x)
+perf_opens _ channel payload v = inr refl
 
-item_opens : (i : Item) (v : Option Terms) → ((p : Conn) (k : Finds) → Opens (item_reply p k i)) ⊎ (terms_by i v ≡ v)
+item_opens : (i : Item) (v : Option Terms) → ((t : List Entry) (c : ℕ) (p : Conn) → Opens (answer_of t c p i)) ⊎ (terms_by i v ≡ v)
 item_opens (item.Frame true channel body payload) v = inr refl
-item_opens (item.Frame false channel body payload) v = perf_opens body channel v
+item_opens (item.Frame false channel body payload) v = perf_opens body channel payload v
 item_opens _ v = inr refl
 
 event_told : (t : List Entry) (e : Event) → Ordered t → Told t → refuses t e ≡ false → (k : ℕ) → (is_some (terms (did e ∷ t) k) ≡ true → is_some (terms t k) ≡ true) → ToldAt (did e ∷ t) k
@@ -222,7 +222,7 @@ row_told id t e k was =
     let u : List Entry = heard id t (step_of e)
     in goes_told_at (own_row id t u e) (with_bound (bound_by t u e) u) k (bound_told_at (bound_by t u e) u k (ends_told_at id (due t e) (did e ∷ t) k was))
 
-opened_told : (id : List ℕ) (t : List Entry) (d : ConnectionId) (i : Item) → ((p : Conn) (k : Finds) → Opens (item_reply p k i))
+opened_told : (id : List ℕ) (t : List Entry) (d : ConnectionId) (i : Item) → ((t : List Entry) (c : ℕ) (p : Conn) → Opens (answer_of t c p i))
     → ToldAt (replied id t (step_of (event.Item d i))) d.0
 opened_told id t d i opens =
     by_test (is_live (found t (event.Item d i) d.0))
@@ -234,7 +234,7 @@ opened_told id t d i opens =
     (λ own handle f x says. absurd says)
     (λ own handle q says. absurd says)
     (λ own s ids says. absurd says)
-    i (item_reply here.view.phase (finds t d.0) i) (opens here.view.phase (finds t d.0))))
+    i (answer_of t d.0 here.view.phase i) (opens t d.0 here.view.phase)))
     (λ h. row_told id t (event.Item d i) d.0 (λ v is live some. absurd (true≢false (sym (lives v live) ∙ sym (ap is_live is) ∙ h))))
   where
     u : List Entry
@@ -253,7 +253,7 @@ item_told id t d i ord told taken = by (item_opens i (terms t d.0))
     here : terms (did (event.Item d i) ∷ t) d.0 ≡ terms_by i (terms t d.0)
     here = let same : (d.0 == d.0) ≡ true = eq-eqb d.0 d.0 refl in rw same refl
 
-    by : ((p : Conn) (k : Finds) → Opens (item_reply p k i)) ⊎ (terms_by i (terms t d.0) ≡ terms t d.0)
+    by : ((t : List Entry) (c : ℕ) (p : Conn) → Opens (answer_of t c p i)) ⊎ (terms_by i (terms t d.0) ≡ terms t d.0)
         → ToldAt (replied id t (step_of (event.Item d i))) d.0
     by (inl opens) = opened_told id t d i opens
     by (inr same) =

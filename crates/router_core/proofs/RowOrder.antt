@@ -380,3 +380,28 @@ open_opens p x = by (after_open x p)
     by : (r : Result Conn ConnFault) → Opens (open_by x r)
     by (Ok q) = by_test (nat_lt 1024 (length x.container_id)) (λ e. rw e tt) (λ e. rw e tt)
     by (Err f) = tt
+
+-- also if the book stands in the way of a link
+unless_fits : (p : Conn) (b : ℕ → Bool) (asked : Option BeginState) (own : ℕ) (free : Option ℕ) (refusal : Option Condition) → (p.opened ≡ true) × (b own ≡ true)
+    → AnswerFits p b asked (attach_unless own free refusal)
+unless_fits p b asked own free None fits = fits
+unless_fits p b asked own None (Some x) fits = fits
+unless_fits p b asked own (Some handle) (Some x) fits = fits
+
+attach_or_fits : (p : Conn) (b : ℕ → Bool) (asked : Option BeginState) (free : ℕ → Option ℕ) (refusal : Option Condition) (a : Answer) → AnswerFits p b asked a
+    → AnswerFits p b asked (booked_attach free refusal a)
+attach_or_fits p b asked free refusal (Attach own) fits = unless_fits p b asked own (free own) refusal fits
+attach_or_fits p b asked free refusal _ fits = fits
+
+pub answer_fits : (t : List Entry) (c : ℕ) (p : Conn) (b : ℕ → Bool) (asked : Option BeginState) (i : Item) → p.closed ≡ false → FindsFit (finds t c) b
+    → AnswerFits p b (offered_by i asked) (answer_of t c p i)
+answer_fits t c p b asked i live found = by (attach_in i)
+  where
+    full : Bool
+    full = item_finds_full (found_journal t) t c p i
+
+    by : (v : Option AnAttach) → AnswerFits p b (offered_by i asked) (booked (free_handle t c) (book_refusal full (found_journal t).book t c) v (item_reply p (finds t c) i))
+    by None = reply_fits p b asked (finds t c) i live found
+    by (Some a) =
+        attach_or_fits p b (offered_by i asked) (free_handle t c) (book_refusal full (found_journal t).book t c a) (item_reply p (finds t c) i)
+        (reply_fits p b asked (finds t c) i live found)

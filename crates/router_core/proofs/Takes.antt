@@ -1,8 +1,12 @@
 -- Takes make no difference: without them, a trace whose outboxes were never full is what its events alone make.
-use Rattle.std.proofs.Common.{◌≡◌, ◌∙◌, sym, ap, refl, subst, ℕ, false, List, [], ◌∷◌}
+use Rattle.std.proofs.Common.{◌≡◌, ◌∙◌, sym, ap, refl, subst, ℕ, Bool, false, List, [], ◌∷◌}
 use Rattle.std.specs.Prelude.{Option, Some, None}
 use Rattle.amqp_conn.specs.declared.conn.Conn.{Conn}
-use Rattle.book_core.specs.Book.{BookView, effects}
+use Rattle.book_core.specs.declared.act.Act.{Act}
+use Rattle.book_core.specs.Book.{BookView}
+use Rattle.gate_journal.specs.Reserve.{reserve}
+use Rattle.router_store.specs.Lost.{start_acts}
+use Rattle.router_store.specs.Store.{exceeds}
 use Rattle.router_trace.specs.Trace.{Beginning}
 use Rattle.router_trace.specs.Configuration.{beginning}
 use Rattle.router_trace.specs.declared.binding.Binding.{Binding}
@@ -16,7 +20,7 @@ use Rattle.router_state.specs.Tables.{beats_over}
 use Rattle.router_rows.specs.Rows.{down_reply}
 use Rattle.router_reply.specs.Replies.{ends, item_bound, bound_by, item_row, own_row, replied_behind}
 use Rattle.router_after.specs.After.{widened, followed}
-use Rattle.router_reply.specs.Acts.{acts_of, book_in, booked}
+use Rattle.router_reply.specs.Acts.{Journaled, live_acts, event_acts, with_acts, journaled, book_in, acts_of, booked, found_journal}
 use Rattle.router_core.specs.Replies.{answered, handled}
 use Rattle.router_core.specs.Runs.{took_one}
 use Rattle.router_core.specs.Moves.{Move, handles, takes, Goes, outs}
@@ -24,7 +28,7 @@ use Rattle.router_core.specs.Laws.{untaken, events_of, NeverFull}
 use Rattle.router_core.proofs.Booking.{booked_keeps}
 use Rattle.router_core.proofs.Untaken.{untaken_goes, same_outs, same_beats, same_windows}
 use Rattle.router_core.proofs.UntakenPassed.{untaken_bound, same_passed}
-use Rattle.router_core.proofs.UntakenRows.{same_item_row, same_item_bound}
+use Rattle.router_core.proofs.UntakenRows.{same_live_acts, same_item_row, same_item_bound}
 use Rattle.router_core.proofs.Following.{passed_on, each_keeps, all_keep}
 use Rattle.router_core.proofs.Plain.{plain, plain_live, Calm, calm_goes, none_due, same_live, stood_found, live_found}
 
@@ -51,30 +55,42 @@ plain_replied id x s = goes (plain_row id x (Did s ∷ x) s.event) (with_bound (
 abbrev pub plain_answered : List ℕ → List Entry → Step → List Entry
 plain_answered id x s = plain_followed (plain_replied id x s)
 
+-- the acts of an event, by what events alone leave of its connection
+abbrev pub plain_event_acts : Bool → BookView → List Entry → Event → List Act
+plain_event_acts full b x (event.Item c i) = live_acts full b x c.0 i (plain x c.0)
+plain_event_acts full b x event.Start = start_acts b
+plain_event_acts full b x _ = []
+
+abbrev pub plain_acts : Journaled → List Entry → Event → List Act
+plain_acts j x e = plain_event_acts (exceeds j.used (reserve j.book) (plain_event_acts false j.book x e)) j.book x e
+
+abbrev pub plain_booked : List Entry → Event → List Entry
+plain_booked x e = Booked (plain_acts (journaled x) x e) ∷ x
+
 abbrev pub plain_handled : List ℕ → List Entry → Step → List Entry
-plain_handled id x s = plain_answered id (booked x s.event) s
+plain_handled id x s = plain_answered id (plain_booked x s.event) s
 
 -- the trace that events alone make
 abbrev plain_all : List ℕ → List Step → List Entry → List Entry
 plain_all id [] x = x
 plain_all id (s ∷ ss) x = plain_all id ss (plain_handled id x s)
 
-same_row : (id : List ℕ) (t u : List Entry) (e : Event) → Calm t → due t e ≡ [] → own_row id t u e ≡ plain_row id (untaken t) (untaken u) e
-same_row id t u (event.Item c i) calm none =
-    ap (λ (p : Option Conn). item_row id t u c.0 i p) (stood_found t (event.Item c i) calm none c.0) ∙ same_item_row id t u c.0 i (plain (untaken t) c.0)
-same_row id t u (event.Down c) calm none = refl
-same_row id t u (event.Tick ms) calm none =
+same_row : (id : List ℕ) (t u : List Entry) (e : Event) → Calm t → due t e ≡ [] → found_journal t ≡ found_journal (untaken t) → own_row id t u e ≡ plain_row id (untaken t) (untaken u) e
+same_row id t u (event.Item c i) calm none same =
+    ap (λ (p : Option Conn). item_row id t u c.0 i p) (stood_found t (event.Item c i) calm none c.0) ∙ same_item_row id t u c.0 i (plain (untaken t) c.0) same
+same_row id t u (event.Down c) calm none same = refl
+same_row id t u (event.Tick ms) calm none same =
     ap (beats_over t ms) (live_found t (event.Tick ms) calm none) ∙ same_beats t ms (plain_live (untaken t))
-same_row id t u (event.Up c p) calm none = refl
-same_row id t u event.Start calm none = refl
+same_row id t u (event.Up c p) calm none same = refl
+same_row id t u event.Start calm none same = refl
 
-same_bound : (t u : List Entry) (e : Event) → Calm t → due t e ≡ [] → bound_by t u e ≡ plain_bound (untaken t) (untaken u) e
-same_bound t u (event.Item c i) calm none =
-    ap (λ (p : Option Conn). item_bound t u c.0 i p) (stood_found t (event.Item c i) calm none c.0) ∙ same_item_bound t u c.0 i (plain (untaken t) c.0)
-same_bound t u (event.Down c) calm none = refl
-same_bound t u (event.Tick ms) calm none = refl
-same_bound t u (event.Up c p) calm none = refl
-same_bound t u event.Start calm none = refl
+same_bound : (t u : List Entry) (e : Event) → Calm t → due t e ≡ [] → found_journal t ≡ found_journal (untaken t) → bound_by t u e ≡ plain_bound (untaken t) (untaken u) e
+same_bound t u (event.Item c i) calm none same =
+    ap (λ (p : Option Conn). item_bound t u c.0 i p) (stood_found t (event.Item c i) calm none c.0) ∙ same_item_bound t u c.0 i (plain (untaken t) c.0) same
+same_bound t u (event.Down c) calm none same = refl
+same_bound t u (event.Tick ms) calm none same = refl
+same_bound t u (event.Up c p) calm none same = refl
+same_bound t u event.Start calm none same = refl
 
 same_widened : (t : List Entry) → Calm t → untaken (widened t) ≡ plain_widened (untaken t)
 same_widened t calm =
@@ -92,9 +108,9 @@ calm_bound None t calm = calm
 calm_bound (Some b) t calm = calm
 
 -- an event with all that it put out
-pub same_answered : (id : List ℕ) (t : List Entry) (s : Step) → Calm t → ((c : ℕ) → is_full (conn t c) ≡ false)
+pub same_answered : (id : List ℕ) (t : List Entry) (s : Step) → Calm t → ((c : ℕ) → is_full (conn t c) ≡ false) → found_journal t ≡ found_journal (untaken t)
     → Calm (answered id t s) × (untaken (answered id t s) ≡ plain_answered id (untaken t) s)
-same_answered id t s calm roomy =
+same_answered id t s calm roomy same =
     let none : due t s.event ≡ [] = none_due t s.event roomy
     in let u : List Entry = Did s ∷ t
     in let bound : Option Binding = bound_by t u s.event
@@ -105,30 +121,41 @@ same_answered id t s calm roomy =
       all_keep Calm calm_goes behind calm_row,
       same_followed behind calm_row
           ∙ ap plain_followed (untaken_goes row (with_bound bound u)
-          ∙ (λ j. goes (same_row id t u s.event calm none j) ((untaken_bound bound u ∙ ap (λ (b : Option Binding). with_bound b (untaken u)) (same_bound t u s.event calm none)) j))),
+          ∙ (λ j. goes (same_row id t u s.event calm none same j) ((untaken_bound bound u ∙ ap (λ (b : Option Binding). with_bound b (untaken u)) (same_bound t u s.event calm none same)) j))),
     )
     in subst (λ (x : List Entry). Calm (followed (replied_behind id t x s.event)) × (untaken (followed (replied_behind id t x s.event)) ≡ plain_answered id (untaken t) s))
     (sym (ap (λ (ks : List ℕ). ends id ks (Did s ∷ t)) none)) both
 
 -- an event with its acts
-same_book : (t : List Entry) → book_in t ≡ book_in (untaken t)
-same_book [] = refl
-same_book (Did s ∷ t) = same_book t
-same_book (Out d i ∷ t) = same_book t
-same_book (Took d n ∷ t) = same_book t
-same_book (Bound b ∷ t) = same_book t
-same_book (Booked acts ∷ t) = ap (λ (b : BookView). effects b acts) (same_book t)
-same_book (Began g ∷ t) = refl
+same_journaled : (t : List Entry) → journaled t ≡ journaled (untaken t)
+same_journaled [] = refl
+same_journaled (Did s ∷ t) = same_journaled t
+same_journaled (Out d i ∷ t) = same_journaled t
+same_journaled (Took d n ∷ t) = same_journaled t
+same_journaled (Bound b ∷ t) = same_journaled t
+same_journaled (Booked acts ∷ t) = ap (λ (j : Journaled). with_acts j acts) (same_journaled t)
+same_journaled (Began g ∷ t) = refl
 
-pub same_booked : (t : List Entry) (e : Event) → untaken (booked t e) ≡ booked (untaken t) e
-same_booked t e = ap (λ (b : BookView). Booked (acts_of b e) ∷ untaken t) (same_book t)
+same_event_acts : (full : Bool) (b : BookView) (t : List Entry) (e : Event) → Calm t → due t e ≡ [] → event_acts full b t e ≡ plain_event_acts full b (untaken t) e
+same_event_acts full b t (event.Item c i) calm none =
+    ap (live_acts full b t c.0 i) (stood_found t (event.Item c i) calm none c.0) ∙ same_live_acts full b t c.0 i (plain (untaken t) c.0)
+same_event_acts full b t (event.Down c) calm none = refl
+same_event_acts full b t (event.Tick ms) calm none = refl
+same_event_acts full b t (event.Up c p) calm none = refl
+same_event_acts full b t event.Start calm none = refl
+
+same_acts : (t : List Entry) (e : Event) → Calm t → due t e ≡ [] → acts_of t e ≡ plain_acts (journaled (untaken t)) (untaken t) e
+same_acts t e calm none =
+    ap (λ (acts : List Act). event_acts (exceeds (journaled t).used (reserve (book_in t)) acts) (book_in t) t e) (same_event_acts false (book_in t) t e calm none)
+    ∙ same_event_acts (exceeds (journaled t).used (reserve (book_in t)) (plain_event_acts false (book_in t) (untaken t) e)) (book_in t) t e calm none
+    ∙ ap (λ (j : Journaled). plain_acts j (untaken t) e) (same_journaled t)
 
 pub same_handled : (id : List ℕ) (t : List Entry) (s : Step) → Calm t → ((c : ℕ) → is_full (conn t c) ≡ false)
     → Calm (handled id t s) × (untaken (handled id t s) ≡ plain_handled id (untaken t) s)
 same_handled id t s calm roomy =
     let next = same_answered id (booked t s.event) s (booked_keeps Calm t s.event (λ acts c. c) calm)
-    (booked_keeps (λ (v : List Entry). (c : ℕ) → is_full (conn v c) ≡ false) t s.event (λ acts r. r) roomy)
-    in (next.0, next.1 ∙ ap (λ (x : List Entry). plain_answered id x s) (same_booked t s.event))
+    (booked_keeps (λ (v : List Entry). (c : ℕ) → is_full (conn v c) ≡ false) t s.event (λ acts r. r) roomy) (same_journaled t)
+    in (next.0, next.1 ∙ ap (λ (acts : List Act). plain_answered id (Booked acts ∷ untaken t) s) (same_acts t s.event calm (none_due t s.event roomy)))
 
 -- moves
 same_moves : (id : List ℕ) (ms : List Move) (t u : List Entry) → Calm t → NeverFull id ms t → Goes id ms t u → untaken u ≡ plain_all id (events_of ms) (untaken t)

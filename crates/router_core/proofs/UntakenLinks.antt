@@ -1,11 +1,11 @@
 -- What takes don't change: a trace without its takes agrees on links and on peers.
 use Rattle.std.proofs.Common.{◌≡◌, ◌∙◌, ap, refl, ℕ, ◌+◌, List, [], ◌∷◌, ◌==◌}
-use Rattle.std.specs.Prelude.{Option, Some, None, option_map, unwrap_or, if◌then◌else◌}
+use Rattle.std.specs.Prelude.{Option, Some, None, is_some, option_map, unwrap_or, if◌then◌else◌}
 use Rattle.amqp_perf.specs.declared.perf.Attach.{Attach as AnAttach}
 use Rattle.router_trace.specs.declared.handle.Asked.{Asked}
 use Rattle.router_trace.specs.declared.handle.Attachment.{Attachment}
 use Rattle.router_trace.specs.Trace.{Entry, Did, Out, Took, Bound, Booked, Began}
-use Rattle.router_trace.specs.Links.{asked, asked_at, is_lost, answers_by, answered_handle, their_handle_at, their_handle_behind, their_handle, is_taken, attachments, key_of, key_at, link_at, link_behind, link, has_number, if_attached, same_key, newest_by, last_of_key, holder, link_place_by, link_place, handle_max_at, told_handle_max, most_behind, highest_handle, is_free_handle, first_free_below, free_handle}
+use Rattle.router_trace.specs.Links.{Link, durable_key, is_durable_at, holds_durable, asked, asked_at, is_lost, answers_by, answered_handle, their_handle_at, their_handle_behind, their_handle, is_taken, attachments, key_of, key_at, link_at, link_behind, link, has_number, if_attached, same_key, newest_by, last_of_key, holder, link_place_by, link_place, handle_max_at, told_handle_max, most_behind, highest_handle, is_free_handle, first_free_below, free_handle}
 use Rattle.router_trace.specs.Peers.{user_at, user, container_at, Container, container, largest_frame}
 use Rattle.router_trace.specs.Sessions.{unless_close}
 use Rattle.router_core.specs.Laws.{untaken}
@@ -34,7 +34,7 @@ same_container (Began g ∷ t) c = same_container t c
 pub same_largest : (t : List Entry) (c : ℕ) → largest_frame t c ≡ largest_frame (untaken t) c
 same_largest t c = ap (λ (v : Option Container). unwrap_or (option_map (λ told. told.largest) v) 4294967295) (same_container t c)
 
-same_key_at : (t : List Entry) (c : ℕ) (a : AnAttach) → key_at t c a ≡ key_at (untaken t) c a
+pub same_key_at : (t : List Entry) (c : ℕ) (a : AnAttach) → key_at t c a ≡ key_at (untaken t) c a
 same_key_at t c a = λ j. key_of (same_user t c j) (same_container t c j) a
 
 -- handles
@@ -133,3 +133,11 @@ pub same_holder : (t : List Entry) (c : ℕ) (a : AnAttach) → holder t (key_at
 same_holder t c a =
     same_attached t (last_of_key t (key_at t c a))
     ∙ ap (if_attached (untaken t)) (same_last t c a t ∙ ap (last_of_key (untaken t)) (same_key_at t c a))
+
+-- durable links
+same_durable_at : (t : List Entry) (x : Option Attachment) → is_durable_at t x ≡ is_durable_at (untaken t) x
+same_durable_at t None = refl
+same_durable_at t (Some a) = ap (λ (l : Option Link). is_some (durable_key l)) (same_link t a.conn.0 a.channel a.handle)
+
+pub same_holds_durable : (t : List Entry) (c : ℕ) (a : AnAttach) → holds_durable t (key_at t c a) ≡ holds_durable (untaken t) (key_at (untaken t) c a)
+same_holds_durable t c a = ap (is_durable_at t) (same_holder t c a) ∙ same_durable_at t (holder (untaken t) (key_at (untaken t) c a))

@@ -1,5 +1,5 @@
 -- What takes don't change: in a trace without its takes an item's row puts the same, and the same message is bound.
-use Rattle.std.proofs.Common.{◌≡◌, ◌∙◌, ap, refl, ℕ, ◌^◌, true, List, [], ◌∷◌, ◌++◌}
+use Rattle.std.proofs.Common.{◌≡◌, ◌∙◌, ap, refl, ℕ, ◌^◌, Bool, true, false, List, [], ◌∷◌, ◌++◌}
 use Rattle.std.specs.Prelude.{Option, Some, None, is_some, nat_lt, filter, option_map, option_and_then, unwrap_or, if◌then◌else◌}
 use Rattle.amqp_perf.specs.declared.perf.Attach.{Attach as AnAttach}
 use Rattle.amqp_perf.specs.declared.perf.Disposition.{Disposition as ADisposition}
@@ -9,6 +9,11 @@ use Rattle.amqp_perf.specs.declared.perf.Transfer.{Transfer as ATransfer}
 use Rattle.amqp_frames.specs.declared.item.Item.{Item}
 use Rattle.amqp_frames.specs.declared.item.Item.TheVariants as item
 use Rattle.amqp_conn.specs.declared.conn.Conn.{Conn}
+use Rattle.book_core.specs.declared.act.Act.{Act}
+use Rattle.book_core.specs.declared.terminus.LinkKey.{LinkKey}
+use Rattle.book_core.specs.Book.{BookView, terminus_of}
+use Rattle.gate_journal.specs.Reserve.{reserve}
+use Rattle.router_store.specs.Store.{exceeds}
 use Rattle.amqp_link.specs.declared.part.Delivery.{Delivery as Told}
 use Rattle.amqp_link.specs.declared.part.Part.{Part}
 use Rattle.amqp_link.specs.declared.part.Part.TheVariants as part
@@ -16,22 +21,24 @@ use Rattle.router_trace.specs.declared.condition.Condition.TheVariants.{Resource
 use Rattle.router_trace.specs.declared.handle.Attachment.{Attachment}
 use Rattle.router_trace.specs.Trace.{Entry, Put, goes, puts, each_to}
 use Rattle.router_trace.specs.Configuration.{is_multicast}
-use Rattle.router_trace.specs.LinkFrames.{answer_to, detach_item}
-use Rattle.router_trace.specs.Links.{Link, link, free_handle, holder, key_at, link_place}
+use Rattle.router_trace.specs.LinkFrames.{plain_answer, answer_to, detach_item}
+use Rattle.router_trace.specs.Links.{Link, link, free_handle, holder, key_at, link_place, durable_key}
 use Rattle.router_trace.specs.Deliveries.{terminal, last_of, named}
 use Rattle.router_trace.specs.Numbers.{count_below}
 use Rattle.router_trace.specs.Settling.{ids_between, is_open_as, names_open, is_open_id, is_of_link, is_ignored_on, ignored, part_of}
 use Rattle.router_passing.specs.Passing.{consumer_of, binding_to}
 use Rattle.router_rows.specs.declared.answer.Answer.{Answer}
-use Rattle.router_rows.specs.declared.answer.Answer.TheVariants.{Attach, Refuse, Taken, Settle}
+use Rattle.router_rows.specs.declared.answer.Answer.TheVariants.{Attach, Detach, Refuse, Taken, Settle}
 use Rattle.router_rows.specs.Rows.{Finds, said, item_reply}
 use Rattle.router_rows.specs.Finding.{finds}
+use Rattle.router_rows.specs.Booking.{wants_durable, wanted_address, new_terminus, has_room, durable_refusal, volatile_refusal, book_refusal, attach_in, booked, answer_at}
+use Rattle.router_reply.specs.Acts.{Journaled, attach_acts_with, closed_acts, perf_acts, item_acts, live_acts, item_finds_full, found_journal, answer_with, answer_of}
 use Rattle.router_reply.specs.Replies.{stolen_by, attach_answer, taken_behind, taken, refused, settled_answers, claimed_id, from_link, origin_of, message_bound, ignored_put, unbound_put, whole_put, part_put, whole_bound, part_bound, bound_for, item_bound, links_put, item_put, item_row}
 use Rattle.router_core.specs.Laws.{untaken}
 use Rattle.router_core.proofs.Untaken.{untaken_goes, same_place, same_free}
 use Rattle.router_core.proofs.UntakenDeliveries.{same_named, same_delivery, same_claims, same_numbered}
 use Rattle.router_core.proofs.UntakenGrants.{same_distribution, same_choice}
-use Rattle.router_core.proofs.UntakenLinks.{same_largest, same_free_handle, same_link, same_link_place, same_holder}
+use Rattle.router_core.proofs.UntakenLinks.{same_key_at, same_holds_durable, same_largest, same_free_handle, same_link, same_link_place, same_holder}
 
 same_finds : (t : List Entry) (c : ℕ) → finds t c ≡ finds (untaken t) c
 same_finds t c = λ j. record {
@@ -42,6 +49,40 @@ same_finds t c = λ j. record {
   claimed = λ o id. is_some (same_claims t c o id j);
   multicast = λ address. is_multicast (same_distribution t address j);
 }
+
+-- the acts of an item, and the answer to it
+same_perf_acts : (full : Bool) (b : BookView) (t : List Entry) (c : ℕ) (body : Perf) (a : Answer) → perf_acts full b t c body a ≡ perf_acts full b (untaken t) c body a
+same_perf_acts full b t c (perf.Attach x) (Attach own) = ap (λ (k : LinkKey). attach_acts_with full b k x) (same_key_at t c (plain_answer x 0))
+same_perf_acts full b t c (perf.Attach x) _ = refl
+same_perf_acts full b t c (perf.Detach x) (Detach own handle closed None) = ap (λ (l : Option Link). if closed then closed_acts b (durable_key l) else []) (same_link t c own handle)
+same_perf_acts full b t c (perf.Detach x) (Detach own handle closed (Some e)) = refl
+same_perf_acts full b t c (perf.Detach x) _ = refl
+same_perf_acts full b t c _ a = refl
+
+same_item_acts : (full : Bool) (b : BookView) (t : List Entry) (c : ℕ) (i : Item) (a : Answer) → item_acts full b t c i a ≡ item_acts full b (untaken t) c i a
+same_item_acts full b t c (item.Frame sasl channel body payload) a = same_perf_acts full b t c body a
+same_item_acts full b t c _ a = refl
+
+pub same_live_acts : (full : Bool) (b : BookView) (t : List Entry) (c : ℕ) (i : Item) (p : Option Conn) → live_acts full b t c i p ≡ live_acts full b (untaken t) c i p
+same_live_acts full b t c i None = refl
+same_live_acts full b t c i (Some p) =
+    ap (λ (k : Finds). item_acts full b t c i (item_reply p k i)) (same_finds t c) ∙ same_item_acts full b t c i (item_reply p (finds (untaken t) c) i)
+
+same_refusal : (full : Bool) (b : BookView) (t : List Entry) (c : ℕ) (a : AnAttach) → book_refusal full b t c a ≡ book_refusal full b (untaken t) c a
+same_refusal full b t c a = λ j.
+    if wants_durable a then
+      durable_refusal (terminus_of (same_key_at t c (plain_answer a 0) j) b.termini) a (has_room full b (new_terminus b (same_key_at t c (plain_answer a 0) j) (wanted_address a)))
+    else volatile_refusal (same_holds_durable t c (plain_answer a 0) j)
+
+same_answer_at : (full : Bool) (b : BookView) (t : List Entry) (c : ℕ) (p : Conn) (i : Item) → answer_at full b t c p i ≡ answer_at full b (untaken t) c p i
+same_answer_at full b t c p i = λ j. booked (λ o. same_free_handle t c o j) (λ a. same_refusal full b t c a j) (attach_in i) (item_reply p (same_finds t c j) i)
+
+same_answer : (t : List Entry) (c : ℕ) (p : Conn) (i : Item) → found_journal t ≡ found_journal (untaken t) → answer_of t c p i ≡ answer_of (untaken t) c p i
+same_answer t c p i same =
+    ap (λ (j : Journaled). answer_with j t c p i) same
+    ∙ ap (λ (acts : List Act). answer_at (exceeds (found_journal (untaken t)).used (reserve (found_journal (untaken t)).book) acts) (found_journal (untaken t)).book t c p i)
+    (same_live_acts false (found_journal (untaken t)).book t c i (Some p))
+    ∙ same_answer_at (item_finds_full (found_journal (untaken t)) (untaken t) c p i) (found_journal (untaken t)).book t c p i
 
 -- an attach
 
@@ -147,10 +188,10 @@ same_put id t u c p i a =
     ap (λ (ps : List Put). each_to c (said id p a) ++ ps)
     (same_links t (puts c (said id p a) u) c i a ∙ ap (λ (v : List Entry). links_put (untaken t) v c i a) (untaken_goes (each_to c (said id p a)) u))
 
-pub same_item_row : (id : List ℕ) (t u : List Entry) (c : ℕ) (i : Item) (p : Option Conn) → item_row id t u c i p ≡ item_row id (untaken t) (untaken u) c i p
-same_item_row id t u c i None = refl
-same_item_row id t u c i (Some p) =
-    ap (λ (k : Finds). item_put id t u c p i (item_reply p k i)) (same_finds t c) ∙ same_put id t u c p i (item_reply p (finds (untaken t) c) i)
+pub same_item_row : (id : List ℕ) (t u : List Entry) (c : ℕ) (i : Item) (p : Option Conn) → found_journal t ≡ found_journal (untaken t) → item_row id t u c i p ≡ item_row id (untaken t) (untaken u) c i p
+same_item_row id t u c i None same = refl
+same_item_row id t u c i (Some p) same =
+    ap (item_put id t u c p i) (same_answer t c p i same) ∙ same_put id t u c p i (answer_of (untaken t) c p i)
 
 -- the message that it binds
 
@@ -160,7 +201,7 @@ same_bound_for t u c i (Taken own handle) =
     ∙ same_part_bound u c own handle (part_of i (link_place (untaken t) c own))
 same_bound_for t u c i _ = refl
 
-pub same_item_bound : (t u : List Entry) (c : ℕ) (i : Item) (p : Option Conn) → item_bound t u c i p ≡ item_bound (untaken t) (untaken u) c i p
-same_item_bound t u c i None = refl
-same_item_bound t u c i (Some p) =
-    ap (λ (k : Finds). bound_for t u c i (item_reply p k i)) (same_finds t c) ∙ same_bound_for t u c i (item_reply p (finds (untaken t) c) i)
+pub same_item_bound : (t u : List Entry) (c : ℕ) (i : Item) (p : Option Conn) → found_journal t ≡ found_journal (untaken t) → item_bound t u c i p ≡ item_bound (untaken t) (untaken u) c i p
+same_item_bound t u c i None same = refl
+same_item_bound t u c i (Some p) same =
+    ap (bound_for t u c i) (same_answer t c p i same) ∙ same_bound_for t u c i (answer_of (untaken t) c p i)
