@@ -36,8 +36,11 @@ use Rattle.router_rows.specs.declared.answer.Answer.TheVariants.{Nothing, Header
 use Rattle.router_rows.specs.Rows.{Finds, Links, said, header_reply, open_by, open_reply, begin_by, begin_reply, end_reply, echo, flow_on, flow_reply, attach_reply, transfer_reply, detach_reply, disposition_reply, in_turn, turn_by, perf_reply, item_reply}
 use Rattle.router_rows.specs.LinkRows.{is_multicast_link, refusal, attach_or, attach_at, session_attach_reply, session_detach_reply, link_echo, is_reached, link_flow_reply, is_anonymous, asks, is_among, start_on, delivery_by, delivery_on, link_transfer_reply, is_unattached, session_transfer_reply}
 use Rattle.router_rows.specs.LinkRows.{flow_on as link_flow_on}
+use Rattle.router_rows.specs.Finding.{finds}
+use Rattle.router_rows.specs.Booking.{attach_unless, booked_attach, attach_in, booked, book_refusal}
+use Rattle.router_reply.specs.Acts.{item_finds_full, found_journal, answer_of}
 use Rattle.amqp_link.specs.Receiving.{delivery_count, unused}
-use Rattle.router_trace.specs.Links.{LinkPlace, nowhere as no_link, detaching, on as on_link, Happened, sends, receives}
+use Rattle.router_trace.specs.Links.{free_handle, LinkPlace, nowhere as no_link, detaching, on as on_link, Happened, sends, receives}
 
 -- a live phase
 abbrev pub open_phase : Bool → Bool → Conn

@@ -29,10 +29,9 @@ use Rattle.router_sessions.specs.Windows.{windows}
 use Rattle.router_passing.specs.Passing.{grants_due, with_bound}
 use Rattle.router_rows.specs.declared.answer.Answer.{Answer}
 use Rattle.router_rows.specs.declared.answer.Answer.TheVariants.{Attach, Refuse, Taken, Settle}
-use Rattle.router_rows.specs.Rows.{said, item_reply}
-use Rattle.router_rows.specs.Finding.{finds}
+use Rattle.router_rows.specs.Rows.{said}
 use Rattle.router_reply.specs.Replies.{closing_of, ends, heard, refused, bound_for, item_put, behind_answer, item_bound, item_row, replied_behind, replied}
-use Rattle.router_reply.specs.Acts.{booked}
+use Rattle.router_reply.specs.Acts.{answer_of, booked}
 use Rattle.router_core.specs.Replies.{answered, handled}
 use Rattle.router_core.specs.Runs.{took_one}
 use Rattle.router_core.specs.Moves.{Move, handles, takes, Goes, IsTrace}
@@ -99,7 +98,7 @@ no_part true = refl
 no_part false = refl
 
 item_sound : (id : List ℕ) (t after : List Entry) (s : Step) (from : ConnectionId) (p : Conn) (i : Item) → Sound after → s.event ≡ event.Item from i
-    → just_handled after ≡ Some (record { step = s; found = t }) → Behind id t after from.0 p i (item_reply p (finds t from.0) i)
+    → just_handled after ≡ Some (record { step = s; found = t }) → Behind id t after from.0 p i (answer_of t from.0 p i)
 item_sound id t after s from p i sound came just = by i came
   where
     other : (i : Item) → ((own : ℕ) → part_of i (link_place t from.0 own) ≡ None) → (a : Answer) → QuietPut (item_put id t after from.0 p i a) → Behind id t after from.0 p i a
@@ -123,9 +122,9 @@ item_sound id t after s from p i sound came just = by i came
     by_transfer sasl channel payload x came a here = quiet_sound (each_to from.0 (said id p a) ++ []) after (nothing_more id p from.0 a) sound
 
     by_perf : (sasl : Bool) (channel : ℕ) (payload : List ℕ) (body : Perf) → s.event ≡ event.Item from (item.Frame sasl channel body payload)
-        → Behind id t after from.0 p (item.Frame sasl channel body payload) (item_reply p (finds t from.0) (item.Frame sasl channel body payload))
+        → Behind id t after from.0 p (item.Frame sasl channel body payload) (answer_of t from.0 p (item.Frame sasl channel body payload))
     by_perf sasl channel payload (perf.Transfer x) came =
-        by_transfer sasl channel payload x came (item_reply p (finds t from.0) (item.Frame sasl channel (perf.Transfer x) payload))
+        by_transfer sasl channel payload x came (answer_of t from.0 p (item.Frame sasl channel (perf.Transfer x) payload))
         (transfer_taken p t from.0 sasl channel x payload)
     by_perf sasl channel payload (perf.Attach x) came =
         other (item.Frame sasl channel (perf.Attach x) payload) (λ own. no_part sasl) _ (attach_put sasl channel payload x _)
@@ -134,9 +133,9 @@ item_sound id t after s from p i sound came just = by i came
     by_perf sasl channel payload body came =
         other (item.Frame sasl channel body payload) (λ own. no_part sasl) _ (nothing_more id p from.0 _)
 
-    by : (i : Item) → s.event ≡ event.Item from i → Behind id t after from.0 p i (item_reply p (finds t from.0) i)
+    by : (i : Item) → s.event ≡ event.Item from i → Behind id t after from.0 p i (answer_of t from.0 p i)
     by (item.Frame sasl channel body payload) came = by_perf sasl channel payload body came
-    by i came = other i (λ own. refl) (item_reply p (finds t from.0) i) (nothing_more id p from.0 (item_reply p (finds t from.0) i))
+    by i came = other i (λ own. refl) (answer_of t from.0 p i) (nothing_more id p from.0 (answer_of t from.0 p i))
 
 -- an event's own row
 

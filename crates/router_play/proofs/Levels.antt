@@ -27,11 +27,10 @@ use Rattle.router_trace.specs.Following.{tells, sends_due, drains_due}
 use Rattle.router_sessions.specs.Windows.{is_narrow, flow_due, flows_below, windows_over, windows}
 use Rattle.router_state.specs.Tables.{beat_if, beats_over, beats}
 use Rattle.router_passing.specs.Passing.{grants_due, with_bound}
-use Rattle.router_rows.specs.Rows.{said, item_reply}
-use Rattle.router_rows.specs.Finding.{finds}
+use Rattle.router_rows.specs.Rows.{said}
 use Rattle.router_reply.specs.Replies.{closing_of, ends, heard, stolen_by, refused, part_put, settled_answers, bound_by, item_row, own_row, replied}
 use Rattle.router_after.specs.After.{widened, followed}
-use Rattle.router_reply.specs.Acts.{booked}
+use Rattle.router_reply.specs.Acts.{answer_of, booked}
 use Rattle.router_core.specs.Replies.{answered, handled}
 use Rattle.router_core.specs.Runs.{waiting_of}
 use Rattle.router_core.specs.Moves.{IsTrace, outs}
@@ -293,7 +292,7 @@ item_known id t u d i links (Some p) there =
     (λ own handle e x. each_known (refused (largest_frame u d) own handle e x) u d (there refl))
     (λ own handle q. each_known (part_put u d own handle q) u d (there refl))
     (λ own r ids. each_known (settled_answers own r ids) u d (there refl))
-    i (item_reply p (finds t d) i)
+    i (answer_of t d p i)
 
 bound_even : (b : Option Binding) (t : List Entry) (c : ℕ) → Even t (with_bound b t) c
 bound_even None t c = even_refl t c
