@@ -1,5 +1,5 @@
 -- Acts that can be written.
-use Rattle.std.proofs.Common.{◌≡◌, ◌≢◌, ◌∙◌, ℕ, ◌≤◌, Bool, true, false, List, [], ◌∷◌, length, None, refl, sym, subst, arith, length-append}
+use Rattle.std.proofs.Common.{◌≡◌, ◌≢◌, ℕ, ◌≤◌, true, List, [], ◌∷◌, length, None, refl, arith, length-append}
 use Rattle.book_core.specs.declared.act.Act.{Act}
 use Rattle.book_core.specs.declared.act.Act.TheVariants.{Make, Drop}
 use Rattle.book_core.specs.declared.terminus.Terminus.{Terminus}
@@ -7,7 +7,7 @@ use Rattle.book_core.specs.declared.terminus.TerminusNumber.{TerminusNumber}
 use Rattle.book_core.specs.Book.{BookView, refusal, make_refusal, drop_refusal, terminus_at, first_fault}
 use Rattle.gate_journal.specs.Batches.{HasOutcome}
 use Rattle.gate_journal.specs.Format.{act_bytes, acts_bytes}
-use Rattle.gate_journal.specs.Reserve.{IsFull, is_full}
+use Rattle.gate_journal.specs.Reserve.{IsFull}
 use Rattle.gate_journal.proofs.Fulls.{test_full}
 use Rattle.router_store.specs.Lost.{start_acts}
 use Rattle.router_store.specs.Store.{Writable, exceeds}
@@ -30,15 +30,6 @@ make_writable b x applies = one_writable b (Make x) applies (make_small b x appl
 
 pub drop_writable : (b : BookView) (n : TerminusNumber) → drop_refusal (terminus_at n.0 b.termini) b.rows ≡ None → Writable b (Drop n ∷ [])
 drop_writable b n applies = one_writable b (Drop n) applies (drop_small n) tt
-
--- acts that cost more than the room: there are some, and their batch does
-pub some_exceeds : (used kept : ℕ) (acts : List Act) (v : Bool) → acts ≢ [] → is_full used kept acts ≡ v → exceeds used kept acts ≡ v
-some_exceeds used kept [] v some is = absurd (some refl)
-some_exceeds used kept (act ∷ acts) v some is = is
-
-pub none_exceeds : (used kept : ℕ) (acts : List Act) → acts ≡ [] → exceeds used kept acts ≡ false
-none_exceeds used kept [] none = refl
-none_exceeds used kept (act ∷ acts) none = absurd cc
 
 -- a journal is never too full for what a start decides
 pub start_never_exceeds : (b : BookView) (used kept : ℕ) → exceeds used kept (start_acts b) ≡ true → ⊥

@@ -1,9 +1,6 @@
-use Rattle.std.proofs.Common.{◌≡◌, ◌≢◌, ◌∙◌, [], List, Err, Ok, OnOk, OnErr, ap, true, false, Bool, sym, subst, vec_len, arith, rules}
-use Rattle.book_core.specs.declared.act.Act.{Act}
-use Rattle.gate_journal.specs.Reserve.{is_full}
-use Rattle.router_store.specs.Store.{book_of, used_of, kept_of, exceeds}
+use Rattle.std.proofs.Common.{◌≡◌, ◌∙◌, [], sym, vec_len, arith}
+use Rattle.router_store.specs.Store.{book_of}
 use Rattle.router_store.proofs.Makes.{no_acts, nothing_done}
-use Rattle.router_store.proofs.Writing.{some_exceeds, none_exceeds}
 use Rattle.router_store.proofs.store.Store.commit.Goals as goal
 
 pub returns-then-is_empty-clause-book : goal.returns-then-is_empty-clause-book
