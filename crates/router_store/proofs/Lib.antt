@@ -3,3 +3,4 @@ pub mod Few
 pub mod Opened
 pub mod Started
 pub mod Ones
+pub mod Writing

@@ -1,11 +1,12 @@
 -- The delivery store: a book, and the journal that keeps it on a disk.
-use Rattle.std.specs.Prelude.{◌≡◌, ℕ, ◌+◌, List, [], ◌∷◌}
+use Rattle.std.specs.Prelude.{◌≡◌, ◌≤◌, ℕ, ◌+◌, Bool, false, List, [], ◌∷◌, length, None}
 use Rattle.book_core.specs.declared.act.Act.{Act}
-use Rattle.book_core.specs.Book.{BookView, empty_book, effects}
+use Rattle.book_core.specs.Book.{BookView, empty_book, first_fault, effects}
 use Rattle.gate_journal.specs.declared.journal.Journal.{Journal}
-use Rattle.gate_journal.specs.Batches.{Holds, book_after}
+use Rattle.gate_journal.specs.Batches.{Holds, HaveOutcomes, book_after}
+use Rattle.gate_journal.specs.Format.{acts_bytes}
 use Rattle.gate_journal.specs.Journal.{Keeps, used_bytes, kept_bytes}
-use Rattle.gate_journal.specs.Reserve.{reserve, batch_bytes}
+use Rattle.gate_journal.specs.Reserve.{reserve, batch_bytes, is_full}
 use Rattle.router_store.specs.declared.store.Store.{Store}
 
 -- its journal, the disk of that, and its book
@@ -30,6 +31,11 @@ abbrev pub used_behind : ℕ → List Act → ℕ
 used_behind used [] = used
 used_behind used (act ∷ acts) = used + batch_bytes (act ∷ acts)
 
+-- whether acts cost more than nothing, and more than the room, in a journal that is this long and keeps this much free
+abbrev pub exceeds : ℕ → ℕ → List Act → Bool
+exceeds used kept [] = false
+exceeds used kept (act ∷ acts) = is_full used kept (act ∷ acts)
+
 -- the journal is as long as it was, and keeps as much free
 abbrev pub IsAsLong : {D : Type 0} → Store D → Store D → Type 0
 IsAsLong old new = (used_of new ≡ used_of old) × (kept_of new ≡ kept_of old)
@@ -43,6 +49,12 @@ pub record OpensTo (file : List ℕ) (book : BookView) : Type 0 where
   pub batches : List (List Act)
   pub holds : Holds file batches
   pub leaves : book ≡ book_after empty_book batches
+
+-- acts that can be written to a store with this book: they apply to it, fit one batch, and each outcome among them is one
+pub record Writable (b : BookView) (acts : List Act) : Type 0 where
+  pub applies : first_fault b acts ≡ None
+  pub small : length (acts_bytes acts) ≤ 4194304
+  pub outcomes : HaveOutcomes acts
 
 -- The disk of a store keeps its book: it holds batches that leave this book, and a crash leaves just that.
 pub record Stands {D : Type 0} (seen : D → List ℕ) (may_leave : D → List ℕ → Type 0) (s : Store D) : Type 0 where

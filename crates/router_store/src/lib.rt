@@ -5,7 +5,6 @@
 mod kept;
 pub mod laws;
 mod lost;
-mod one;
 mod store;
 
 pub use lost::start_acts;

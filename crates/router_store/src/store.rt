@@ -9,7 +9,7 @@ ghost use Rattle.gate_journal.specs.Journal.{batch_count, used_bytes, kept_bytes
 ghost use Rattle.gate_journal.specs.Opening.{Explains};
 ghost use Rattle.gate_journal.specs.Reserve.{reserve, batch_bytes, is_full};
 ghost use Rattle.router_store.specs.Lost.{start_acts};
-ghost use Rattle.router_store.specs.Store.{OpensTo, Stands, IsAsLong, IsLonger, journal_of, disk_of, book_of, used_of, kept_of, used_behind};
+ghost use Rattle.router_store.specs.Store.{OpensTo, Stands, Writable, IsAsLong, IsLonger, journal_of, disk_of, book_of, used_of, kept_of, used_behind, exceeds};
 
 use crate::kept::Kept;
 use book_core::{Act, Book};
@@ -97,6 +97,48 @@ impl<D: Disk> Store<D> {
         }
     }
 
+    /// Does acts to the store: they are written as one batch, which is given with its number; where there are none, nothing is
+    /// written. Faults are as with `write`.
+    pub fn commit(&mut self, acts: Vec<Act>) -> Result<Option<(u64, Vec<Act>)>, JournalFault>
+        requires writable { Writable (book_of self.old) acts.items }
+
+        ensures stands { OnOk result (Stands D.seen D.may_leave self.old → Stands D.seen D.may_leave self.new) }
+        ensures book { OnOk result (book_of self.new ≡ effects (book_of self.old) acts.items) }
+        ensures written { IfOk result (λ w. IfSome w (λ batch. (batch.0 ≡ batch_count (journal_of self.old) + 1) × (batch.1.items ≡ acts.items))) }
+        ensures silent { IfOk result (λ w. IfNone w (acts.items ≡ [])) }
+
+        // Whatever is answered, a crash at any moment of the call leaves the book before these acts or the book after them.
+        ensures any_moment { Stands D.seen D.may_leave self.old → LeavesOnly D.moment D.left_since (disk_of self.old) (disk_of self.new)
+            (λ c. OpensTo c (book_of self.old) ⊎ OpensTo c (effects (book_of self.old) acts.items)) }
+
+        ensures length { OnOk result (used_of self.new ≡ used_behind (used_of self.old) acts.items) }
+        ensures kept { OnOk result (kept_of self.old ≡ reserve (book_of self.old) → kept_of self.new ≡ reserve (book_of self.new)) }
+
+        ensures full { IsErrOf result JournalFault.Full → exceeds (used_of self.old) (kept_of self.old) acts.items ≡ true }
+        ensures room { OnOk result (exceeds (used_of self.old) (kept_of self.old) acts.items ≡ false) }
+        ensures unchanged { IsErrOf result JournalFault.Full → self.new ≡ self.old }
+        ensures still_failed { IsErrOf result JournalFault.Failed → self.new ≡ self.old }
+        ensures unwritten { OnErr result (book_of self.new ≡ book_of self.old) }
+        ensures length_at_fault { IfErr result (λ fault. (fault ≡ JournalFault.Memory → ⊥) → IsAsLong self.old self.new) }
+        ensures length_at_memory { IsErrOf result JournalFault.Memory → IsAsLong self.old self.new ⊎ IsLonger self.old acts.items self.new }
+
+        ensures disk { IsErrOf result JournalFault.Disk → D.failures (disk_of self.old) < D.failures (disk_of self.new) }
+        ensures failed { IsErrOf result JournalFault.Failed → has_failed (journal_of self.old) ≡ true }
+        ensures works { has_failed (journal_of self.old) ≡ false → OnOk result (has_failed (journal_of self.new) ≡ false) }
+    {
+        if acts.is_empty() {
+            drop(acts);
+            return Ok(None);
+        }
+        match self.write(&acts) {
+            Ok(number) => Ok(Some((number, acts))),
+            Err(fault) => {
+                drop(acts);
+                Err(fault)
+            }
+        }
+    }
+
     /// Writes what a router decides when it starts on this store, as one batch, and gives it with its number; where there is nothing
     /// to decide, nothing is written. Faults are as with `write`, but for `Full`, which never comes.
     pub fn start(&mut self, alloc: Global) -> Result<Option<(u64, Vec<Act>)>, JournalFault>
@@ -112,6 +154,7 @@ impl<D: Disk> Store<D> {
         ensures length { OnOk result (used_of self.new ≡ used_behind (used_of self.old) (start_acts (book_of self.old))) }
         ensures kept { OnOk result (kept_of self.old ≡ reserve (book_of self.old) → kept_of self.new ≡ reserve (book_of self.new)) }
 
+        ensures room { OnOk result (exceeds (used_of self.old) (kept_of self.old) (start_acts (book_of self.old)) ≡ false) }
         ensures never_full { IsErrOf result JournalFault.Full → ⊥ }
         ensures unwritten { OnErr result (book_of self.new ≡ book_of self.old) }
         ensures length_at_fault { IfErr result (λ fault. (fault ≡ JournalFault.Memory → ⊥) → IsAsLong self.old self.new) }
@@ -123,17 +166,7 @@ impl<D: Disk> Store<D> {
         let Ok(acts) = self.kept.start_acts(alloc) else {
             return Err(JournalFault::Memory);
         };
-        if acts.is_empty() {
-            drop(acts);
-            return Ok(None);
-        }
-        match self.write(&acts) {
-            Ok(number) => Ok(Some((number, acts))),
-            Err(fault) => {
-                drop(acts);
-                Err(fault)
-            }
-        }
+        self.commit(acts)
     }
 
     /// The book.
