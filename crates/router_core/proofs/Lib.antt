@@ -10,7 +10,6 @@ pub mod ItemRows
 pub mod Following
 pub mod Booking
 pub mod Books
-pub mod Written
 pub mod Granting
 pub mod Due
 pub mod Ordered

@@ -1,3 +1,2 @@
-pub mod RowOrder
 pub mod Placed
 pub mod Mapped
