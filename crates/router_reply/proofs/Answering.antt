@@ -1,5 +1,5 @@
 -- The answer to an attach gets its handle once it is made.
-use Rattle.std.proofs.Common.{◌≡◌, ◌∙◌, ℕ, Bool, true, false, refl, sym, ap, subst, List, Option, Some, None}
+use Rattle.std.proofs.Common.{◌≡◌, ◌∙◌, ℕ, Bool, true, false, refl, sym, ap, subst, Option, Some, List}
 use Rattle.std.specs.Prelude.{if◌then◌else◌}
 use Rattle.amqp_perf.specs.declared.perf.Attach.{Attach as AnAttach}
 use Rattle.amqp_perf.specs.declared.perf.Role.{Role}
@@ -34,7 +34,7 @@ handled_later a h =
 pub on_handle : (x a : AnAttach) (h : ℕ) → x ≡ answer_to a 0 → record x { handle = h } ≡ answer_to a h
 on_handle x a h is = ap (λ (y : AnAttach). record y { handle = h }) is ∙ handled_later a h
 
--- What is put for an attach that is taken: on the handle that is free once the older link is detached, or nothing where none is.
+-- what is put for an attach that is taken, on the handle that is free once the older link is detached
 pub taken_on : (s : State) (t : Trace) (c own largest h : ℕ) (a first answer : AnAttach)
     → first ≡ answer_to a 0 → answer ≡ answer_to a h → answer.handle ≡ h → largest ≡ largest_frame t c
     → Some h ≡ free_handle (goes (stolen_by (holder t (key_at t c first))) t) c own
@@ -48,12 +48,3 @@ taken_on s t c own largest h a first answer is_first is_answer on most free fit 
     (subst (λ (m : ℕ). TablesFit s (puts c (unless_too_large m own h (answer_to a h)) (goes (older first) t))) most
     (subst (λ (x : AnAttach). TablesFit s (puts c (unless_too_large largest own h x) (goes (older first) t))) is_answer
     (subst (λ (n : ℕ). TablesFit s (puts c (unless_too_large largest own n answer) (goes (older first) t))) on fit)))))
-
-pub taken_nowhere : (s : State) (t : Trace) (c own : ℕ) (a first : AnAttach)
-    → first ≡ answer_to a 0 → None ≡ free_handle (goes (stolen_by (holder t (key_at t c first))) t) c own
-    → TablesFit s (goes (stolen_by (holder t (key_at t c first))) t) → TablesFit s (goes (taken t c own a) t)
-taken_nowhere s t c own a first is_first free fit =
-    let older : AnAttach → List Put = λ x. stolen_by (holder t (key_at t c x)) in
-    subst (λ u. TablesFit s u) (sym (goes_both (older (answer_to a 0)) (each_to c (attach_answer (largest_frame t c) own (free_handle (goes (older (answer_to a 0)) t) c own) a)) t))
-    (subst (λ (x : AnAttach). TablesFit s (puts c (attach_answer (largest_frame t c) own (free_handle (goes (older x) t) c own) a) (goes (older x) t))) is_first
-    (subst (λ (o : Option ℕ). TablesFit s (puts c (attach_answer (largest_frame t c) own o a) (goes (older first) t))) free fit))
