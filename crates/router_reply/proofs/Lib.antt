@@ -2,4 +2,5 @@ pub mod Puts
 pub mod Unlinked
 pub mod Behind
 mod Given
+mod Answering
 mod Refused

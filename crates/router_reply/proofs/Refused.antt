@@ -1,5 +1,5 @@
 -- What is put for an attach that is refused, if the answer fits in a frame of the peer's.
-use Rattle.std.proofs.Common.{◌≡◌, ℕ, Bool, true, false, ap, subst, List, [], ◌∷◌, Option, Some, None}
+use Rattle.std.proofs.Common.{◌≡◌, ℕ, Bool, true, false, ap, subst, [], ◌∷◌, Some, None}
 use Rattle.std.specs.Prelude.{if◌then◌else◌, unwrap_or}
 use Rattle.amqp_frames.specs.declared.item.Item.{Item}
 use Rattle.router_trace.specs.Trace.{Trace, puts}

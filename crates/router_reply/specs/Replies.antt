@@ -1,5 +1,5 @@
 -- The trace after an event.
-use Rattle.std.specs.Prelude.{ℕ, Bool, true, false, nat_lt, if◌then◌else◌, List, [], ◌∷◌, ◌++◌, map, Option, Some, None, option_map, unwrap_or}
+use Rattle.std.specs.Prelude.{ℕ, true, false, not, nat_lt, if◌then◌else◌, List, [], ◌∷◌, ◌++◌, map, Option, Some, None, option_map, unwrap_or}
 use Rattle.amqp_perf.specs.declared.perf.Attach.{Attach as AnAttach}
 use Rattle.amqp_perf.specs.declared.perf.Perf.{Perf}
 use Rattle.amqp_perf.specs.declared.perf.Perf.TheVariants as perf
@@ -26,6 +26,7 @@ use Rattle.router_trace.specs.declared.handle.Attachment.{Attachment}
 use Rattle.router_trace.specs.Deliveries.{terminal, last_of}
 use Rattle.router_trace.specs.DeliveryFrames.{outcome_item}
 use Rattle.router_trace.specs.Settling.{open_ids, is_claimed_on, ignored, part_of}
+use Rattle.router_trace.specs.Durable.{is_durable}
 use Rattle.router_trace.specs.LinkFrames.{attach_item, detach_item, answer_to, refusal_of, fits}
 use Rattle.router_trace.specs.Links.{Link, link, link_place, free_handle, holder, key_at}
 use Rattle.router_trace.specs.Peers.{largest_frame}
@@ -51,13 +52,15 @@ abbrev pub heard : List ℕ → Trace → Step → Trace
 heard id t s = ends id (due t s.event) (Did s ∷ t)
 
 -- An attach that is taken: the older link with its key, if one is attached, is detached as stolen; then the answer is put, on the
--- lowest handle that is free by then. If the answer is longer than the peer's frames, a detach that says so is put instead.
+-- lowest handle that is free by then. If the answer is longer than the peer's frames, a detach that says so is put instead; it closes the
+-- link unless the link is durable.
 abbrev pub stolen_by : Option Attachment → List Put
 stolen_by None = []
 stolen_by (Some x) = record { conn = x.conn.0; item = detach_item x.channel x.handle false (Some Stolen) } ∷ []
 
 abbrev pub unless_too_large : ℕ → ℕ → ℕ → AnAttach → List Item
-unless_too_large largest own handle a = if fits largest (attach_item own a) then attach_item own a ∷ [] else detach_item own handle true (Some FrameSizeTooSmall) ∷ []
+unless_too_large largest own handle a =
+    if fits largest (attach_item own a) then attach_item own a ∷ [] else detach_item own handle (not (is_durable a.role a)) (Some FrameSizeTooSmall) ∷ []
 
 abbrev pub attach_answer : ℕ → ℕ → Option ℕ → AnAttach → List Item
 attach_answer largest own None a = []

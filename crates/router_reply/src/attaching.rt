@@ -1,8 +1,10 @@
 //! Attaches that are taken or refused.
-ghost use Rattle.std.specs.Prelude.{◌≡◌, ◌∷◌, [], List, ℕ, OnOk, IfOk, Some, None, if◌then◌else◌};
+ghost use Rattle.std.specs.Prelude.{◌≡◌, ◌∷◌, [], List, ℕ, OnOk, IfOk, Some, None, not, if◌then◌else◌};
+ghost use Rattle.router_trace.specs.declared.condition.Condition.TheVariants as condition;
+ghost use Rattle.amqp_perf.specs.declared.perf.Attach.{Attach as AnAttach};
 ghost use Rattle.router_trace.specs.Trace.{Entry, goes, puts};
 ghost use Rattle.router_trace.specs.Links.{holder, key_at, free_handle};
-ghost use Rattle.router_trace.specs.LinkFrames.{fits};
+ghost use Rattle.router_trace.specs.LinkFrames.{fits, detach_item, answer_to};
 ghost use Rattle.router_state.specs.Tables.{TablesFit};
 ghost use Rattle.router_reply.specs.Replies.{stolen_by, unless_too_large, attach_answer, taken, refused, put_for_attach, attach_put_in, attach_put};
 ghost use Rattle.router_trace.specs.Peers.{largest_frame};
@@ -13,7 +15,7 @@ use amqp_perf::{Attach, Perf};
 use book_core::LinkKey;
 use router_rows::Answer;
 use router_state::State;
-use router_trace::{Condition, RouterId, attach_item};
+use router_trace::{Condition, RouterId, attach_item, is_durable};
 use std::alloc::AllocError;
 
 /// Whether an item's frame is no longer than `largest` bytes.
@@ -53,7 +55,7 @@ fn within(id: &RouterId, largest: u32, item: Item) -> Result<Option<Item>, Alloc
     }
 }
 
-/// Puts the answer to an attach, or a detach instead if it doesn't fit.
+/// Puts the answer to an attach, or a detach instead if it doesn't fit, which closes the link unless the link is durable.
 fn put_answer(
     state: &mut State,
     id: &RouterId,
@@ -65,11 +67,39 @@ fn put_answer(
     ensures { OnOk result ((t : List Entry) → TablesFit state.old t → TablesFit state.new (puts conn (unless_too_large largest own answer.handle answer) t)) }
 {
     let handle = answer.handle;
+    let durable = is_durable(answer.role, &answer);
     match within(id, largest, attach_item(own, answer))? {
         Some(item) => state.put(conn, item)?,
-        None => write_detach(state, id, conn, own, handle, Condition::FrameSizeTooSmall)?,
+        None => write_too_large(state, id, conn, own, handle, !durable)?,
     }
     Ok(())
+}
+
+/// Writes the detach that stands in the place of an answer that doesn't fit.
+fn write_too_large(
+    state: &mut State,
+    id: &RouterId,
+    conn: u64,
+    own: u16,
+    handle: u32,
+    closed: bool,
+) -> Result<(), AllocError>
+    ensures { OnOk result ((t : List Entry) → TablesFit state.old t → TablesFit state.new (puts conn (detach_item own handle closed (Some condition.FrameSizeTooSmall) ∷ []) t)) }
+{
+    let item = id.detach_item(own, handle, closed, Some(Condition::FrameSizeTooSmall))?;
+    state.put(conn, item)?;
+    Ok(())
+}
+
+/// An answer that was made for the handle 0, on the handle that it gets.
+#[tactic(auto, using(crate::proofs::Answering::on_handle))]
+fn on_handle(answer: Attach, handle: u32) -> Attach
+    ensures answer { (a : AnAttach) → answer ≡ answer_to a 0 → result ≡ answer_to a handle }
+    ensures handle { result.handle ≡ handle }
+{
+    let mut answer = answer;
+    answer.handle = handle;
+    answer
 }
 
 /// Detaches the link with the answer's key, if one is attached, and returns the lowest handle that is free then.
@@ -99,7 +129,7 @@ fn take_link(
     ensures { OnOk result ((t : List Entry) → TablesFit state.old t → TablesFit state.new (goes (taken t conn own attach) t)) }
 {
     let largest = state.largest_frame(conn);
-    let mut answer = id.answer_to(attach, 0);
+    let answer = id.answer_to(attach, 0)?;
     match make_way(state, id, conn, own, &answer) {
         Err(error) => {
             drop(answer);
@@ -107,7 +137,7 @@ fn take_link(
         }
         Ok(None) => drop(answer),
         Ok(Some(handle)) => {
-            answer.handle = handle;
+            let answer = on_handle(answer, handle);
             put_answer(state, id, conn, largest, own, answer)?;
         }
     }

@@ -1,9 +1,7 @@
 -- A binding changes only the table `passing`, and a take from an outbox doesn't change that; a batch of the journal changes no table.
-use Rattle.std.proofs.Common.{◌≡◌, ◌∙◌, ℕ, Bool, true, false, ap, Option, Some, None, ◌∷◌, List}
-use Rattle.std.specs.Prelude.{◌==◌}
+use Rattle.std.proofs.Common.{◌≡◌, ℕ, true, ap, Option, Some, None, ◌∷◌, List}
 use Rattle.std.proofs.lemmas.Bool.{eqb-true}
 use Rattle.amqp_frames.specs.declared.item.Item.{Item}
-use Rattle.amqp_link.specs.declared.part.Part.{Part}
 use Rattle.router_trace.specs.declared.binding.Binding.{Binding}
 use Rattle.book_core.specs.declared.act.Act.{Act}
 use Rattle.router_trace.specs.Trace.{Trace, Took, Booked}

@@ -1,5 +1,5 @@
 use Rattle.std.proofs.Common.{◌≡◌, ◌∙◌, sym, ap, subst, List, Some}
-use Rattle.std.specs.Prelude.{ℕ, Option, option_map}
+use Rattle.std.specs.Prelude.{ℕ, option_map}
 use Rattle.amqp_perf.specs.declared.perf.Disposition.{Disposition}
 use Rattle.router_trace.specs.Trace.{Entry, step_of, goes, puts}
 use Rattle.router_trace.specs.Deliveries.{terminal, last_of}

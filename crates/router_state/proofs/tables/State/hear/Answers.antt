@@ -1,4 +1,4 @@
-use Rattle.std.proofs.Common.{◌∙◌, sym, ap}
+use Rattle.std.proofs.Common.{◌∙◌, ap}
 use Rattle.router_trace.specs.Sessions.{maps, theirs}
 use Rattle.router_state.proofs.Bound.{part_on_session}
 use Rattle.router_state.proofs.tables.State.hear.Goals as goal
