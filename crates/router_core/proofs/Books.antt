@@ -6,7 +6,7 @@ use Rattle.amqp_conn.specs.declared.conn.Conn.{Conn}
 use Rattle.book_core.specs.declared.act.Act.{Act}
 use Rattle.book_core.specs.Book.{BookView, effects}
 use Rattle.gate_journal.specs.Reserve.{reserve}
-use Rattle.router_store.specs.Store.{OpensTo, used_of, kept_of, used_behind, exceeds}
+use Rattle.router_store.specs.Store.{OpensTo, count_of, used_of, kept_of, used_behind, batches_behind, exceeds}
 use Rattle.router_trace.specs.declared.binding.Binding.{Binding}
 use Rattle.router_trace.specs.declared.event.Event.{Event}
 use Rattle.router_trace.specs.declared.event.Event.TheVariants as event
@@ -56,6 +56,7 @@ journal_handled id t e = sym (view_answered journaled (λ c i u. refl) (λ x u. 
 pub journals_handled : {D : Type 0} (core : Core D) (id : List ℕ) (t : List Entry) (e : Event) → Journals core (booked t e) → Journals core (handled id t (step_of e))
 journals_handled core id t e j = record {
   book = j.book ∙ ap (λ (x : Journaled). x.book) (journal_handled id t e);
+  batches = j.batches ∙ ap (λ (x : Journaled). x.batches) (journal_handled id t e);
   used = j.used ∙ ap (λ (x : Journaled). x.used) (journal_handled id t e);
   kept = j.kept ∙ ap (λ (x : Journaled). reserve x.book) (journal_handled id t e);
 }
@@ -140,13 +141,14 @@ answer_is core t e b f is =
 
 -- the journal after an event's acts are written
 pub journals_behind : {D : Type 0} (old new : Core D) (t : List Entry) (e : Event) (acts : List Act) → Fits old t → acts ≡ acts_of t e
-    → kept_book new ≡ effects (kept_book old) acts → used_of new.store ≡ used_behind (used_of old.store) acts
+    → kept_book new ≡ effects (kept_book old) acts → count_of new.store ≡ batches_behind (count_of old.store) acts → used_of new.store ≡ used_behind (used_of old.store) acts
     → (kept_of old.store ≡ reserve (kept_book old) → kept_of new.store ≡ reserve (kept_book new)) → Journals new (booked t e)
-journals_behind old new t e acts f are book used kept =
+journals_behind old new t e acts f are book count used kept =
     let now : kept_book new ≡ book_behind t e
     = book ∙ ap (λ (x : BookView). effects x acts) f.journal.book ∙ ap (effects (book_in t)) are
     in record {
       book = now;
+      batches = count ∙ ap (λ (n : ℕ). batches_behind n acts) f.journal.batches ∙ ap (batches_behind (journaled t).batches) are;
       used = used ∙ ap (λ (u : ℕ). used_behind u acts) f.journal.used ∙ ap (used_behind (journaled t).used) are;
       kept = kept (f.journal.kept ∙ ap reserve (sym f.journal.book)) ∙ ap reserve now;
     }

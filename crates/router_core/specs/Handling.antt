@@ -3,7 +3,7 @@ use Rattle.std.specs.Prelude.{◌≡◌, ◌⊎◌, ℕ, Bool, List, Option, Som
 use Rattle.book_core.specs.Book.{BookView}
 use Rattle.router_store.specs.declared.store.Store.{Store}
 use Rattle.gate_journal.specs.Reserve.{reserve}
-use Rattle.router_store.specs.Store.{OpensTo, Stands, book_of, used_of, kept_of}
+use Rattle.router_store.specs.Store.{OpensTo, Stands, book_of, count_of, used_of, kept_of}
 use Rattle.router_core.specs.declared.router.Core.{Core}
 use Rattle.router_core.specs.declared.router.Batch.{Batch}
 use Rattle.router_core.specs.declared.counts.Counts.{Counts}
@@ -15,9 +15,10 @@ use Rattle.router_state.specs.Tables.{TablesFit}
 use Rattle.router_reply.specs.Acts.{journaled, book_in, book_behind}
 use Rattle.router_core.specs.Turns.{is_started}
 
--- a router's journal agrees with the trace: its book, how long it is, and what it keeps free
+-- a router's journal agrees with the trace: its book, how many batches it has, how long it is, and what it keeps free
 pub record Journals {D : Type 0} (core : Core D) (t : Trace) : Type 0 where
   pub book : book_of core.store ≡ book_in t
+  pub batches : count_of core.store ≡ (journaled t).batches
   pub used : used_of core.store ≡ (journaled t).used
   pub kept : kept_of core.store ≡ reserve (book_in t)
 

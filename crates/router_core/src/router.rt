@@ -3,7 +3,7 @@ ghost use Rattle.std.specs.Prelude.{◌≡◌, ◌≢◌, ◌⊎◌, ◌+◌, �
 ghost use Rattle.disk_core.specs.Disk.{LeavesOnly, NoMore};
 ghost use Rattle.gate_journal.specs.Journal.{batch_count};
 ghost use Rattle.gate_journal.specs.Opening.{Explains};
-ghost use Rattle.router_store.specs.Store.{OpensTo, Stands, journal_of, disk_of, used_of, kept_of, used_behind, exceeds};
+ghost use Rattle.router_store.specs.Store.{OpensTo, Stands, journal_of, disk_of, count_of, used_of, kept_of, used_behind, batches_behind, exceeds};
 ghost use Rattle.route_table.specs.Places.{routing_of};
 ghost use Rattle.router_trace.specs.Configuration.{beginning};
 ghost use Rattle.router_trace.specs.Trace.{Entry, Took, step_of};
@@ -109,7 +109,7 @@ impl<D: Disk> Core<D> {
     /// comes where it failed, `Memory` where memory was refused, and the others where the disk holds no journal, or a
     /// damaged one.
     pub fn open(alloc: Global, disk: D, config: &Config) -> Result<Core<D>, OpenFault>
-        ensures fits { IfOk result (λ core. Fits core (beginning (record { routing = routing_of config.now; book = kept_book core; used = used_of (store_of core) }))) }
+        ensures fits { IfOk result (λ core. Fits core (beginning (record { routing = routing_of config.now; book = kept_book core; used = used_of (store_of core); batches = count_of (store_of core) }))) }
         ensures works { IfOk result (λ core. is_failed core ≡ false) }
         ensures named { IfOk result (λ core. id_of core ≡ config.now.router_id) }
         ensures counts { IfOk result (λ core. counts_of core ≡ uncounted) }
@@ -117,6 +117,7 @@ impl<D: Disk> Core<D> {
         // Its book is the one that the disk opens to, and a crash leaves just that.
         ensures stands { IfOk result (λ core. Stands D.seen D.may_leave (store_of core)) }
         ensures book { IfOk result (λ core. OpensTo (D.seen disk) (kept_book core)) }
+        ensures seen { IfOk result (λ core. D.seen (disk_of (store_of core)) ≡ D.seen disk) }
         ensures any_moment { IfOk result (λ core. LeavesOnly D.moment D.left_since disk (disk_of (store_of core)) (D.may_leave disk)) }
         ensures crash { IfOk result (λ core. NoMore (D.may_leave disk) (D.may_leave (disk_of (store_of core)))) }
 
@@ -301,6 +302,8 @@ impl<D: Disk> Core<D> {
         ensures stands { OnOk result (Stands D.seen D.may_leave (store_of self.old) → Stands D.seen D.may_leave (store_of self.new)) }
         ensures book { IfOk result (λ r. IfSome r (λ w. (t : List Entry) → TablesFit (state_of self.old) t
             → kept_book self.new ≡ effects (kept_book self.old) (event_acts full (kept_book self.old) t event.now))) }
+        ensures count { IfOk result (λ r. IfSome r (λ w. (t : List Entry) → TablesFit (state_of self.old) t
+            → count_of (store_of self.new) ≡ batches_behind (count_of (store_of self.old)) (event_acts full (kept_book self.old) t event.now))) }
         ensures used { IfOk result (λ r. IfSome r (λ w. (t : List Entry) → TablesFit (state_of self.old) t
             → used_of (store_of self.new) ≡ used_behind (used_of (store_of self.old)) (event_acts full (kept_book self.old) t event.now))) }
         ensures kept { IfOk result (λ r. IfSome r (λ w. kept_of (store_of self.old) ≡ reserve (kept_book self.old) → kept_of (store_of self.new) ≡ reserve (kept_book self.new))) }
@@ -458,6 +461,7 @@ impl<D: Crash> Core<D> {
         ensures rest { self.new ≡ record self.old { store = store_of self.new } }
         ensures stands { Stands D.Disk.seen D.Disk.may_leave (store_of self.old) → Stands D.Disk.seen D.Disk.may_leave (store_of self.new) }
         ensures book { kept_book self.new ≡ kept_book self.old }
+        ensures fits { (t : List Entry) → Fits self.old t → Fits self.new t }
         ensures set { D.lets_through (disk_of (store_of self.new)) ≡ D.fused calls }
         ensures failures { D.Disk.failures (disk_of (store_of self.new)) ≡ D.Disk.failures (disk_of (store_of self.old)) }
     {

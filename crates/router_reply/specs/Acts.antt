@@ -14,7 +14,7 @@ use Rattle.book_core.specs.declared.terminus.TerminusNumber.{TerminusNumber}
 use Rattle.book_core.specs.Book.{BookView, empty_book, effects, terminus_at, terminus_of, drop_refusal}
 use Rattle.gate_journal.specs.Reserve.{reserve}
 use Rattle.router_store.specs.Lost.{start_acts}
-use Rattle.router_store.specs.Store.{used_behind, exceeds}
+use Rattle.router_store.specs.Store.{used_behind, batches_behind, exceeds}
 use Rattle.router_trace.specs.declared.event.ConnectionId.{ConnectionId}
 use Rattle.router_trace.specs.declared.event.Event.{Event}
 use Rattle.router_trace.specs.declared.event.Event.TheVariants as event
@@ -97,10 +97,11 @@ event_acts full b t (event.Item c i) = live_acts full b t c.0 i (standing (found
 event_acts full b t event.Start = start_acts b
 event_acts full b t _ = []
 
--- What a journal keeps: its book, and how many bytes it has.
+-- What a journal keeps: its book, and how many bytes and batches it has.
 pub record Journaled : Type 0 where
   pub book : BookView
   pub used : ℕ
+  pub batches : ℕ
 
 -- An event finds the journal full exactly if the acts that it would have cost more than nothing, and more than the room; so does an item, by the
 -- answer of its row.
@@ -112,17 +113,17 @@ item_finds_full j t c p i = exceeds j.used (reserve j.book) (item_acts false j.b
 
 -- the journal after acts: they are done to the book and written as one batch
 abbrev pub with_acts : Journaled → List Act → Journaled
-with_acts j acts = record { book = effects j.book acts; used = used_behind j.used acts }
+with_acts j acts = record { book = effects j.book acts; used = used_behind j.used acts; batches = batches_behind j.batches acts }
 
 -- the journal in which a trace ends
 abbrev pub journaled : Trace → Journaled
-journaled [] = record { book = empty_book; used = 0 }
+journaled [] = record { book = empty_book; used = 0; batches = 0 }
 journaled (Did s ∷ t) = journaled t
 journaled (Out c i ∷ t) = journaled t
 journaled (Took c n ∷ t) = journaled t
 journaled (Bound b ∷ t) = journaled t
 journaled (Booked acts ∷ t) = with_acts (journaled t) acts
-journaled (Began g ∷ t) = record { book = g.book; used = g.used }
+journaled (Began g ∷ t) = record { book = g.book; used = g.used; batches = g.batches }
 
 abbrev pub book_in : Trace → BookView
 book_in t = (journaled t).book

@@ -5,7 +5,7 @@ use Rattle.book_core.specs.Book.{BookView, empty_book, first_fault, effects}
 use Rattle.gate_journal.specs.declared.journal.Journal.{Journal}
 use Rattle.gate_journal.specs.Batches.{Holds, HaveOutcomes, book_after}
 use Rattle.gate_journal.specs.Format.{acts_bytes}
-use Rattle.gate_journal.specs.Journal.{Keeps, used_bytes, kept_bytes}
+use Rattle.gate_journal.specs.Journal.{Keeps, batch_count, used_bytes, kept_bytes}
 use Rattle.gate_journal.specs.Reserve.{reserve, batch_bytes, is_full}
 use Rattle.router_store.specs.declared.store.Store.{Store}
 
@@ -19,7 +19,10 @@ disk_of s = s.journal.disk
 abbrev pub book_of : {D : Type 0} → Store D → BookView
 book_of s = s.kept.book
 
--- how long its journal is, with the gate that ends it, and what that keeps free
+-- how many batches its journal has, how long it is, with the gate that ends it, and what it keeps free
+abbrev pub count_of : {D : Type 0} → Store D → ℕ
+count_of s = batch_count (journal_of s)
+
 abbrev pub used_of : {D : Type 0} → Store D → ℕ
 used_of s = used_bytes (journal_of s)
 
@@ -30,6 +33,11 @@ kept_of s = kept_bytes (journal_of s)
 abbrev pub used_behind : ℕ → List Act → ℕ
 used_behind used [] = used
 used_behind used (act ∷ acts) = used + batch_bytes (act ∷ acts)
+
+-- how many batches a journal has after these acts
+abbrev pub batches_behind : ℕ → List Act → ℕ
+batches_behind count [] = count
+batches_behind count (act ∷ acts) = count + 1
 
 -- whether acts cost more than nothing, and more than the room, in a journal that is this long and keeps this much free
 abbrev pub exceeds : ℕ → ℕ → List Act → Bool

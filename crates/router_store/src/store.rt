@@ -9,7 +9,7 @@ ghost use Rattle.gate_journal.specs.Journal.{batch_count, used_bytes, kept_bytes
 ghost use Rattle.gate_journal.specs.Opening.{Explains};
 ghost use Rattle.gate_journal.specs.Reserve.{reserve, batch_bytes, is_full};
 ghost use Rattle.router_store.specs.Lost.{start_acts};
-ghost use Rattle.router_store.specs.Store.{OpensTo, Stands, Writable, IsAsLong, IsLonger, journal_of, disk_of, book_of, used_of, kept_of, used_behind, exceeds};
+ghost use Rattle.router_store.specs.Store.{OpensTo, Stands, Writable, IsAsLong, IsLonger, journal_of, disk_of, book_of, used_of, kept_of, used_behind, batches_behind, exceeds};
 
 use crate::kept::Kept;
 use book_core::{Act, Book};
@@ -31,6 +31,7 @@ impl<D: Disk> Store<D> {
     pub fn open(alloc: Global, disk: D) -> Result<Store<D>, OpenFault>
         ensures stands { IfOk result (Stands D.seen D.may_leave) }
         ensures book { IfOk result (λ store. OpensTo (D.seen disk) (book_of store)) }
+        ensures seen { IfOk result (λ store. D.seen (disk_of store) ≡ D.seen disk) }
         ensures works { IfOk result (λ store. has_failed (journal_of store) ≡ false) }
 
         // How long its journal is, and what that keeps free. (A file holds only one list of batches.)
@@ -106,6 +107,7 @@ impl<D: Disk> Store<D> {
         ensures book { OnOk result (book_of self.new ≡ effects (book_of self.old) acts.items) }
         ensures written { IfOk result (λ w. IfSome w (λ batch. (batch.0 ≡ batch_count (journal_of self.old) + 1) × (batch.1.items ≡ acts.items))) }
         ensures silent { IfOk result (λ w. IfNone w (acts.items ≡ [])) }
+        ensures count { OnOk result (batch_count (journal_of self.new) ≡ batches_behind (batch_count (journal_of self.old)) acts.items) }
 
         // Whatever is answered, a crash at any moment of the call leaves the book before these acts or the book after them.
         ensures any_moment { Stands D.seen D.may_leave self.old → LeavesOnly D.moment D.left_since (disk_of self.old) (disk_of self.new)
@@ -146,6 +148,7 @@ impl<D: Disk> Store<D> {
         ensures book { OnOk result (book_of self.new ≡ effects (book_of self.old) (start_acts (book_of self.old))) }
         ensures written { IfOk result (λ w. IfSome w (λ batch. (batch.0 ≡ batch_count (journal_of self.old) + 1) × (batch.1.items ≡ start_acts (book_of self.old)))) }
         ensures silent { IfOk result (λ w. IfNone w (start_acts (book_of self.old) ≡ [])) }
+        ensures count { OnOk result (batch_count (journal_of self.new) ≡ batches_behind (batch_count (journal_of self.old)) (start_acts (book_of self.old))) }
 
         // Whatever is answered, a crash at any moment of the call leaves the book before these acts or the book after them.
         ensures any_moment { Stands D.seen D.may_leave self.old → LeavesOnly D.moment D.left_since (disk_of self.old) (disk_of self.new)
@@ -212,7 +215,7 @@ impl<D: Crash> Store<D> {
     pub fn fuse(&mut self, calls: u64)
         ensures stands { Stands D.Disk.seen D.Disk.may_leave self.old → Stands D.Disk.seen D.Disk.may_leave self.new }
         ensures book { book_of self.new ≡ book_of self.old }
-        ensures same { (used_of self.new ≡ used_of self.old) × (kept_of self.new ≡ kept_of self.old) × (book_of self.new ≡ book_of self.old) }
+        ensures same { (batch_count (journal_of self.new) ≡ batch_count (journal_of self.old)) × (used_of self.new ≡ used_of self.old) × (kept_of self.new ≡ kept_of self.old) }
         ensures set { D.lets_through (disk_of self.new) ≡ D.fused calls }
         ensures failures { D.Disk.failures (disk_of self.new) ≡ D.Disk.failures (disk_of self.old) }
     {
