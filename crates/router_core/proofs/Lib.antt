@@ -11,6 +11,7 @@ pub mod Following
 pub mod Booking
 pub mod Books
 pub mod Moments
+pub mod Committing
 pub mod Remains
 pub mod Granting
 pub mod Due
