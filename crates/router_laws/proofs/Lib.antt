@@ -12,3 +12,4 @@ pub mod Quiet
 pub mod Transfers
 pub mod Arriving
 pub mod AllSound
+pub mod Keeping

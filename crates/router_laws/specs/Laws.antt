@@ -13,6 +13,7 @@ use Rattle.router_laws.specs.OneConsumer.{IsOfMessage}
 use Rattle.router_laws.specs.Carried.{CarriesWhatWasBound, CompletesMessage, GoesInOrder}
 use Rattle.router_laws.specs.Came.{BindsMessage}
 use Rattle.router_laws.specs.Told.{TellsAsGiven}
+use Rattle.router_laws.specs.Keeping.{IsKeptFirst}
 
 -- in every trace of the router
 abbrev pub InTraces : (Trace → Type 0) → Type 0
@@ -45,3 +46,7 @@ AllCame u = (n : ℕ) (d : Delivery) → delivery u n ≡ Some d → CameAndWasB
 -- each disposition to a producer reports the outcome that was given, for the first time, or releases a message that no consumer takes
 abbrev pub AllTell : Trace → Type 0
 AllTell u = EachOut TellsAsGiven u
+
+-- each durable link that is taken has its terminus in the book by then
+abbrev pub AllKeptFirst : Trace → Type 0
+AllKeptFirst u = EachOut IsKeptFirst u

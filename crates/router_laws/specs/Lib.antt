@@ -4,4 +4,5 @@ pub mod Decided
 pub mod Carried
 pub mod Came
 pub mod Told
+pub mod Keeping
 pub mod Laws

@@ -3,7 +3,7 @@
 ghost use Rattle.router_laws.specs.OneConsumer.{StaysWithConsumer, NeverComesBack, OfMessages};
 ghost use Rattle.router_laws.specs.Decided.{OutcomesAreGiven, OutcomesAreOfConsumers};
 ghost use Rattle.router_laws.specs.Told.{ToldAtMostOnce, ToldAnew};
-ghost use Rattle.router_laws.specs.Laws.{InTraces, InRuns, AllCarry, AllJoin, AllBindOnce, AllCame, AllTell};
+ghost use Rattle.router_laws.specs.Laws.{InTraces, InRuns, AllCarry, AllJoin, AllBindOnce, AllCame, AllTell, AllKeptFirst};
 
 /// In every trace of the router a message is bound when it is complete: the last frame of its delivery has just been received. What is bound
 /// is what its frames carried, and it is bound once; so each delivery is of such a message (AMQP 1.0 part 2, sections 2.6.14 and 2.7.5).
@@ -49,4 +49,12 @@ pub fn outcomes_are_told_once()
     ensures anew { ToldAnew }
     ensures traces { InTraces AllTell }
     ensures runs { InRuns AllTell }
+{}
+
+/// In every trace of the router a durable link is taken only once the book has its terminus, with the link's key and its address. `Core::handle` has the
+/// book on the disk before it puts anything out, so whoever is told that its link is durable has a terminus there (AMQP 1.0 part 3, sections 3.5.3
+/// to 3.5.5). Lists of events have such traces.
+pub fn durable_links_are_kept_first()
+    ensures traces { InTraces AllKeptFirst }
+    ensures runs { InRuns AllKeptFirst }
 {}
