@@ -61,6 +61,7 @@ fn added<D: Disk>(
     ensures full_same { IsErrOf result JournalFault.Full → disk.new ≡ disk.old }
     ensures room { OnOk result (IsFull (figures.place + 1) figures.reserve acts.now → ⊥) }
     ensures room_at_fault { IsErrOf result JournalFault.Disk → IsFull (figures.place + 1) figures.reserve acts.now → ⊥ }
+    ensures untouched { IsFull (figures.place + 1) figures.reserve acts.now → disk.new ≡ disk.old }
     ensures disk { IsErrOf result JournalFault.Disk → D.failures disk.old < D.failures disk.new }
     ensures not_failed { IsErrOf result JournalFault.Failed → ⊥ }
 {
@@ -114,6 +115,9 @@ impl<D: Disk> Journal<D> {
         ensures full { IsErrOf result JournalFault.Full → IsFull (used_bytes self.old) (kept_bytes self.old) acts.now }
         ensures room { OnOk result (IsFull (used_bytes self.old) (kept_bytes self.old) acts.now → ⊥) }
         ensures room_at_fault { IsErrOf result JournalFault.Disk → IsFull (used_bytes self.old) (kept_bytes self.old) acts.now → ⊥ }
+
+        // Where there is no room for the batch the disk is left alone, whatever is answered.
+        ensures untouched { IsFull (used_bytes self.old) (kept_bytes self.old) acts.now → disk_of self.new ≡ disk_of self.old }
         ensures unchanged { IsErrOf result JournalFault.Full → self.new ≡ self.old }
         ensures still_failed { IsErrOf result JournalFault.Failed → self.new ≡ self.old }
         ensures figures { OnErr result (self.new ≡ record self.old { disk = disk_of self.new; failed = has_failed self.new }) }

@@ -1,5 +1,5 @@
 -- The frames of an attach that is taken or refused may be written in their order, and so may those of incoming deliveries and dispositions.
-use Rattle.std.proofs.Common.{◌≡◌, ◌∙◌, sym, ap, refl, true≢false, ℕ, Bool, true, false, List, [], ◌∷◌}
+use Rattle.std.proofs.Common.{◌≡◌, ◌∙◌, sym, ap, refl, true≢false, ℕ, Bool, true, false, not, List, [], ◌∷◌}
 use Rattle.std.specs.Prelude.{Option, Some, None, if◌then◌else◌, nat_lt}
 use Rattle.amqp_perf.specs.declared.perf.Attach.{Attach as AnAttach}
 use Rattle.amqp_perf.specs.declared.state.DeliveryState.{DeliveryState}
@@ -12,6 +12,7 @@ use Rattle.router_trace.specs.declared.condition.Condition.TheVariants.{FrameSiz
 use Rattle.router_trace.specs.declared.handle.Attachment.{Attachment}
 use Rattle.router_trace.specs.Trace.{Entry, goes, each_to, ups}
 use Rattle.router_trace.specs.Connection.{has}
+use Rattle.router_trace.specs.Durable.{is_durable}
 use Rattle.router_trace.specs.LinkFrames.{attach_item, detach_item, answer_to, refusal_of, fits}
 use Rattle.router_trace.specs.Links.{Link, link, if_attached, last_of_key, free_handle, key_at}
 use Rattle.router_trace.specs.Order.{unwritten, of_session, has_turn}
@@ -42,15 +43,17 @@ all_fit : (t : List Entry) (c : ℕ) → has c (ups t) ≡ true → (i : Item) �
 all_fit t c known i turn quiet = (record { known = known; turn = turn; quiet = quiet }, tt)
 
 sized_fit : (t : List Entry) (c own : ℕ) → has c (ups t) ≡ true → of_session (wrote t c) own ≡ true
-    → (b : Bool) (handle : ℕ) (e : Condition) (a : AnAttach) → AllFit t (each_to c (if b then attach_item own a ∷ [] else detach_item own handle true (Some e) ∷ []))
-sized_fit t c own known begun true handle e a = all_fit t c known (attach_item own a) begun tt
-sized_fit t c own known begun false handle e a = all_fit t c known (detach_item own handle true (Some e)) begun tt
+    → (b : Bool) (handle : ℕ) (closed : Bool) (e : Condition) (a : AnAttach)
+    → AllFit t (each_to c (if b then attach_item own a ∷ [] else detach_item own handle closed (Some e) ∷ []))
+sized_fit t c own known begun true handle closed e a = all_fit t c known (attach_item own a) begun tt
+sized_fit t c own known begun false handle closed e a = all_fit t c known (detach_item own handle closed (Some e)) begun tt
 
 answer_fit : (t : List Entry) (c own : ℕ) → has c (ups t) ≡ true → of_session (wrote t c) own ≡ true
     → (largest : ℕ) (handle : Option ℕ) (a : AnAttach) → AllFit t (each_to c (attach_answer largest own handle a))
 answer_fit t c own known begun largest None a = tt
 answer_fit t c own known begun largest (Some handle) a =
-    sized_fit t c own known begun (fits largest (attach_item own (answer_to a handle))) handle FrameSizeTooSmall (answer_to a handle)
+    let answer : AnAttach = answer_to a handle
+    in sized_fit t c own known begun (fits largest (attach_item own answer)) handle (not (is_durable answer.role answer)) FrameSizeTooSmall answer
 
 pub taken_fit : (t : List Entry) (c own : ℕ) (a : AnAttach) → Ordered t → of_session (wrote t c) own ≡ true → AllFit t (taken t c own a)
 taken_fit t c own a ord begun =

@@ -28,6 +28,7 @@ use Rattle.router_trace.specs.Deliveries.{Delivery, delivery}
 use Rattle.router_trace.specs.Settling.{ignored}
 use Rattle.router_trace.specs.Numbers.{Placed, first_placed}
 use Rattle.router_trace.specs.Following.{link_of, first_delivery, is_to_be_told, outcome_to, tell, tells_of, tells, is_wide, sends_due, drain_of, drain_on, drain_by, place_drained, drains_due}
+use Rattle.router_trace.specs.Durable.{is_durable}
 use Rattle.router_trace.specs.LinkFrames.{attach_item, detach_item, answer_to, refusal_of, fits}
 use Rattle.router_trace.specs.Links.{Link, Happened, sends, receives, link, holder, key_at, numbered, attachments}
 use Rattle.router_trace.specs.Peers.{largest_frame}
@@ -124,13 +125,15 @@ none_stolen : (x : Option Attachment) → NonePut (stolen_by x)
 none_stolen None = tt
 none_stolen (Some x) = (refl, tt)
 
-none_sized : (b : Bool) (own handle : ℕ) (e : Condition) (a : AnAttach) → NoTransfer (if b then attach_item own a ∷ [] else detach_item own handle true (Some e) ∷ [])
-none_sized true own handle e a = (refl, tt)
-none_sized false own handle e a = (refl, tt)
+none_sized : (b : Bool) (own handle : ℕ) (closed : Bool) (e : Condition) (a : AnAttach) → NoTransfer (if b then attach_item own a ∷ [] else detach_item own handle closed (Some e) ∷ [])
+none_sized true own handle closed e a = (refl, tt)
+none_sized false own handle closed e a = (refl, tt)
 
 none_attach : (largest own : ℕ) (handle : Option ℕ) (a : AnAttach) → NoTransfer (attach_answer largest own handle a)
 none_attach largest own None a = tt
-none_attach largest own (Some handle) a = none_sized _ own handle FrameSizeTooSmall (answer_to a handle)
+none_attach largest own (Some handle) a =
+    let answer : AnAttach = answer_to a handle
+    in none_sized (fits largest (attach_item own answer)) own handle (not (is_durable answer.role answer)) FrameSizeTooSmall answer
 
 none_refused : (largest own handle : ℕ) (e : Condition) (a : AnAttach) → NoTransfer (refused largest own handle e a)
 none_refused largest own handle e a = by (fits largest (attach_item own (refusal_of a handle)))

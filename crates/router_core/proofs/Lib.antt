@@ -10,6 +10,8 @@ pub mod ItemRows
 pub mod Following
 pub mod Booking
 pub mod Books
+pub mod Moments
+pub mod Driven
 pub mod Granting
 pub mod Due
 pub mod Ordered

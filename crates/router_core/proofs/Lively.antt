@@ -1,5 +1,5 @@
 -- In every trace of the router links are attached only on live connections.
-use Rattle.std.proofs.Common.{◌≡◌, ◌∙◌, sym, ap, refl, subst, true≢false, ℕ, Bool, true, false, List, [], ◌∷◌}
+use Rattle.std.proofs.Common.{◌≡◌, ◌∙◌, sym, ap, refl, subst, true≢false, ℕ, Bool, true, false, not, List, [], ◌∷◌}
 use Rattle.std.specs.Prelude.{◌==◌, nat_eq, Option, Some, None, is_some, option_map, option_and_then, if◌then◌else◌}
 use Rattle.std.proofs.lemmas.Bool.{eqb-true, eq-eqb}
 use Rattle.amqp_perf.specs.declared.perf.Attach.{Attach as AnAttach}
@@ -20,6 +20,7 @@ use Rattle.router_trace.specs.Trace.{Entry, Out, Took, Put, did, goes, puts, eac
 use Rattle.router_trace.specs.Connection.{Connection, conn, behind, with_item, took, drained, unless_empty, is_live, has, due, found, standing}
 use Rattle.router_trace.specs.Refusing.{refuses}
 use Rattle.router_trace.specs.Frames.{close_item, open_item}
+use Rattle.router_trace.specs.Durable.{is_durable}
 use Rattle.router_trace.specs.LinkFrames.{attach_item, detach_item, answer_to, refusal_of, fits}
 use Rattle.router_trace.specs.Links.{Link, link, link_behind, key_at, their_handle, holder, free_handle}
 use Rattle.router_trace.specs.Peers.{largest_frame}
@@ -93,15 +94,16 @@ less_steady (p ∷ ps) t less = (λ h. absurd (true≢false (sym h ∙ less.0)),
 
 -- the frames of an attach
 
-sized_steady : (u : List Entry) (c own : ℕ) → is_live (conn u c) ≡ true → (b : Bool) (handle : ℕ) (e : Condition) (a : AnAttach)
-    → Steady (each_to c (if b then attach_item own a ∷ [] else detach_item own handle true (Some e) ∷ [])) u
-sized_steady u c own live true handle e a = (λ h. live, tt)
-sized_steady u c own live false handle e a = (λ h. live, tt)
+sized_steady : (u : List Entry) (c own : ℕ) → is_live (conn u c) ≡ true → (b : Bool) (handle : ℕ) (closed : Bool) (e : Condition) (a : AnAttach)
+    → Steady (each_to c (if b then attach_item own a ∷ [] else detach_item own handle closed (Some e) ∷ [])) u
+sized_steady u c own live true handle closed e a = (λ h. live, tt)
+sized_steady u c own live false handle closed e a = (λ h. live, tt)
 
 answer_steady : (u : List Entry) (c own largest : ℕ) (handle : Option ℕ) (a : AnAttach) → is_live (conn u c) ≡ true → Steady (each_to c (attach_answer largest own handle a)) u
 answer_steady u c own largest None a live = tt
 answer_steady u c own largest (Some handle) a live =
-    sized_steady u c own live (fits largest (attach_item own (answer_to a handle))) handle FrameSizeTooSmall (answer_to a handle)
+    let answer : AnAttach = answer_to a handle
+    in sized_steady u c own live (fits largest (attach_item own answer)) handle (not (is_durable answer.role answer)) FrameSizeTooSmall answer
 
 still_live : (u : List Entry) (d c : ℕ) (i : Item) → ((p : Conn) → (behind i p).closed ≡ p.closed) → is_live (conn u c) ≡ true → is_live (conn (Out d i ∷ u) c) ≡ true
 still_live u d c i same live = by_test (d == c) (λ e. rw e (live_more i (conn u c) same live)) (λ e. rw e live)

@@ -1,5 +1,5 @@
 -- The router as a whole against a trace.
-use Rattle.std.specs.Prelude.{◌≡◌, ◌⊎◌, ℕ, Bool, List, Option, Some, None}
+use Rattle.std.specs.Prelude.{◌≡◌, ◌⊎◌, ℕ, Bool, true, List, Option, Some, None}
 use Rattle.book_core.specs.Book.{BookView}
 use Rattle.router_store.specs.declared.store.Store.{Store}
 use Rattle.gate_journal.specs.Reserve.{reserve}
@@ -12,7 +12,7 @@ use Rattle.router_trace.specs.Trace.{Trace}
 use Rattle.router_trace.specs.Connection.{Connection, Batched}
 use Rattle.router_state.specs.declared.tables.State.{State}
 use Rattle.router_state.specs.Tables.{TablesFit}
-use Rattle.router_reply.specs.Acts.{journaled, book_in, book_behind}
+use Rattle.router_reply.specs.Acts.{journaled, finds_full, book_in, book_behind}
 use Rattle.router_core.specs.Turns.{is_started}
 
 -- a router's journal agrees with the trace: its book, how many batches it has, how long it is, and what it keeps free
@@ -27,6 +27,11 @@ pub record Fits {D : Type 0} (core : Core D) (t : Trace) : Type 0 where
   pub tables : TablesFit core.state t
   pub started : core.started ≡ is_started t
   pub journal : Journals core t
+
+-- it does, and finds the journal full
+pub record FitsFull {D : Type 0} (core : Core D) (t : Trace) (e : Event) : Type 0 where
+  pub fits : Fits core t
+  pub full : finds_full (journaled t) t e ≡ true
 
 -- it failed with a fault of the disk or of memory, and answers nothing else
 abbrev pub is_failed : {D : Type 0} → Core D → Bool

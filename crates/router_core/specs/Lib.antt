@@ -4,6 +4,7 @@ pub mod Turns
 pub mod Handling
 pub mod Replies
 pub mod Runs
+pub mod Leaving
 pub mod Door
 pub mod Logins
 pub mod Moves

@@ -2,7 +2,10 @@
 ghost use Rattle.std.specs.Prelude.{◌≡◌, ◌≢◌, ◌≤◌, ◌⊎◌, ◌+◌, ◌∷◌, ◌++◌, ℕ, List, map, length, true, false, None, vec_len, vec_capacity, OnOk, OnErr, IfErr, IfSome};
 ghost use Rattle.router_trace.specs.Trace.{Entry};
 ghost use Rattle.router_trace.specs.Connection.{conn as known, is_ready};
-ghost use Rattle.router_core.specs.Handling.{Fits, id_of, is_failed};
+ghost use Rattle.disk_core.specs.Disk.{LeavesOnly};
+ghost use Rattle.router_store.specs.Store.{Stands, disk_of};
+ghost use Rattle.router_core.specs.Handling.{Fits, BeforeOrBehind, id_of, is_failed, store_of};
+ghost use Rattle.router_core.specs.Leaving.{LeftBy};
 ghost use Rattle.router_core.specs.Runs.{Emptied, Steps, Run, MayStep, Taking, InTurn, Broken, Stopped, Waits, as_sent, sent, taking, items_of, took_one};
 ghost use Rattle.router_core.specs.declared.driving.Sent.{Sent as ASent};
 
@@ -66,6 +69,7 @@ fn take_one<D: Disk>(
     ensures failed { IfErr result (λ f. f ≡ CoreFault.Failed → is_failed core.old ≡ true) }
     ensures memory { IfErr result (λ f. f ≡ CoreFault.Memory → (core.new ≡ core.old) ⊎ (is_failed core.new ≡ true)) }
     ensures no_disk { IfErr result (λ f. f ≡ CoreFault.Disk → ⊥) }
+    ensures store { store_of core.new ≡ store_of core.old }
 {
     if taken.try_reserve(MOST).is_err() {
         return Err(CoreFault::Memory);
@@ -87,6 +91,7 @@ fn empty<D: Disk>(core: &mut Core<D>, event: usize, taken: &mut Vec<Sent>) -> Re
     ensures failed { IfErr result (λ f. f ≡ CoreFault.Failed → is_failed core.old ≡ true) }
     ensures memory { IfErr result (λ f. f ≡ CoreFault.Memory → ((t : List Entry) → Fits core.new t → Waits t) ⊎ (is_failed core.new ≡ true)) }
     ensures no_disk { IfErr result (λ f. f ≡ CoreFault.Disk → ⊥) }
+    ensures store { store_of core.new ≡ store_of core.old }
 {
     for _turn in 0..u64::MAX {
         match core.ready() {
@@ -117,6 +122,10 @@ fn step<D: Disk>(
     ensures failed { IfErr result (λ f. f ≡ CoreFault.Failed → is_failed core.old ≡ true) }
     ensures memory { IfErr result (λ f. f ≡ CoreFault.Memory → ((t : List Entry) → Fits core.new t → Waits t) ⊎ (is_failed core.new ≡ true)) }
     ensures disk { IfErr result (λ f. f ≡ CoreFault.Disk → is_failed core.new ≡ true) }
+
+    ensures stands { OnOk result (Stands D.seen D.may_leave (store_of core.old) → Stands D.seen D.may_leave (store_of core.new)) }
+    ensures any_moment { (t : List Entry) → Fits core.old t → Stands D.seen D.may_leave (store_of core.old)
+        → LeavesOnly D.moment D.left_since (disk_of (store_of core.old)) (disk_of (store_of core.new)) (BeforeOrBehind t event) }
 {
     hear(core, event)?;
     empty(core, place, taken)
@@ -133,6 +142,10 @@ fn hear<D: Disk>(core: &mut Core<D>, event: Event) -> Result<(), CoreFault>
     ensures failed { IfErr result (λ f. f ≡ CoreFault.Failed → is_failed core.old ≡ true) }
     ensures memory { IfErr result (λ f. f ≡ CoreFault.Memory → is_failed core.new ≡ true) }
     ensures disk { IfErr result (λ f. f ≡ CoreFault.Disk → is_failed core.new ≡ true) }
+
+    ensures stands { OnOk result (Stands D.seen D.may_leave (store_of core.old) → Stands D.seen D.may_leave (store_of core.new)) }
+    ensures any_moment { (t : List Entry) → Fits core.old t → Stands D.seen D.may_leave (store_of core.old)
+        → LeavesOnly D.moment D.left_since (disk_of (store_of core.old)) (disk_of (store_of core.new)) (BeforeOrBehind t event) }
 {
     match core.handle(event) {
         Ok(done) => {
@@ -160,6 +173,12 @@ pub fn drive<D: Disk>(alloc: Global, core: &mut Core<D>, events: Vec<Event>) -> 
     ensures failed { IfSome result.fault (λ f. f ≡ CoreFault.Failed → is_failed core.old ≡ true) }
     ensures memory { IfSome result.fault (λ f. f ≡ CoreFault.Memory → ((t : List Entry) → Fits core.new t → Waits t) ⊎ (is_failed core.new ≡ true)) }
     ensures disk { IfSome result.fault (λ f. f ≡ CoreFault.Disk → is_failed core.new ≡ true) }
+
+    // Whatever happens, a crash at any moment of the call leaves the book behind some first events, or that book after the acts of the
+    // event that comes next. Without a fault it leaves, at the end, the book behind all of them.
+    ensures any_moment { (t : List Entry) → Fits core.old t → Stands D.seen D.may_leave (store_of core.old)
+        → LeavesOnly D.moment D.left_since (disk_of (store_of core.old)) (disk_of (store_of core.new)) (LeftBy (id_of core.old) t events.items) }
+    ensures stands { result.fault ≡ None → Stands D.seen D.may_leave (store_of core.old) → Stands D.seen D.may_leave (store_of core.new) }
 {
     let mut taken = Vec::new(alloc);
     let mut handled = 0;

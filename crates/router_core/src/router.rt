@@ -16,7 +16,7 @@ ghost use Rattle.router_reply.specs.Acts.{event_acts, event_answer, acts_of, boo
 ghost use Rattle.router_core.specs.Turns.{declines};
 ghost use Rattle.router_core.specs.Replies.{Replies, answered};
 ghost use Rattle.router_state.specs.Tables.{TablesFit};
-ghost use Rattle.router_core.specs.Handling.{Fits, Journals, is_failed, id_of, store_of, kept_book, state_of, counts_of, IsBatchOf, BeforeOrBehind, IsToldBehind};
+ghost use Rattle.router_core.specs.Handling.{Fits, FitsFull, Journals, is_failed, id_of, store_of, kept_book, state_of, counts_of, IsBatchOf, BeforeOrBehind, IsToldBehind};
 ghost use Rattle.router_core.specs.Counting.{uncounted, with_event, with_batch};
 ghost use Rattle.router_core.specs.declared.fault.CoreFault.TheVariants.{Disk as DiskFailed, Memory, Failed, NoConnection};
 
@@ -285,9 +285,27 @@ impl<D: Disk> Core<D> {
         ensures not_failed { IfErr result (λ f. f ≢ Failed) }
         ensures cause { IfErr result (λ f. f ≡ DiskFailed → D.failures (disk_of (store_of self.old)) < D.failures (disk_of (store_of self.new))) }
     {
-        if let Some(written) = self.commit(event, false)? {
-            return Ok(written);
+        match self.commit(event, false)? {
+            Some(written) => Ok(written),
+            None => self.write_full(event),
         }
+    }
+
+    /// The same for an event that finds the journal full.
+    fn write_full(&mut self, event: &Event) -> Result<(Answer, Written), CoreFault>
+        ensures rest { self.new ≡ record self.old { store = store_of self.new } }
+        ensures answer { IfOk result (λ w. (t : List Entry) → FitsFull self.old t event.now → w.0 ≡ answer_to_event (booked t event.now) event.now) }
+        ensures stands { OnOk result (Stands D.seen D.may_leave (store_of self.old) → Stands D.seen D.may_leave (store_of self.new)) }
+        ensures journaled { OnOk result ((t : List Entry) → FitsFull self.old t event.now → Journals self.new (booked t event.now)) }
+        ensures written { IfOk result (λ w. (t : List Entry) → FitsFull self.old t event.now → IfSome w.1 (λ batch.
+            (batch.0 ≡ batch_count (journal_of (store_of self.old)) + 1) × (batch.1.items ≡ acts_of t event.now))) }
+        ensures silent { IfOk result (λ w. (t : List Entry) → FitsFull self.old t event.now → IfNone w.1 (acts_of t event.now ≡ [])) }
+        ensures any_moment { (t : List Entry) → FitsFull self.old t event.now → Stands D.seen D.may_leave (store_of self.old)
+            → LeavesOnly D.moment D.left_since (disk_of (store_of self.old)) (disk_of (store_of self.new)) (BeforeOrBehind t event.now) }
+        ensures not_refused { IfErr result (λ f. f ≢ NoConnection) }
+        ensures not_failed { IfErr result (λ f. f ≢ Failed) }
+        ensures cause { IfErr result (λ f. f ≡ DiskFailed → D.failures (disk_of (store_of self.old)) < D.failures (disk_of (store_of self.new))) }
+    {
         match self.commit(event, true)? {
             Some(written) => Ok(written),
             None => Err(CoreFault::Memory),
@@ -315,6 +333,9 @@ impl<D: Disk> Core<D> {
         ensures full { IfOk result (λ r. IfNone r ((t : List Entry) → TablesFit (state_of self.old) t
             → exceeds (used_of (store_of self.old)) (kept_of (store_of self.old)) (event_acts full (kept_book self.old) t event.now) ≡ true)) }
         ensures unchanged { IfOk result (λ r. IfNone r (self.new ≡ self.old)) }
+        ensures untouched { (t : List Entry) → TablesFit (state_of self.old) t
+            → exceeds (used_of (store_of self.old)) (kept_of (store_of self.old)) (event_acts full (kept_book self.old) t event.now) ≡ true
+            → disk_of (store_of self.new) ≡ disk_of (store_of self.old) }
         ensures any_moment { (t : List Entry) → TablesFit (state_of self.old) t → Stands D.seen D.may_leave (store_of self.old)
             → LeavesOnly D.moment D.left_since (disk_of (store_of self.old)) (disk_of (store_of self.new))
             (λ file. OpensTo file (kept_book self.old) ⊎ OpensTo file (effects (kept_book self.old) (event_acts full (kept_book self.old) t event.now))) }

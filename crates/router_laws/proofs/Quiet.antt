@@ -1,6 +1,6 @@
 -- The items that are neither transfers nor dispositions to producers: closes, heartbeats, the flows of windows, and what follows an event's rows except
 -- outcomes and deliveries.
-use Rattle.std.proofs.Common.{ap, refl, ℕ, zero, suc, ◌+◌, Bool, true, false, List, [], ◌∷◌}
+use Rattle.std.proofs.Common.{ap, refl, ℕ, zero, suc, ◌+◌, Bool, true, false, not, List, [], ◌∷◌}
 use Rattle.std.specs.Prelude.{Option, Some, None, if◌then◌else◌, nat_lt}
 use Rattle.amqp_perf.specs.declared.perf.Attach.{Attach as AnAttach}
 use Rattle.amqp_perf.specs.declared.state.DeliveryState.{DeliveryState}
@@ -14,6 +14,7 @@ use Rattle.router_trace.specs.Connection.{Connection, live}
 use Rattle.router_trace.specs.Frames.{closing, told_of}
 use Rattle.router_trace.specs.Numbers.{Placed, first_placed}
 use Rattle.router_trace.specs.Settling.{ignored}
+use Rattle.router_trace.specs.Durable.{is_durable}
 use Rattle.router_trace.specs.LinkFrames.{attach_item, detach_item, answer_to, refusal_of, fits}
 use Rattle.router_trace.specs.Links.{Link, Happened, sends, receives, holder, key_at, numbered, attachments}
 use Rattle.router_trace.specs.Peers.{largest_frame}
@@ -60,13 +61,15 @@ stolen_quiet : (x : Option Attachment) → QuietPut (stolen_by x)
 stolen_quiet None = tt
 stolen_quiet (Some x) = (refl, tt)
 
-sized_quiet : (b : Bool) (own handle : ℕ) (e : Condition) (a : AnAttach) → Quiet (if b then attach_item own a ∷ [] else detach_item own handle true (Some e) ∷ [])
-sized_quiet true own handle e a = (refl, tt)
-sized_quiet false own handle e a = (refl, tt)
+sized_quiet : (b : Bool) (own handle : ℕ) (closed : Bool) (e : Condition) (a : AnAttach) → Quiet (if b then attach_item own a ∷ [] else detach_item own handle closed (Some e) ∷ [])
+sized_quiet true own handle closed e a = (refl, tt)
+sized_quiet false own handle closed e a = (refl, tt)
 
 attach_quiet : (largest own : ℕ) (handle : Option ℕ) (a : AnAttach) → Quiet (attach_answer largest own handle a)
 attach_quiet largest own None a = tt
-attach_quiet largest own (Some handle) a = sized_quiet (fits largest (attach_item own (answer_to a handle))) own handle FrameSizeTooSmall (answer_to a handle)
+attach_quiet largest own (Some handle) a =
+    let answer : AnAttach = answer_to a handle
+    in sized_quiet (fits largest (attach_item own answer)) own handle (not (is_durable answer.role answer)) FrameSizeTooSmall answer
 
 pub taken_quiet : (t : List Entry) (c own : ℕ) (a : AnAttach) → QuietPut (taken t c own a)
 taken_quiet t c own a =

@@ -61,7 +61,7 @@ fn one(alloc: Global, act: Act) -> Result<Vec<Act>, AllocError>
 
 /// A copy of a text; the empty one if there is none.
 fn copied(alloc: Global, text: Option<&Text>) -> Result<Text, AllocError>
-    ensures { IfOk result (λ copy. copy ≡ unwrap_or (option_map (λ a. a.now) text) []) }
+    ensures { IfOk result (λ copy. copy ≡ unwrap_or (option_map (λ a. a.now) text.entry) []) }
 {
     match text {
         None => Ok(Text::new(String::new(alloc))),
@@ -76,7 +76,7 @@ fn make_acts(
     key: LinkKey,
     address: Option<&Text>,
 ) -> Result<Vec<Act>, AllocError>
-    ensures { IfOk result (λ acts. acts.items ≡ act.Make (new_terminus book.now key (unwrap_or (option_map (λ a. a.now) address) [])) ∷ []) }
+    ensures { IfOk result (λ acts. acts.items ≡ act.Make (new_terminus book.now key (unwrap_or (option_map (λ a. a.now) address.entry) [])) ∷ []) }
 {
     let Ok(address) = copied(alloc, address) else {
         drop(key);
@@ -179,7 +179,7 @@ fn lets_go(book: &Book, number: TerminusNumber) -> bool
 
 /// The acts of a detach that closes the durable link with this key for good.
 fn closed_acts(alloc: Global, book: &Book, key: Option<&LinkKey>) -> Result<Vec<Act>, AllocError>
-    ensures acts { IfOk result (λ acts. acts.items ≡ closed_acts book.now (option_map (λ k. k.now) key)) }
+    ensures acts { IfOk result (λ acts. acts.items ≡ closed_acts book.now (option_map (λ k. k.now) key.entry)) }
     ensures writable { IfOk result (λ acts. Writable book.now acts.items) }
 {
     let Some(key) = key else {

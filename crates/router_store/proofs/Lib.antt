@@ -4,3 +4,4 @@ pub mod Opened
 pub mod Started
 pub mod Ones
 pub mod Writing
+pub mod Moments

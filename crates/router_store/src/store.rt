@@ -79,6 +79,7 @@ impl<D: Disk> Store<D> {
         ensures full { IsErrOf result JournalFault.Full → is_full (used_of self.old) (kept_of self.old) acts.now ≡ true }
         ensures room { OnOk result (is_full (used_of self.old) (kept_of self.old) acts.now ≡ false) }
         ensures unchanged { IsErrOf result JournalFault.Full → self.new ≡ self.old }
+        ensures untouched { is_full (used_of self.old) (kept_of self.old) acts.now ≡ true → disk_of self.new ≡ disk_of self.old }
         ensures still_failed { IsErrOf result JournalFault.Failed → self.new ≡ self.old }
         ensures unwritten { OnErr result (book_of self.new ≡ book_of self.old) }
 
@@ -119,6 +120,7 @@ impl<D: Disk> Store<D> {
         ensures full { IsErrOf result JournalFault.Full → exceeds (used_of self.old) (kept_of self.old) acts.items ≡ true }
         ensures room { OnOk result (exceeds (used_of self.old) (kept_of self.old) acts.items ≡ false) }
         ensures unchanged { IsErrOf result JournalFault.Full → self.new ≡ self.old }
+        ensures untouched { exceeds (used_of self.old) (kept_of self.old) acts.items ≡ true → disk_of self.new ≡ disk_of self.old }
         ensures still_failed { IsErrOf result JournalFault.Failed → self.new ≡ self.old }
         ensures unwritten { OnErr result (book_of self.new ≡ book_of self.old) }
         ensures length_at_fault { IfErr result (λ fault. (fault ≡ JournalFault.Memory → ⊥) → IsAsLong self.old self.new) }

@@ -4,6 +4,7 @@ use Rattle.router_trace.specs.declared.event.Event.{Event}
 use Rattle.router_core.specs.Handling.{id_of}
 use Rattle.router_core.specs.Runs.{Broken}
 use Rattle.router_core.proofs.RunLemmas.{all_run, past_more}
+use Rattle.router_core.proofs.Driven.{first_moment, next_moment}
 use Rattle.router_core.proofs.driving.drive.Goals as goal
 
 pub returns-clause-ran : goal.returns-clause-ran
@@ -27,6 +28,12 @@ loop-event-preserved g c = record {
       in (w.0 ++ c.in-Some.event ∷ [], s.1, p.0, p.1, p.2, s.3);
   works = search rules;
   named = search rules;
+  stands = λ s. c.in-Ok.ensures.stands (c.loop-event.invariant.stands s);
+  moments = λ t f s.
+      let w = c.loop-event.invariant.past t f in
+      next_moment g.D.Disk.seen g.D.Disk.may_leave g.D.Disk.moment g.D.Disk.left_since _ _ _ (id_of c.args.core.now) t c.args.events.items w.0 c.loop-event.taken.items w.1 c.in-Some.event
+      (into_iter_items c.next.new.self) (w.2 ∙ ap (λ (fs : List Event). w.0 ++ fs) c.in-Some.ensures.steps.0) w.4 (c.loop-event.invariant.moments t f s)
+      (c.step.ensures.any_moment w.1 w.5 (c.loop-event.invariant.stands s));
   count = let h = c.in-Some.ensures.steps in grind (arith, h, rules);
 }
 
@@ -47,3 +54,10 @@ returns-in-Err-clause-stopped g c = λ t f.
       broken = subst (λ (i : List ℕ). Broken i c.loop-event.handled w.1 c.in-Some.event left.0) c.loop-event.invariant.named left.1;
       items = left.2;
     }
+
+pub returns-in-Err-clause-any_moment : goal.returns-in-Err-clause-any_moment
+returns-in-Err-clause-any_moment g c = λ t f s.
+    let w = c.loop-event.invariant.past t f in
+    next_moment g.D.Disk.seen g.D.Disk.may_leave g.D.Disk.moment g.D.Disk.left_since _ _ _ (id_of c.args.core.now) t c.args.events.items w.0 c.loop-event.taken.items w.1 c.in-Some.event
+    (into_iter_items c.next.new.self) (w.2 ∙ ap (λ (fs : List Event). w.0 ++ fs) c.in-Some.ensures.steps.0) w.4 (c.loop-event.invariant.moments t f s)
+    (c.step.ensures.any_moment w.1 w.5 (c.loop-event.invariant.stands s))

@@ -2,7 +2,10 @@ use Rattle.std.proofs.Common.{◌≡◌, ◌+◌, ◌++◌, List, length, true}
 use Rattle.std.specs.Vec.Iter.{into_iter_items}
 use Rattle.router_trace.specs.Trace.{Entry}
 use Rattle.router_trace.specs.declared.event.Event.{Event}
-use Rattle.router_core.specs.Handling.{Fits, id_of, is_failed}
+use Rattle.disk_core.specs.Disk.{LeavesOnly}
+use Rattle.router_store.specs.Store.{Stands, disk_of}
+use Rattle.router_core.specs.Handling.{Fits, id_of, is_failed, store_of}
+use Rattle.router_core.specs.Leaving.{LeftBy}
 use Rattle.router_core.specs.Runs.{Run}
 use Rattle.router_core.proofs.driving.drive.Given as goal
 
@@ -13,5 +16,8 @@ invariant-loop-event g l = record {
       × (l.handled ≡ length first) × Run (id_of l.fn.core) 0 t first l.taken.items m × Fits l.core m;
   works : is_failed l.core ≡ true → is_failed l.fn.core ≡ true;
   named : id_of l.core ≡ id_of l.fn.core;
+  stands : Stands g.D.Disk.seen g.D.Disk.may_leave (store_of l.fn.core) → Stands g.D.Disk.seen g.D.Disk.may_leave (store_of l.core);
+  moments : (t : List Entry) → Fits l.fn.core t → Stands g.D.Disk.seen g.D.Disk.may_leave (store_of l.fn.core)
+      → LeavesOnly g.D.Disk.moment g.D.Disk.left_since (disk_of (store_of l.fn.core)) (disk_of (store_of l.core)) (LeftBy (id_of l.fn.core) t l.fn.events.items);
   count : l.handled + length (into_iter_items l.event-iterator) ≡ length l.fn.events.items;
 }

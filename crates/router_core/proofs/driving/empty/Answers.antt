@@ -14,6 +14,7 @@ loop-turn-preserved g c = record {
       (c.in_ok-take_one-in-Some.ensures.fits _ w.2) w.3 (c.in_ok-take_one-in-Some.ensures.items _ w.2);
   works = search rules;
   named = c.in_ok-take_one-in-Some.ensures.named ∙ c.loop-turn.invariant.named;
+  store = c.take_one.ensures.store ∙ c.loop-turn.invariant.store;
 }
 
 pub returns-in_err-take_one-in-Some-clause-memory : goal.returns-in_err-take_one-in-Some-clause-memory

@@ -1,7 +1,7 @@
 use Rattle.std.proofs.Common.{◌++◌, [], ◌∷◌, inr, sym, ap, ◌∙◌}
 use Rattle.gate_journal.specs.Reserve.{reserve}
 use Rattle.disk_core.specs.DiskLaws.{widened}
-use Rattle.gate_journal.proofs.Fulls.{not_full_tested}
+use Rattle.gate_journal.proofs.Fulls.{test_full, not_full_tested}
 use Rattle.router_store.proofs.Makes.{kept_behind}
 use Rattle.router_store.proofs.Opened.{leaves_more, before_or_after}
 use Rattle.router_store.proofs.store.Store.write.Goals as goal
@@ -38,3 +38,12 @@ returns-in-Ok-clause-room g c = not_full_tested _ _ _ c.in_ok-number.ensures.roo
 pub returns-in-Err-clause-length_at_memory : goal.returns-in-Err-clause-length_at_memory
 returns-in-Err-clause-length_at_memory g c is =
     inr (c.in_ok-number.ensures.length, kept_behind _ _ _ _ _ c.args.self.now.kept.made c.book.ensures c.in_ok-number.ensures.kept)
+
+pub returns-in_err-number-clause-untouched : goal.returns-in_err-number-clause-untouched
+returns-in_err-number-clause-untouched g c full = c.append.ensures.untouched (test_full _ _ _ full)
+
+pub returns-in-Ok-clause-untouched : goal.returns-in-Ok-clause-untouched
+returns-in-Ok-clause-untouched g c full = c.append.ensures.untouched (test_full _ _ _ full)
+
+pub returns-in-Err-clause-untouched : goal.returns-in-Err-clause-untouched
+returns-in-Err-clause-untouched g c full = c.append.ensures.untouched (test_full _ _ _ full)
