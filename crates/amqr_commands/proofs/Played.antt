@@ -1,5 +1,5 @@
 -- How a play ends, by its report.
-use Rattle.std.proofs.Common.{◌≡◌, refl, sym, ◌∙◌, subst, Bool, true, false, List, [], ◌∷◌, inl, inr}
+use Rattle.std.proofs.Common.{◌≡◌, refl, sym, subst, Bool, true, false, List, [], ◌∷◌, inl, inr}
 use Rattle.std.specs.Prelude.{Option, Some, None, Result, Ok, Err, IfOk, OnOk, ℕ, if◌then◌else◌}
 use Rattle.amqr_files.specs.declared.status.Status.{Status}
 use Rattle.amqr_files.specs.declared.status.Status.TheVariants.{Failed}
