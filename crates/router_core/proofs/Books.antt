@@ -12,6 +12,8 @@ use Rattle.router_trace.specs.declared.event.Event.{Event}
 use Rattle.router_trace.specs.declared.event.Event.TheVariants as event
 use Rattle.router_trace.specs.Trace.{Entry, Out, Bound, Put, did, goes, each_to, puts, step_of}
 use Rattle.router_trace.specs.Connection.{conn, due, standing, found}
+use Rattle.router_trace.specs.Links.{free_handle, first_free_below}
+use Rattle.router_trace.specs.Sessions.{free_channel}
 use Rattle.router_trace.specs.Refusing.{refuses}
 use Rattle.router_trace.specs.declared.condition.Condition.TheVariants.{ResourceLimitExceeded}
 use Rattle.router_reply.specs.Acts.{Journaled, live_acts, live_answer, event_acts, event_answer, finds_full, journaled, book_in, acts_of, book_behind, booked, answer_with, answer_of, answer_by, answer_to_event}
@@ -118,6 +120,7 @@ acts_are core t e b f is =
 
 -- the answer to its item, by what it finds: it is the same behind its acts
 answer_behind : (t : List Entry) (e : Event) (c : ℕ) (p : Conn) (i : Item) → answer_with (journaled t) t c p i ≡ answer_of (booked t e) c p i
+unfolding free_handle first_free_below free_channel
 answer_behind t e c p i = sym (booked_same (λ (u : List Entry). answer_with (journaled t) u c p i) t e (λ acts. refl))
 
 answer_found : (t : List Entry) (e : Event) → event_answer (finds_full (journaled t) t e) (book_in t) t e ≡ answer_to_event (booked t e) e

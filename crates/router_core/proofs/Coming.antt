@@ -1,5 +1,5 @@
 -- The items received on a connection depend on the events only, not on what is put out.
-use Rattle.std.proofs.Common.{◌≡◌, ◌∙◌, refl, ℕ, List, [], ◌∷◌}
+use Rattle.std.proofs.Common.{◌≡◌, ◌∙◌, ap, refl, ℕ, List, [], ◌∷◌}
 use Rattle.std.specs.Prelude.{Option, Some, None}
 use Rattle.router_trace.specs.declared.binding.Binding.{Binding}
 use Rattle.router_trace.specs.declared.event.Event.{Event}

@@ -11,7 +11,8 @@ pub mod Following
 pub mod Booking
 pub mod Books
 pub mod Moments
-pub mod Driven
+pub mod Committing
+pub mod Remains
 pub mod Granting
 pub mod Due
 pub mod Ordered

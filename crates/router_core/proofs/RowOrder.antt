@@ -391,10 +391,10 @@ unless_fits p b asked own free None fits = fits
 unless_fits p b asked own None (Some x) fits = fits
 unless_fits p b asked own (Some handle) (Some x) fits = fits
 
-attach_or_fits : (p : Conn) (b : ℕ → Bool) (asked : Option BeginState) (free : ℕ → Option ℕ) (refusal : Option Condition) (a : Answer) → AnswerFits p b asked a
+booked_fits : (p : Conn) (b : ℕ → Bool) (asked : Option BeginState) (free : ℕ → Option ℕ) (refusal : Option Condition) (a : Answer) → AnswerFits p b asked a
     → AnswerFits p b asked (booked_attach free refusal a)
-attach_or_fits p b asked free refusal (Attach own) fits = unless_fits p b asked own (free own) refusal fits
-attach_or_fits p b asked free refusal _ fits = fits
+booked_fits p b asked free refusal (Attach own) fits = unless_fits p b asked own (free own) refusal fits
+booked_fits p b asked free refusal _ fits = fits
 
 pub answer_fits : (t : List Entry) (c : ℕ) (p : Conn) (b : ℕ → Bool) (asked : Option BeginState) (i : Item) → p.closed ≡ false → FindsFit (finds t c) b
     → AnswerFits p b (offered_by i asked) (answer_of t c p i)
@@ -406,5 +406,5 @@ answer_fits t c p b asked i live found = by (attach_in i)
     by : (v : Option AnAttach) → AnswerFits p b (offered_by i asked) (booked (free_handle t c) (book_refusal full (found_journal t).book t c) v (item_reply p (finds t c) i))
     by None = reply_fits p b asked (finds t c) i live found
     by (Some a) =
-        attach_or_fits p b (offered_by i asked) (free_handle t c) (book_refusal full (found_journal t).book t c a) (item_reply p (finds t c) i)
+        booked_fits p b (offered_by i asked) (free_handle t c) (book_refusal full (found_journal t).book t c a) (item_reply p (finds t c) i)
         (reply_fits p b asked (finds t c) i live found)

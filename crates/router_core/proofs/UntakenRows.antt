@@ -71,7 +71,7 @@ same_live_acts full b t c i (Some p) =
 same_refusal : (full : Bool) (b : BookView) (t : List Entry) (c : ℕ) (a : AnAttach) → book_refusal full b t c a ≡ book_refusal full b (untaken t) c a
 same_refusal full b t c a = λ j.
     if wants_durable a then
-      durable_refusal (terminus_of (same_key_at t c (plain_answer a 0) j) b.termini) a (has_room full b (new_terminus b (same_key_at t c (plain_answer a 0) j) (wanted_address a)))
+    durable_refusal (terminus_of (same_key_at t c (plain_answer a 0) j) b.termini) a (has_room full b (new_terminus b (same_key_at t c (plain_answer a 0) j) (wanted_address a)))
     else volatile_refusal (same_holds_durable t c (plain_answer a 0) j)
 
 same_answer_at : (full : Bool) (b : BookView) (t : List Entry) (c : ℕ) (p : Conn) (i : Item) → answer_at full b t c p i ≡ answer_at full b (untaken t) c p i

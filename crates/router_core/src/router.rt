@@ -492,7 +492,12 @@ impl<D: Crash> Core<D> {
 
 /// What an event that is not refused does: it ends connections because their outboxes are full, its item is answered, and what
 /// follows is put.
-fn reply_to(state: &mut State, id: &RouterId, event: Event, answer: Answer) -> Result<(), AllocError>
+fn reply_to(
+    state: &mut State,
+    id: &RouterId,
+    event: Event,
+    answer: Answer,
+) -> Result<(), AllocError>
     ensures { OnOk result ((t : List Entry) → TablesFit state.old t → refuses t event ≡ false → answer ≡ answer_to_event t event
         → TablesFit state.new (answered id.now t (step_of event))) }
 {

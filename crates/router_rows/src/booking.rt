@@ -93,12 +93,7 @@ fn has_address(terminus: &Terminus, address: Option<&Text>) -> bool
 }
 
 /// Why a durable link is refused, by the terminus that its key has in the book, if it is.
-pub fn durable_refusal(
-    book: &Book,
-    full: bool,
-    key: &LinkKey,
-    attach: &Attach,
-) -> Option<Condition>
+pub fn durable_refusal(book: &Book, full: bool, key: &LinkKey, attach: &Attach) -> Option<Condition>
     ensures { result ≡ durable_refusal (terminus_of key.now book.now.termini) attach.now (has_room full book.now (new_terminus book.now key.now (wanted_address attach.now))) }
 {
     let address = wanted_address(attach);

@@ -49,11 +49,7 @@ fn address_refusal(address: &Option<Address>, name: &Text) -> Option<Condition>
 }
 
 /// Why a terminus at the router's side is refused, if it is.
-fn terminus_refusal(
-    dynamic: bool,
-    address: &Option<Address>,
-    name: &Text,
-) -> Option<Condition>
+fn terminus_refusal(dynamic: bool, address: &Option<Address>, name: &Text) -> Option<Condition>
     ensures { result ≡ terminus_refusal dynamic address.now name.now }
 {
     if dynamic {

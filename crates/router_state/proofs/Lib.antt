@@ -1,1 +1,1 @@
-mod Bound
+pub mod Bound
