@@ -6,7 +6,7 @@ use Rattle.amqp_conn.specs.declared.conn.Conn.{Conn}
 use Rattle.book_core.specs.declared.act.Act.{Act}
 use Rattle.book_core.specs.Book.{BookView, effects}
 use Rattle.gate_journal.specs.Reserve.{reserve}
-use Rattle.router_store.specs.Store.{OpensTo, count_of, used_of, kept_of, used_behind, batches_behind, exceeds}
+use Rattle.router_store.specs.Store.{OpensTo, book_of, count_of, used_of, kept_of, used_behind, batches_behind, exceeds}
 use Rattle.router_trace.specs.declared.binding.Binding.{Binding}
 use Rattle.router_trace.specs.declared.event.Event.{Event}
 use Rattle.router_trace.specs.declared.event.Event.TheVariants as event
@@ -61,6 +61,15 @@ journals_handled core id t e j = record {
   batches = j.batches ∙ ap (λ (x : Journaled). x.batches) (journal_handled id t e);
   used = j.used ∙ ap (λ (x : Journaled). x.used) (journal_handled id t e);
   kept = j.kept ∙ ap (λ (x : Journaled). reserve x.book) (journal_handled id t e);
+}
+
+-- so does a router with the same store
+pub journals_stored : {D : Type 0} (old new : Core D) (t : List Entry) → new.store ≡ old.store → Journals old t → Journals new t
+journals_stored old new t same j = record {
+  book = ap (λ s. book_of s) same ∙ j.book;
+  batches = ap (λ s. count_of s) same ∙ j.batches;
+  used = ap (λ s. used_of s) same ∙ j.used;
+  kept = ap (λ s. kept_of s) same ∙ j.kept;
 }
 
 -- tests of two things

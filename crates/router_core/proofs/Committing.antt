@@ -1,5 +1,5 @@
 -- The acts of an event, as they are planned and written.
-use Rattle.std.proofs.Common.{◌≡◌, ◌∙◌, ap, refl, subst, ℕ, List, Bool, true, false}
+use Rattle.std.proofs.Common.{◌≡◌, ◌∙◌, ap, refl, subst, List, Bool, false}
 use Rattle.std.specs.Prelude.{Option, Some, None, IfSome, IfNone}
 use Rattle.book_core.specs.declared.act.Act.{Act}
 use Rattle.book_core.specs.Book.{BookView}
@@ -12,7 +12,7 @@ use Rattle.router_state.specs.Tables.{TablesFit}
 use Rattle.router_reply.specs.Acts.{journaled, finds_full, event_acts, planned_acts, event_answer, booked, answer_to_event}
 use Rattle.router_core.specs.declared.router.Core.{Core}
 use Rattle.router_core.specs.Handling.{Fits, kept_book, state_of, store_of}
-use Rattle.router_core.proofs.Books.{full_is, answer_is}
+use Rattle.router_core.proofs.Books.{answer_is}
 
 -- of an event that is no start, the acts are those of its item
 planned_is : (full : Bool) (b : BookView) (t : List Entry) (e : Event) → (e ≡ event.Start → ⊥) → planned_acts full b t e ≡ event_acts full b t e

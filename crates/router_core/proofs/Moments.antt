@@ -1,5 +1,5 @@
 -- What a crash leaves while the acts of an event are written.
-use Rattle.std.proofs.Common.{◌≡◌, sym, refl, subst, ℕ, List, Bool, true, false, ◌⊎◌, inl}
+use Rattle.std.proofs.Common.{◌≡◌, refl, subst, ℕ, List, Bool, true, false, ◌⊎◌, inl}
 use Rattle.disk_core.specs.Disk.{LeavesOnly}
 use Rattle.disk_core.specs.DiskLaws.{widened}
 use Rattle.book_core.specs.Book.{BookView, effects}

@@ -4,7 +4,7 @@ use Rattle.router_trace.specs.declared.event.Event.{Event}
 use Rattle.router_core.specs.Handling.{id_of}
 use Rattle.router_core.specs.Runs.{Broken}
 use Rattle.router_core.proofs.RunLemmas.{all_run, past_more}
-use Rattle.router_core.proofs.Remains.{first_moment, next_moment}
+use Rattle.router_core.proofs.Remains.{next_moment}
 use Rattle.router_core.proofs.driving.drive.Goals as goal
 
 pub returns-clause-ran : goal.returns-clause-ran

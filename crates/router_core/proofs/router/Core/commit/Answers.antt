@@ -1,4 +1,4 @@
-use Rattle.std.proofs.Common.{◌≡◌, ◌∙◌, ◌+◌, ◌×◌, ap, refl, sym, subst, rules, List, [], true, false, ℕ}
+use Rattle.std.proofs.Common.{◌≡◌, ◌∙◌, ap, refl, sym, subst, rules, List, true}
 use Rattle.std.specs.Prelude.{◌⊎◌}
 use Rattle.disk_core.specs.Disk.{LeavesOnly}
 use Rattle.book_core.specs.declared.act.Act.{Act}

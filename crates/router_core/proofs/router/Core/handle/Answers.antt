@@ -3,13 +3,12 @@ use Rattle.router_state.specs.declared.tables.State.{State}
 use Rattle.router_state.specs.Tables.{TablesFit}
 use Rattle.router_state.proofs.Bound.{booked_fits}
 use Rattle.router_reply.specs.Acts.{booked}
-use Rattle.router_store.specs.declared.store.Store.{Store}
 use Rattle.router_trace.specs.Trace.{Entry, step_of}
 use Rattle.router_core.specs.Turns.{declines}
 use Rattle.router_core.specs.Handling.{Journals, id_of, state_of}
 use Rattle.router_core.specs.Replies.{handled}
 use Rattle.router_core.proofs.Booking.{booked_keeps, taken_booked}
-use Rattle.router_core.proofs.Books.{fits_handled, not_refused}
+use Rattle.router_core.proofs.Books.{journals_stored, fits_handled, not_refused}
 use Rattle.router_core.proofs.router.Core.handle.Goals as goal
 
 pub returns-clause-fits : goal.returns-clause-fits
@@ -24,7 +23,7 @@ returns-clause-fits g c = λ t f.
     = subst (λ (i : List ℕ). TablesFit (state_of c.answer.new.self) (handled i t (step_of e))) (ap id_of c.write.ensures.rest)
     (c.in-Ok-answer.ensures.tables (booked t e) before (taken_booked t e (not_refused t e taken)) (c.in-Ok.ensures.answer t f)) in
     let journal : Journals c.answer.new.self (booked t e)
-    = subst (λ (s : Store _). Journals (record c.answer.new.self { store = s }) (booked t e)) (sym c.answer.ensures.store) (c.in-Ok.ensures.journaled t f) in (
+    = journals_stored c.write.new.self c.answer.new.self (booked t e) c.answer.ensures.store (c.in-Ok.ensures.journaled t f) in (
       handled id t (step_of e),
       record { answers = refl },
       fits_handled c.answer.new.self id t e taken after c.in-Ok-answer.ensures.started journal,
