@@ -10,7 +10,7 @@ use Rattle.router_reply.specs.Acts.{journaled}
 use Rattle.router_trace.specs.Trace.{Trace}
 use Rattle.router_core.specs.declared.router.Core.{Core}
 use Rattle.router_core.specs.Handling.{Fits, is_failed, store_of, kept_book}
-use Rattle.router_play.specs.declared.ending.Size.{Size}
+use Rattle.router_play.specs.declared.finish.Size.{Size}
 use Rattle.router_play.specs.Script.{book_line}
 use Rattle.router_play.specs.declared.line.Line.{Line}
 use Rattle.router_play.specs.declared.line.Line.TheVariants as line

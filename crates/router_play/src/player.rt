@@ -1,5 +1,5 @@
 //! Plays a script.
-ghost use Rattle.std.specs.Prelude.{◌≡◌, ◌==◌, ◌∷◌, ◌++◌, ℕ, List, [], None, Some, map, option_map, true, false, if◌then◌else◌, OnOk, IfOk};
+ghost use Rattle.std.specs.Prelude.{◌≡◌, ◌==◌, ◌∷◌, ◌++◌, ℕ, List, [], length, None, Some, map, option_map, true, false, if◌then◌else◌, OnOk, IfOk};
 ghost use Rattle.router_play.specs.Script.{new_router};
 ghost use Rattle.route_table.specs.Settings.{Settings};
 ghost use Rattle.router_trace.specs.Configuration.{beginning};
@@ -18,7 +18,7 @@ ghost use Rattle.router_play.specs.declared.line.Line.{Line as ALine};
 ghost use Rattle.router_play.specs.Playing.{Begun, Follows, Said, Tells, IsRead, part_by};
 ghost use Rattle.router_play.specs.Ending.{TellsOf, fault_behind, size_line};
 
-use crate::ending::{Ended, Size, graver};
+use crate::finish::{Ended, Size, graver};
 use crate::line::Line;
 use crate::listening::door_for;
 use crate::script::{Report, Run, Step};
