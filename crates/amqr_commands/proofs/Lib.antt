@@ -2,3 +2,4 @@ pub mod Cuts
 pub mod Numbers
 pub mod Reading
 mod Configs
+mod Played

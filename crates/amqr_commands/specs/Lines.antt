@@ -4,7 +4,7 @@ use Rattle.std.specs.List.{list_all}
 use Rattle.std.specs.Str.{bytes_eq}
 use Rattle.amqr_commands.specs.Words.{Text, cut_at, number_of, bytes_of}
 use Rattle.router_play.specs.declared.script.Step.{Step}
-use Rattle.router_play.specs.declared.script.Step.TheVariants.{Up, In, Down, Tick}
+use Rattle.router_play.specs.declared.script.Step.TheVariants.{Up, In, Down, Tick, Fuse}
 use Rattle.router_trace.specs.declared.event.PeerRole.TheVariants.{Normal, RouteContainer}
 use Rattle.amqr_commands.specs.declared.script.line.LineFault.{LineFault}
 use Rattle.amqr_commands.specs.declared.script.line.LineFault.TheVariants.{Wrong, Memory}
@@ -27,13 +27,14 @@ abbrev pub said : Option Step → Saying
 said (Some x) = step x
 said None = wrong
 
--- from two words, a verb and a number: `up N`, `down N`, `tick MS`
+-- from two words, a verb and a number: `up N`, `down N`, `tick MS`, `fuse K`
 abbrev pub with_number : Text → Option ℕ → Option Step
 with_number verb None = None
 with_number verb (Some n) =
     if bytes_eq verb (codes "up") then Some (Up (record { 0 = n }) Normal)
     else if bytes_eq verb (codes "down") then Some (Down (record { 0 = n }))
     else if bytes_eq verb (codes "tick") then Some (Tick n)
+    else if bytes_eq verb (codes "fuse") then Some (Fuse n)
     else None
 
 -- from three words: `in N HEX`

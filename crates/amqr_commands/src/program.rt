@@ -1,11 +1,8 @@
 //! The program, over any files, reader and writers.
-ghost use Rattle.std.specs.Prelude.{◌≡◌, ◌<◌, false, Some, length, IfOk, IfErr, OnOk, IfSome};
-ghost use Rattle.std.specs.Io.KnownBytes.{Appends};
-ghost use Rattle.amqr_files.specs.Print.{printed};
+ghost use Rattle.std.specs.Prelude.{◌≡◌, ◌<◌, false, length, IfOk, IfErr, OnOk, IfSome};
 ghost use Rattle.route_table.specs.Settings.{standard};
-ghost use Rattle.router_play.specs.Printing.{line_text};
 ghost use Rattle.amqr_commands.specs.Config.{IsConfig, IsRefusedInput};
-ghost use Rattle.amqr_commands.specs.Running.{Plays, PlaysInput, PlaysSteps, end_of};
+ghost use Rattle.amqr_commands.specs.Running.{Plays, PlaysInput, PlaysSteps, Writes, sets_fuse, end_of};
 
 use crate::config::config_of;
 use crate::script::{ScriptFault, read_script};
@@ -17,7 +14,7 @@ use clap::Error;
 use clap::error::ErrorKind;
 use disk_core::{DiskFault, FileDisk};
 use route_table::Config;
-use router_play::{Report, Run, Step, play_runs};
+use router_play::{CoreFault, Report, Run, Step, play_runs};
 use std::alloc::Global;
 use std::convert::AsStr;
 use std::fs::{self, File};
@@ -260,22 +257,32 @@ fn play_steps<O: Write>(
 ) -> io::Result<Status>
     ensures { IfOk result (λ status. PlaysSteps config steps.items status (O.contents output.old) (O.contents output.new)) }
 {
+    let fused = sets_fuse(&steps);
     let runs = [Run { steps }];
     let report = play_runs(alloc, config, runs.as_slice());
-    print_report(&report, output)
+    print_report(&report, fused, output)
 }
 
-/// Writes the lines of a report, and a line that memory was refused if it was.
-fn print_report<O: Write>(report: &Report, output: &mut O) -> io::Result<Status>
-    ensures status { IfOk result (λ status. status ≡ end_of report.now) }
-    ensures lines { report.now.out_of_memory ≡ false → OnOk result (IfSome (printed (λ line. Some (line_text line)) report.now.lines.items) (Appends (O.contents output.old) (O.contents output.new))) }
+/// Whether steps set a fuse.
+fn sets_fuse(steps: &[Step]) -> bool
+    ensures { result ≡ sets_fuse steps.now }
+{
+    steps.iter().any(|step| matches!(step, Step::Fuse { .. }))
+}
+
+/// Writes the lines of a report, and a line that memory was refused if it was. Where the steps set a fuse, it is the fuse that made the
+/// router's disk fail: that is what was asked for, and no failure of the program.
+fn print_report<O: Write>(report: &Report, fused: bool, output: &mut O) -> io::Result<Status>
+    ensures status { IfOk result (λ status. status ≡ end_of fused report.now) }
+    ensures lines { report.now.out_of_memory ≡ false → OnOk result (Writes report.now.lines.items (O.contents output.old) (O.contents output.new)) }
 {
     print_lines(output, report.lines.as_slice())?;
     if report.out_of_memory {
         return refuse(output, Refusal::Memory);
     }
-    if report.failed {
-        return Ok(Status::Failed);
+    match report.failed {
+        None => Ok(Status::Done),
+        Some(CoreFault::Disk) => Ok(if fused { Status::Done } else { Status::Failed }),
+        Some(_) => Ok(Status::Failed),
     }
-    Ok(Status::Done)
 }

@@ -132,7 +132,7 @@ fn play<'a>(alloc: Global) -> Result<Command<'a>, AllocError> {
         .required(true)
         .action(ArgAction::Set)
         .help(
-            "A file of lines: up N, up N route-container, in N HEX, down N, tick MS, blank lines and # comments",
+            "A file of lines: up N, up N route-container, in N HEX, down N, tick MS, fuse K, blank lines and # comments",
         );
     Command::new(alloc, "play")
         .about("Plays a script against a router in memory, and prints what the router sends")

@@ -209,6 +209,7 @@ takes_doored (step.Up c role) s u is was = subst (λ (v : Scene). Doored v) (sym
 takes_doored (step.In c bytes) s u is was = bytes_doored c bytes s (s.sockets c.0) u refl is was
 takes_doored (step.Down c) s u is was = subst (λ (v : Scene). Doored v) (sym is) (lose_doored c s was)
 takes_doored (step.Tick ms) s u is was = subst (λ (v : Scene). Doored v) (sym is) (handed (event.Tick ms) s (λ n. refl) was)
+takes_doored (step.Fuse calls) s u is was = subst (λ (v : Scene). Doored v) (sym is) was
 
 took_alike : (t : List Entry) (d n c : ℕ) → Alike t (Took d n ∷ t) c
 took_alike t d n c = record {

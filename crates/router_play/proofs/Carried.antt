@@ -11,7 +11,8 @@ use Rattle.router_play.specs.declared.script.Step.{Step}
 use Rattle.router_play.specs.declared.script.Step.TheVariants as step
 use Rattle.router_trace.specs.Refusing.{rises}
 use Rattle.router_play.specs.Listening.{door_for}
-use Rattle.router_play.specs.Script.{Scene, opening, say, refused, hand, made, lose, Takes, Flushes, Plays, PlaysAll}
+use Rattle.router_reply.specs.Acts.{journaled}
+use Rattle.router_play.specs.Script.{Scene, opening, book_line, say, refused, hand, made, lose, Takes, Flushes, Plays, PlaysAll}
 use Rattle.router_play.specs.Carrying.{behind_up, role_in, door_in, bytes_of, bytes_in, door_says, passed, Carries, RunsCarry}
 use Rattle.router_conns.proofs.Lists.{by_test}
 use Rattle.router_play.specs.Script.{new_router}
@@ -46,6 +47,8 @@ play_lost start (step.Down d ∷ xs) s u c stream f h plays =
 play_lost start (step.Tick ms ∷ xs) s u c stream f h plays =
     play_lost start xs plays.1 u c stream plays.3.empty
     (lost_flushed start plays.0 plays.1 c stream plays.3 (subst (λ (w : Scene). Lost start w c stream) (sym plays.2) (lost_quiet start s (hand (event.Tick ms) s) c stream (tick_quiet ms s c) h))) plays.4
+play_lost start (step.Fuse calls ∷ xs) s u c stream f h plays =
+    play_lost start xs plays.1 u c stream plays.3.empty (lost_flushed start plays.0 plays.1 c stream plays.3 (subst (λ (w : Scene). Lost start w c stream) (sym plays.2) h)) plays.4
 
 carries_as : (start : DoorState) (a b : List ℕ) (u : Scene) (c : ℕ) → a ≡ b → Carries start a u.trace u.lines c → Carries start b u.trace u.lines c
 carries_as start a b u c e h = subst (λ (bs : List ℕ). Carries start bs u.trace u.lines c) e h
@@ -88,6 +91,8 @@ play_opened start (step.Down d ∷ xs) s u c stream f h plays =
 play_opened start (step.Tick ms ∷ xs) s u c stream f h plays =
     play_opened start xs plays.1 u c stream plays.3.empty
     (opened_flushed start plays.0 plays.1 c stream plays.3 (subst (λ (w : Scene). Opened start w c stream) (sym plays.2) (opened_quiet start s (hand (event.Tick ms) s) c stream (tick_quiet ms s c) h))) plays.4
+play_opened start (step.Fuse calls ∷ xs) s u c stream f h plays =
+    play_opened start xs plays.1 u c stream plays.3.empty (opened_flushed start plays.0 plays.1 c stream plays.3 (subst (λ (w : Scene). Opened start w c stream) (sym plays.2) h)) plays.4
 
 -- before it is made a connection has no stream
 
@@ -138,6 +143,9 @@ play_unmade (step.Tick ms ∷ xs) s u c f h plays =
     let q : Quiet s plays.0 c = subst (λ (w : Scene). Quiet s w c) (sym plays.2) (tick_quiet ms s c)
     in from_as s.config plays.1.config s.last plays.1.last xs u c (same_config (step.Tick ms) s plays.0 plays.1 plays.2 plays.3) (behind_flush plays.0 plays.1 plays.3 ∙ q.last)
     (play_unmade xs plays.1 u c plays.3.empty (unmade_flushed plays.0 plays.1 c plays.3 (unmade_quiet s plays.0 c q h)) plays.4)
+play_unmade (step.Fuse calls ∷ xs) s u c f h plays =
+    from_as s.config plays.1.config s.last plays.1.last xs u c (same_config (step.Fuse calls) s plays.0 plays.1 plays.2 plays.3) (behind_flush plays.0 plays.1 plays.3 ∙ ap (λ (w : Scene). w.last) plays.2)
+    (play_unmade xs plays.1 u c plays.3.empty (unmade_flushed plays.0 plays.1 c plays.3 (subst (λ (w : Scene). Unmade w c) (sym plays.2) h)) plays.4)
 
 pub play_carries : (config : Settings) (steps : List Step) (u : Scene) (c : ℕ) → Plays steps (opening config) u → Carries (door_in config c steps) (bytes_in c steps) u.trace u.lines c
 play_carries config steps u c plays = play_unmade steps (opening config) u c (λ n. refl) (record {
@@ -148,7 +156,7 @@ play_carries config steps u c plays = play_unmade steps (opening config) u c (λ
   kept = refl;
 }) plays
 
-pub runs_carry : (config : Settings) (runs : List (List Step)) (lines : List Line) → PlaysAll config runs lines → RunsCarry config runs lines
-runs_carry config [] lines h = h
-runs_carry config (steps ∷ runs) lines h =
-    (h.0.trace, h.0.lines, h.1, play_is_trace config steps h.0 h.2, λ c. play_carries config steps h.0 c h.2, runs_carry config runs h.1 h.3, h.4)
+pub runs_carry : (config : Settings) (runs : List (List Step)) (last : Line) (lines : List Line) → PlaysAll config runs last lines → RunsCarry config runs last lines
+runs_carry config [] last lines h = h
+runs_carry config (steps ∷ runs) last lines h =
+    (h.0.trace, h.0.lines, h.1, play_is_trace config steps h.0 h.2, λ c. play_carries config steps h.0 c h.2, runs_carry config runs (book_line (journaled h.0.trace)) h.1 h.3, h.4)

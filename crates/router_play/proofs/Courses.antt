@@ -112,6 +112,7 @@ moved_by (step.Up c role) p = if rises c.0 p.last then made_by c role p else p
 moved_by (step.In c bytes) p = bytes_come c bytes p
 moved_by (step.Down c) p = lost_by c p (p.spots c.0)
 moved_by (step.Tick ms) p = tell (event.Tick ms) p
+moved_by (step.Fuse calls) p = p
 
 abbrev pub course : List Step → Course → Course
 course [] p = p

@@ -74,3 +74,16 @@ fault_follows p q r Memory e s later refused_as failed memory disk config newest
     let wrong : true ≡ false = sym (memory refl) ∙ ap is_failed (sym said.core) ∙ works in absurd cc
 fault_follows p q r Disk e s later refused_as failed memory disk config newest sockets lines said works f =
     let wrong : true ≡ false = sym (disk refl) ∙ ap is_failed (sym said.core) ∙ works in absurd cc
+
+-- the player after a fuse: its router agrees with the same traces
+pub fused_follows : (p q : Player) (s : Scene) → ((t : Trace) → Fits p.core t → Fits q.core t) → id_of q.core ≡ id_of p.core
+    → q.config ≡ p.config → q.newest ≡ p.newest → q.sockets ≡ p.sockets → q.lines ≡ p.lines → Follows p s → Follows q s
+fused_follows p q s fits named config newest sockets lines f = record {
+  core = fits s.trace f.core;
+  started = f.started;
+  named = named ∙ f.named;
+  config = subst (λ k. k.now ≡ s.config) (sym config) f.config;
+  last = newest ∙ f.last;
+  sockets = λ c. ap (λ k. get nat_cmp k c) sockets ∙ f.sockets c;
+  lines = ap (λ l. l.items) lines ∙ f.lines;
+}

@@ -92,6 +92,7 @@ moved_waits (step.Down c) p waits = by_spot (p.spots c.0)
     by_spot None = waits
     by_spot (Some k) = by_door k.door
 moved_waits (step.Tick ms) p waits = tell_waits (event.Tick ms) p waits
+moved_waits (step.Fuse calls) p waits = waits
 
 -- Joined steps have the same effect.
 
@@ -108,6 +109,7 @@ front_course c bytes (step.In d others ∷ xs) p =
 front_course c bytes (step.Up d role ∷ xs) p = refl
 front_course c bytes (step.Down d ∷ xs) p = refl
 front_course c bytes (step.Tick ms ∷ xs) p = refl
+front_course c bytes (step.Fuse calls ∷ xs) p = refl
 
 with_course : (c : ConnectionId) (bytes : List ℕ) (xs : List Step) (p : Course) → Waits p → course (with_bytes c bytes xs) p ≡ course xs (bytes_come c bytes p)
 with_course c [] xs p waits = ap (course xs) (sym (no_piece c p (λ r is. subst (λ (o : Option (List ℕ)). Less o) is (waits c.0))))
@@ -120,3 +122,4 @@ joined_course (step.In c bytes ∷ xs) p waits =
 joined_course (step.Up c role ∷ xs) p waits = joined_course xs (moved_by (step.Up c role) p) (moved_waits (step.Up c role) p waits)
 joined_course (step.Down c ∷ xs) p waits = joined_course xs (moved_by (step.Down c) p) (moved_waits (step.Down c) p waits)
 joined_course (step.Tick ms ∷ xs) p waits = joined_course xs (moved_by (step.Tick ms) p) (moved_waits (step.Tick ms) p waits)
+joined_course (step.Fuse calls ∷ xs) p waits = joined_course xs p waits

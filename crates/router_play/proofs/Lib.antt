@@ -1,7 +1,7 @@
 mod Asks
 mod Bytes
 mod Scenes
-mod Empty
+mod NewJournal
 mod Beginning
 mod PlayMoves
 mod Alike
@@ -24,3 +24,4 @@ mod Shadows
 mod Shadowing
 mod Pieces
 mod Handing
+mod Telling

@@ -36,6 +36,7 @@ front_bytes n c bytes (step.In d others ∷ xs) =
 front_bytes n c bytes (step.Up d role ∷ xs) = refl
 front_bytes n c bytes (step.Down d ∷ xs) = refl
 front_bytes n c bytes (step.Tick ms ∷ xs) = refl
+front_bytes n c bytes (step.Fuse calls ∷ xs) = refl
 
 with_bytes_of : (n : ℕ) (c : ConnectionId) (bytes : List ℕ) (xs : List Step) → bytes_of n (with_bytes c bytes xs) ≡ bytes_of n (step.In c bytes ∷ xs)
 with_bytes_of n c [] xs = by_test (c.0 == n) (λ e. rw e refl) (λ e. rw e refl)
@@ -48,6 +49,7 @@ joined_bytes n (step.In c bytes ∷ xs) =
 joined_bytes n (step.Up c role ∷ xs) = joined_bytes n xs
 joined_bytes n (step.Down c ∷ xs) = ap (λ (bs : List ℕ). if c.0 == n then [] else bs) (joined_bytes n xs)
 joined_bytes n (step.Tick ms ∷ xs) = joined_bytes n xs
+joined_bytes n (step.Fuse calls ∷ xs) = joined_bytes n xs
 
 -- bytes make no connection
 
@@ -57,6 +59,7 @@ front_behind n last c bytes (step.In d others ∷ xs) = by_test (c.0 == d.0) (λ
 front_behind n last c bytes (step.Up d role ∷ xs) = refl
 front_behind n last c bytes (step.Down d ∷ xs) = refl
 front_behind n last c bytes (step.Tick ms ∷ xs) = refl
+front_behind n last c bytes (step.Fuse calls ∷ xs) = refl
 
 with_behind : (n : ℕ) (last : Option ℕ) (c : ConnectionId) (bytes : List ℕ) (xs : List Step) → behind_up n last (with_bytes c bytes xs) ≡ behind_up n last xs
 with_behind n last c [] xs = refl
@@ -71,6 +74,7 @@ joined_behind n last (step.Up c role ∷ xs) =
     (λ r. rw r (joined_behind n last xs))
 joined_behind n last (step.Down c ∷ xs) = joined_behind n last xs
 joined_behind n last (step.Tick ms ∷ xs) = joined_behind n last xs
+joined_behind n last (step.Fuse calls ∷ xs) = joined_behind n last xs
 
 front_role : (n : ℕ) (last : Option ℕ) (c : ConnectionId) (bytes : List ℕ) (xs : List Step) → role_in n last (in_front c bytes xs) ≡ role_in n last xs
 front_role n last c bytes [] = refl
@@ -78,6 +82,7 @@ front_role n last c bytes (step.In d others ∷ xs) = by_test (c.0 == d.0) (λ e
 front_role n last c bytes (step.Up d role ∷ xs) = refl
 front_role n last c bytes (step.Down d ∷ xs) = refl
 front_role n last c bytes (step.Tick ms ∷ xs) = refl
+front_role n last c bytes (step.Fuse calls ∷ xs) = refl
 
 with_role : (n : ℕ) (last : Option ℕ) (c : ConnectionId) (bytes : List ℕ) (xs : List Step) → role_in n last (with_bytes c bytes xs) ≡ role_in n last xs
 with_role n last c [] xs = refl
@@ -92,6 +97,7 @@ joined_role n last (step.Up c role ∷ xs) =
     (λ r. rw r (joined_role n last xs))
 joined_role n last (step.Down c ∷ xs) = joined_role n last xs
 joined_role n last (step.Tick ms ∷ xs) = joined_role n last xs
+joined_role n last (step.Fuse calls ∷ xs) = joined_role n last xs
 
 joined_in : (n : ℕ) (xs : List Step) → bytes_in n (joined xs) ≡ bytes_in n xs
 joined_in n xs = ap (bytes_of n) (joined_behind n None xs) ∙ joined_bytes n (behind_up n None xs)

@@ -126,6 +126,7 @@ takes_onward (step.Up c role) s u is = subst (λ (v : Scene). Onward s v) (sym i
 takes_onward (step.In c bytes) s u is = bytes_onward c bytes s (s.sockets c.0) u is
 takes_onward (step.Down c) s u is = subst (λ (v : Scene). Onward s v) (sym is) (lose_onward c s)
 takes_onward (step.Tick ms) s u is = subst (λ (v : Scene). Onward s v) (sym is) (hand_onward (event.Tick ms) s)
+takes_onward (step.Fuse calls) s u is = subst (λ (v : Scene). Onward s v) (sym is) (stays_put s s refl refl refl)
 
 abbrev taken_out : Taking → Scene → Scene
 taken_out x s = say_all (map (out_line x.conn) (items_of x s.trace)) (with_trace (took_one x s.trace) s)

@@ -23,10 +23,11 @@ use Rattle.router_trace.specs.Trace.{Entry, Took}
 use Rattle.router_trace.specs.Connection.{Connection, conn}
 use Rattle.disk_core.specs.declared.fuse.FuseDisk.{FuseDisk}
 use Rattle.disk_core.specs.declared.memory.MemDisk.{MemDisk}
+use Rattle.router_reply.specs.Acts.{journaled}
 use Rattle.router_core.specs.Turns.{is_started}
 use Rattle.router_core.specs.Handling.{Fits, id_of, IsBatchOf}
 use Rattle.router_core.specs.Runs.{Taking, IsNext, taking, took_one, waiting_of}
-use Rattle.router_play.specs.Script.{Scene, with_socket, with_trace, say_all, out_line, lose, lose_by, told, is_last, close_if, take_one, take_all, AllInTurn, opening, Takes, Flushes, Plays, PlaysAll}
+use Rattle.router_play.specs.Script.{Scene, with_socket, with_trace, say_all, out_line, lose, lose_by, told, is_last, close_if, take_one, take_all, AllInTurn, opening, Takes, Flushes, Plays, PlaysAll, no_book, book_line}
 use Rattle.router_play.specs.Playing.{Follows, PartsAt, part_by}
 use Rattle.router_conns.proofs.Lists.{by_test}
 
@@ -156,29 +157,26 @@ pub not_false : (b : Bool) → not b ≡ false → b ≡ true
 not_false true h = refl
 not_false false h = sym h
 
-pub or_false : (a b : Bool) → (if a then true else b) ≡ false → (a ≡ false) × (b ≡ false)
-or_false true b h = absurd cc
-or_false false b h = (refl, h)
-
 -- the steps of runs
 abbrev pub steps_of : List Run → List (List Step)
 steps_of runs = map (λ r. r.steps.items) runs
 
 -- one more run, then the rest
-pub runs_more : (config : Settings) (runs : List Run) (i : ℕ) (x : Run) (u : Scene) (before now others : List Line) → x ≡ get_or runs i x → i < length runs
-    → Plays x.steps.items (opening config) u → now ≡ before ++ u.lines
-    → ((ls : List Line) → PlaysAll config (steps_of (drop i runs)) ls → PlaysAll config (steps_of runs) (before ++ ls))
-    → PlaysAll config (steps_of (drop (i + 1) runs)) others → PlaysAll config (steps_of runs) (now ++ others)
-runs_more config runs i x u before now others is lt plays lines whole rest =
-    subst (λ (ls : List Line). PlaysAll config (steps_of runs) ls)
+pub runs_more : (config : Settings) (runs : List Run) (i : ℕ) (x : Run) (u : Scene) (last next : Line) (before now others : List Line) → x ≡ get_or runs i x → i < length runs
+    → Plays x.steps.items (opening config) u → now ≡ before ++ u.lines → next ≡ book_line (journaled u.trace)
+    → ((ls : List Line) → PlaysAll config (steps_of (drop i runs)) last ls → PlaysAll config (steps_of runs) no_book (before ++ ls))
+    → PlaysAll config (steps_of (drop (i + 1) runs)) next others → PlaysAll config (steps_of runs) no_book (now ++ others)
+runs_more config runs i x u last next before now others is lt plays lines size whole rest =
+    subst (λ (ls : List Line). PlaysAll config (steps_of runs) no_book ls)
     (sym (append_assoc before u.lines others) ∙ ap (λ ls. ls ++ others) (sym lines))
     (whole (u.lines ++ others)
-    (subst (λ (rs : List Run). PlaysAll config (steps_of rs) (u.lines ++ others)) (sym (drop_more runs i x lt ∙ ap (λ y. y ∷ drop (i + 1) runs) (sym is)))
-    (u, others, plays, rest, refl)))
+    (subst (λ (rs : List Run). PlaysAll config (steps_of rs) last (u.lines ++ others)) (sym (drop_more runs i x lt ∙ ap (λ y. y ∷ drop (i + 1) runs) (sym is)))
+    (u, others, plays, subst (λ (l : Line). PlaysAll config (steps_of (drop (i + 1) runs)) l others) size rest, refl)))
 
 -- nothing is left to play
-pub runs_done : (config : Settings) (runs : List Run) (i : ℕ) (lines : List Line) → length runs ≤ i
-    → ((ls : List Line) → PlaysAll config (steps_of (drop i runs)) ls → PlaysAll config (steps_of runs) (lines ++ ls)) → PlaysAll config (steps_of runs) lines
-runs_done config runs i lines over whole =
-    subst (λ (ls : List Line). PlaysAll config (steps_of runs) ls) (append-nil lines)
-    (whole [] (subst (λ (rs : List Run). PlaysAll config (steps_of rs) []) (sym (drop_all i runs over)) refl))
+pub runs_done : (config : Settings) (runs : List Run) (i : ℕ) (last : Line) (before lines : List Line) → length runs ≤ i
+    → ((ls : List Line) → PlaysAll config (steps_of (drop i runs)) last ls → PlaysAll config (steps_of runs) no_book (before ++ ls))
+    → lines ≡ before ++ last ∷ [] → PlaysAll config (steps_of runs) no_book lines
+runs_done config runs i last before lines over whole is =
+    subst (λ (ls : List Line). PlaysAll config (steps_of runs) no_book ls) (sym is)
+    (whole (last ∷ []) (subst (λ (rs : List Run). PlaysAll config (steps_of rs) last (last ∷ [])) (sym (drop_all i runs over)) refl))

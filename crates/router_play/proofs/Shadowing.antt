@@ -211,6 +211,7 @@ takes_shadows (step.Down c) s p u is calm h =
 takes_shadows (step.Tick ms) s p u is calm h =
     subst (λ (w : Scene). Shadows w (moved_by (step.Tick ms) p)) (sym is)
     (hand_shadows (event.Tick ms) s p (λ n. refl) (subst (λ (w : Scene). Calm w.trace) is calm) h)
+takes_shadows (step.Fuse calls) s p u is calm h = subst (λ (w : Scene). Shadows w p) (sym is) h
 
 -- takes
 

@@ -12,7 +12,7 @@ use Rattle.router_trace.specs.declared.event.Event.TheVariants as event
 use Rattle.router_trace.specs.Trace.{step_of}
 use Rattle.router_core.specs.declared.door.Door.{Door as DoorState}
 use Rattle.router_core.specs.Door.{Verdict, says, passes, ends, door, door_behind}
-use Rattle.router_core.proofs.Takes.{plain_answered}
+use Rattle.router_core.proofs.Takes.{plain_handled}
 use Rattle.router_conns.proofs.Lists.{by_test}
 use Rattle.router_play.proofs.Bringing.{wrong_more, further}
 use Rattle.router_play.proofs.Levels.{same}
@@ -24,8 +24,8 @@ stream_tell : (c : ℕ) (st : Option (List ℕ)) (e : Event) (p : Course) → wi
 stream_tell c st e p = pick (plain_refuses p.trace e)
   where
     pick : (b : Bool)
-        → with_stream c st (if b then p else on_trace (plain_answered p.id p.trace (step_of e)) p)
-        ≡ (if b then with_stream c st p else on_trace (plain_answered p.id p.trace (step_of e)) (with_stream c st p))
+        → with_stream c st (if b then p else on_trace (plain_handled p.id p.trace (step_of e)) p)
+        ≡ (if b then with_stream c st p else on_trace (plain_handled p.id p.trace (step_of e)) (with_stream c st p))
     pick true = refl
     pick false = refl
 

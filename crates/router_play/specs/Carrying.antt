@@ -4,7 +4,7 @@ use Rattle.amqp_frames.specs.declared.item.Item.{Item}
 use Rattle.amqp_frames.specs.Cuts.{Cuts}
 use Rattle.amqp_frames.specs.ItemSpelling.{item_spelling}
 use Rattle.route_table.specs.Settings.{Settings}
-use Rattle.router_play.specs.Script.{new_router}
+use Rattle.router_play.specs.Script.{new_router, book_line}
 use Rattle.router_trace.specs.declared.event.PeerRole.{PeerRole}
 use Rattle.router_trace.specs.declared.event.PeerRole.TheVariants.{Normal}
 use Rattle.router_trace.specs.declared.event.Event.{Event}
@@ -17,6 +17,7 @@ use Rattle.router_play.specs.declared.script.Step.TheVariants as step
 use Rattle.router_trace.specs.Trace.{Trace, Did, Out, Took, Bound, Booked, Began}
 use Rattle.router_trace.specs.Connection.{conn, is_live}
 use Rattle.router_trace.specs.Refusing.{rises}
+use Rattle.router_reply.specs.Acts.{journaled}
 use Rattle.router_core.specs.Door.{Verdict, says, passes, ends, door, door_behind}
 use Rattle.router_core.specs.Moves.{IsTrace, ins, outs}
 use Rattle.router_play.specs.Listening.{door_for}
@@ -114,8 +115,10 @@ pub record Carries (start : DoorState) (stream : List ℕ) (t : Trace) (lines : 
   -- the bytes sent are the canonical bytes of the door's answers, then of all that the router put out for it
   pub out : bytes_out c lines ≡ spelled (door_says start items) ++ spelled (outs t c)
 
--- runs, one after another: each has a trace of its own, of a router opened with the configuration, and its lines carry every connection
-abbrev pub RunsCarry : Settings → List (List Step) → List Line → Type 0
-RunsCarry config [] lines = lines ≡ []
-RunsCarry config (steps ∷ runs) lines = (t : Trace) × (mine : List Line) × (others : List Line)
-    × IsTrace config.router_id (new_router config) t × ((c : ℕ) → Carries (door_in config c steps) (bytes_in c steps) t mine c) × RunsCarry config runs others × (lines ≡ mine ++ others)
+-- runs, one after another: each has a trace of its own, of a router opened with the configuration, and its lines carry every connection;
+-- behind them is the line of the last run's book, or this one if there is no run
+abbrev pub RunsCarry : Settings → List (List Step) → Line → List Line → Type 0
+RunsCarry config [] last lines = lines ≡ last ∷ []
+RunsCarry config (steps ∷ runs) last lines = (t : Trace) × (mine : List Line) × (others : List Line)
+    × IsTrace config.router_id (new_router config) t × ((c : ℕ) → Carries (door_in config c steps) (bytes_in c steps) t mine c)
+    × RunsCarry config runs (book_line (journaled t)) others × (lines ≡ mine ++ others)

@@ -6,6 +6,7 @@ pub mod Carrying
 pub mod ScriptOrder
 pub mod Pieces
 pub mod Printing
+pub mod Ending
 pub use Rattle.router_trace.specs.Trace
 pub use Rattle.router_trace.specs.Connection
 pub use Rattle.router_trace.specs.Refusing

@@ -17,6 +17,7 @@ use Rattle.router_trace.specs.Configuration.{beginning}
 use Rattle.router_core.specs.Turns.{is_started}
 use Rattle.router_core.specs.Handling.{Fits, id_of, is_failed}
 use Rattle.router_play.specs.Script.{Scene, refused, say, hand, with_socket, stream_of}
+use Rattle.router_play.specs.Ending.{TellsOf}
 
 -- its router is started
 pub record Follows (p : Player) (s : Scene) : Type 0 where
@@ -38,7 +39,12 @@ pub record Begun (p : Player) (config : Settings) : Type 0 where
   pub sockets : (c : ℕ) → get nat_cmp p.sockets c ≡ None
   pub lines : p.lines.items ≡ []
 
--- more lines, and nothing else
+-- a player that knows with which fault its router failed, if it did, and whose lines tell of it
+pub record Tells (p : Player) : Type 0 where
+  pub known : p.fault ≡ None → is_failed p.core ≡ false
+  pub told : TellsOf p.fault p.lines.items
+
+-- more lines, and nothing else that a scene shows
 pub record Said (old new : Player) (ls : List Line) : Type 0 where
   pub lines : new.lines.items ≡ old.lines.items ++ ls
   pub core : new.core ≡ old.core

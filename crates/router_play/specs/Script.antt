@@ -21,6 +21,7 @@ use Rattle.router_play.specs.declared.script.Step.TheVariants as step
 use Rattle.router_trace.specs.Trace.{Trace, Booked, Beginning, did, step_of}
 use Rattle.router_trace.specs.Connection.{Connection, conn, took, is_ready}
 use Rattle.router_trace.specs.Refusing.{refuses, rises}
+use Rattle.router_reply.specs.Acts.{Journaled, journaled}
 use Rattle.router_core.specs.Replies.{handled}
 use Rattle.router_core.specs.Runs.{Taking, IsNext, items_of, took_one}
 use Rattle.router_core.specs.Door.{Verdict, says, passes, ends, door, door_behind}
@@ -36,9 +37,9 @@ pub record Scene : Type 0 where
   pub sockets : ℕ → Option Socket
   pub lines : List Line
 
--- a router with this configuration and a new journal
+-- a router with this configuration and a new journal, which has no batch, and nine bytes
 abbrev pub new_router : Settings → Beginning
-new_router config = record { routing = routing_of config; book = empty_book }
+new_router config = record { routing = routing_of config; book = empty_book; used = 9; batches = 0 }
 
 -- before the first step: the router is started, which does nothing to an empty book and puts nothing out
 abbrev pub opening : Settings → Scene
@@ -55,9 +56,12 @@ say l s = say_all (l ∷ []) s
 abbrev pub refused : Line
 refused = line.Failed NoConnection
 
--- the line of the book at the end, in which nothing is kept
-abbrev pub book : Line
-book = line.Book 0 0 0
+-- the line of the book: how many rows and termini it has, and how many batches its journal; and that line where there was no router
+abbrev pub book_line : Journaled → Line
+book_line j = line.Book (length j.book.rows) (length j.book.termini) j.batches
+
+abbrev pub no_book : Line
+no_book = line.Book 0 0 0
 
 -- the line of an outgoing item: its canonical encoding
 abbrev pub out_line : ConnectionId → Item → Line
@@ -135,12 +139,13 @@ lose_by c s (Some k) = told c (with_socket c None s) k.door
 abbrev pub lose : ConnectionId → Scene → Scene
 lose c s = lose_by c s (s.sockets c.0)
 
--- a step
+-- a step; a fuse shows nothing, unless the disk fails
 abbrev pub Takes : Step → Scene → Scene → Type 0
 Takes (step.Up c role) s u = u ≡ make c role s
 Takes (step.In c bytes) s u = BytesCome c bytes s (s.sockets c.0) u
 Takes (step.Down c) s u = u ≡ lose c s
 Takes (step.Tick ms) s u = u ≡ hand (event.Tick ms) s
+Takes (step.Fuse calls) s u = u ≡ s
 
 -- items taken from an outbox are sent; a connection that is over is closed with the last of them
 abbrev pub is_last : ℕ → Option Connection → Bool
@@ -177,8 +182,8 @@ abbrev pub Plays : List Step → Scene → Scene → Type 0
 Plays [] s u = u ≡ s
 Plays (x ∷ xs) s u = (mid : Scene) × (next : Scene) × Takes x s mid × Flushes mid next × Plays xs next u
 
--- the lines of runs: each against a new router
-abbrev pub PlaysAll : Settings → List (List Step) → List Line → Type 0
-PlaysAll config [] lines = lines ≡ []
-PlaysAll config (steps ∷ runs) lines =
-    (u : Scene) × (others : List Line) × Plays steps (opening config) u × PlaysAll config runs others × (lines ≡ u.lines ++ others)
+-- the lines of runs, each against a new router, and behind them the line of the last run's book, or this one if there is no run
+abbrev pub PlaysAll : Settings → List (List Step) → Line → List Line → Type 0
+PlaysAll config [] last lines = lines ≡ last ∷ []
+PlaysAll config (steps ∷ runs) last lines =
+    (u : Scene) × (others : List Line) × Plays steps (opening config) u × PlaysAll config runs (book_line (journaled u.trace)) others × (lines ≡ u.lines ++ others)

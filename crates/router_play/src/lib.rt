@@ -1,6 +1,7 @@
 //! Plays a script against the router, in memory: connections come up, bytes are received, and bytes are sent.
 #![tactic(auto)]
 
+mod finish;
 mod laws;
 mod line;
 mod listening;

@@ -1,11 +1,13 @@
 //! Plays a script.
-ghost use Rattle.std.specs.Prelude.{◌≡◌, ◌==◌, ◌∷◌, ◌++◌, ℕ, List, [], None, Some, map, option_map, true, false, if◌then◌else◌, OnOk, IfOk};
+ghost use Rattle.std.specs.Prelude.{◌≡◌, ◌==◌, ◌∷◌, ◌++◌, ℕ, List, [], length, None, Some, map, option_map, true, false, if◌then◌else◌, OnOk, IfOk};
 ghost use Rattle.router_play.specs.Script.{new_router};
 ghost use Rattle.route_table.specs.Settings.{Settings};
 ghost use Rattle.router_trace.specs.Configuration.{beginning};
 ghost use Rattle.router_core.specs.Turns.{is_start};
-ghost use Rattle.router_core.specs.Handling.{Fits, id_of, is_failed};
-ghost use Rattle.router_play.specs.Script.{Scene, opening, PlaysAll, book, refused, out_line, say_all, hand, enter, enter_all, BytesCome, make, lose, Takes, take_one, close_if, Flushes, Plays};
+ghost use Rattle.router_store.specs.Store.{count_of};
+ghost use Rattle.router_reply.specs.Acts.{journaled};
+ghost use Rattle.router_core.specs.Handling.{Fits, id_of, is_failed, store_of, kept_book};
+ghost use Rattle.router_play.specs.Script.{Scene, opening, PlaysAll, no_book, book_line, refused, out_line, say_all, hand, enter, enter_all, BytesCome, make, lose, Takes, take_one, close_if, Flushes, Plays};
 ghost use Rattle.router_play.specs.Carrying.{RunsCarry};
 ghost use Rattle.router_trace.specs.Connection.{conn as known, is_ready};
 ghost use Rattle.router_core.specs.Runs.{taking};
@@ -13,8 +15,10 @@ ghost use Rattle.router_play.specs.Asking.{follow};
 ghost use Rattle.router_trace.specs.declared.event.Event.TheVariants as event;
 ghost use Rattle.router_play.specs.declared.line.Line.TheVariants as line;
 ghost use Rattle.router_play.specs.declared.line.Line.{Line as ALine};
-ghost use Rattle.router_play.specs.Playing.{Begun, Follows, Said, IsRead, part_by};
+ghost use Rattle.router_play.specs.Playing.{Begun, Follows, Said, Tells, IsRead, part_by};
+ghost use Rattle.router_play.specs.Ending.{TellsOf, fault_behind, size_line};
 
+use crate::finish::{Ended, Size, graver};
 use crate::line::Line;
 use crate::listening::door_for;
 use crate::script::{Report, Run, Step};
@@ -41,19 +45,33 @@ struct Player<'a> {
     sockets: BTreeMap<u64, Socket>,
     newest: Option<u64>,
     lines: Vec<Line>,
+    /// The fault with which the router failed.
+    fault: Option<CoreFault>,
 }
 
 /// Plays runs, one after another, each against a new router: after each step all outboxes are
-/// emptied, by connection. The last line describes the book. If memory is refused to the play itself, the lines end there.
+/// emptied, by connection. The last line has the size of the book, and the number of the journal's last batch, at the end of the
+/// last run. If memory is refused to the play itself, the lines end there.
 pub fn play_runs(alloc: Global, config: Config, runs: &[Run]) -> Report
-    ensures plays { result.out_of_memory ≡ false → result.failed ≡ false → (lines : List ALine) × PlaysAll config (map (λ r. r.steps.items) runs.now) lines × (result.lines.items ≡ lines ++ book ∷ []) }
-    ensures carries { result.out_of_memory ≡ false → result.failed ≡ false → (lines : List ALine) × RunsCarry config (map (λ r. r.steps.items) runs.now) lines × (result.lines.items ≡ lines ++ book ∷ []) }
+    ensures plays { result.out_of_memory ≡ false → result.failed ≡ None → PlaysAll config (map (λ r. r.steps.items) runs.now) no_book result.lines.items }
+    ensures carries { result.out_of_memory ≡ false → result.failed ≡ None → RunsCarry config (map (λ r. r.steps.items) runs.now) no_book result.lines.items }
+
+    // Where a router failed, a line says so.
+    ensures told { result.out_of_memory ≡ false → TellsOf result.failed result.lines.items }
 {
     let mut lines = Vec::new(alloc);
-    let mut failed = false;
+    let mut failed = None;
+    let mut size = Size {
+        rows: 0,
+        termini: 0,
+        batches: 0,
+    };
     for run in runs {
         match play_run(alloc, &config, run, &mut lines) {
-            Ok(works) => failed = either(failed, !works),
+            Ok(ended) => {
+                failed = graver(failed, ended.failed);
+                size = ended.size;
+            }
             Err(AllocError) => {
                 return Report {
                     lines,
@@ -63,7 +81,7 @@ pub fn play_runs(alloc: Global, config: Config, runs: &[Run]) -> Report
             }
         }
     }
-    match say_book(&mut lines) {
+    match say_size(&mut lines, size) {
         Ok(()) => Report {
             lines,
             out_of_memory: false,
@@ -77,29 +95,40 @@ pub fn play_runs(alloc: Global, config: Config, runs: &[Run]) -> Report
     }
 }
 
-/// Whether one of two things holds.
-fn either(one: bool, other: bool) -> bool
-    ensures { result ≡ (if one then true else other) }
-{
-    one || other
-}
-
-/// Plays a run, and appends its lines. Returns whether the router still works at its end.
+/// Plays a run, and appends its lines.
 fn play_run(
     alloc: Global,
     config: &Config,
     run: &Run,
     lines: &mut Vec<Line>,
-) -> Result<bool, AllocError>
-    ensures { IfOk result (λ works. works ≡ true → (u : Scene) × Plays run.now.steps.items (opening config.now) u × (lines.new.items ≡ lines.old.items ++ u.lines)) }
+) -> Result<Ended, AllocError>
+    ensures plays { IfOk result (λ ended. ended.failed ≡ None → (u : Scene) × Plays run.now.steps.items (opening config.now) u
+        × (lines.new.items ≡ lines.old.items ++ u.lines) × (size_line ended.size ≡ book_line (journaled u.trace))) }
+    ensures told { IfOk result (λ ended. TellsOf ended.failed lines.new.items) }
+    ensures more { OnOk result ((more : List ALine) × (lines.new.items ≡ lines.old.items ++ more)) }
 {
     let mut player = begun(alloc, config)?;
     let played = player.play(&run.steps);
-    let works = !player.core.is_failed();
+    let size = size_of(&player.core);
+    let failed = player.fault;
     let Player { lines: told, .. } = player;
     append(lines, told)?;
     played?;
-    Ok(works)
+    Ok(Ended { failed, size })
+}
+
+/// The size of a router's book, and the number of its journal's last batch.
+fn size_of(core: &Core<FuseDisk<MemDisk>>) -> Size
+    ensures rows { result.rows ≡ length (kept_book core.now).rows }
+    ensures termini { result.termini ≡ length (kept_book core.now).termini }
+    ensures batches { result.batches ≡ count_of (store_of core.now) }
+{
+    let book = core.book();
+    Size {
+        rows: book.row_count() as u64,
+        termini: book.terminus_count() as u64,
+        batches: core.batch(),
+    }
 }
 
 /// A router in memory, with a new journal.
@@ -122,6 +151,7 @@ fn opened(alloc: Global, config: &Config) -> Result<Core<FuseDisk<MemDisk>>, All
 /// A player before the first step, its router started.
 fn begun<'a>(alloc: Global, config: &'a Config) -> Result<Player<'a>, AllocError>
     ensures follows { IfOk result (λ p. is_failed p.core ≡ false → Follows p (opening config.now)) }
+    ensures tells { IfOk result Tells }
 {
     let mut player = Player::new(alloc, config)?;
     player.start()?;
@@ -142,13 +172,18 @@ fn append(lines: &mut Vec<Line>, told: Vec<Line>) -> Result<(), AllocError>
 }
 
 /// Appends the line of the book, at the end.
-fn say_book(lines: &mut Vec<Line>) -> Result<(), AllocError>
-    ensures { OnOk result (lines.new.items ≡ lines.old.items ++ book ∷ []) }
+fn say_size(lines: &mut Vec<Line>, size: Size) -> Result<(), AllocError>
+    ensures { OnOk result (lines.new.items ≡ lines.old.items ++ size_line size ∷ []) }
 {
+    let Size {
+        rows,
+        termini,
+        batches,
+    } = size;
     match lines.push(Line::Book {
-        rows: 0,
-        termini: 0,
-        batches: 0,
+        rows,
+        termini,
+        batches,
     }) {
         Ok(()) => Ok(()),
         Err(_) => Err(AllocError),
@@ -159,6 +194,7 @@ impl<'a> Player<'a> {
     /// A player whose router isn't started yet.
     fn new(alloc: Global, config: &'a Config) -> Result<Player<'a>, AllocError>
         ensures begun { IfOk result (λ p. Begun p config.now) }
+        ensures tells { IfOk result Tells }
     {
         Ok(Player {
             alloc,
@@ -167,6 +203,7 @@ impl<'a> Player<'a> {
             sockets: BTreeMap::new(alloc),
             newest: None,
             lines: Vec::new(alloc),
+            fault: None,
         })
     }
 
@@ -174,6 +211,8 @@ impl<'a> Player<'a> {
     fn say(&mut self, line: Line) -> Result<(), AllocError>
         ensures said { OnOk result (Said self.old self.new (line ∷ [])) }
         ensures core { self.new.core ≡ self.old.core }
+        ensures fault { self.new.fault ≡ self.old.fault }
+        ensures tells { OnOk result (Tells self.old → Tells self.new) }
     {
         match self.lines.push(line) {
             Ok(()) => Ok(()),
@@ -181,10 +220,24 @@ impl<'a> Player<'a> {
         }
     }
 
+    /// Appends the line of the router's fault, and keeps a fault with which it failed.
+    fn fail(&mut self, fault: CoreFault) -> Result<(), AllocError>
+        ensures said { OnOk result (Said self.old self.new (line.Failed fault ∷ [])) }
+        ensures core { self.new.core ≡ self.old.core }
+        ensures kept { self.new.fault ≡ fault_behind self.old.fault fault }
+    {
+        self.fault = match fault {
+            CoreFault::Disk | CoreFault::Memory => Some(fault),
+            CoreFault::Failed | CoreFault::NoConnection => self.fault,
+        };
+        self.say(Line::Failed(fault))
+    }
+
     /// Appends the line of an outgoing item.
     fn say_out(&mut self, conn: ConnectionId, item: &Item) -> Result<(), AllocError>
         ensures said { OnOk result (Said self.old self.new (out_line conn item.now ∷ [])) }
         ensures core { self.new.core ≡ self.old.core }
+        ensures tells { OnOk result (Tells self.old → Tells self.new) }
     {
         let mut bytes = Vec::new(self.alloc);
         write_item(self.alloc, item, &mut bytes)?;
@@ -198,6 +251,7 @@ impl<'a> Player<'a> {
     fn say_all(&mut self, conn: ConnectionId, items: &[Item]) -> Result<(), AllocError>
         ensures said { OnOk result (Said self.old self.new (map (out_line conn) items.now)) }
         ensures core { self.new.core ≡ self.old.core }
+        ensures tells { OnOk result (Tells self.old → Tells self.new) }
     {
         for item in items {
             self.say_out(conn, item)?;
@@ -208,13 +262,14 @@ impl<'a> Player<'a> {
     /// Starts the router.
     fn start(&mut self) -> Result<(), AllocError>
         ensures follows { OnOk result (is_failed self.new.core ≡ false → (config : Settings) → Begun self.old config → Follows self.new (opening config)) }
+        ensures tells { OnOk result (Tells self.old → Tells self.new) }
     {
         match self.core.handle(Event::Start) {
             Ok(done) => {
                 drop(done);
                 Ok(())
             }
-            Err(fault) => self.say(Line::Failed(fault)),
+            Err(fault) => self.fail(fault),
         }
     }
 
@@ -223,13 +278,14 @@ impl<'a> Player<'a> {
         requires not_start { is_start event ≡ false }
         ensures follows { OnOk result (is_failed self.new.core ≡ false → (s : Scene) → Follows self.old s → Follows self.new (hand event s)) }
         ensures stays { is_failed self.old.core ≡ true → is_failed self.new.core ≡ true }
+        ensures tells { OnOk result (Tells self.old → Tells self.new) }
     {
         match self.core.handle(event) {
             Ok(done) => {
                 drop(done);
                 Ok(())
             }
-            Err(fault) => self.say(Line::Failed(fault)),
+            Err(fault) => self.fail(fault),
         }
     }
 
@@ -237,6 +293,7 @@ impl<'a> Player<'a> {
     fn enter(&mut self, conn: ConnectionId, item: Item) -> Result<(), AllocError>
         ensures follows { OnOk result (is_failed self.new.core ≡ false → (s : Scene) → Follows self.old s → Follows self.new (enter conn item s)) }
         ensures stays { is_failed self.old.core ≡ true → is_failed self.new.core ≡ true }
+        ensures tells { OnOk result (Tells self.old → Tells self.new) }
     {
         let asked = self.ask(conn, &item)?;
         self.follow(conn, item, asked)
@@ -246,6 +303,7 @@ impl<'a> Player<'a> {
     fn enter_all(&mut self, conn: ConnectionId, items: Vec<Item>) -> Result<(), AllocError>
         ensures follows { OnOk result (is_failed self.new.core ≡ false → (s : Scene) → Follows self.old s → Follows self.new (enter_all conn items.items s)) }
         ensures stays { is_failed self.old.core ≡ true → is_failed self.new.core ≡ true }
+        ensures tells { OnOk result (Tells self.old → Tells self.new) }
     {
         for item in items {
             self.enter(conn, item)?;
@@ -257,6 +315,7 @@ impl<'a> Player<'a> {
     fn bytes(&mut self, conn: ConnectionId, bytes: &[u8]) -> Result<(), AllocError>
         ensures follows { OnOk result (is_failed self.new.core ≡ false → (s : Scene) → Follows self.old s → (u : Scene) × BytesCome conn bytes.now s (s.sockets conn.0) u × Follows self.new u) }
         ensures stays { is_failed self.old.core ≡ true → is_failed self.new.core ≡ true }
+        ensures tells { OnOk result (Tells self.old → Tells self.new) }
     {
         match self.read(conn, bytes)? {
             None => self.refuse(),
@@ -268,6 +327,7 @@ impl<'a> Player<'a> {
     fn read(&mut self, conn: ConnectionId, bytes: &[u8]) -> Result<Option<Vec<Item>>, AllocError>
         ensures reads { IfOk result (λ read. (s : Scene) → Follows self.old s → IsRead conn bytes.now s (s.sockets conn.0) self.new (option_map (λ v. v.items) read)) }
         ensures core { self.new.core ≡ self.old.core }
+        ensures tells { OnOk result (Tells self.old → Tells self.new) }
     {
         read_in(&mut self.sockets, conn.0, bytes)
     }
@@ -276,6 +336,7 @@ impl<'a> Player<'a> {
     fn refuse(&mut self) -> Result<(), AllocError>
         ensures said { OnOk result (Said self.old self.new (refused ∷ [])) }
         ensures core { self.new.core ≡ self.old.core }
+        ensures tells { OnOk result (Tells self.old → Tells self.new) }
     {
         self.say(Line::Failed(CoreFault::NoConnection))
     }
@@ -284,6 +345,7 @@ impl<'a> Player<'a> {
     fn up(&mut self, conn: ConnectionId, role: PeerRole) -> Result<(), AllocError>
         ensures follows { OnOk result ((s : Scene) → Follows self.old s → Follows self.new (make conn role s)) }
         ensures core { self.new.core ≡ self.old.core }
+        ensures tells { OnOk result (Tells self.old → Tells self.new) }
     {
         let rises = match self.newest {
             None => true,
@@ -303,6 +365,7 @@ impl<'a> Player<'a> {
     fn down(&mut self, conn: ConnectionId) -> Result<(), AllocError>
         ensures follows { OnOk result (is_failed self.new.core ≡ false → (s : Scene) → Follows self.old s → Follows self.new (lose conn s)) }
         ensures stays { is_failed self.old.core ≡ true → is_failed self.new.core ≡ true }
+        ensures tells { OnOk result (Tells self.old → Tells self.new) }
     {
         match self.part(conn) {
             Parted::Closed => self.refuse(),
@@ -315,20 +378,32 @@ impl<'a> Player<'a> {
     fn part(&mut self, conn: ConnectionId) -> Parted
         ensures parted { (s : Scene) → Follows self.old s → (after : Scene) × Follows self.new after × (part_by conn result after ≡ lose conn s) }
         ensures core { self.new.core ≡ self.old.core }
+        ensures tells { Tells self.old → Tells self.new }
     {
         part_in(&mut self.sockets, conn.0)
+    }
+
+    /// The router's disk gets a fuse.
+    fn fuse(&mut self, calls: u64)
+        ensures follows { (s : Scene) → Follows self.old s → Follows self.new s }
+        ensures stays { is_failed self.old.core ≡ true → is_failed self.new.core ≡ true }
+        ensures tells { Tells self.old → Tells self.new }
+    {
+        self.core.fuse(calls);
     }
 
     /// A step.
     fn step(&mut self, step: &Step) -> Result<(), AllocError>
         ensures follows { OnOk result (is_failed self.new.core ≡ false → (s : Scene) → Follows self.old s → (u : Scene) × Takes step.now s u × Follows self.new u) }
         ensures stays { is_failed self.old.core ≡ true → is_failed self.new.core ≡ true }
+        ensures tells { OnOk result (Tells self.old → Tells self.new) }
     {
         match step {
             Step::Up { conn, role } => self.up(*conn, *role)?,
             Step::In { conn, bytes } => self.bytes(*conn, bytes.as_slice())?,
             Step::Down { conn } => self.down(*conn)?,
             Step::Tick { ms } => self.hand(Event::Tick(*ms))?,
+            Step::Fuse { calls } => self.fuse(*calls),
         }
         Ok(())
     }
@@ -337,6 +412,7 @@ impl<'a> Player<'a> {
     fn flush(&mut self) -> Result<(), AllocError>
         ensures follows { OnOk result (is_failed self.new.core ≡ false → (s : Scene) → Follows self.old s → (u : Scene) × Flushes s u × Follows self.new u) }
         ensures stays { is_failed self.old.core ≡ true → is_failed self.new.core ≡ true }
+        ensures tells { OnOk result (Tells self.old → Tells self.new) }
     {
         for _turn in 0..u64::MAX {
             if self.core.is_failed() {
@@ -354,10 +430,11 @@ impl<'a> Player<'a> {
     fn take(&mut self, conn: ConnectionId) -> Result<(), AllocError>
         ensures follows { OnOk result (is_failed self.new.core ≡ false → (s : Scene) → Follows self.old s → is_ready (known s.trace conn.0) ≡ true → Follows self.new (take_one (taking conn) s)) }
         ensures stays { is_failed self.old.core ≡ true → is_failed self.new.core ≡ true }
+        ensures tells { OnOk result (Tells self.old → Tells self.new) }
     {
         match self.core.take(conn, MOST) {
             Ok(batch) => self.send(conn, batch),
-            Err(fault) => self.say(Line::Failed(fault)),
+            Err(fault) => self.fail(fault),
         }
     }
 
@@ -365,6 +442,7 @@ impl<'a> Player<'a> {
     fn send(&mut self, conn: ConnectionId, batch: Batch) -> Result<(), AllocError>
         ensures follows { OnOk result ((s : Scene) → Follows self.old s → Follows self.new (close_if batch.ended conn (say_all (map (out_line conn) batch.items.items) s))) }
         ensures core { self.new.core ≡ self.old.core }
+        ensures tells { OnOk result (Tells self.old → Tells self.new) }
     {
         self.say_all(conn, batch.items())?;
         self.close_if(conn, batch.is_last())?;
@@ -375,6 +453,7 @@ impl<'a> Player<'a> {
     fn close_if(&mut self, conn: ConnectionId, ended: bool) -> Result<(), AllocError>
         ensures follows { OnOk result ((s : Scene) → Follows self.old s → Follows self.new (close_if ended conn s)) }
         ensures core { self.new.core ≡ self.old.core }
+        ensures tells { OnOk result (Tells self.old → Tells self.new) }
     {
         if ended {
             close(&mut self.sockets, conn.0);
@@ -387,6 +466,7 @@ impl<'a> Player<'a> {
     fn play(&mut self, steps: &[Step]) -> Result<(), AllocError>
         ensures follows { OnOk result (is_failed self.new.core ≡ false → (s : Scene) → Follows self.old s → (u : Scene) × Plays steps.now s u × Follows self.new u) }
         ensures stays { is_failed self.old.core ≡ true → is_failed self.new.core ≡ true }
+        ensures tells { OnOk result (Tells self.old → Tells self.new) }
     {
         for step in steps {
             self.step(step)?;
@@ -399,6 +479,7 @@ impl<'a> Player<'a> {
     fn ask(&mut self, conn: ConnectionId, item: &Item) -> Result<Asked, AllocError>
         ensures asks { IfOk result (λ asked. (s : Scene) → Follows self.old s → (after : Scene) × Follows self.new after × (follow conn item.now asked after ≡ enter conn item.now s)) }
         ensures core { self.new.core ≡ self.old.core }
+        ensures tells { OnOk result (Tells self.old → Tells self.new) }
     {
         ask_in(&mut self.sockets, self.alloc, conn.0, item)
     }
@@ -407,6 +488,7 @@ impl<'a> Player<'a> {
     fn follow(&mut self, conn: ConnectionId, item: Item, asked: Asked) -> Result<(), AllocError>
         ensures follows { OnOk result (is_failed self.new.core ≡ false → (s : Scene) → Follows self.old s → Follows self.new (follow conn item asked s)) }
         ensures stays { is_failed self.old.core ≡ true → is_failed self.new.core ≡ true }
+        ensures tells { OnOk result (Tells self.old → Tells self.new) }
     {
         match asked {
             Asked::Nobody => {
@@ -430,6 +512,7 @@ impl<'a> Player<'a> {
     fn pass(&mut self, conn: ConnectionId, peer: Peer, item: Item) -> Result<(), AllocError>
         ensures follows { OnOk result (is_failed self.new.core ≡ false → (s : Scene) → Follows self.old s → Follows self.new (hand (event.Item conn item) (hand (event.Up conn peer) s))) }
         ensures stays { is_failed self.old.core ≡ true → is_failed self.new.core ≡ true }
+        ensures tells { OnOk result (Tells self.old → Tells self.new) }
     {
         self.hand(Event::Up(conn, peer))?;
         self.hand(Event::Item(conn, item))
@@ -439,6 +522,7 @@ impl<'a> Player<'a> {
     fn say_end(&mut self, conn: ConnectionId, items: &[Item]) -> Result<(), AllocError>
         ensures said { OnOk result (Said self.old self.new (map (out_line conn) items.now ++ line.End conn ∷ [])) }
         ensures core { self.new.core ≡ self.old.core }
+        ensures tells { OnOk result (Tells self.old → Tells self.new) }
     {
         self.say_all(conn, items)?;
         self.say(Line::End { conn })

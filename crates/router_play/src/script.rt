@@ -1,6 +1,7 @@
 //! A script: the steps of its runs, and the result of playing it.
 use crate::line::Line;
 use amqp_perf::Binary;
+use router_core::CoreFault;
 use router_trace::{ConnectionId, PeerRole};
 
 /// A step of a script.
@@ -30,6 +31,11 @@ pub enum Step {
         /// The milliseconds.
         ms: u64,
     },
+    /// The router's disk gets a fuse: after so many calls more every call fails. A fuse that was set before is replaced.
+    Fuse {
+        /// The calls that go through.
+        calls: u64,
+    },
 }
 
 /// A run of the router: the steps of a script between two stops.
@@ -46,6 +52,7 @@ pub struct Report {
     pub lines: Vec<Line>,
     /// Whether memory was refused to the play itself, which ended it there.
     pub out_of_memory: bool,
-    /// Whether the router failed with a fault of the disk or of memory, after which it answers nothing else.
-    pub failed: bool,
+    /// The fault with which a router failed, of its disk or of memory, after which it answers nothing else. Where more than one
+    /// failed: want of memory if one had too little, else the fault of the first.
+    pub failed: Option<CoreFault>,
 }

@@ -75,6 +75,7 @@ fn step_with_number(verb: &str, word: &str) -> Option<Step>
             conn: ConnectionId(number),
         }),
         "tick" => Some(Step::Tick { ms: number }),
+        "fuse" => Some(Step::Fuse { calls: number }),
         _ => None,
     }
 }

@@ -1,12 +1,8 @@
-use Rattle.std.proofs.Common.{subst}
-use Rattle.book_core.specs.Book.{BookView}
-use Rattle.route_table.specs.Places.{routing_of}
-use Rattle.router_trace.specs.Configuration.{beginning}
-use Rattle.router_core.specs.Handling.{Fits}
-use Rattle.router_play.proofs.Empty.{is_empty}
+use Rattle.router_core.specs.Handling.{store_of}
+use Rattle.router_play.proofs.NewJournal.{is_empty, is_new, fits_new}
 use Rattle.router_play.proofs.player.opened.Goals as goal
 
 pub returns-in-Ok-open-clause-fits : goal.returns-in-Ok-open-clause-fits
 returns-in-Ok-open-clause-fits c =
-    subst (λ (b : BookView). Fits c.in-Ok-open.core (beginning (record { routing = routing_of c.args.config.now; book = b })))
-    (is_empty _ _ c.in-Ok.ensures.empty c.in-Ok-open.ensures.book) c.in-Ok-open.ensures.fits
+    let new = is_new _ (store_of c.in-Ok-open.core) c.in-Ok.ensures.empty c.in-Ok-open.ensures.seen c.in-Ok-open.ensures.stands
+    in fits_new c.in-Ok-open.core c.args.config.now (is_empty _ _ c.in-Ok.ensures.empty c.in-Ok-open.ensures.book) new.0 new.1 c.in-Ok-open.ensures.fits

@@ -17,4 +17,5 @@ loop-turn-preserved c = record {
             (c.in_ok-take-in-Some.ensures.follows works _ w.2 (c.in-Some.ensures _ w.2.core).0),
       );
   stays = λ h. c.take.ensures.stays (c.loop-turn.invariant.stays h);
+  tells = λ h. c.in_ok-take-in-Some.ensures.tells (c.loop-turn.invariant.tells h);
 }

@@ -1,13 +1,22 @@
 use Rattle.std.proofs.Common.{refl}
 use Rattle.std.proofs.lemmas.Result.{on_ok_weaker}
 use Rattle.router_play.proofs.Handing.{fault_follows, handled_follows}
+use Rattle.router_play.proofs.Telling.{works_tells, fault_tells}
 use Rattle.router_play.proofs.player.Player.hand.Goals as goal
 
 pub returns-in-Ok-clause-follows : goal.returns-in-Ok-clause-follows
 returns-in-Ok-clause-follows c = λ works s f. handled_follows c.args.self.now _ c.args.event s c.in-Ok.ensures.fits c.in-Ok.ensures.taken c.in-Ok.ensures.named refl refl refl refl f
 
+pub returns-in-Ok-clause-tells : goal.returns-in-Ok-clause-tells
+returns-in-Ok-clause-tells c = λ h. works_tells c.args.self.now _ c.in-Ok.ensures.works refl refl h
+
 pub returns-in-Err-clause-follows : goal.returns-in-Err-clause-follows
-returns-in-Err-clause-follows c = on_ok_weaker c.say.result
-    (λ said works s f. fault_follows c.args.self.now _ c.say.new.self c.in-Err.fault c.args.event s c.requires.not_start c.in-Err.ensures.refused c.in-Err.ensures.unchanged c.in-Err.ensures.memory c.in-Err.ensures.disk
+returns-in-Err-clause-follows c = on_ok_weaker c.fail.result
+    (λ said works s f. fault_follows c.args.self.now _ c.fail.new.self c.in-Err.fault c.args.event s c.requires.not_start c.in-Err.ensures.refused c.in-Err.ensures.unchanged c.in-Err.ensures.memory c.in-Err.ensures.disk
     refl refl refl refl said works f)
-    c.say.ensures.said
+    c.fail.ensures.said
+
+pub returns-in-Err-clause-tells : goal.returns-in-Err-clause-tells
+returns-in-Err-clause-tells c = on_ok_weaker c.fail.result
+    (λ said h. fault_tells c.args.self.now _ c.fail.new.self c.in-Err.fault (λ e. (c.in-Err.ensures.refused e).0) (λ e. (c.in-Err.ensures.unchanged e).0) refl refl c.fail.ensures.kept said h)
+    c.fail.ensures.said

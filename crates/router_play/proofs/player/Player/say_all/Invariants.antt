@@ -1,6 +1,7 @@
 use Rattle.std.proofs.Common.{◌≡◌, ◌++◌, drop}
 use Rattle.std.specs.Prelude.{map}
 use Rattle.router_play.specs.Script.{out_line}
+use Rattle.router_play.specs.Playing.{Tells}
 use Rattle.router_play.proofs.player.Player.say_all.Given as goal
 
 abbrev pub invariant-loop-item : goal.invariant-loop-item
@@ -10,4 +11,5 @@ invariant-loop-item l = record {
   config : l.self.config ≡ l.fn.self.config;
   sockets : l.self.sockets ≡ l.fn.self.sockets;
   last : l.self.newest ≡ l.fn.self.newest;
+  tells : Tells l.fn.self → Tells l.self;
 }

@@ -1,0 +1,39 @@
+-- A router on a new journal: that opens to the empty book, and has no batch, and nine bytes.
+use Rattle.std.proofs.Common.{◌≡◌, ◌∙◌, ap, refl, subst, ℕ, ◌+◌, List, [], length}
+use Rattle.book_core.specs.declared.act.Act.{Act}
+use Rattle.book_core.specs.Book.{BookView, empty_book}
+use Rattle.gate_journal.specs.Batches.{Holds, book_after}
+use Rattle.gate_journal.specs.Format.{blocks, front}
+use Rattle.gate_journal.proofs.Unique.{holds_unique}
+use Rattle.route_table.specs.Places.{routing_of}
+use Rattle.route_table.specs.Settings.{Settings}
+use Rattle.router_store.specs.declared.store.Store.{Store}
+use Rattle.router_store.specs.Store.{OpensTo, Stands, disk_of, used_of, count_of}
+use Rattle.router_store.proofs.Opened.{opens_to_one}
+use Rattle.router_trace.specs.Configuration.{beginning}
+use Rattle.router_core.specs.declared.router.Core.{Core}
+use Rattle.router_core.specs.Handling.{Fits, store_of, kept_book}
+use Rattle.router_play.specs.Script.{new_router}
+
+pub is_empty : (file : List ℕ) (b : BookView) → Holds file [] → OpensTo file b → b ≡ empty_book
+unfolding book_after
+is_empty file b holds opens = opens_to_one file b empty_book opens (record { batches = []; holds = holds; leaves = refl })
+
+pub is_new : {D : Type 0} {seen : D → List ℕ} {may_leave : D → List ℕ → Type 0} (file : List ℕ) (s : Store D)
+    → Holds file [] → seen (disk_of s) ≡ file → Stands seen may_leave s → (used_of s ≡ 9) × (count_of s ≡ 0)
+unfolding blocks
+is_new file s holds same stands =
+    let none : stands.batches ≡ []
+    = holds_unique file stands.batches [] (subst (λ (f : List ℕ). Holds f stands.batches) same stands.keeps.at.file) holds
+    in (
+      ap (λ (n : ℕ). n + 1) (stands.keeps.at.is_place ∙ ap (λ (bs : List (List Act)). length (front bs)) none),
+      stands.keeps.count ∙ ap length none,
+    )
+
+pub fits_new : {D : Type 0} (core : Core D) (config : Settings) → kept_book core ≡ empty_book → used_of (store_of core) ≡ 9 → count_of (store_of core) ≡ 0
+    → Fits core (beginning (record { routing = routing_of config; book = kept_book core; used = used_of (store_of core); batches = count_of (store_of core) }))
+    → Fits core (beginning (new_router config))
+fits_new core config book used batches fits =
+    subst (λ (n : ℕ). Fits core (beginning (record { routing = routing_of config; book = empty_book; used = 9; batches = n }))) batches
+    (subst (λ (n : ℕ). Fits core (beginning (record { routing = routing_of config; book = empty_book; used = n; batches = count_of (store_of core) }))) used
+    (subst (λ (b : BookView). Fits core (beginning (record { routing = routing_of config; book = b; used = used_of (store_of core); batches = count_of (store_of core) }))) book fits))
