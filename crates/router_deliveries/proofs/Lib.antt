@@ -1,4 +1,7 @@
 mod Again
+pub mod Low
+pub mod Called
+pub mod Known
 mod Tags
 mod Keys
 pub mod Puts
