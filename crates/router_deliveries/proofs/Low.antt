@@ -22,6 +22,9 @@ more : (k : ℕ) (v : Option ℕ) → IsLow k v → IsLow (k + 1) v
 more k None low = tt
 more k (Some n) low = omega (arith, low)
 
+itself : (k : ℕ) → k ≤ k
+itself k = omega arith
+
 either : (k : ℕ) (b : Bool) (v w : Option ℕ) → IsLow k v → IsLow k w → IsLow k (if b then v else w)
 either k true v w low other = low
 either k false v w low other = other
@@ -32,7 +35,7 @@ low_number (Did s ∷ t) name = low_number t name
 low_number (Out c i ∷ t) name = low_number t name
 low_number (Took c k ∷ t) name = low_number t name
 low_number (Bound b ∷ t) name =
-    either (bindings t + 1) (same_name (name_in t b) name) (Some (bindings t + 1)) (number_named t name) (omega arith) (more (bindings t) (number_named t name) (low_number t name))
+    either (bindings t + 1) (same_name (name_in t b) name) (Some (bindings t + 1)) (number_named t name) (itself (bindings t + 1)) (more (bindings t) (number_named t name) (low_number t name))
 low_number (Booked acts ∷ t) name = low_number t name
 low_number (Began g ∷ t) name = low_number t name
 

@@ -7,7 +7,7 @@ use Rattle.router_deliveries.specs.declared.index.Keys.{Keys}
 use Rattle.router_deliveries.specs.Calling.{at_name, AreCalled}
 use Rattle.router_deliveries.specs.Indexing.{Indexes, standing}
 use Rattle.router_deliveries.proofs.Called.{called_more}
-use Rattle.router_deliveries.proofs.Puts.{on_ok_both}
+use Rattle.router_deliveries.proofs.Puts.{on_ok_both, on_ok_three}
 use Rattle.router_deliveries.proofs.Reindexed.{put_back}
 use Rattle.router_deliveries.proofs.Touching.{touches_one}
 use Rattle.router_deliveries.proofs.store.Store.add.Goals as goal
@@ -16,17 +16,14 @@ pub returns-clause-indexed : goal.returns-clause-indexed
 returns-clause-indexed c =
     let old = get nat_cmp c.args.self.now.deliveries in
     let stood : ℕ → Keys = λ n. standing (old n) in
-    on_ok_both c.keep.result
-    (λ deliveries f none alone before. f none alone before deliveries)
-    c.keep.ensures.deliveries
-    (on_ok_both c.keep.result
-    (λ indexed called none alone before deliveries. record {
+    on_ok_three c.keep.result
+    (λ deliveries indexed called none alone before. record {
       indexes = put_back _ c.args.number _ old (get nat_cmp c.take-taken.new.self.deliveries) _ c.take-taken.ensures.gone deliveries
           (indexed stood (ap standing (sym c.take-taken.ensures.gives) ∙ sym c.standing-before.ensures) (subst (λ (x : Index). Indexes x stood) (sym c.take-taken.ensures.index) before.indexes));
       called = called_more c.args.self.now.by_name _ c.args.number c.args.name c.args.binding old (get nat_cmp c.take-taken.new.self.deliveries) _ none alone c.take-taken.ensures.gone deliveries
           (λ m. called m ∙ ap (λ (x : ByName). at_name x m) c.take-taken.ensures.by_name ∙ c.in_ok-set.ensures m) before.called;
     })
-    c.keep.ensures.indexed c.keep.ensures.called)
+    c.keep.ensures.deliveries c.keep.ensures.indexed c.keep.ensures.called
 
 pub returns-clause-touches : goal.returns-clause-touches
 returns-clause-touches c = on_ok_both c.keep.result
