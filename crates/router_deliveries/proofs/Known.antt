@@ -51,6 +51,13 @@ same_number known None (Some m) n d x there = by_test (m == n) refl
     by_test true e = let wrong : None ≡ Some d = sym x ∙ ap known (eqb-true m n e) ∙ there in absurd cc
     by_test false e = sym e
 
+pub known_there : (known : ℕ → Option Delivery) (a b : Option ℕ) (n : ℕ) (d : Delivery) → Knows known a b → known n ≡ Some d → b ≡ Some n → a ≡ Some n
+known_there known (Some m) b n d x there e = sym x ∙ e
+known_there known None b n d x there e =
+    let gone : known n ≡ None = subst (IsGone known) e x in
+    let wrong : None ≡ Some d = sym gone ∙ there in
+    absurd cc
+
 -- what a frame carries
 pub known_tagged : (known : ℕ → Option Delivery) (f g : DeliveryName → Option ℕ) → ((name : DeliveryName) → Knows known (f name) (g name))
     → (tag : Option (List ℕ)) → Knows known (option_and_then (number_tagged f) tag) (option_and_then (number_tagged g) tag)
