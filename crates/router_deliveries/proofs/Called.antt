@@ -168,7 +168,7 @@ there_named (Bound b ∷ t) n d e = by_test (bindings t + 1 == n) refl (there_na
         ap (λ x. if x then Some (bindings t + 1) else number_named t d.name) (same_back newest d.name ∙ old.1) ∙ rest old.0
 
 -- no binding has two names
-number_of : Option ℕ → ℕ
+abbrev number_of : Option ℕ → ℕ
 number_of None = 0
 number_of (Some n) = n
 

@@ -7,6 +7,7 @@ mod Keys
 pub mod Puts
 mod Closed
 mod Named
+mod Bound
 mod Picked
 mod Heard
 mod Reindexed

@@ -1,6 +1,8 @@
 use Rattle.std.proofs.Common.{◌≡◌, ◌∙◌, ℕ, ap, sym, subst}
+use Rattle.std.specs.Prelude.{◌==◌, ◌&&◌, if◌then◌else◌, None}
 use Rattle.std.specs.Ordering.{nat_cmp}
 use Rattle.std.specs.BTreeMap.{get}
+use Rattle.router_trace.specs.Deliveries.{Delivery, unless_over, is_over, same_name}
 use Rattle.router_deliveries.specs.declared.by_name.ByName.{ByName}
 use Rattle.router_deliveries.specs.declared.index.Index.{Index}
 use Rattle.router_deliveries.specs.declared.index.Keys.{Keys}
@@ -20,8 +22,9 @@ returns-clause-indexed c =
     (λ deliveries indexed called none alone before. record {
       indexes = put_back _ c.args.number _ old (get nat_cmp c.take-taken.new.self.deliveries) _ c.take-taken.ensures.gone deliveries
           (indexed stood (ap standing (sym c.take-taken.ensures.gives) ∙ sym c.standing-before.ensures) (subst (λ (x : Index). Indexes x stood) (sym c.take-taken.ensures.index) before.indexes));
-      called = called_more c.args.self.now.by_name _ c.args.number c.args.name c.args.binding old (get nat_cmp c.take-taken.new.self.deliveries) _ none alone c.take-taken.ensures.gone deliveries
-          (λ m. called m ∙ ap (λ (x : ByName). at_name x m) c.take-taken.ensures.by_name ∙ c.in_ok-set.ensures m) before.called;
+      called = called_more c.args.self.now.by_name c.keep.new.self.by_name c.args.number c.args.name c.args.binding old (get nat_cmp c.take-taken.new.self.deliveries) _ none alone c.take-taken.ensures.gone
+          (λ n. deliveries n ∙ ap (λ (d : Delivery). if c.args.number == n then unless_over d else get nat_cmp c.take-taken.new.self.deliveries n) c.bound.ensures)
+          (λ m. called m ∙ ap (λ (d : Delivery). if is_over d && same_name d.name m then None else at_name c.take-taken.new.self.by_name m) c.bound.ensures ∙ ap (λ (x : ByName). at_name x m) c.take-taken.ensures.by_name ∙ c.in_ok-set.ensures m) before.called;
     })
     c.keep.ensures.deliveries c.keep.ensures.indexed c.keep.ensures.called
 

@@ -2,11 +2,23 @@ use Rattle.std.proofs.Common.{◌∙◌, ap, sym}
 use Rattle.std.specs.Prelude.{◌==◌, if◌then◌else◌, Option, Some}
 use Rattle.std.specs.Ordering.{nat_cmp}
 use Rattle.std.specs.BTreeMap.{get}
-use Rattle.router_trace.specs.Deliveries.{bound, unless_called}
+use Rattle.router_trace.specs.Deliveries.{Delivery, bound, unless_called}
 use Rattle.router_deliveries.specs.Calling.{is_called}
 use Rattle.router_deliveries.proofs.Called.{none_called}
 use Rattle.router_deliveries.proofs.Puts.{on_ok}
+use Rattle.router_deliveries.proofs.Touching.{touches_then}
 use Rattle.router_deliveries.proofs.store.Store.bind.Goals as goal
+
+pub returns-clause-deliveries : goal.returns-clause-deliveries
+returns-clause-deliveries c = on_ok c.add.result
+    (λ added before n. added n
+    ∙ ap (λ (v : Option Delivery). if c.args.number == n then Some (bound c.args.name c.args.binding) else v) (c.in_ok-remove_called.ensures.deliveries before n))
+    c.add.ensures.deliveries
+
+pub returns-clause-touches : goal.returns-clause-touches
+returns-clause-touches c = on_ok c.add.result
+    (λ touched. touches_then c.args.self.now c.remove_called.new.self c.add.new.self c.in_ok-remove_called.ensures.touches touched)
+    c.add.ensures.touches
 
 pub returns-clause-indexed : goal.returns-clause-indexed
 returns-clause-indexed c = on_ok c.add.result

@@ -2,6 +2,7 @@ use Rattle.std.proofs.Common.{◌≡◌, ◌∙◌, ℕ, ap, sym, subst}
 use Rattle.std.specs.Prelude.{◌==◌, if◌then◌else◌, Some, None}
 use Rattle.std.specs.Ordering.{nat_cmp}
 use Rattle.std.specs.BTreeMap.{get}
+use Rattle.router_trace.specs.Deliveries.{Delivery, same_name}
 use Rattle.router_deliveries.specs.declared.by_name.ByName.{ByName}
 use Rattle.router_deliveries.specs.declared.index.Index.{Index}
 use Rattle.router_deliveries.specs.declared.index.Keys.{Keys}
@@ -26,9 +27,10 @@ returns-clause-indexed c =
           (λ n. ap (λ m. get nat_cmp m n) c.shift.ensures.deliveries ∙ none_back c.args.number old middle c.take.ensures.gone n)
           (subst (λ (k : Keys). Indexes c.shift.new.self.index (λ n. if c.args.number == n then k else stood n)) c.nowhere.ensures
           (indexed stood (ap standing was ∙ sym c.of-before.ensures) (subst (λ (x : Index). Indexes x stood) (sym c.take.ensures.index) before.indexes)));
-      called = called_out c.take.new.self.by_name _ c.args.number c.in-Some.delivery old _ was
+      called = called_out c.take.new.self.by_name c.shift.new.self.by_name c.args.number c.in-Some.delivery old _ was
           (λ n. ap (λ m. get nat_cmp m n) c.shift.ensures.deliveries ∙ c.take.ensures.gone n)
-          (λ m. ap (λ (x : ByName). at_name x m) c.shift.ensures.by_name ∙ c.forget.ensures m)
+          (λ m. ap (λ (x : ByName). at_name x m) c.shift.ensures.by_name ∙ c.forget.ensures m
+          ∙ ap (λ (d : Delivery). if same_name d.name m then None else at_name c.take.new.self.by_name m) c.delivery.view_is)
           (subst (λ (x : ByName). AreCalled x old) (sym c.take.ensures.by_name) before.called);
     })
     c.shift.ensures.indexed
