@@ -28,7 +28,7 @@ use disk_core::{Crash, Disk};
 use gate_journal::{JournalFault, OpenFault};
 use route_table::{Config, Table};
 use router_after::after;
-use router_reply::{Plan, plan, reply};
+use router_reply::{Plan, make_plan, reply};
 use router_rows::Answer;
 use router_state::State;
 use router_store::Store;
@@ -350,7 +350,7 @@ impl<D: Disk> Core<D> {
                 Err(_) => Err(CoreFault::Memory),
             };
         }
-        let Ok(plan) = plan(&self.state, self.store.book(), full, event) else {
+        let Ok(plan) = make_plan(&self.state, self.store.book(), full, event) else {
             return Err(CoreFault::Memory);
         };
         let Plan { answer, acts } = plan;

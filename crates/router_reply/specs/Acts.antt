@@ -15,7 +15,6 @@ use Rattle.book_core.specs.Book.{BookView, empty_book, effects, terminus_at, ter
 use Rattle.gate_journal.specs.Reserve.{reserve}
 use Rattle.router_store.specs.Lost.{start_acts}
 use Rattle.router_store.specs.Store.{used_behind, batches_behind, exceeds}
-use Rattle.router_trace.specs.declared.event.ConnectionId.{ConnectionId}
 use Rattle.router_trace.specs.declared.event.Event.{Event}
 use Rattle.router_trace.specs.declared.event.Event.TheVariants as event
 use Rattle.router_trace.specs.Trace.{Trace, Did, Out, Took, Bound, Booked, Began}

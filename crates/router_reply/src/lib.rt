@@ -9,4 +9,4 @@ mod planning;
 
 pub use events::reply;
 pub use passing::IGNORED;
-pub use planning::{Plan, plan};
+pub use planning::{Plan, make_plan};

@@ -2,10 +2,10 @@
 ghost use Rattle.std.specs.Prelude.{◌≡◌, [], ◌∷◌, List, option_map, unwrap_or, is_none, IfOk};
 ghost use Rattle.std.specs.List.{list_any};
 ghost use Rattle.book_core.specs.declared.act.Act.TheVariants as act;
-ghost use Rattle.book_core.specs.Book.{keeps, terminus_at, terminus_of, drop_refusal};
+ghost use Rattle.book_core.specs.Book.{BookView, keeps, terminus_at, terminus_of, drop_refusal};
 ghost use Rattle.router_trace.specs.Trace.{Entry};
 ghost use Rattle.router_trace.specs.Links.{free_handle};
-ghost use Rattle.router_state.specs.Tables.{TablesFit, TablesFind};
+ghost use Rattle.router_state.specs.Tables.{TablesFit};
 ghost use Rattle.router_store.specs.Store.{Writable};
 ghost use Rattle.router_rows.specs.declared.answer.Answer.TheVariants.{Attach as Attaches};
 ghost use Rattle.router_rows.specs.Rows.{item_reply};
@@ -39,6 +39,7 @@ impl Plan {
     fn only(alloc: Global, answer: Answer) -> Plan
         ensures answer { result.answer ≡ answer }
         ensures acts { result.acts.items ≡ [] }
+        ensures writable { (book : BookView) → Writable book result.acts.items }
     {
         Plan {
             answer,
@@ -61,7 +62,7 @@ fn one(alloc: Global, act: Act) -> Result<Vec<Act>, AllocError>
 
 /// A copy of a text; the empty one if there is none.
 fn copied(alloc: Global, text: Option<&Text>) -> Result<Text, AllocError>
-    ensures { IfOk result (λ copy. copy ≡ unwrap_or (option_map (λ a. a.now) text) []) }
+    ensures { IfOk result (λ copy. copy ≡ unwrap_or (option_map (λ a. a.now) text.entry) []) }
 {
     match text {
         None => Ok(Text::new(String::new(alloc))),
@@ -76,7 +77,7 @@ fn make_acts(
     key: LinkKey,
     address: Option<&Text>,
 ) -> Result<Vec<Act>, AllocError>
-    ensures { IfOk result (λ acts. acts.items ≡ act.Make (new_terminus book.now key (unwrap_or (option_map (λ a. a.now) address) [])) ∷ []) }
+    ensures { IfOk result (λ acts. acts.items ≡ act.Make (new_terminus book.now key (unwrap_or (option_map (λ a. a.now) address.entry) [])) ∷ []) }
 {
     let Ok(address) = copied(alloc, address) else {
         drop(key);
@@ -130,9 +131,9 @@ fn plan_attach(
     own: u16,
     attach: &Attach,
 ) -> Result<Plan, AllocError>
-    ensures answer { IfOk result (λ plan. (t : List Entry) → TablesFind state.now t
+    ensures answer { IfOk result (λ plan. (t : List Entry) → TablesFit state.now t
         → plan.answer ≡ booked_attach (free_handle t conn) (book_refusal full book.now t conn attach.now) (Attaches own)) }
-    ensures acts { IfOk result (λ plan. (t : List Entry) → TablesFind state.now t → plan.acts.items ≡ attach_acts full book.now t conn attach.now) }
+    ensures acts { IfOk result (λ plan. (t : List Entry) → TablesFit state.now t → plan.acts.items ≡ attach_acts full book.now t conn attach.now) }
     ensures writable { IfOk result (λ plan. Writable book.now plan.acts.items) }
 {
     let free = state.free_handle(conn, own);
@@ -179,7 +180,7 @@ fn lets_go(book: &Book, number: TerminusNumber) -> bool
 
 /// The acts of a detach that closes the durable link with this key for good.
 fn closed_acts(alloc: Global, book: &Book, key: Option<&LinkKey>) -> Result<Vec<Act>, AllocError>
-    ensures acts { IfOk result (λ acts. acts.items ≡ closed_acts book.now (option_map (λ k. k.now) key)) }
+    ensures acts { IfOk result (λ acts. acts.items ≡ closed_acts book.now (option_map (λ k. k.now) key.entry)) }
     ensures writable { IfOk result (λ acts. Writable book.now acts.items) }
 {
     let Some(key) = key else {
@@ -194,14 +195,9 @@ fn closed_acts(alloc: Global, book: &Book, key: Option<&LinkKey>) -> Result<Vec<
 }
 
 /// Plans a detach whose row gave this answer.
-fn plan_detach(
-    state: &State,
-    book: &Book,
-    conn: u64,
-    answer: Answer,
-) -> Result<Plan, AllocError>
+fn plan_detach(state: &State, book: &Book, conn: u64, answer: Answer) -> Result<Plan, AllocError>
     ensures answer { IfOk result (λ plan. plan.answer ≡ answer) }
-    ensures acts { IfOk result (λ plan. (t : List Entry) → TablesFind state.now t → plan.acts.items ≡ detached_acts book.now t conn answer) }
+    ensures acts { IfOk result (λ plan. (t : List Entry) → TablesFit state.now t → plan.acts.items ≡ detached_acts book.now t conn answer) }
     ensures writable { IfOk result (λ plan. Writable book.now plan.acts.items) }
 {
     match answer {
@@ -227,9 +223,9 @@ fn plan_perf(
     perf: &Perf,
     answer: Answer,
 ) -> Result<Plan, AllocError>
-    ensures answer { IfOk result (λ plan. (t : List Entry) → TablesFind state.now t
+    ensures answer { IfOk result (λ plan. (t : List Entry) → TablesFit state.now t
         → plan.answer ≡ booked (free_handle t conn) (book_refusal full book.now t conn) (attach_of perf.now) answer) }
-    ensures acts { IfOk result (λ plan. (t : List Entry) → TablesFind state.now t → plan.acts.items ≡ perf_acts full book.now t conn perf.now answer) }
+    ensures acts { IfOk result (λ plan. (t : List Entry) → TablesFit state.now t → plan.acts.items ≡ perf_acts full book.now t conn perf.now answer) }
     ensures writable { IfOk result (λ plan. Writable book.now plan.acts.items) }
 {
     match perf {
@@ -251,8 +247,8 @@ fn plan_item(
     phase: Conn,
     item: &Item,
 ) -> Result<Plan, AllocError>
-    ensures answer { IfOk result (λ plan. (t : List Entry) → TablesFind state.now t → plan.answer ≡ answer_at full book.now t conn phase item.now) }
-    ensures acts { IfOk result (λ plan. (t : List Entry) → TablesFind state.now t → plan.acts.items ≡ item_acts full book.now t conn item.now (item_reply phase (finds t conn) item.now)) }
+    ensures answer { IfOk result (λ plan. (t : List Entry) → TablesFit state.now t → plan.answer ≡ answer_at full book.now t conn phase item.now) }
+    ensures acts { IfOk result (λ plan. (t : List Entry) → TablesFit state.now t → plan.acts.items ≡ item_acts full book.now t conn item.now (item_reply phase (finds t conn) item.now)) }
     ensures writable { IfOk result (λ plan. Writable book.now plan.acts.items) }
 {
     let answer = item_reply(state, conn, phase, item);
@@ -269,12 +265,7 @@ fn plan_item(
 /// # Errors
 ///
 /// `AllocError` if memory was refused. Nothing is changed in any case.
-pub fn plan(
-    state: &State,
-    book: &Book,
-    full: bool,
-    event: &Event,
-) -> Result<Plan, AllocError>
+pub fn make_plan(state: &State, book: &Book, full: bool, event: &Event) -> Result<Plan, AllocError>
     ensures answer { IfOk result (λ plan. (t : List Entry) → TablesFit state.now t → plan.answer ≡ event_answer full book.now t event.now) }
     ensures acts { IfOk result (λ plan. (t : List Entry) → TablesFit state.now t → plan.acts.items ≡ planned_acts full book.now t event.now) }
     ensures writable { IfOk result (λ plan. Writable book.now plan.acts.items) }

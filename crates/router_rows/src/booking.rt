@@ -63,7 +63,7 @@ fn is_short(text: &Text) -> bool
 
 /// Whether the text of an address, if there is one, has at most 1,024 bytes.
 fn is_short_address(address: Option<&Text>) -> bool
-    ensures { result ≡ is_short (unwrap_or (option_map (λ a. a.now) address) []) }
+    ensures { result ≡ is_short (unwrap_or (option_map (λ a. a.now) address.entry) []) }
 {
     match address {
         None => true,
@@ -73,7 +73,7 @@ fn is_short_address(address: Option<&Text>) -> bool
 
 /// Whether there is room for one more terminus, with this key and address.
 fn has_room(full: bool, book: &Book, key: &LinkKey, address: Option<&Text>) -> bool
-    ensures { result ≡ has_room full book.now (new_terminus book.now key.now (unwrap_or (option_map (λ a. a.now) address) [])) }
+    ensures { result ≡ has_room full book.now (new_terminus book.now key.now (unwrap_or (option_map (λ a. a.now) address.entry) [])) }
 {
     let short = is_short(&key.user)
         && is_short(&key.container)
@@ -84,7 +84,7 @@ fn has_room(full: bool, book: &Book, key: &LinkKey, address: Option<&Text>) -> b
 
 /// Whether a terminus has this address.
 fn has_address(terminus: &Terminus, address: Option<&Text>) -> bool
-    ensures { result ≡ same_bytes terminus.now.address (unwrap_or (option_map (λ a. a.now) address) []) }
+    ensures { result ≡ same_bytes terminus.now.address (unwrap_or (option_map (λ a. a.now) address.entry) []) }
 {
     match address {
         None => terminus.address.as_str().is_empty(),

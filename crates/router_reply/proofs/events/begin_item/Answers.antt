@@ -7,7 +7,7 @@ use Rattle.router_links.specs.Fits.{channel_of}
 use Rattle.router_rows.specs.declared.answer.Answer.{Answer}
 use Rattle.router_rows.specs.declared.answer.Answer.TheVariants.{Taken, Settle}
 use Rattle.router_rows.specs.Rows.{said}
-use Rattle.router_reply.specs.Acts.{book_in}
+use Rattle.router_reply.specs.Acts.{found_journal}
 use Rattle.router_reply.specs.Replies.{heard, attach_put, given_behind, behind_answer, settled_put, disposition_in}
 use Rattle.router_rows.proofs.Mapped.{IsHere, answer_here}
 use Rattle.router_reply.proofs.Behind.{taken_is, settled_is, other_is, taken_left, settled_left}
@@ -24,7 +24,7 @@ returns-in_ok-on_taken-in-Taken c = λ t at row.
     let handle = c.in-Taken.handle in
     let after : List Entry = heard id t (step_of (event.Item c.args.conn item)) in
     let here : maps (theirs t conn (channel_of item)) own ≡ true =
-    subst (λ (a : Answer). IsHere (maps (theirs t conn (channel_of item))) a) (sym row ∙ c.in-Taken.is) (answer_here _ (book_in t) phase t conn item) in
+    subst (λ (a : Answer). IsHere (maps (theirs t conn (channel_of item))) a) (sym row ∙ c.in-Taken.is) (answer_here _ (found_journal t).book phase t conn item) in
     let u : List Entry = given_behind after conn own handle (part_of item (link_place t conn own)) in
     let same : goes (attach_put u conn item (Taken own handle)) u ≡ behind_answer id t after conn phase item (Taken own handle) =
     ap (λ (ps : List Put). goes ps u) (taken_left u conn item own handle) ∙ sym (taken_is id t after conn phase item own handle) in (

@@ -1,10 +1,9 @@
 use Rattle.std.proofs.Common.{◌≡◌, ◌∙◌, sym, ap, subst, rules, List}
-use Rattle.std.specs.Prelude.{Option, Some, None}
+use Rattle.std.specs.Prelude.{Option, None}
 use Rattle.amqp_conn.specs.declared.conn.Conn.{Conn}
-use Rattle.router_rows.specs.declared.answer.Answer.{Answer}
 use Rattle.router_trace.specs.Trace.{Entry, step_of}
 use Rattle.router_state.specs.Tables.{TablesFit}
-use Rattle.router_reply.specs.Acts.{answer_of, live_answer, finds_full, journaled, book_in}
+use Rattle.router_reply.specs.Acts.{answer_of, answer_by}
 use Rattle.router_reply.specs.Replies.{heard}
 use Rattle.router_reply.proofs.Behind.{behind_item, decided}
 use Rattle.router_trace.specs.declared.event.Event.TheVariants as event
@@ -26,9 +25,8 @@ returns c = λ t at answered.
     let phase = c.in-Some.phase in
     let after : List Entry = heard id t (step_of (event.Item c.args.conn c.args.item)) in
     let live = c.in-Some.ensures.at t _ _ at in
-    let full = finds_full (journaled t) t (event.Item c.args.conn item) in
     let row : c.args.answer ≡ answer_of t conn phase item
-    = answered ∙ ap (live_answer full (book_in t) t conn item) (sym live) in
+    = answered ∙ ap (λ (p : Option Conn). answer_by t conn item p) (sym live) in
     let begun = c.in-Ok.ensures t at row in
     subst (λ (u : List Entry). TablesFit c.answer_item.new.state u)
     (begun.2 ∙ decided id t after conn phase item c.args.answer _ row live)
