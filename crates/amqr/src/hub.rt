@@ -1,5 +1,5 @@
 //! What the threads of a serving program share.
-use crate::lines::{Lines, failure_words};
+use crate::lines::Lines;
 use crate::streams::Streams;
 use disk_core::Disk;
 use route_table::Config;
@@ -134,13 +134,16 @@ impl<M: Disk, G: Ledgers> Hub<M, G> {
     /// The router answered a fault. Where it failed, no more connections are accepted, and those that have threads lose their sockets,
     /// also at their doors, so that none is waited for.
     pub fn failed<R: Wait + Eprint>(&self, rt: &R, fault: CoreFault) {
-        if fault == CoreFault::NoConnection {
-            return;
+        match fault {
+            CoreFault::NoConnection => return,
+            CoreFault::Disk => self.lines.say(rt, "the router's disk failed"),
+            CoreFault::Memory => self.lines.say(rt, "memory was refused to the router"),
+            CoreFault::Failed => {}
         }
         self.stop(rt);
         let first = self.streams.lock(rt).shut();
         if first {
-            self.lines.say(rt, failure_words(fault));
+            self.lines.say(rt, "the router failed: all connections end");
         }
     }
 

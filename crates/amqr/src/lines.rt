@@ -103,15 +103,6 @@ fn error_in(perf: &Perf) -> Option<&Fault> {
     }
 }
 
-/// Why the router failed, in words.
-pub fn failure_words(fault: CoreFault) -> &'static str {
-    match fault {
-        CoreFault::Disk => "the router failed: its disk failed",
-        CoreFault::Memory => "the router failed: out of memory",
-        _ => "the router failed",
-    }
-}
-
 /// Why a reader ended, in words.
 pub fn reader_words(end: ReadEnd) -> &'static str {
     match end {
