@@ -189,10 +189,10 @@ next_is largest own x rest = by (fits largest (transfer_frame own x rest)) (fill
     by true n = record { transfer = x; payload = rest; frame = refl; on_handle = refl }
     by false n = record { transfer = with_more x; payload = take n rest; frame = refl; on_handle = refl }
 
-handle_is : (t : List Entry) (n : ℕ) (d : Delivery) → (transfer_of t n d).handle ≡ d.link.handle
-handle_is t n d = by (is_none d.id)
+handle_is : (t : List Entry) (d : Delivery) → (transfer_of t d).handle ≡ d.link.handle
+handle_is t d = by (is_none d.id)
   where
-    by : (b : Bool) → (if b then first_transfer d.link.handle (next_id t d.link.conn.0 d.link.channel) n d else later_transfer d.link.handle d).handle ≡ d.link.handle
+    by : (b : Bool) → (if b then first_transfer d.link.handle (next_id t d.link.conn.0 d.link.channel) d else later_transfer d.link.handle d).handle ≡ d.link.handle
     by true = refl
     by false = refl
 
@@ -209,12 +209,12 @@ AllSent t [] = Unit {0}
 AllSent t (p ∷ []) = IsSent t p
 AllSent t (p ∷ q ∷ qs) = ⊥
 
-sent_is : (t : List Entry) (n : ℕ) (d : Delivery) → Sent t n d → AllSent t (send t n (Some d))
+sent_is : (t : List Entry) (n : ℕ) (d : Delivery) → Sent t n d → AllSent t (send t (Some d))
 sent_is t n d is = record {
   own = d.link.channel;
   handle = d.link.handle;
-  transfer = subst (λ (h : ℕ). IsTransferOn d.link.channel h (next_frame (largest_out (largest_frame t d.link.conn.0)) d.link.channel (transfer_of t n d) (rest_of d)))
-      (handle_is t n d) (next_is (largest_out (largest_frame t d.link.conn.0)) d.link.channel (transfer_of t n d) (rest_of d));
+  transfer = subst (λ (h : ℕ). IsTransferOn d.link.channel h (next_frame (largest_out (largest_frame t d.link.conn.0)) d.link.channel (transfer_of t d) (rest_of d)))
+      (handle_is t d) (next_is (largest_out (largest_frame t d.link.conn.0)) d.link.channel (transfer_of t d) (rest_of d));
   wide = is.wide;
   takes = is.takes;
 }
@@ -223,7 +223,7 @@ passed_test : (b : Bool) (x a : Attachment) → (if b then Some x else None) ≡
 passed_test true x a e = refl
 passed_test false x a e = absurd cc
 
-sent_all : (t : List Entry) (n : ℕ) (d : Option Delivery) (a : Attachment) → place_to_go t n d ≡ Some a → AllSent t (send t n d)
+sent_all : (t : List Entry) (n : ℕ) (d : Option Delivery) (a : Attachment) → place_to_go t n d ≡ Some a → AllSent t (send t d)
 sent_all t n None a e = tt
 sent_all t n (Some d) a e = sent_is t n d (can_go_sent t n d (passed_test (can_go t n d) d.link a e))
 

@@ -12,12 +12,13 @@ use Rattle.amqp_perf.specs.declared.perf.Transfer.{Transfer}
 use Rattle.amqp_perf.specs.declared.state.DeliveryState.{DeliveryState}
 use Rattle.amqp_frames.specs.declared.item.Item.{Item}
 use Rattle.amqp_frames.specs.declared.item.Item.TheVariants as item
+use Rattle.router_trace.specs.declared.binding.DeliveryName.{DeliveryName}
 use Rattle.router_trace.specs.declared.event.Event.{Event}
 use Rattle.router_trace.specs.declared.event.Event.TheVariants as event
 use Rattle.router_trace.specs.declared.channel.PeerChannel.{PeerChannel}
 use Rattle.router_trace.specs.declared.handle.Attachment.{Attachment}
 use Rattle.router_trace.specs.Trace.{Entry, Trace, Did, Out, Took, Booked, Bound, Began}
-use Rattle.router_trace.specs.Deliveries.{Delivery, delivery, bindings, bound, unless_over, is_over, is_undecided, behind_ends, is_gone_with, ended, untold, behind_put, behind_frame, behind_event, put_in, is_number, carried, tag_in, told, is_meant, origin_id, heard, heard_in, disposed, decided, is_settled_at, is_on, ended_by, lost_with, named, sending}
+use Rattle.router_trace.specs.Deliveries.{Delivery, delivery, bindings, bound, name_in, same_name, number_named, unless_called, unless_over, is_over, is_undecided, behind_ends, is_gone_with, ended, untold, behind_put, behind_frame, behind_event, put_in, is_number, carried, tag_in, told, is_meant, origin_id, heard, heard_in, disposed, decided, is_settled_at, is_on, ended_by, lost_with, named, sending}
 use Rattle.router_trace.specs.Sessions.{theirs}
 use Rattle.amqp_perf.specs.declared.state.DeliveryState.TheVariants as state
 use Rattle.router_deliveries.specs.Naming.{is_open}
@@ -67,14 +68,14 @@ told_closed : (r : Role) (x : Disposition) (c o : ℕ) → Closes (told r x c o)
 told_closed Receiver x c o d e = either (x.settled && is_meant x (origin_id d.origin c o)) (untold d) d e e
 told_closed Sender x c o d e = e
 
-put_in_closed : (body : Perf) (c own n : ℕ) (sent : ℕ → ℕ → Option ℕ) (count : ℕ) → Closes (put_in body c own n sent count)
-put_in_closed (perf.Transfer x) c own n sent count d e = either (is_number (carried (tag_in x) (sent own x.handle)) n) (behind_frame x count d) d (frame_closed x count d e) e
-put_in_closed (perf.Disposition x) c own n sent count d e = told_closed x.role x c own d e
-put_in_closed _ c own n sent count d e = e
+put_in_closed : (numbers : DeliveryName → Option ℕ) (body : Perf) (c own n : ℕ) (sent : ℕ → ℕ → Option ℕ) (count : ℕ) → Closes (put_in numbers body c own n sent count)
+put_in_closed numbers (perf.Transfer x) c own n sent count d e = either (is_number (carried numbers (tag_in x) (sent own x.handle)) n) (behind_frame x count d) d (frame_closed x count d e) e
+put_in_closed numbers (perf.Disposition x) c own n sent count d e = told_closed x.role x c own d e
+put_in_closed numbers _ c own n sent count d e = e
 
-put_closed : (i : Item) (c n : ℕ) (sent : ℕ → ℕ → Option ℕ) → Closes (behind_put i c n sent)
-put_closed (item.Frame sasl own body payload) c n sent d e = ends_closed (ended_by (item.Frame sasl own body payload) c) (put_in body c own n sent (length payload) d) (put_in_closed body c own n sent (length payload) d e)
-put_closed _ c n sent d e = e
+put_closed : (numbers : DeliveryName → Option ℕ) (i : Item) (c n : ℕ) (sent : ℕ → ℕ → Option ℕ) → Closes (behind_put numbers i c n sent)
+put_closed numbers (item.Frame sasl own body payload) c n sent d e = ends_closed (ended_by (item.Frame sasl own body payload) c) (put_in numbers body c own n sent (length payload) d) (put_in_closed numbers body c own n sent (length payload) d e)
+put_closed numbers _ c n sent d e = e
 
 decided_closed : (x : Disposition) (names : ℕ → Option ℕ) (n : ℕ) → Closes (decided x names n)
 decided_closed x names n d e = rw e e
@@ -98,20 +99,20 @@ event_closed _ known names n d e = e
 
 pub stays_closed : (e : Entry) (t : Trace) (n : ℕ) → n ≤ bindings t → is_open (delivery t n) ≡ false → is_open (delivery (e ∷ t) n) ≡ false
 stays_closed (Did s) t n there closed = closed_behind (behind_event s.event (theirs t) (named t) n) (event_closed s.event (theirs t) (named t) n) (delivery t n) closed
-stays_closed (Out c i) t n there closed = closed_behind (behind_put i c n (sending t c)) (put_closed i c n (sending t c)) (delivery t n) closed
+stays_closed (Out c i) t n there closed = closed_behind (behind_put (number_named t) i c n (sending t c)) (put_closed (number_named t) i c n (sending t c)) (delivery t n) closed
 stays_closed (Took c k) t n there closed = closed
 stays_closed (Began g) t n there closed = closed
 stays_closed (Booked acts) t n there closed = closed
 stays_closed (Bound b) t n there closed = fresh (bindings t + 1 == n) refl
   where
-    fresh : (new : Bool) → (bindings t + 1 == n) ≡ new → is_open (if new then Some (bound b) else delivery t n) ≡ false
-    fresh true e = let is : bindings t + 1 ≡ n = eqb-true (bindings t + 1) n e in absurd (omega (arith, is, there))
-    fresh false e = closed
+    uncalled : (v : Option Delivery) → is_open v ≡ false → is_open (unless_called (name_in t b) v) ≡ false
+    uncalled None e = e
+    uncalled (Some d) e = by_test (same_name d.name (name_in t b))
+      where
+        by_test : (q : Bool) → is_open (if q then None else Some d) ≡ false
+        by_test true = refl
+        by_test false = e
 
-pub more_bindings : (e : Entry) (t : Trace) (n : ℕ) → n ≤ bindings t → n ≤ bindings (e ∷ t)
-more_bindings (Did s) t n there = there
-more_bindings (Out c i) t n there = there
-more_bindings (Took c k) t n there = there
-more_bindings (Began g) t n there = there
-more_bindings (Booked acts) t n there = there
-more_bindings (Bound b) t n there = omega (arith, there)
+    fresh : (new : Bool) → (bindings t + 1 == n) ≡ new → is_open (if new then Some (bound (name_in t b) b) else unless_called (name_in t b) (delivery t n)) ≡ false
+    fresh true e = let is : bindings t + 1 ≡ n = eqb-true (bindings t + 1) n e in absurd (omega (arith, is, there))
+    fresh false e = uncalled (delivery t n) closed

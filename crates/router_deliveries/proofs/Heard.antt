@@ -101,7 +101,7 @@ same_name t n id stored view x undecided = by_entries (stored id) (view id) x
         contra closed same = let open_there : is_open (delivery t m) ≡ true = ap (λ k. is_open (delivery t k)) same ∙ undecided in absurd (cc)
 
         other : (b : Bool) → (m == n) ≡ b → (m == n) ≡ false
-        other true e = absurd (contra x.1 (eqb-true m n e))
+        other true e = absurd (contra x (eqb-true m n e))
         other false e = e
 
 same_names : (t : Trace) (n : ℕ) (o : Option ℕ) (stored view : ℕ → Option ℕ) → ((id : ℕ) → Remembers t (stored id) (view id)) → is_open (delivery t n) ≡ true → is_named o view n ≡ is_named o stored n

@@ -8,13 +8,15 @@ use crate::change::{Change, Gone, comes_with_id, is_in};
 use crate::state::{copy, failed};
 use amqp_perf::{DeliveryState, Transfer};
 use bytes::Bytes;
-use router_trace::{Attachment, Binding, Origin};
+use router_trace::{Attachment, Binding, DeliveryName, Origin};
 use std::alloc::AllocError;
 use std::marker::Model;
 
 /// A message bound to one consumer link (AMQP 1.0 part 2, section 2.6.12).
 #[derive(Debug, Drop)]
 pub struct Delivery {
+    /// Its name, from which its tag is made.
+    pub name: DeliveryName,
     /// The consumer's link.
     pub link: Attachment,
     /// The producer's delivery, to which the outcome is reported; none if the producer needs no outcome any more.
@@ -41,6 +43,7 @@ impl Model for Delivery {
     ghost Value = { View };
 
     ghost view = { λ d. record {
+      name = d.name;
       link = d.link;
       origin = d.origin;
       presettled = d.presettled;
@@ -54,11 +57,12 @@ impl Model for Delivery {
 }
 
 impl Delivery {
-    /// A message that was just bound.
-    pub(crate) fn bound(binding: Binding) -> Delivery
-        ensures { result ≡ bound binding }
+    /// A message that was just bound, under a name.
+    pub(crate) fn bound(name: DeliveryName, binding: Binding) -> Delivery
+        ensures { result ≡ bound name binding }
     {
         Delivery {
+            name,
             link: binding.consumer,
             origin: binding.origin,
             presettled: binding.origin.is_none(),

@@ -9,6 +9,7 @@
 #![tactic(auto)]
 
 mod by_handle;
+mod by_name;
 mod by_session;
 mod change;
 mod claims;

@@ -178,6 +178,7 @@ whole_sound after c own handle d payload v sound came e = by v e d.resume refl
           came = came;
           once = none_since after came.handled came.just;
           not_resumed = fresh;
+          no_row = refl;
           format = refl;
           producer = l;
           attached = e;

@@ -21,10 +21,11 @@ use Rattle.router_trace.specs.declared.handle.Attachment.{Attachment}
 use Rattle.router_trace.specs.Trace.{Entry, Did, Out, Took, Booked, Bound, Began, Step}
 use Rattle.router_trace.specs.Links.{ends_handle}
 use Rattle.router_trace.specs.Sessions.{maps, theirs}
-use Rattle.router_trace.specs.Deliveries.{Delivery, bindings, delivery, sending, named, failed, behind_frame, decided, untold, told, ended, is_undecided, is_meant, is_named, is_number, last_of, decision, terminal, is_gone_with, behind_origin, behind_ends, ended_by, put_in, behind_put, carried, tag_in, is_on, is_settled_at, disposed, heard_in, heard, lost_with, behind_event, origin_id}
+use Rattle.router_trace.specs.Deliveries.{Delivery, bindings, name_in, number_named, delivery, sending, named, failed, behind_frame, decided, untold, told, ended, is_undecided, is_meant, is_named, is_number, last_of, decision, terminal, is_gone_with, behind_origin, behind_ends, ended_by, put_in, behind_put, carried, tag_in, is_on, is_settled_at, disposed, heard_in, heard, lost_with, behind_event, origin_id}
 use Rattle.router_laws.specs.Decided.{GivenByConsumer, Decides, Decided, IsByConsumer, DecidedByConsumer}
 use Rattle.router_laws.specs.Decided.Decides.{given_by_consumer, link_lost, link_ended, sent_settled}
 use Rattle.router_conns.proofs.Lists.{by_test}
+use Rattle.router_deliveries.proofs.Called.{uncalled}
 use Rattle.router_core.proofs.Due.{both_true}
 use Rattle.router_laws.proofs.Tests.{never_both, none_is, some_same, none_not_some}
 use Rattle.router_laws.specs.OneConsumer.{WhileThere}
@@ -81,7 +82,7 @@ number_is None n h = absurd cc
 number_is (Some k) n h = ap (λ (m : ℕ). Some m) (eqb-true k n h)
 
 frame_from : (c : ℕ) (sasl : Bool) (own : ℕ) (x : Transfer) (payload : List ℕ) (t : List Entry) (n : ℕ) (d : Delivery)
-    → carried (tag_in x) (sending t c own x.handle) ≡ Some n
+    → carried (number_named t) (tag_in x) (sending t c own x.handle) ≡ Some n
     → From (Now (Out c (item.Frame sasl own (perf.Transfer x) payload)) t n d) d (behind_frame x (length payload) d)
 frame_from c sasl own x payload t n d carries s h =
     by_test (d.presettled && not x.more)
@@ -95,11 +96,11 @@ frame_from c sasl own x payload t n d carries s h =
     negated false f = refl
 
 transfer_from : (c : ℕ) (sasl : Bool) (own : ℕ) (x : Transfer) (payload : List ℕ) (t : List Entry) (n : ℕ) (d : Delivery)
-    → From (Now (Out c (item.Frame sasl own (perf.Transfer x) payload)) t n d) d (put_in (perf.Transfer x) c own n (sending t c) (length payload) d)
+    → From (Now (Out c (item.Frame sasl own (perf.Transfer x) payload)) t n d) d (put_in (number_named t) (perf.Transfer x) c own n (sending t c) (length payload) d)
 transfer_from c sasl own x payload t n d =
-    choice (Now (Out c (item.Frame sasl own (perf.Transfer x) payload)) t n d) (is_number (carried (tag_in x) (sending t c own x.handle)) n) d
+    choice (Now (Out c (item.Frame sasl own (perf.Transfer x) payload)) t n d) (is_number (carried (number_named t) (tag_in x) (sending t c own x.handle)) n) d
     (behind_frame x (length payload) d) d
-    (λ e. frame_from c sasl own x payload t n d (number_is (carried (tag_in x) (sending t c own x.handle)) n e))
+    (λ e. frame_from c sasl own x payload t n d (number_is (carried (number_named t) (tag_in x) (sending t c own x.handle)) n e))
     (λ e. was_there _ d)
 
 -- items that end no link
@@ -118,16 +119,16 @@ ending_from c i t n d =
     in link_ended (record { conn = c; item = i; entry_is = refl; on_connection = eqb-true d.link.conn.0 c both.0; ends = both.1 }) none is)
 
 frame_put_from : (body : Perf) (c : ℕ) (sasl : Bool) (own : ℕ) (payload : List ℕ) (t : List Entry) (n : ℕ) (d : Delivery)
-    → From (Now (Out c (item.Frame sasl own body payload)) t n d) d (behind_put (item.Frame sasl own body payload) c n (sending t c) d)
+    → From (Now (Out c (item.Frame sasl own body payload)) t n d) d (behind_put (number_named t) (item.Frame sasl own body payload) c n (sending t c) d)
 frame_put_from (perf.Transfer x) c sasl own payload t n d =
-    quiet_from (Now (Out c (item.Frame sasl own (perf.Transfer x) payload)) t n d) c d (put_in (perf.Transfer x) c own n (sending t c) (length payload) d)
+    quiet_from (Now (Out c (item.Frame sasl own (perf.Transfer x) payload)) t n d) c d (put_in (number_named t) (perf.Transfer x) c own n (sending t c) (length payload) d)
     (transfer_from c sasl own x payload t n d)
 frame_put_from (perf.Disposition x) c sasl own payload t n d =
     quiet_from (Now (Out c (item.Frame sasl own (perf.Disposition x) payload)) t n d) c d (told x.role x c own d)
     (λ s h. inl (sym (told_outcome x.role x c own d) ∙ h))
 frame_put_from body c sasl own payload t n d = ending_from c (item.Frame sasl own body payload) t n d
 
-put_from : (c : ℕ) (i : Item) (t : List Entry) (n : ℕ) (d : Delivery) → From (Now (Out c i) t n d) d (behind_put i c n (sending t c) d)
+put_from : (c : ℕ) (i : Item) (t : List Entry) (n : ℕ) (d : Delivery) → From (Now (Out c i) t n d) d (behind_put (number_named t) i c n (sending t c) d)
 put_from c (item.Frame sasl own body payload) t n d = frame_put_from body c sasl own payload t n d
 put_from c _ t n d = was_there _ d
 
@@ -238,7 +239,7 @@ outcomes_given (Did x ∷ t) n d s h e =
     in either_decided (Did x) t n was.0 s was.1 (outcomes_given t n was.0 s was.1)
     (event_from x t n was.0 x.event refl s (sym (ap (λ (f : Delivery). f.outcome) was.2) ∙ e))
 outcomes_given (Out c i ∷ t) n d s h e =
-    let was = of_what (behind_put i c n (sending t c)) (delivery t n) d h
+    let was = of_what (behind_put (number_named t) i c n (sending t c)) (delivery t n) d h
     in either_decided (Out c i) t n was.0 s was.1 (outcomes_given t n was.0 s was.1)
     (put_from c i t n was.0 s (sym (ap (λ (f : Delivery). f.outcome) was.2) ∙ e))
 outcomes_given (Took c k ∷ t) n d s h e = later_decided (Took c k) t n s (outcomes_given t n d s h e)
@@ -247,7 +248,7 @@ outcomes_given (Began g ∷ t) n d s h e = later_decided (Began g) t n s (outcom
 outcomes_given (Bound b ∷ t) n d s h e =
     by_test (bindings t + 1 == n)
     (λ f. absurd (none_not_some (ap (λ (g : Delivery). g.outcome) (some_same (rw f at h)) ∙ e)))
-    (λ f. later_decided (Bound b) t n s (outcomes_given t n d s (rw f at h) e))
+    (λ f. later_decided (Bound b) t n s (outcomes_given t n d s (uncalled (name_in t b) (delivery t n) d (rw f at h)).0 e))
 
 -- if its producer hadn't settled it, by its consumer
 

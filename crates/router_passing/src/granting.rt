@@ -84,6 +84,7 @@ impl Passing {
                 self.deliveries.bind(Binding {
                     consumer,
                     origin,
+                    row: None,
                     format,
                     payload,
                 })?;

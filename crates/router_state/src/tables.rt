@@ -11,6 +11,7 @@ ghost use Rattle.router_trace.specs.Links.{link, place_of, is_attached, durable_
 ghost use Rattle.router_trace.specs.Settling.{part_of, middle_on, is_claimed, is_claimed_on, open_ids, ignored};
 ghost use Rattle.router_trace.specs.Deliveries.{delivery, is_to_tell, sending, named, next_id};
 ghost use Rattle.router_trace.specs.Following.{link_of, first_delivery, is_unsent_on, is_wide, is_busy, is_used, takes_more};
+ghost use Rattle.router_deliveries.specs.Calling.{Knows};
 ghost use Rattle.router_deliveries.specs.Finding.{IsFirst, is_above};
 ghost use Rattle.router_passing.specs.Passing.{attachment_at, consumer_of, passing, with_bound, grants_due, grant_flow};
 ghost use Rattle.router_passing.specs.Asking.{has_unsent, goes_on, owes_drain, drained_state};
@@ -478,9 +479,9 @@ impl State {
         told_by(self.sessions.window(conn, own))
     }
 
-    /// The number of the delivery of which more frames remain to be sent on a handle of the router.
+    /// The number of the delivery of which more frames remain to be sent on a handle of the router; it may be missing if the delivery is gone.
     pub fn sending(&self, conn: u64, own: u16, handle: u32) -> Option<u64>
-        ensures { (t : List Entry) → TablesFit self.now t → result ≡ sending t conn own handle }
+        ensures { (t : List Entry) → TablesFit self.now t → Knows (delivery t) result (sending t conn own handle) }
     {
         self.passing.deliveries().sending(conn, own, handle)
     }

@@ -47,11 +47,11 @@ outcome_item own role id s =
 
 -- A transfer of the router: the first of a delivery has its id, tag and format, a later one none of them. Each says whether the
 -- delivery was settled before.
-abbrev pub first_transfer : ℕ → ℕ → ℕ → Delivery → Transfer
-first_transfer handle id n d = record {
+abbrev pub first_transfer : ℕ → ℕ → Delivery → Transfer
+first_transfer handle id d = record {
   handle = handle;
   delivery_id = Some id;
-  delivery_tag = Some (record { items = tag_of n });
+  delivery_tag = Some (record { items = tag_of d.name });
   message_format = Some d.format;
   settled = d.presettled;
   more = false;

@@ -121,18 +121,18 @@ place_to_go t n None = None
 place_to_go t n (Some d) = if can_go t n d then Some d.link else None
 
 -- the transfer that is due for a delivery
-abbrev pub transfer_of : Trace → ℕ → Delivery → Transfer
-transfer_of t n d =
-    if is_none d.id then first_transfer d.link.handle (next_id t d.link.conn.0 d.link.channel) n d else later_transfer d.link.handle d
+abbrev pub transfer_of : Trace → Delivery → Transfer
+transfer_of t d =
+    if is_none d.id then first_transfer d.link.handle (next_id t d.link.conn.0 d.link.channel) d else later_transfer d.link.handle d
 
-abbrev pub send : Trace → ℕ → Option Delivery → List Put
-send t n None = []
-send t n (Some d) =
-    record { conn = d.link.conn.0; item = next_frame (largest_out (largest_frame t d.link.conn.0)) d.link.channel (transfer_of t n d) (rest_of d) } ∷ []
+abbrev pub send : Trace → Option Delivery → List Put
+send t None = []
+send t (Some d) =
+    record { conn = d.link.conn.0; item = next_frame (largest_out (largest_frame t d.link.conn.0)) d.link.channel (transfer_of t d) (rest_of d) } ∷ []
 
 abbrev pub send_of : Trace → Option Placed → List Put
 send_of t None = []
-send_of t (Some p) = send t p.number (delivery t p.number)
+send_of t (Some p) = send t (delivery t p.number)
 
 -- ordered by connection, by the router's channel, then by binding
 abbrev pub sends_due : Trace → List Put

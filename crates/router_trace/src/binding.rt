@@ -1,5 +1,6 @@
 //! Messages bound to consumer links.
 use crate::handle::Attachment;
+use book_core::RowNumber;
 use bytes::Bytes;
 
 /// The producer's delivery, to which the outcome is reported.
@@ -11,6 +12,15 @@ pub struct Origin {
     pub id: u32,
 }
 
+/// The name of a delivery, from which its tag is made.
+#[derive(Clone, Copy, Debug, PartialEq, Eq)]
+pub enum DeliveryName {
+    /// A durable delivery: the number of its row in the book.
+    Row(RowNumber),
+    /// Any other: a counter of these, from 1.
+    Counter(u64),
+}
+
 /// A message bound to a consumer's link.
 #[derive(Debug, Drop)]
 pub struct Binding {
@@ -18,6 +28,8 @@ pub struct Binding {
     pub consumer: Attachment,
     /// The producer's delivery; none if the producer had settled it.
     pub origin: Option<Origin>,
+    /// Its row in the book, if it is durable.
+    pub row: Option<RowNumber>,
     /// The message format.
     pub format: u32,
     /// The message.
