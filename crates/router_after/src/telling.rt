@@ -48,10 +48,11 @@ fn is_to_be_told(state: &State, number: u64) -> bool
         None => false,
         Some(delivery) => {
             delivery.outcome.is_some()
-                && match delivery.origin {
-                    None => false,
-                    Some(origin) => state.is_attached(origin.link),
-                }
+                && (!delivery.told
+                    && match delivery.origin {
+                        None => false,
+                        Some(origin) => state.is_attached(origin.link),
+                    })
         }
     }
 }
@@ -77,6 +78,7 @@ fn outcome_of(state: &State, number: u64) -> Result<Option<Outgoing>, AllocError
             link.channel,
             Role::Receiver,
             origin.id,
+            !delivery.name.has_row(),
             outcome,
         )?,
     }))

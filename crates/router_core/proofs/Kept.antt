@@ -25,7 +25,7 @@ use Rattle.router_trace.specs.Trace.{Entry, Did, Out, Put, Step, goes, puts, eac
 use Rattle.router_trace.specs.Connection.{Connection, conn, standing, found, live, due, live_of}
 use Rattle.router_trace.specs.Frames.{closing, told_of}
 use Rattle.router_trace.specs.Deliveries.{Delivery, delivery}
-use Rattle.router_trace.specs.Settling.{ignored}
+use Rattle.router_trace.specs.Settling.{unbound}
 use Rattle.router_trace.specs.Numbers.{Placed, first_placed}
 use Rattle.router_trace.specs.Following.{link_of, first_delivery, is_to_be_told, outcome_to, tell, tells_of, tells, is_wide, sends_due, drain_of, drain_on, drain_by, place_drained, drains_due}
 use Rattle.router_trace.specs.Durable.{is_durable}
@@ -146,7 +146,7 @@ none_refused largest own handle e a = by (fits largest (attach_item own (refusal
 
 none_ignored : (after : List Entry) (c own handle : ℕ) (q : Option ℕ) → NoTransfer (ignored_put after c own handle q)
 none_ignored after c own handle None = tt
-none_ignored after c own handle (Some id) = by_test (nat_lt 1024 (ignored after c own handle)) (λ e. rw e (refl, tt)) (λ e. rw e tt)
+none_ignored after c own handle (Some id) = by_test (nat_lt 1024 (unbound after c own handle)) (λ e. rw e (refl, tt)) (λ e. rw e tt)
 
 none_unbound : (own : ℕ) (q : Option ℕ) (consumer : Option Attachment) → NoTransfer (unbound_put own q consumer)
 none_unbound own None None = tt

@@ -91,7 +91,7 @@ same_claims (Did s ∷ t) c o id =
     λ j. claim_at s.event c o (λ p. same_theirs t c p j) (λ p. same_handle t c o p j) (λ h. same_link t c o h j) id (same_claims t c o id j)
 same_claims (Out d i ∷ t) c o id = ap (λ (v : Option Claim). if d == c then claim_behind i o id v else v) (same_claims t c o id)
 same_claims (Took d n ∷ t) c o id = same_claims t c o id
-same_claims (Bound b ∷ t) c o id = same_claims t c o id
+same_claims (Bound b ∷ t) c o id = ap (bind_claim b.origin c o id) (same_claims t c o id)
 same_claims (Booked acts ∷ t) c o id = same_claims t c o id
 same_claims (Began g ∷ t) c o id = same_claims t c o id
 

@@ -20,7 +20,7 @@ use Rattle.router_trace.specs.declared.channel.PeerChannel.{PeerChannel}
 use Rattle.router_trace.specs.declared.handle.Attachment.{Attachment}
 use Rattle.router_trace.specs.Trace.{Trace, Did, Out, Took, Bound, Booked, Began}
 use Rattle.router_trace.specs.Sessions.{theirs}
-use Rattle.router_trace.specs.Deliveries.{Delivery, delivery, bindings, bound, same_name, name_in, number_named, unless_over, unless_called, is_over, untold, ended, behind_origin, behind_ends, is_gone_with, behind_frame, put_in, behind_put, told, decided, is_undecided, is_meant, is_named, is_number, carried, tag_in, disposed, is_on, is_settled_at, heard_in, heard, behind_event, ended_by, lost_with, origin_id, sending, named, decision, terminal}
+use Rattle.router_trace.specs.Deliveries.{Delivery, delivery, bindings, bound, same_name, name_in, number_named, unless_over, unless_called, is_over, untold, unsettled, ended, decided_at_end, suspended_at_end, closes, behind_origin, behind_ends, is_gone_with, behind_frame, put_in, behind_put, told, decided, is_undecided, is_meant, is_named, is_number, carried, tag_in, disposed, is_on, is_settled_at, heard_in, heard, behind_event, ended_by, lost_with, origin_id, sending, named, decision, terminal}
 use Rattle.router_deliveries.specs.declared.by_name.ByName.{ByName}
 use Rattle.router_deliveries.specs.declared.change.Change.{Change}
 use Rattle.router_deliveries.specs.declared.change.Change.TheVariants as change
@@ -56,13 +56,20 @@ either : (b : Bool) (x y : Delivery) (name : DeliveryName) → x.name ≡ name �
 either true x y name e f = e
 either false x y name e f = f
 
-pub name_ends : (gone : Attachment → Bool) (d : Delivery) → (behind_ends gone d).name ≡ d.name
-name_ends gone d =
-    let on : (if gone d.link then ended d else d).name ≡ d.name = either (gone d.link) (ended d) d d.name refl refl in
-    either (is_gone_with gone (if gone d.link then ended d else d).origin) (untold (if gone d.link then ended d else d)) (if gone d.link then ended d else d) d.name on on
+name_ended : (closed : Bool) (d : Delivery) → (ended closed d).name ≡ d.name
+name_ended closed d =
+    let other : (if d.lasting && not closed then suspended_at_end d else decided_at_end d).name ≡ d.name =
+        either (d.lasting && not closed) (suspended_at_end d) (decided_at_end d) d.name refl refl in
+    either d.suspended d (if d.lasting && not closed then suspended_at_end d else decided_at_end d) d.name refl other
+
+pub name_ends : (closed : Bool) (gone : Attachment → Bool) (d : Delivery) → (behind_ends closed gone d).name ≡ d.name
+name_ends closed gone d =
+    let on : (if gone d.link then ended closed d else d).name ≡ d.name = either (gone d.link) (ended closed d) d d.name (name_ended closed d) refl in
+    either (is_gone_with gone (if gone d.link then ended closed d else d).origin) (untold (if gone d.link then ended closed d else d)) (if gone d.link then ended closed d else d) d.name on on
 
 name_told : (r : Role) (x : Disposition) (c o : ℕ) (d : Delivery) → (told r x c o d).name ≡ d.name
-name_told Receiver x c o d = either (x.settled && is_meant x (origin_id d.origin c o)) (untold d) d d.name refl refl
+name_told Receiver x c o d =
+    either (is_meant x (origin_id d.origin c o)) (if x.settled then untold d else unsettled d) d d.name (either x.settled (untold d) (unsettled d) d.name refl refl) refl
 name_told Sender x c o d = refl
 
 name_put_in : (numbers : DeliveryName → Option ℕ) (body : Perf) (c own n : ℕ) (sent : ℕ → ℕ → Option ℕ) (count : ℕ) (d : Delivery) → (put_in numbers body c own n sent count d).name ≡ d.name
@@ -73,7 +80,7 @@ name_put_in numbers _ c own n sent count d = refl
 
 pub name_put : (numbers : DeliveryName → Option ℕ) (i : Item) (c n : ℕ) (sent : ℕ → ℕ → Option ℕ) (d : Delivery) → (behind_put numbers i c n sent d).name ≡ d.name
 name_put numbers (item.Frame sasl own body payload) c n sent d =
-    name_ends (ended_by (item.Frame sasl own body payload) c) (put_in numbers body c own n sent (length payload) d) ∙ name_put_in numbers body c own n sent (length payload) d
+    name_ends (closes body) (ended_by (item.Frame sasl own body payload) c) (put_in numbers body c own n sent (length payload) d) ∙ name_put_in numbers body c own n sent (length payload) d
 name_put numbers _ c n sent d = refl
 
 name_decided : (x : Disposition) (names : ℕ → Option ℕ) (n : ℕ) (d : Delivery) → (decided x names n d).name ≡ d.name
@@ -95,12 +102,13 @@ name_heard _ c known names n d = refl
 
 pub name_event : (x : Event) (known : ℕ → ℕ → Option PeerChannel) (names : ℕ → ℕ → ℕ → Option ℕ) (n : ℕ) (d : Delivery) → (behind_event x known names n d).name ≡ d.name
 name_event (event.Item c i) known names n d = name_heard i c.0 (known c.0) (names c.0) n d
-name_event (event.Down c) known names n d = name_ends (lost_with c.0) d
+name_event (event.Down c) known names n d = name_ends false (lost_with c.0) d
 name_event _ known names n d = refl
 
 pub name_changed : (x : Change) (d : Delivery) → (changed x d).name ≡ d.name
-name_changed (change.Ends g) d = name_ends (is_gone g) d
+name_changed (change.Ends g closed) d = name_ends closed (is_gone g) d
 name_changed (change.Untold c o first last) d = either (comes_with_id d.origin c o first last) (untold d) d d.name refl refl
+name_changed (change.Told c o first last) d = either (comes_with_id d.origin c o first last) (unsettled d) d d.name refl refl
 name_changed (change.Decided c o first last made) d = either (is_decided_by d c o first last) (record d { outcome = Some made }) d d.name refl refl
 
 -- a delivery behind a change was there before

@@ -1,6 +1,6 @@
 -- A delivery that isn't undecided never becomes undecided again.
 use Rattle.std.proofs.Common.{◌≡◌, ◌≤◌, ◌+◌, ℕ, Bool, true, false, refl, arith, ◌∷◌, length, Option, Some, None}
-use Rattle.std.specs.Prelude.{◌&&◌, ◌==◌, not, if◌then◌else◌, is_none}
+use Rattle.std.specs.Prelude.{◌&&◌, ◌||◌, ◌==◌, not, if◌then◌else◌, is_none}
 use Rattle.std.specs.Option.{option_and_then}
 use Rattle.std.proofs.lemmas.Bool.{eqb-true}
 use Rattle.amqp_perf.specs.declared.perf.Disposition.{Disposition}
@@ -18,7 +18,7 @@ use Rattle.router_trace.specs.declared.event.Event.TheVariants as event
 use Rattle.router_trace.specs.declared.channel.PeerChannel.{PeerChannel}
 use Rattle.router_trace.specs.declared.handle.Attachment.{Attachment}
 use Rattle.router_trace.specs.Trace.{Entry, Trace, Did, Out, Took, Booked, Bound, Began}
-use Rattle.router_trace.specs.Deliveries.{Delivery, delivery, bindings, bound, name_in, same_name, number_named, unless_called, unless_over, is_over, is_undecided, behind_ends, is_gone_with, ended, untold, behind_put, behind_frame, behind_event, put_in, is_number, carried, tag_in, told, is_meant, origin_id, heard, heard_in, disposed, decided, is_settled_at, is_on, ended_by, lost_with, named, sending}
+use Rattle.router_trace.specs.Deliveries.{Delivery, delivery, bindings, bound, name_in, same_name, number_named, unless_called, unless_over, is_over, is_undecided, behind_ends, is_gone_with, ended, decided_at_end, suspended_at_end, untold, unsettled, failed, closes, behind_put, behind_frame, behind_event, put_in, is_number, carried, tag_in, told, is_meant, origin_id, heard, heard_in, disposed, decided, is_settled_at, is_on, ended_by, lost_with, named, sending}
 use Rattle.router_trace.specs.Sessions.{theirs}
 use Rattle.amqp_perf.specs.declared.state.DeliveryState.TheVariants as state
 use Rattle.router_deliveries.specs.Naming.{is_open}
@@ -42,30 +42,44 @@ either : (b : Bool) (x y : Delivery) → is_undecided x ≡ false → is_undecid
 either true x y e f = e
 either false x y e f = f
 
-ended_closed : (d : Delivery) → is_undecided (ended d) ≡ false
-ended_closed d = by_outcome d.outcome refl
+and_not_or : (a p s : Bool) → s ≡ true → (a && not (p || s)) ≡ false
+and_not_or true true s e = refl
+and_not_or true false true e = refl
+and_not_or true false false e = absurd cc
+and_not_or false p s e = refl
+
+ended_closed : (closed : Bool) (d : Delivery) → is_undecided (ended closed d) ≡ false
+ended_closed closed d = by_suspended d.suspended refl
   where
-    by_outcome : (o : Option DeliveryState) → d.outcome ≡ o → is_undecided (ended d) ≡ false
-    by_outcome None e = rw e refl
-    by_outcome (Some s) e = rw e refl
+    decided : (o : Option DeliveryState) → (is_none (if is_none o then Some failed else o) && not (d.presettled || d.suspended)) ≡ false
+    decided None = refl
+    decided (Some s) = refl
+
+    suspends : (o : Option DeliveryState) → (is_none o && not (d.presettled || is_none o)) ≡ false
+    suspends None = and_not_or true d.presettled true refl
+    suspends (Some s) = refl
+
+    by_suspended : (b : Bool) → d.suspended ≡ b → is_undecided (if b then d else (if d.lasting && not closed then suspended_at_end d else decided_at_end d)) ≡ false
+    by_suspended true e = and_not_or (is_none d.outcome) d.presettled d.suspended e
+    by_suspended false e = either (d.lasting && not closed) (suspended_at_end d) (decided_at_end d) (suspends d.outcome) (decided d.outcome)
 
 untold_closed : Closes untold
 untold_closed d e = e
 
-ends_closed : (gone : Attachment → Bool) → Closes (behind_ends gone)
-ends_closed gone d e =
-    let on : is_undecided (if gone d.link then ended d else d) ≡ false = either (gone d.link) (ended d) d (ended_closed d) e in
-    either (is_gone_with gone (if gone d.link then ended d else d).origin) (untold (if gone d.link then ended d else d)) (if gone d.link then ended d else d) on on
+ends_closed : (closed : Bool) (gone : Attachment → Bool) → Closes (behind_ends closed gone)
+ends_closed closed gone d e =
+    let on : is_undecided (if gone d.link then ended closed d else d) ≡ false = either (gone d.link) (ended closed d) d (ended_closed closed d) e in
+    either (is_gone_with gone (if gone d.link then ended closed d else d).origin) (untold (if gone d.link then ended closed d else d)) (if gone d.link then ended closed d else d) on on
 
 frame_closed : (x : Transfer) (count : ℕ) → Closes (behind_frame x count)
 frame_closed x count d e = by_test (d.presettled && not x.more)
   where
-    by_test : (b : Bool) → (is_none (if b then Some state.Accepted else d.outcome) && not d.presettled) ≡ false
+    by_test : (b : Bool) → (is_none (if b then Some state.Accepted else d.outcome) && not (d.presettled || d.suspended)) ≡ false
     by_test true = refl
     by_test false = e
 
 told_closed : (r : Role) (x : Disposition) (c o : ℕ) → Closes (told r x c o)
-told_closed Receiver x c o d e = either (x.settled && is_meant x (origin_id d.origin c o)) (untold d) d e e
+told_closed Receiver x c o d e = either (is_meant x (origin_id d.origin c o)) (if x.settled then untold d else unsettled d) d (either x.settled (untold d) (unsettled d) e e) e
 told_closed Sender x c o d e = e
 
 put_in_closed : (numbers : DeliveryName → Option ℕ) (body : Perf) (c own n : ℕ) (sent : ℕ → ℕ → Option ℕ) (count : ℕ) → Closes (put_in numbers body c own n sent count)
@@ -74,7 +88,7 @@ put_in_closed numbers (perf.Disposition x) c own n sent count d e = told_closed 
 put_in_closed numbers _ c own n sent count d e = e
 
 put_closed : (numbers : DeliveryName → Option ℕ) (i : Item) (c n : ℕ) (sent : ℕ → ℕ → Option ℕ) → Closes (behind_put numbers i c n sent)
-put_closed numbers (item.Frame sasl own body payload) c n sent d e = ends_closed (ended_by (item.Frame sasl own body payload) c) (put_in numbers body c own n sent (length payload) d) (put_in_closed numbers body c own n sent (length payload) d e)
+put_closed numbers (item.Frame sasl own body payload) c n sent d e = ends_closed (closes body) (ended_by (item.Frame sasl own body payload) c) (put_in numbers body c own n sent (length payload) d) (put_in_closed numbers body c own n sent (length payload) d e)
 put_closed numbers _ c n sent d e = e
 
 decided_closed : (x : Disposition) (names : ℕ → Option ℕ) (n : ℕ) → Closes (decided x names n)
@@ -94,7 +108,7 @@ heard_closed _ c known names n d e = e
 
 event_closed : (x : Event) (known : ℕ → ℕ → Option PeerChannel) (names : ℕ → ℕ → ℕ → Option ℕ) (n : ℕ) → Closes (behind_event x known names n)
 event_closed (event.Item c i) known names n d e = heard_closed i c.0 (known c.0) (names c.0) n d e
-event_closed (event.Down c) known names n d e = ends_closed (lost_with c.0) d e
+event_closed (event.Down c) known names n d e = ends_closed false (lost_with c.0) d e
 event_closed _ known names n d e = e
 
 pub stays_closed : (e : Entry) (t : Trace) (n : ℕ) → n ≤ bindings t → is_open (delivery t n) ≡ false → is_open (delivery (e ∷ t) n) ≡ false

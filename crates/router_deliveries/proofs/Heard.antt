@@ -1,6 +1,6 @@
 -- How a peer's item changes a delivery, by how a table changes it.
 use Rattle.std.proofs.Common.{◌≡◌, ◌∙◌, ℕ, Bool, true, false, refl, sym, ap, ◌∷◌, Option, Some, None}
-use Rattle.std.specs.Prelude.{◌&&◌, ◌==◌, if◌then◌else◌, is_none, not}
+use Rattle.std.specs.Prelude.{◌&&◌, ◌||◌, ◌==◌, if◌then◌else◌, is_none, not}
 use Rattle.std.specs.Option.{option_and_then}
 use Rattle.std.proofs.lemmas.Bool.{eqb-true}
 use Rattle.amqp_session.specs.Ranges.{in_range}
@@ -75,7 +75,7 @@ none_meant x (Some id) = refl
 as_it_was : (d : Delivery) (made : Option DeliveryState) → is_undecided d ≡ true → made ≡ None → record d { outcome = made } ≡ d
 as_it_was d made undecided is = rw is (ap (λ o. record d { outcome = o }) (sym (none_of d.outcome undecided)))
   where
-    none_of : (o : Option DeliveryState) → (is_none o && not d.presettled) ≡ true → o ≡ None
+    none_of : (o : Option DeliveryState) → (is_none o && not (d.presettled || d.suspended)) ≡ true → o ≡ None
     none_of None e = refl
     none_of (Some s) e = absurd cc
 

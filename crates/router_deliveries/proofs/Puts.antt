@@ -16,7 +16,7 @@ use Rattle.router_trace.specs.declared.binding.DeliveryName.{DeliveryName}
 use Rattle.router_trace.specs.declared.binding.Origin.{Origin}
 use Rattle.router_trace.specs.declared.handle.Attachment.{Attachment}
 use Rattle.router_trace.specs.Trace.{Trace, Did, Out, Took, Bound, Booked, Began}
-use Rattle.router_trace.specs.Deliveries.{Delivery, delivery, bindings, bound, name_in, same_name, number_named, unless_called, unless_over, is_over, behind_ends, behind_put, behind_frame, put_in, ended_by, is_number, carried, tag_in, told, is_meant, origin_id, stands_on, untold, last_of, sending}
+use Rattle.router_trace.specs.Deliveries.{Delivery, delivery, bindings, bound, name_in, same_name, number_named, unless_called, unless_over, is_over, behind_ends, behind_put, behind_frame, put_in, ended_by, is_number, carried, tag_in, told, is_meant, origin_id, stands_on, untold, unsettled, last_of, sending}
 use Rattle.router_deliveries.specs.declared.change.Change.{Change}
 use Rattle.router_deliveries.specs.declared.change.Change.TheVariants as change
 use Rattle.router_deliveries.specs.declared.change.Gone.TheVariants as gone
@@ -58,13 +58,13 @@ kept (Bound b ∷ t) n = fresh (bindings t + 1 == n) (kept t n)
     fresh false keeps = uncalled (delivery t n) keeps
 
 -- links that end, by an equal test
-pub same_ends : (p q : Attachment → Bool) → ((a : Attachment) → p a ≡ q a) → (d : Delivery) → behind_ends p d ≡ behind_ends q d
-same_ends p q same d = ap (λ gone. behind_ends gone d) (λ i a. same a i)
+pub same_ends : (closed : Bool) (p q : Attachment → Bool) → ((a : Attachment) → p a ≡ q a) → (d : Delivery) → behind_ends closed p d ≡ behind_ends closed q d
+same_ends closed p q same d = ap (λ gone. behind_ends closed gone d) (λ i a. same a i)
 
-pub no_ends : (p : Attachment → Bool) → ((a : Attachment) → p a ≡ false) → (d : Delivery) → behind_ends p d ≡ d
-no_ends p none d = same_ends p (λ a. false) none d ∙ never d.origin refl
+pub no_ends : (closed : Bool) (p : Attachment → Bool) → ((a : Attachment) → p a ≡ false) → (d : Delivery) → behind_ends closed p d ≡ d
+no_ends closed p none d = same_ends closed p (λ a. false) none d ∙ never d.origin refl
   where
-    never : (o : Option Origin) → d.origin ≡ o → behind_ends (λ a. false) d ≡ d
+    never : (o : Option Origin) → d.origin ≡ o → behind_ends closed (λ a. false) d ≡ d
     never None e = rw e refl
     never (Some p) e = rw e refl
 
@@ -98,7 +98,7 @@ pub one_frame : (numbers : DeliveryName → Option ℕ) (c own n : ℕ) (sasl : 
 one_frame numbers c own n sasl x payload known number None is keeps = none_either (is_number number n) (λ d. unless_over (behind_frame x (length payload) d))
 one_frame numbers c own n sasl x payload known number (Some d) is keeps =
     rw (is d refl) (by_test (is_number (carried numbers (tag_in x) (known own x.handle)) n)
-    ∙ sym (ap unless_over (no_ends (ended_by (item.Frame sasl own (perf.Transfer x) payload) c) (λ a. and_false (a.conn.0 == c)) (put_in numbers (perf.Transfer x) c own n known (length payload) d))))
+    ∙ sym (ap unless_over (no_ends false (ended_by (item.Frame sasl own (perf.Transfer x) payload) c) (λ a. and_false (a.conn.0 == c)) (put_in numbers (perf.Transfer x) c own n known (length payload) d))))
   where
     by_test : (b : Bool) → (if b then unless_over (behind_frame x (length payload) d) else Some d) ≡ unless_over (if b then behind_frame x (length payload) d else d)
     by_test true = refl
@@ -115,8 +115,8 @@ does : (numbers : DeliveryName → Option ℕ) (c n : ℕ) (i : Item) (x : Chang
 does numbers c n i x known same None = refl
 does numbers c n i x known same (Some d) = ap unless_over (sym (same d))
 
-never : (c : ℕ) (d : Delivery) → behind_ends (λ a. (a.conn.0 == c) && false) d ≡ d
-never c d = no_ends (λ a. (a.conn.0 == c) && false) (λ a. and_false (a.conn.0 == c)) d
+never : (c : ℕ) (d : Delivery) → behind_ends false (λ a. (a.conn.0 == c) && false) d ≡ d
+never c d = no_ends false (λ a. (a.conn.0 == c) && false) (λ a. and_false (a.conn.0 == c)) d
 
 meant : (x : Disposition) (o : Option Origin) (c own : ℕ) → is_meant x (origin_id o c own) ≡ comes_with_id o c own x.first (last_of x)
 meant x None c own = refl
@@ -132,26 +132,27 @@ disposes numbers c own n sasl x payload known Sender is v keeps =
     quiet numbers c n (item.Frame sasl own (perf.Disposition x) payload) known (λ d. never c (told x.role x c own d) ∙ ap (λ r. told r x c own d) is) v keeps
 disposes numbers c own n sasl x payload known Receiver is v keeps = by_settled x.settled refl
   where
-    by_settled : (b : Bool) → x.settled ≡ b → behind_any (if b then Some (change.Untold c own x.first (last_of x)) else None) v ≡ put_behind numbers c (item.Frame sasl own (perf.Disposition x) payload) n known v
+    by_settled : (b : Bool) → x.settled ≡ b → behind (if b then change.Untold c own x.first (last_of x) else change.Told c own x.first (last_of x)) v ≡ put_behind numbers c (item.Frame sasl own (perf.Disposition x) payload) n known v
     by_settled true s = does numbers c n (item.Frame sasl own (perf.Disposition x) payload) (change.Untold c own x.first (last_of x)) known
         (λ d. never c (told x.role x c own d) ∙ ap (λ r. told r x c own d) is
-        ∙ ap (λ b. if b && is_meant x (origin_id d.origin c own) then untold d else d) s
+        ∙ ap (λ b. if is_meant x (origin_id d.origin c own) then (if b then untold d else unsettled d) else d) s
         ∙ ap (λ b. if b then untold d else d) (meant x d.origin c own)) v
-    by_settled false s = quiet numbers c n (item.Frame sasl own (perf.Disposition x) payload) known
+    by_settled false s = does numbers c n (item.Frame sasl own (perf.Disposition x) payload) (change.Told c own x.first (last_of x)) known
         (λ d. never c (told x.role x c own d) ∙ ap (λ r. told r x c own d) is
-        ∙ ap (λ b. if b && is_meant x (origin_id d.origin c own) then untold d else d) s) v keeps
+        ∙ ap (λ b. if is_meant x (origin_id d.origin c own) then (if b then untold d else unsettled d) else d) s
+        ∙ ap (λ b. if b then unsettled d else d) (meant x d.origin c own)) v
 
 pub other_frame : (numbers : DeliveryName → Option ℕ) (c own n : ℕ) (sasl : Bool) (body : Perf) (payload : List ℕ) (known : ℕ → ℕ → Option ℕ) → ((x : Transfer) → body ≡ perf.Transfer x → ⊥)
     → (v : Option Delivery) → IsKept v → behind_any (put_change c own body) v ≡ put_behind numbers c (item.Frame sasl own body payload) n known v
 other_frame numbers c own n sasl (perf.Transfer x) payload known other v keeps = absurd (other x refl)
 other_frame numbers c own n sasl (perf.Disposition x) payload known other v keeps = disposes numbers c own n sasl x payload known x.role refl v keeps
 other_frame numbers c own n sasl (perf.Detach x) payload known other v keeps =
-    does numbers c n (item.Frame sasl own (perf.Detach x) payload) (change.Ends (gone.Link c own x.handle)) known (λ d. refl) v
+    does numbers c n (item.Frame sasl own (perf.Detach x) payload) (change.Ends (gone.Link c own x.handle) x.closed) known (λ d. refl) v
 other_frame numbers c own n sasl (perf.End x) payload known other v keeps =
-    does numbers c n (item.Frame sasl own (perf.End x) payload) (change.Ends (gone.Session c own)) known (λ d. refl) v
+    does numbers c n (item.Frame sasl own (perf.End x) payload) (change.Ends (gone.Session c own) false) known (λ d. refl) v
 other_frame numbers c own n sasl (perf.Close x) payload known other v keeps =
-    does numbers c n (item.Frame sasl own (perf.Close x) payload) (change.Ends (gone.Connection c)) known
-    (λ d. same_ends (λ a. (a.conn.0 == c) && true) (is_gone (gone.Connection c)) (λ a. and_true (a.conn.0 == c)) d) v
+    does numbers c n (item.Frame sasl own (perf.Close x) payload) (change.Ends (gone.Connection c) false) known
+    (λ d. same_ends false (λ a. (a.conn.0 == c) && true) (is_gone (gone.Connection c)) (λ a. and_true (a.conn.0 == c)) d) v
 other_frame numbers c own n sasl body payload known other v keeps = quiet numbers c n (item.Frame sasl own body payload) known (λ d. never c d) v keeps
 
 -- an item without a body

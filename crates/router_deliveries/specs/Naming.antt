@@ -64,7 +64,7 @@ detached_in _ = None
 
 -- a delivery with these entries is on a link that an item of the router detaches, or comes from such a link
 abbrev pub is_detached_in : Perf → ℕ → ℕ → Keys → Bool
-is_detached_in (perf.Detach x) c own k = concerns (change.Ends (gone.Link c own x.handle)) k
+is_detached_in (perf.Detach x) c own k = concerns (change.Ends (gone.Link c own x.handle) false) k
 is_detached_in _ c own k = false
 
 abbrev pub is_detached : Item → ℕ → Keys → Bool

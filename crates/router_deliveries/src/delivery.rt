@@ -1,7 +1,7 @@
 //! Deliveries as the table keeps them.
-ghost use Rattle.std.specs.Prelude.{◌≡◌, OnOk, Some, if◌then◌else◌};
+ghost use Rattle.std.specs.Prelude.{◌≡◌, ◌&&◌, OnOk, Some, if◌then◌else◌};
 ghost use Rattle.router_trace.specs.Settling.{is_open_as};
-ghost use Rattle.router_trace.specs.Deliveries.{bound, is_over, is_undecided, behind_frame, untold, ended, behind_ends};
+ghost use Rattle.router_trace.specs.Deliveries.{bound, is_over, is_undecided, behind_frame, untold, unsettled, ended, behind_ends};
 ghost use Rattle.router_deliveries.specs.Stepping.{is_gone, is_decided_by, comes_with_id, changed};
 
 use crate::change::{Change, Gone, comes_with_id, is_in};
@@ -35,6 +35,12 @@ pub struct Delivery {
     pub going_on: bool,
     /// Its outcome, once decided.
     pub outcome: Option<DeliveryState>,
+    /// Whether its producer was told the outcome, and has yet to settle it.
+    pub told: bool,
+    /// Whether it has a row and its consumer's link is durable.
+    pub lasting: bool,
+    /// Whether that link was suspended before it was decided.
+    pub suspended: bool,
 }
 
 impl Model for Delivery {
@@ -53,6 +59,9 @@ impl Model for Delivery {
       sent = d.sent;
       going_on = d.going_on;
       outcome = d.outcome;
+      told = d.told;
+      lasting = d.lasting;
+      suspended = d.suspended;
     } };
 }
 
@@ -72,21 +81,24 @@ impl Delivery {
             sent: 0,
             going_on: true,
             outcome: None,
+            told: false,
+            lasting: name.has_row() && binding.lasting,
+            suspended: false,
         }
     }
 
-    /// Whether it is decided, no report of its outcome is due, and no frame remains to be sent.
+    /// Whether it is decided or suspended, its producer needs no more of it, and no frame remains to be sent.
     pub fn is_over(&self) -> bool
         ensures { result ≡ is_over self.now }
     {
-        !self.going_on && (self.outcome.is_some() && self.origin.is_none())
+        !self.going_on && ((self.outcome.is_some() || self.suspended) && self.origin.is_none())
     }
 
     /// Whether its consumer has yet to decide it.
     pub fn is_undecided(&self) -> bool
         ensures { result ≡ is_undecided self.now }
     {
-        self.outcome.is_none() && !self.presettled
+        self.outcome.is_none() && !(self.presettled || self.suspended)
     }
 
     /// Whether it is undecided and has this id on a router's session.
@@ -122,22 +134,37 @@ impl Delivery {
         self.origin = None;
     }
 
-    /// Its link ends.
-    pub(crate) fn end(&mut self)
-        ensures { self.new ≡ ended self.old }
+    /// Its outcome was told, and its producer has yet to settle it.
+    fn tell(&mut self)
+        ensures { self.new ≡ unsettled self.old }
     {
+        self.told = true;
+    }
+
+    /// Its link ends, closed for good or not.
+    pub(crate) fn end(&mut self, closed: bool)
+        ensures { self.new ≡ ended closed self.old }
+    {
+        if self.suspended {
+            return;
+        }
         self.going_on = false;
-        if self.outcome.is_none() {
+        if self.outcome.is_some() {
+            return;
+        }
+        if self.lasting && !closed {
+            self.suspended = true;
+        } else {
             self.outcome = Some(failed());
         }
     }
 
-    /// Links end, which may be its own or its producer's.
-    fn leave(&mut self, gone: Gone)
-        ensures { self.new ≡ behind_ends (is_gone gone) self.old }
+    /// Links end, closed for good or not, which may be its own or its producer's.
+    fn leave(&mut self, closed: bool, gone: Gone)
+        ensures { self.new ≡ behind_ends closed (is_gone gone) self.old }
     {
         if gone.has(self.link) {
-            self.end();
+            self.end(closed);
         }
         if gone.has_origin(self.origin) {
             self.untell();
@@ -149,13 +176,19 @@ impl Delivery {
         ensures { OnOk result (self.new ≡ changed change.now self.old) }
     {
         match change {
-            Change::Ends(gone) => self.leave(*gone),
+            Change::Ends { gone, closed } => self.leave(*closed, *gone),
             Change::Untold {
                 conn,
                 own,
                 first,
                 last,
             } => self.untell_within(*conn, *own, *first, *last),
+            Change::Told {
+                conn,
+                own,
+                first,
+                last,
+            } => self.tell_within(*conn, *own, *first, *last),
             Change::Decided {
                 conn,
                 own,
@@ -177,6 +210,15 @@ impl Delivery {
     {
         if comes_with_id(self.origin, conn, own, first, last) {
             self.untell();
+        }
+    }
+
+    /// Its outcome was told, if its producer gave it an id in this range, on a session.
+    fn tell_within(&mut self, conn: u64, own: u16, first: u32, last: u32)
+        ensures { self.new ≡ (if comes_with_id self.old.origin conn own first last then unsettled self.old else self.old) }
+    {
+        if comes_with_id(self.origin, conn, own, first, last) {
+            self.tell();
         }
     }
 

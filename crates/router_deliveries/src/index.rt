@@ -87,19 +87,23 @@ impl Keys {
         ensures { result ≡ keys delivery.now }
     {
         let undecided = delivery.outcome.is_none();
+        let open = undecided && !delivery.suspended;
         Keys {
             waiting: on_link(
                 delivery.link.number,
                 delivery.id.is_none() && delivery.going_on,
             ),
             unsent: on_link(delivery.link.number, delivery.going_on),
-            undecided: on_link(delivery.link.number, undecided),
+            undecided: on_link(delivery.link.number, open),
             held: match delivery.origin {
                 None => None,
-                Some(origin) => on_link(origin.link.number, undecided),
+                Some(origin) => on_link(
+                    origin.link.number,
+                    undecided || delivery.name.has_row(),
+                ),
             },
-            to_tell: !undecided && delivery.origin.is_some(),
-            on: on_spot(spot_of(delivery.link), delivery.going_on || undecided),
+            to_tell: !undecided && (delivery.origin.is_some() && !delivery.told),
+            on: on_spot(spot_of(delivery.link), delivery.going_on || open),
             from: from_spot(delivery.origin),
             by_id: id_spot(delivery.origin),
         }
@@ -202,8 +206,14 @@ impl Index {
         ensures { OnOk result ((known : ℕ → TheKeys) → Indexes self.now known → (n : ℕ) → concerns change.now (known n) ≡ true → has n numbers.new.items ≡ true) }
     {
         match change {
-            Change::Ends(gone) => self.append_ended(*gone, numbers)?,
+            Change::Ends { gone, .. } => self.append_ended(*gone, numbers)?,
             Change::Untold {
+                conn,
+                own,
+                first,
+                last,
+            } => self.by_id.append_ids(*conn, *own, *first, *last, numbers)?,
+            Change::Told {
                 conn,
                 own,
                 first,

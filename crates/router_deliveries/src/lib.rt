@@ -17,7 +17,6 @@ mod deliveries;
 mod delivery;
 mod groups;
 mod hearing;
-mod ignored;
 mod index;
 mod names;
 mod next_ids;
@@ -27,6 +26,7 @@ mod state;
 mod store;
 mod tag;
 mod touched;
+mod unbound;
 
 pub use claims::{Claim, Claims, Middle, Receiving};
 pub use deliveries::Deliveries;

@@ -382,7 +382,10 @@ impl Store {
         ensures fits { OnOk result ((t : List Entry) → StoreFit self.old t → StoreFit self.new (did (event.Down conn) ∷ t)) }
         ensures touches { OnOk result (StoreTouches self.old self.new) }
     {
-        self.apply(&Change::Ends(Gone::Connection(conn.0)))
+        self.apply(&Change::Ends {
+            gone: Gone::Connection(conn.0),
+            closed: false,
+        })
     }
 
     /// The ids of the deliveries on the link that an item of the router detaches.
@@ -404,7 +407,11 @@ impl Store {
         match perf {
             Perf::Detach(detach) => {
                 let handle = detach.handle;
-                Ok(self.ids_on(&Change::Ends(Gone::Link { conn, own, handle }))?)
+                let gone = Gone::Link { conn, own, handle };
+                Ok(self.ids_on(&Change::Ends {
+                    gone,
+                    closed: false,
+                })?)
             }
             _ => Ok(Vec::new(self.alloc)),
         }

@@ -43,6 +43,6 @@ pub fn frames_have_room()
 /// part 2, section 2.7.1).
 pub fn outcomes_are_short()
     ensures kept { (s : AState) → is_some (terminal (Some s)) ≡ true → length (state_spelling (kept_outcome s)) ≤ 400 }
-    ensures told { (own id : ℕ) (role : ARole) (s : AState)
-        → is_some (terminal (Some s)) ≡ true → length (item_spelling (outcome_item own role id s)) ≤ 429 }
+    ensures told { (own id : ℕ) (role : ARole) (settled : Bool) (s : AState)
+        → is_some (terminal (Some s)) ≡ true → length (item_spelling (outcome_item own role id settled s)) ≤ 429 }
 {}

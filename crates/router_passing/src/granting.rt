@@ -85,9 +85,11 @@ impl Passing {
                     consumer,
                     origin,
                     row: None,
+                    lasting: false,
                     format,
                     payload,
                 })?;
+                self.claims.bind(origin)?;
                 Ok(true)
             }
         }

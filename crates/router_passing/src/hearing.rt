@@ -54,7 +54,6 @@ fn receiving_at(links: &Links, conn: u64, own: u16, handle: u32) -> Option<Recei
         None => None,
         Some(told) => Some(Middle {
             id: told.id,
-            resume: told.resume,
         }),
     };
     Some(Receiving {

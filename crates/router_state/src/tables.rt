@@ -8,7 +8,7 @@ ghost use Rattle.router_trace.specs.Configuration.{beginning, distribution, is_m
 ghost use Rattle.router_trace.specs.Sessions.{theirs, maps, session};
 ghost use Rattle.router_trace.specs.Frames.{told_of};
 ghost use Rattle.router_trace.specs.Links.{link, place_of, is_attached, durable_key, holds_durable};
-ghost use Rattle.router_trace.specs.Settling.{part_of, middle_on, is_claimed, is_claimed_on, open_ids, ignored};
+ghost use Rattle.router_trace.specs.Settling.{part_of, middle_on, is_claimed, is_claimed_on, open_ids, unbound};
 ghost use Rattle.router_trace.specs.Deliveries.{delivery, is_to_tell, sending, named, next_id};
 ghost use Rattle.router_trace.specs.Following.{link_of, first_delivery, is_unsent_on, is_wide, is_busy, is_used, takes_more};
 ghost use Rattle.router_deliveries.specs.Calling.{Knows};
@@ -387,11 +387,11 @@ impl State {
         self.passing.deliveries().open_ids(conn, own, first, last)
     }
 
-    /// How many unsettled deliveries of a link the router ignored.
-    pub fn ignored(&self, conn: u64, own: u16, handle: u32) -> usize
-        ensures { (t : List Entry) → TablesFit self.now t → result ≡ ignored t conn own handle }
+    /// How many unsettled deliveries of a link came whole and are bound to no consumer.
+    pub fn unbound(&self, conn: u64, own: u16, handle: u32) -> usize
+        ensures { (t : List Entry) → TablesFit self.now t → result ≡ unbound t conn own handle }
     {
-        self.passing.claims().ignored(conn, own, handle)
+        self.passing.claims().unbound(conn, own, handle)
     }
 
     /// The attachment on a handle of the router.

@@ -1,6 +1,6 @@
 -- The deliveries that the router passes on, in a trace (AMQP 1.0 part 2, sections 2.6.12, 2.6.14, 2.7.5 and 2.7.6). Each is a message
 -- bound to one consumer link. Bindings are numbered from 1 in their order, and a delivery has its binding's number. Its tag is made from its name.
-use Rattle.std.specs.Prelude.{ℕ, ◌+◌, ◌*◌, ◌/◌, ◌%◌, ◌^◌, Bool, true, false, not, ◌&&◌, ◌==◌, if◌then◌else◌, is_none, is_some, List, ◌∷◌, [], length, Option, Some, None, option_map, option_and_then, unwrap_or}
+use Rattle.std.specs.Prelude.{ℕ, ◌+◌, ◌*◌, ◌/◌, ◌%◌, ◌^◌, Bool, true, false, not, ◌&&◌, ◌==◌, if◌then◌else◌, is_none, is_some, List, ◌∷◌, [], length, ◌||◌, Option, Some, None, option_map, option_and_then, unwrap_or}
 use Rattle.amqp_perf.specs.declared.perf.Disposition.{Disposition}
 use Rattle.amqp_perf.specs.declared.perf.Perf.{Perf}
 use Rattle.amqp_perf.specs.declared.perf.Perf.TheVariants as perf
@@ -84,6 +84,15 @@ pub record Delivery : Type 0 where
   pub going_on : Bool
   -- its outcome, once decided
   pub outcome : Option DeliveryState
+  -- its producer was told the outcome, and has yet to settle it
+  pub told : Bool
+  -- it has a row, and its consumer's link is durable; that link was suspended before it was decided
+  pub lasting : Bool
+  pub suspended : Bool
+
+abbrev pub has_row : DeliveryName → Bool
+has_row (Row r) = true
+has_row (Counter k) = false
 
 abbrev pub bound : DeliveryName → Binding → Delivery
 bound name b = record {
@@ -97,11 +106,14 @@ bound name b = record {
   sent = 0;
   going_on = true;
   outcome = None;
+  told = false;
+  lasting = has_row name && b.lasting;
+  suspended = false;
 }
 
--- A delivery is over once it is decided, its outcome needs no reporting, and no frame of it remains to be sent.
+-- A delivery is over once it is decided or suspended, its producer needs no more of it, and no frame of it remains to be sent.
 abbrev pub is_over : Delivery → Bool
-is_over d = not d.going_on && (is_some d.outcome && is_none d.origin)
+is_over d = not d.going_on && ((is_some d.outcome || d.suspended) && is_none d.origin)
 
 abbrev pub unless_over : Delivery → Option Delivery
 unless_over d = if is_over d then None else Some d
@@ -214,7 +226,7 @@ abbrev pub last_of : Disposition → ℕ
 last_of x = unwrap_or x.last x.first
 
 abbrev pub is_undecided : Delivery → Bool
-is_undecided d = is_none d.outcome && not d.presettled
+is_undecided d = is_none d.outcome && not (d.presettled || d.suspended)
 
 abbrev pub is_meant : Disposition → Option ℕ → Bool
 is_meant x None = false
@@ -232,7 +244,8 @@ is_named (Some id) names n = is_number (names id) n
 abbrev pub decided : Disposition → (ℕ → Option ℕ) → ℕ → Delivery → Delivery
 decided x names n d = if is_undecided d && is_meant x d.id && is_named d.id names n then record d { outcome = decision x.settled (terminal x.state) } else d
 
--- The outcome needs no more reporting: a disposition of the router as a receiver reported it, or the producer settled or is gone.
+-- The outcome needs no more reporting: a settled disposition of the router as a receiver reported it, or the producer settled or is gone. An
+-- unsettled one tells it, and its producer settles it later.
 abbrev pub origin_id : Option Origin → ℕ → ℕ → Option ℕ
 origin_id None c o = None
 origin_id (Some p) c o = if stands_on p.link c o then Some p.id else None
@@ -240,13 +253,22 @@ origin_id (Some p) c o = if stands_on p.link c o then Some p.id else None
 abbrev pub untold : Delivery → Delivery
 untold d = record d { origin = None }
 
+abbrev pub unsettled : Delivery → Delivery
+unsettled d = record d { told = true }
+
 abbrev pub told : Role → Disposition → ℕ → ℕ → Delivery → Delivery
-told Receiver x c o d = if x.settled && is_meant x (origin_id d.origin c o) then untold d else d
+told Receiver x c o d = if is_meant x (origin_id d.origin c o) then (if x.settled then untold d else unsettled d) else d
 told Sender x c o d = d
 
--- The end of a link: the consumer's, and the producer's.
-abbrev pub ended : Delivery → Delivery
-ended d = record d { going_on = false; outcome = (if is_none d.outcome then Some failed else d.outcome) }
+-- The end of a link: the consumer's, and the producer's. A durable link that isn't closed for good is suspended.
+abbrev pub decided_at_end : Delivery → Delivery
+decided_at_end d = record d { going_on = false; outcome = (if is_none d.outcome then Some failed else d.outcome) }
+
+abbrev pub suspended_at_end : Delivery → Delivery
+suspended_at_end d = record d { going_on = false; suspended = is_none d.outcome }
+
+abbrev pub ended : Bool → Delivery → Delivery
+ended closed d = if d.suspended then d else (if d.lasting && not closed then suspended_at_end d else decided_at_end d)
 
 abbrev pub is_gone_with : (Attachment → Bool) → Option Origin → Bool
 is_gone_with gone None = false
@@ -255,12 +277,17 @@ is_gone_with gone (Some p) = gone p.link
 abbrev pub behind_origin : (Attachment → Bool) → Delivery → Delivery
 behind_origin gone d = if is_gone_with gone d.origin then untold d else d
 
-abbrev pub behind_ends : (Attachment → Bool) → Delivery → Delivery
-behind_ends gone d = behind_origin gone (if gone d.link then ended d else d)
+abbrev pub behind_ends : Bool → (Attachment → Bool) → Delivery → Delivery
+behind_ends closed gone d = behind_origin gone (if gone d.link then ended closed d else d)
 
 -- what an item that the router puts on a connection does to a delivery
 abbrev pub ended_by : Item → ℕ → Attachment → Bool
 ended_by i c a = (a.conn.0 == c) && ends_handle i a.channel a.handle
+
+-- a detach that closes its link for good
+abbrev pub closes : Perf → Bool
+closes (perf.Detach x) = x.closed
+closes _ = false
 
 abbrev pub put_in : (DeliveryName → Option ℕ) → Perf → ℕ → ℕ → ℕ → (ℕ → ℕ → Option ℕ) → ℕ → Delivery → Delivery
 put_in numbers (perf.Transfer x) c own n sent count d = if is_number (carried numbers (tag_in x) (sent own x.handle)) n then behind_frame x count d else d
@@ -269,7 +296,7 @@ put_in numbers _ c own n sent count d = d
 
 abbrev pub behind_put : (DeliveryName → Option ℕ) → Item → ℕ → ℕ → (ℕ → ℕ → Option ℕ) → Delivery → Delivery
 behind_put numbers (item.Frame sasl own body payload) c n sent d =
-    behind_ends (ended_by (item.Frame sasl own body payload) c) (put_in numbers body c own n sent (length payload) d)
+    behind_ends (closes body) (ended_by (item.Frame sasl own body payload) c) (put_in numbers body c own n sent (length payload) d)
 behind_put numbers i c n sent d = d
 
 -- what an item received on a connection does to a delivery, given what its channel stands for
@@ -297,7 +324,7 @@ lost_with c a = a.conn.0 == c
 
 abbrev pub behind_event : Event → (ℕ → ℕ → Option PeerChannel) → (ℕ → ℕ → ℕ → Option ℕ) → ℕ → Delivery → Delivery
 behind_event (event.Item c i) known names n d = heard i c.0 (known c.0) (names c.0) n d
-behind_event (event.Down c) known names n d = behind_ends (lost_with c.0) d
+behind_event (event.Down c) known names n d = behind_ends false (lost_with c.0) d
 behind_event _ known names n d = d
 
 -- The delivery with a number; none before it is bound, once it is over, and once its row is bound again.
@@ -321,7 +348,7 @@ waits_on number (Some d) = (d.link.number == number) && is_none d.id && d.going_
 
 abbrev pub undecided_on : ℕ → Option Delivery → Bool
 undecided_on number None = false
-undecided_on number (Some d) = (d.link.number == number) && is_none d.outcome
+undecided_on number (Some d) = (d.link.number == number) && (is_none d.outcome && not d.suspended)
 
 abbrev pub is_of : ℕ → Option Origin → Bool
 is_of number None = false
@@ -329,11 +356,11 @@ is_of number (Some p) = p.link.number == number
 
 abbrev pub held_from : ℕ → Option Delivery → Bool
 held_from number None = false
-held_from number (Some d) = is_of number d.origin && is_none d.outcome
+held_from number (Some d) = is_of number d.origin && (is_none d.outcome || has_row d.name)
 
 abbrev pub is_to_tell : Option Delivery → Bool
 is_to_tell None = false
-is_to_tell (Some d) = is_some d.outcome && is_some d.origin
+is_to_tell (Some d) = is_some d.outcome && (is_some d.origin && not d.told)
 
 -- The next delivery-id that the router gives on a session: 0 after its begin, then one more than the last that it gave.
 abbrev pub after_id : Option ℕ → ℕ → ℕ

@@ -15,7 +15,7 @@ use Rattle.router_trace.specs.LinkFrames.{link_flow_item}
 use Rattle.router_trace.specs.Links.{Link, Happened, sends, receives, link, numbered, attachments, is_attached}
 use Rattle.router_trace.specs.Peers.{largest_frame}
 use Rattle.router_trace.specs.Sessions.{session}
-use Rattle.router_trace.specs.Deliveries.{Delivery, bindings, delivery, sending, named, next_id, stands_on, is_number, is_undecided}
+use Rattle.router_trace.specs.Deliveries.{Delivery, has_row, bindings, delivery, sending, named, next_id, stands_on, is_number, is_undecided}
 use Rattle.router_trace.specs.DeliveryFrames.{outcome_item, first_transfer, later_transfer, next_frame, largest_out, rest_of}
 use Rattle.router_trace.specs.Numbers.{first_below, first_placed, Placed}
 
@@ -46,15 +46,16 @@ is_still_attached t (Some p) = is_attached t p.link
 
 abbrev pub is_to_be_told : Trace → Option Delivery → Bool
 is_to_be_told t None = false
-is_to_be_told t (Some d) = is_some d.outcome && is_still_attached t d.origin
+is_to_be_told t (Some d) = is_some d.outcome && (not d.told && is_still_attached t d.origin)
 
-abbrev pub outcome_to : Option Origin → Option DeliveryState → List Put
-outcome_to (Some p) (Some s) = record { conn = p.link.conn.0; item = outcome_item p.link.channel Receiver p.id s } ∷ []
-outcome_to _ _ = []
+-- that of a durable delivery isn't settled: its producer does that
+abbrev pub outcome_to : Option Origin → Bool → Option DeliveryState → List Put
+outcome_to (Some p) settled (Some s) = record { conn = p.link.conn.0; item = outcome_item p.link.channel Receiver p.id settled s } ∷ []
+outcome_to _ settled _ = []
 
 abbrev pub tell : Option Delivery → List Put
 tell None = []
-tell (Some d) = outcome_to d.origin d.outcome
+tell (Some d) = outcome_to d.origin (not (has_row d.name)) d.outcome
 
 abbrev pub tells_of : Trace → Option ℕ → List Put
 tells_of t None = []

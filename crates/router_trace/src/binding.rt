@@ -1,4 +1,7 @@
 //! Messages bound to consumer links.
+ghost use Rattle.std.specs.Prelude.{◌≡◌};
+ghost use Rattle.router_trace.specs.Deliveries.{has_row};
+
 use crate::handle::Attachment;
 use book_core::RowNumber;
 use bytes::Bytes;
@@ -21,6 +24,18 @@ pub enum DeliveryName {
     Counter(u64),
 }
 
+impl DeliveryName {
+    /// Whether it is that of a durable delivery, which has a row in the book.
+    pub fn has_row(self) -> bool
+        ensures { result ≡ has_row self }
+    {
+        match self {
+            DeliveryName::Row(_) => true,
+            DeliveryName::Counter(_) => false,
+        }
+    }
+}
+
 /// A message bound to a consumer's link.
 #[derive(Debug, Drop)]
 pub struct Binding {
@@ -30,6 +45,8 @@ pub struct Binding {
     pub origin: Option<Origin>,
     /// Its row in the book, if it is durable.
     pub row: Option<RowNumber>,
+    /// Whether the consumer's link is durable: a row then stays undecided if the link is suspended.
+    pub lasting: bool,
     /// The message format.
     pub format: u32,
     /// The message.
