@@ -9,7 +9,7 @@ use Rattle.router_trace.specs.Trace.{Entry, Did, Out, Took, Bound, Booked, Began
 use Rattle.router_trace.specs.Links.{is_lost, has_number, attachments, newest_by, numbered}
 use Rattle.router_trace.specs.Deliveries.{Delivery, bindings, counters, name_of, name_in, same_name, number_named, unless_called, delivery, bound, unless_over, behind_event, behind_put, sending_by, sending, named_by, named, next_id_by, next_id, stands_on}
 use Rattle.router_trace.specs.DeliveryFrames.{next_frame, largest_out, rest_of, first_transfer, later_transfer}
-use Rattle.router_trace.specs.Claims.{Claim, claim_at, claim_behind, claims}
+use Rattle.router_trace.specs.Claims.{Claim, bind_claim, claim_at, claim_behind, claims}
 use Rattle.router_trace.specs.Numbers.{Placed, first_below, first_placed}
 use Rattle.router_trace.specs.Following.{is_still_attached, is_to_be_told, tell, tells_of, tells, goes_on_at, is_going, takes_more, is_going_on, is_busy, is_open, is_used, can_start, is_wide, is_there, can_go, place_to_go, send, send_of, sends_due, is_unsent_on, owes_one, place_drained, drain_on, drain_by, drains_due}
 use Rattle.router_core.specs.Laws.{untaken}
