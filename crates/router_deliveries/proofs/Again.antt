@@ -22,11 +22,11 @@ ended_twice : (closed : Bool) (d : Delivery) → ended closed (ended closed d) �
 ended_twice closed d = by_tests d.suspended (d.lasting && not closed) d.outcome refl refl refl
   where
     by_tests : (s l : Bool) (o : Option DeliveryState) → d.suspended ≡ s → (d.lasting && not closed) ≡ l → d.outcome ≡ o → ended closed (ended closed d) ≡ ended closed d
-    by_tests true l o e f g = rw (e, e) refl
+    by_tests true l o e f g = rw e refl
     by_tests false true None e f g = rw (e, f, g) refl
     by_tests false true (Some s) e f g = rw (e, f, g, f) refl
-    by_tests false false None e f g = rw (e, f, e, f, g) refl
-    by_tests false false (Some s) e f g = rw (e, f, e, f, g) refl
+    by_tests false false None e f g = rw (e, f, f, g) refl
+    by_tests false false (Some s) e f g = rw (e, f, f, g) refl
 
 -- the end of its own link leaves a delivery's link and its origin
 same_place : (closed : Bool) (d : Delivery) → ((ended closed d).link ≡ d.link) × ((ended closed d).origin ≡ d.origin)

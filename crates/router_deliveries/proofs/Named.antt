@@ -79,3 +79,9 @@ settled_row t true true true new old view name known all is x y = rw (x, is refl
 settled_row t true true false new old view name known all is x y = rw x y
 settled_row t true false same new old view name known all is x y = rw x y
 settled_row t false own same new old view name known all is x y = rw x y
+
+-- the names of a connection that is lost
+pub lost_row : (e : Entry) (t : Trace) (here : Bool) (new old view : Option ℕ) → new ≡ (if here then None else old) → IsLow (bindings t) view → Remembers t old view
+    → Remembers (e ∷ t) new (if here then None else view)
+lost_row e t true new old view is low x = rw is tt
+lost_row e t false new old view is low x = rw is (still e t old view low x)

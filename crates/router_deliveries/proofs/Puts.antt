@@ -15,8 +15,9 @@ use Rattle.amqp_frames.specs.declared.item.Item.TheVariants as item
 use Rattle.router_trace.specs.declared.binding.DeliveryName.{DeliveryName}
 use Rattle.router_trace.specs.declared.binding.Origin.{Origin}
 use Rattle.router_trace.specs.declared.handle.Attachment.{Attachment}
+use Rattle.router_trace.specs.Sessions.{theirs}
 use Rattle.router_trace.specs.Trace.{Trace, Did, Out, Took, Bound, Booked, Began}
-use Rattle.router_trace.specs.Deliveries.{Delivery, delivery, bindings, bound, name_in, same_name, number_named, unless_called, unless_over, is_over, behind_ends, behind_put, behind_frame, put_in, ended_by, is_number, carried, tag_in, told, is_meant, origin_id, stands_on, untold, unsettled, last_of, sending}
+use Rattle.router_trace.specs.Deliveries.{Delivery, delivery, named, behind_event, bindings, bound, name_in, same_name, number_named, unless_called, unless_over, is_over, behind_ends, behind_put, behind_frame, put_in, ended_by, is_number, carried, tag_in, told, is_meant, origin_id, stands_on, untold, unsettled, last_of, sending}
 use Rattle.router_deliveries.specs.declared.change.Change.{Change}
 use Rattle.router_deliveries.specs.declared.change.Change.TheVariants as change
 use Rattle.router_deliveries.specs.declared.change.Gone.TheVariants as gone
@@ -38,8 +39,8 @@ kept_behind f (Some d) = kept_once (f d)
 
 pub kept : (t : Trace) (n : ℕ) → IsKept (delivery t n)
 kept [] n = refl
-kept (Did s ∷ t) n = kept_behind _ (delivery t n)
-kept (Out c i ∷ t) n = kept_behind _ (delivery t n)
+kept (Did s ∷ t) n = kept_behind (behind_event s.event (theirs t) (named t) n) (delivery t n)
+kept (Out c i ∷ t) n = kept_behind (behind_put (number_named t) i c n (sending t c)) (delivery t n)
 kept (Took c k ∷ t) n = kept t n
 kept (Began g ∷ t) n = kept t n
 kept (Booked acts ∷ t) n = kept t n

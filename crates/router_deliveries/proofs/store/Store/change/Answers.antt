@@ -23,7 +23,7 @@ returns-clause-indexed c =
     (λ deliveries indexed called before. record {
       indexes = put_back _ c.args.number _ old (get nat_cmp c.take.new.self.deliveries) _ c.take.ensures.gone deliveries
           (indexed stood (ap standing was ∙ sym c.of-before.ensures) (subst (λ (x : Index). Indexes x stood) (sym c.take.ensures.index) before.indexes));
-      called = called_back c.take.new.self.by_name c.keep.new.self.by_name c.args.number c.in-Some.delivery _ old (get nat_cmp c.take.new.self.deliveries) _
+      called = called_back c.take.new.self.by_name c.keep.new.self.by_name c.args.number c.in-Some.delivery c.change.new.self old (get nat_cmp c.take.new.self.deliveries) _
           (ap (λ (d : Delivery). d.name) c.in_ok-change.ensures ∙ name_changed c.args.change.now c.in-Some.delivery) was c.take.ensures.gone deliveries called
           (subst (λ (x : ByName). AreCalled x old) (sym c.take.ensures.by_name) before.called);
     })
