@@ -48,11 +48,10 @@ fn is_to_be_told(state: &State, number: u64) -> bool
         None => false,
         Some(delivery) => {
             delivery.outcome.is_some()
-                && (!delivery.told
-                    && match delivery.origin {
-                        None => false,
-                        Some(origin) => state.is_attached(origin.link),
-                    })
+                && match delivery.origin {
+                    None => false,
+                    Some(origin) => state.is_attached(origin.link),
+                }
         }
     }
 }

@@ -20,7 +20,7 @@ use Rattle.router_trace.specs.declared.channel.PeerChannel.{PeerChannel}
 use Rattle.router_trace.specs.declared.handle.Attachment.{Attachment}
 use Rattle.router_trace.specs.Trace.{Trace, Did, Out, Took, Bound, Booked, Began}
 use Rattle.router_trace.specs.Sessions.{theirs}
-use Rattle.router_trace.specs.Deliveries.{Delivery, delivery, bindings, bound, same_name, name_in, number_named, unless_over, unless_called, is_over, untold, unsettled, ended, decided_at_end, suspended_at_end, closes, behind_origin, behind_ends, is_gone_with, behind_frame, put_in, behind_put, told, decided, is_undecided, is_meant, is_named, is_number, carried, tag_in, disposed, is_on, is_settled_at, heard_in, heard, behind_event, ended_by, lost_with, origin_id, sending, named, decision, terminal}
+use Rattle.router_trace.specs.Deliveries.{Delivery, source, delivery, bindings, bound, same_name, name_in, number_named, unless_over, unless_called, is_over, untold, unsettled, ended, decided_at_end, suspended_at_end, closes, behind_origin, behind_ends, is_gone_with, behind_frame, put_in, behind_put, told, decided, is_undecided, is_meant, is_named, is_number, carried, tag_in, disposed, is_on, is_settled_at, heard_in, heard, behind_event, ended_by, lost_with, origin_id, sending, named, decision, terminal}
 use Rattle.router_deliveries.specs.declared.by_name.ByName.{ByName}
 use Rattle.router_deliveries.specs.declared.change.Change.{Change}
 use Rattle.router_deliveries.specs.declared.change.Change.TheVariants as change
@@ -65,11 +65,11 @@ name_ended closed d =
 pub name_ends : (closed : Bool) (gone : Attachment → Bool) (d : Delivery) → (behind_ends closed gone d).name ≡ d.name
 name_ends closed gone d =
     let on : (if gone d.link then ended closed d else d).name ≡ d.name = either (gone d.link) (ended closed d) d d.name (name_ended closed d) refl in
-    either (is_gone_with gone (if gone d.link then ended closed d else d).origin) (untold (if gone d.link then ended closed d else d)) (if gone d.link then ended closed d else d) d.name on on
+    either (is_gone_with gone (source (if gone d.link then ended closed d else d))) (untold (if gone d.link then ended closed d else d)) (if gone d.link then ended closed d else d) d.name on on
 
 name_told : (r : Role) (x : Disposition) (c o : ℕ) (d : Delivery) → (told r x c o d).name ≡ d.name
 name_told Receiver x c o d =
-    either (is_meant x (origin_id d.origin c o)) (if x.settled then untold d else unsettled d) d d.name (either x.settled (untold d) (unsettled d) d.name refl refl) refl
+    either (is_meant x (origin_id (source d) c o)) (if x.settled then untold d else unsettled d) d d.name (either x.settled (untold d) (unsettled d) d.name refl refl) refl
 name_told Sender x c o d = refl
 
 name_put_in : (numbers : DeliveryName → Option ℕ) (body : Perf) (c own n : ℕ) (sent : ℕ → ℕ → Option ℕ) (count : ℕ) (d : Delivery) → (put_in numbers body c own n sent count d).name ≡ d.name
@@ -89,7 +89,7 @@ name_decided x names n d =
 
 name_disposed : (r : Role) (x : Disposition) (c : ℕ) (v : Option PeerChannel) (names : ℕ → Option ℕ) (n : ℕ) (d : Delivery) → (disposed r x c v names n d).name ≡ d.name
 name_disposed Receiver x c v names n d = either (is_on d.link c v) (decided x names n d) d d.name (name_decided x names n d) refl
-name_disposed Sender x c v names n d = either (is_settled_at x c v d.origin) (untold d) d d.name refl refl
+name_disposed Sender x c v names n d = either (is_settled_at x c v (source d)) (untold d) d d.name refl refl
 
 name_heard_in : (body : Perf) (c : ℕ) (v : Option PeerChannel) (names : ℕ → ℕ → Option ℕ) (n : ℕ) (d : Delivery) → (heard_in body c v names n d).name ≡ d.name
 name_heard_in (perf.Disposition x) c v names n d = name_disposed x.role x c v (names d.link.channel) n d
@@ -107,8 +107,8 @@ name_event _ known names n d = refl
 
 pub name_changed : (x : Change) (d : Delivery) → (changed x d).name ≡ d.name
 name_changed (change.Ends g closed) d = name_ends closed (is_gone g) d
-name_changed (change.Untold c o first last) d = either (comes_with_id d.origin c o first last) (untold d) d d.name refl refl
-name_changed (change.Told c o first last) d = either (comes_with_id d.origin c o first last) (unsettled d) d d.name refl refl
+name_changed (change.Untold c o first last) d = either (comes_with_id (source d) c o first last) (untold d) d d.name refl refl
+name_changed (change.Told c o first last) d = either (comes_with_id (source d) c o first last) (unsettled d) d d.name refl refl
 name_changed (change.Decided c o first last made) d = either (is_decided_by d c o first last) (record d { outcome = Some made }) d d.name refl refl
 
 -- a delivery behind a change was there before

@@ -18,7 +18,7 @@ use Rattle.router_trace.specs.declared.event.Event.TheVariants as event
 use Rattle.router_trace.specs.declared.channel.PeerChannel.{PeerChannel}
 use Rattle.router_trace.specs.declared.handle.Attachment.{Attachment}
 use Rattle.router_trace.specs.Trace.{Entry, Trace, Did, Out, Took, Booked, Bound, Began}
-use Rattle.router_trace.specs.Deliveries.{Delivery, delivery, bindings, bound, name_in, same_name, number_named, unless_called, unless_over, is_over, is_undecided, behind_ends, is_gone_with, ended, decided_at_end, suspended_at_end, untold, unsettled, failed, closes, behind_put, behind_frame, behind_event, put_in, is_number, carried, tag_in, told, is_meant, origin_id, heard, heard_in, disposed, decided, is_settled_at, is_on, ended_by, lost_with, named, sending}
+use Rattle.router_trace.specs.Deliveries.{Delivery, source, delivery, bindings, bound, name_in, same_name, number_named, unless_called, unless_over, is_over, is_undecided, behind_ends, is_gone_with, ended, decided_at_end, suspended_at_end, untold, unsettled, failed, closes, behind_put, behind_frame, behind_event, put_in, is_number, carried, tag_in, told, is_meant, origin_id, heard, heard_in, disposed, decided, is_settled_at, is_on, ended_by, lost_with, named, sending}
 use Rattle.router_trace.specs.Sessions.{theirs}
 use Rattle.amqp_perf.specs.declared.state.DeliveryState.TheVariants as state
 use Rattle.router_deliveries.specs.Naming.{is_open}
@@ -69,7 +69,7 @@ untold_closed d e = e
 ends_closed : (closed : Bool) (gone : Attachment → Bool) → Closes (behind_ends closed gone)
 ends_closed closed gone d e =
     let on : is_undecided (if gone d.link then ended closed d else d) ≡ false = either (gone d.link) (ended closed d) d (ended_closed closed d) e in
-    either (is_gone_with gone (if gone d.link then ended closed d else d).origin) (untold (if gone d.link then ended closed d else d)) (if gone d.link then ended closed d else d) on on
+    either (is_gone_with gone (source (if gone d.link then ended closed d else d))) (untold (if gone d.link then ended closed d else d)) (if gone d.link then ended closed d else d) on on
 
 frame_closed : (x : Transfer) (count : ℕ) → Closes (behind_frame x count)
 frame_closed x count d e = by_test (d.presettled && not x.more)
@@ -79,7 +79,7 @@ frame_closed x count d e = by_test (d.presettled && not x.more)
     by_test false = e
 
 told_closed : (r : Role) (x : Disposition) (c o : ℕ) → Closes (told r x c o)
-told_closed Receiver x c o d e = either (is_meant x (origin_id d.origin c o)) (if x.settled then untold d else unsettled d) d (either x.settled (untold d) (unsettled d) e e) e
+told_closed Receiver x c o d e = either (is_meant x (origin_id (source d) c o)) (if x.settled then untold d else unsettled d) d (either x.settled (untold d) (unsettled d) e e) e
 told_closed Sender x c o d e = e
 
 put_in_closed : (numbers : DeliveryName → Option ℕ) (body : Perf) (c own n : ℕ) (sent : ℕ → ℕ → Option ℕ) (count : ℕ) → Closes (put_in numbers body c own n sent count)
@@ -96,7 +96,7 @@ decided_closed x names n d e = rw e e
 
 disposed_closed : (r : Role) (x : Disposition) (c : ℕ) (v : Option PeerChannel) (names : ℕ → Option ℕ) (n : ℕ) → Closes (disposed r x c v names n)
 disposed_closed Receiver x c v names n d e = either (is_on d.link c v) (decided x names n d) d (decided_closed x names n d e) e
-disposed_closed Sender x c v names n d e = either (is_settled_at x c v d.origin) (untold d) d e e
+disposed_closed Sender x c v names n d e = either (is_settled_at x c v (source d)) (untold d) d e e
 
 heard_in_closed : (body : Perf) (c : ℕ) (v : Option PeerChannel) (names : ℕ → ℕ → Option ℕ) (n : ℕ) → Closes (heard_in body c v names n)
 heard_in_closed (perf.Disposition x) c v names n d e = disposed_closed x.role x c v (names d.link.channel) n d e

@@ -17,7 +17,7 @@ use Rattle.router_trace.specs.declared.binding.Origin.{Origin}
 use Rattle.router_trace.specs.declared.handle.Attachment.{Attachment}
 use Rattle.router_trace.specs.Sessions.{theirs}
 use Rattle.router_trace.specs.Trace.{Trace, Did, Out, Took, Bound, Booked, Began}
-use Rattle.router_trace.specs.Deliveries.{Delivery, delivery, named, behind_event, bindings, bound, name_in, same_name, number_named, unless_called, unless_over, is_over, behind_ends, behind_put, behind_frame, put_in, ended_by, is_number, carried, tag_in, told, is_meant, origin_id, stands_on, untold, unsettled, last_of, sending}
+use Rattle.router_trace.specs.Deliveries.{Delivery, source, delivery, named, behind_event, bindings, bound, name_in, same_name, number_named, unless_called, unless_over, is_over, behind_ends, behind_put, behind_frame, put_in, ended_by, is_number, carried, tag_in, told, is_meant, origin_id, stands_on, untold, unsettled, last_of, sending}
 use Rattle.router_deliveries.specs.declared.change.Change.{Change}
 use Rattle.router_deliveries.specs.declared.change.Change.TheVariants as change
 use Rattle.router_deliveries.specs.declared.change.Gone.TheVariants as gone
@@ -63,9 +63,9 @@ pub same_ends : (closed : Bool) (p q : Attachment → Bool) → ((a : Attachment
 same_ends closed p q same d = ap (λ gone. behind_ends closed gone d) (λ i a. same a i)
 
 pub no_ends : (closed : Bool) (p : Attachment → Bool) → ((a : Attachment) → p a ≡ false) → (d : Delivery) → behind_ends closed p d ≡ d
-no_ends closed p none d = same_ends closed p (λ a. false) none d ∙ never d.origin refl
+no_ends closed p none d = same_ends closed p (λ a. false) none d ∙ never (source d) refl
   where
-    never : (o : Option Origin) → d.origin ≡ o → behind_ends closed (λ a. false) d ≡ d
+    never : (o : Option Origin) → source d ≡ o → behind_ends closed (λ a. false) d ≡ d
     never None e = rw e refl
     never (Some p) e = rw e refl
 
@@ -136,12 +136,12 @@ disposes numbers c own n sasl x payload known Receiver is v keeps = by_settled x
     by_settled : (b : Bool) → x.settled ≡ b → behind (if b then change.Untold c own x.first (last_of x) else change.Told c own x.first (last_of x)) v ≡ put_behind numbers c (item.Frame sasl own (perf.Disposition x) payload) n known v
     by_settled true s = does numbers c n (item.Frame sasl own (perf.Disposition x) payload) (change.Untold c own x.first (last_of x)) known
         (λ d. never c (told x.role x c own d) ∙ ap (λ r. told r x c own d) is
-        ∙ ap (λ b. if is_meant x (origin_id d.origin c own) then (if b then untold d else unsettled d) else d) s
-        ∙ ap (λ b. if b then untold d else d) (meant x d.origin c own)) v
+        ∙ ap (λ b. if is_meant x (origin_id (source d) c own) then (if b then untold d else unsettled d) else d) s
+        ∙ ap (λ b. if b then untold d else d) (meant x (source d) c own)) v
     by_settled false s = does numbers c n (item.Frame sasl own (perf.Disposition x) payload) (change.Told c own x.first (last_of x)) known
         (λ d. never c (told x.role x c own d) ∙ ap (λ r. told r x c own d) is
-        ∙ ap (λ b. if is_meant x (origin_id d.origin c own) then (if b then untold d else unsettled d) else d) s
-        ∙ ap (λ b. if b then unsettled d else d) (meant x d.origin c own)) v
+        ∙ ap (λ b. if is_meant x (origin_id (source d) c own) then (if b then untold d else unsettled d) else d) s
+        ∙ ap (λ b. if b then unsettled d else d) (meant x (source d) c own)) v
 
 pub other_frame : (numbers : DeliveryName → Option ℕ) (c own n : ℕ) (sasl : Bool) (body : Perf) (payload : List ℕ) (known : ℕ → ℕ → Option ℕ) → ((x : Transfer) → body ≡ perf.Transfer x → ⊥)
     → (v : Option Delivery) → IsKept v → behind_any (put_change c own body) v ≡ put_behind numbers c (item.Frame sasl own body payload) n known v

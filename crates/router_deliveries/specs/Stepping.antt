@@ -8,7 +8,7 @@ use Rattle.amqp_perf.specs.declared.perf.Role.{Role}
 use Rattle.amqp_perf.specs.declared.perf.Role.TheVariants.{Sender, Receiver}
 use Rattle.router_trace.specs.declared.binding.Origin.{Origin}
 use Rattle.router_trace.specs.declared.handle.Attachment.{Attachment}
-use Rattle.router_trace.specs.Deliveries.{Delivery, unless_over, stands_on, untold, unsettled, is_undecided, is_gone_with, behind_ends, last_of}
+use Rattle.router_trace.specs.Deliveries.{Delivery, source, unless_over, stands_on, untold, unsettled, is_undecided, is_gone_with, behind_ends, last_of}
 use Rattle.router_deliveries.specs.declared.change.Gone.{Gone}
 use Rattle.router_deliveries.specs.declared.change.Gone.TheVariants as gone
 use Rattle.router_deliveries.specs.declared.change.Change.{Change}
@@ -38,8 +38,8 @@ is_decided_by d c o first last = is_undecided d && (stands_on d.link c o && is_i
 
 abbrev pub changed : Change → Delivery → Delivery
 changed (change.Ends g closed) d = behind_ends closed (is_gone g) d
-changed (change.Untold c o first last) d = if comes_with_id d.origin c o first last then untold d else d
-changed (change.Told c o first last) d = if comes_with_id d.origin c o first last then unsettled d else d
+changed (change.Untold c o first last) d = if comes_with_id (source d) c o first last then untold d else d
+changed (change.Told c o first last) d = if comes_with_id (source d) c o first last then unsettled d else d
 changed (change.Decided c o first last made) d = if is_decided_by d c o first last then record d { outcome = Some made } else d
 
 -- the immediate change to deliveries by a disposition that settles, and by what the router puts out

@@ -1,7 +1,7 @@
 //! Deliveries as the table keeps them.
 ghost use Rattle.std.specs.Prelude.{◌≡◌, ◌&&◌, OnOk, Some, if◌then◌else◌};
 ghost use Rattle.router_trace.specs.Settling.{is_open_as};
-ghost use Rattle.router_trace.specs.Deliveries.{bound, is_over, is_undecided, behind_frame, untold, unsettled, ended, behind_ends};
+ghost use Rattle.router_trace.specs.Deliveries.{bound, source, is_over, is_undecided, behind_frame, untold, unsettled, ended, behind_ends};
 ghost use Rattle.router_deliveries.specs.Stepping.{is_gone, is_decided_by, comes_with_id, changed};
 
 use crate::change::{Change, Gone, comes_with_id, is_in};
@@ -19,7 +19,7 @@ pub struct Delivery {
     pub name: DeliveryName,
     /// The consumer's link.
     pub link: Attachment,
-    /// The producer's delivery, to which the outcome is reported; none if the producer needs no outcome any more.
+    /// The producer's delivery, to which the outcome is reported; none if no report is due to it any more.
     pub origin: Option<Origin>,
     /// Whether its producer had settled it before it was bound.
     pub presettled: bool,
@@ -35,8 +35,8 @@ pub struct Delivery {
     pub going_on: bool,
     /// Its outcome, once decided.
     pub outcome: Option<DeliveryState>,
-    /// Whether its producer was told the outcome, and has yet to settle it.
-    pub told: bool,
+    /// The producer's delivery once its outcome was told, as long as the producer has yet to settle it.
+    pub told: Option<Origin>,
     /// Whether it has a row and its consumer's link is durable.
     pub lasting: bool,
     /// Whether that link was suspended before it was decided.
@@ -81,7 +81,7 @@ impl Delivery {
             sent: 0,
             going_on: true,
             outcome: None,
-            told: false,
+            told: None,
             lasting: name.has_row() && binding.lasting,
             suspended: false,
         }
@@ -91,7 +91,17 @@ impl Delivery {
     pub fn is_over(&self) -> bool
         ensures { result ≡ is_over self.now }
     {
-        !self.going_on && ((self.outcome.is_some() || self.suspended) && self.origin.is_none())
+        !self.going_on && ((self.outcome.is_some() || self.suspended) && self.source().is_none())
+    }
+
+    /// The producer's delivery, told or not.
+    pub(crate) fn source(&self) -> Option<Origin>
+        ensures { result ≡ source self.now }
+    {
+        match self.origin {
+            Some(origin) => Some(origin),
+            None => self.told,
+        }
     }
 
     /// Whether its consumer has yet to decide it.
@@ -127,18 +137,20 @@ impl Delivery {
         Ok(())
     }
 
-    /// Its outcome needs no report any more.
+    /// Its producer needs no more of it.
     pub(crate) fn untell(&mut self)
         ensures { self.new ≡ untold self.old }
     {
         self.origin = None;
+        self.told = None;
     }
 
     /// Its outcome was told, and its producer has yet to settle it.
     fn tell(&mut self)
         ensures { self.new ≡ unsettled self.old }
     {
-        self.told = true;
+        self.told = self.source();
+        self.origin = None;
     }
 
     /// Its link ends, closed for good or not.
@@ -166,7 +178,7 @@ impl Delivery {
         if gone.has(self.link) {
             self.end(closed);
         }
-        if gone.has_origin(self.origin) {
+        if gone.has_origin(self.source()) {
             self.untell();
         }
     }
@@ -206,18 +218,18 @@ impl Delivery {
 
     /// Its outcome needs no report any more, if its producer gave it an id in this range, on a session.
     fn untell_within(&mut self, conn: u64, own: u16, first: u32, last: u32)
-        ensures { self.new ≡ (if comes_with_id self.old.origin conn own first last then untold self.old else self.old) }
+        ensures { self.new ≡ (if comes_with_id (source self.old) conn own first last then untold self.old else self.old) }
     {
-        if comes_with_id(self.origin, conn, own, first, last) {
+        if comes_with_id(self.source(), conn, own, first, last) {
             self.untell();
         }
     }
 
     /// Its outcome was told, if its producer gave it an id in this range, on a session.
     fn tell_within(&mut self, conn: u64, own: u16, first: u32, last: u32)
-        ensures { self.new ≡ (if comes_with_id self.old.origin conn own first last then unsettled self.old else self.old) }
+        ensures { self.new ≡ (if comes_with_id (source self.old) conn own first last then unsettled self.old else self.old) }
     {
-        if comes_with_id(self.origin, conn, own, first, last) {
+        if comes_with_id(self.source(), conn, own, first, last) {
             self.tell();
         }
     }

@@ -88,6 +88,7 @@ impl Keys {
     {
         let undecided = delivery.outcome.is_none();
         let open = undecided && !delivery.suspended;
+        let source = delivery.source();
         Keys {
             waiting: on_link(
                 delivery.link.number,
@@ -95,17 +96,17 @@ impl Keys {
             ),
             unsent: on_link(delivery.link.number, delivery.going_on),
             undecided: on_link(delivery.link.number, open),
-            held: match delivery.origin {
+            held: match source {
                 None => None,
                 Some(origin) => on_link(
                     origin.link.number,
                     undecided || delivery.name.has_row(),
                 ),
             },
-            to_tell: !undecided && (delivery.origin.is_some() && !delivery.told),
+            to_tell: !undecided && delivery.origin.is_some(),
             on: on_spot(spot_of(delivery.link), delivery.going_on || open),
-            from: from_spot(delivery.origin),
-            by_id: id_spot(delivery.origin),
+            from: from_spot(source),
+            by_id: id_spot(source),
         }
     }
 }

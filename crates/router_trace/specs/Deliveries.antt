@@ -84,8 +84,8 @@ pub record Delivery : Type 0 where
   pub going_on : Bool
   -- its outcome, once decided
   pub outcome : Option DeliveryState
-  -- its producer was told the outcome, and has yet to settle it
-  pub told : Bool
+  -- the producer's delivery once its outcome was told, as long as the producer has yet to settle it
+  pub told : Option Origin
   -- it has a row, and its consumer's link is durable; that link was suspended before it was decided
   pub lasting : Bool
   pub suspended : Bool
@@ -93,6 +93,14 @@ pub record Delivery : Type 0 where
 abbrev pub has_row : DeliveryName → Bool
 has_row (Row r) = true
 has_row (Counter k) = false
+
+-- the producer's delivery, told or not
+abbrev pub either_origin : Option Origin → Option Origin → Option Origin
+either_origin (Some p) told = Some p
+either_origin None told = told
+
+abbrev pub source : Delivery → Option Origin
+source d = either_origin d.origin d.told
 
 abbrev pub bound : DeliveryName → Binding → Delivery
 bound name b = record {
@@ -106,14 +114,14 @@ bound name b = record {
   sent = 0;
   going_on = true;
   outcome = None;
-  told = false;
+  told = None;
   lasting = has_row name && b.lasting;
   suspended = false;
 }
 
 -- A delivery is over once it is decided or suspended, its producer needs no more of it, and no frame of it remains to be sent.
 abbrev pub is_over : Delivery → Bool
-is_over d = not d.going_on && ((is_some d.outcome || d.suspended) && is_none d.origin)
+is_over d = not d.going_on && ((is_some d.outcome || d.suspended) && is_none (source d))
 
 abbrev pub unless_over : Delivery → Option Delivery
 unless_over d = if is_over d then None else Some d
@@ -251,13 +259,13 @@ origin_id None c o = None
 origin_id (Some p) c o = if stands_on p.link c o then Some p.id else None
 
 abbrev pub untold : Delivery → Delivery
-untold d = record d { origin = None }
+untold d = record d { origin = None; told = None }
 
 abbrev pub unsettled : Delivery → Delivery
-unsettled d = record d { told = true }
+unsettled d = record d { origin = None; told = source d }
 
 abbrev pub told : Role → Disposition → ℕ → ℕ → Delivery → Delivery
-told Receiver x c o d = if is_meant x (origin_id d.origin c o) then (if x.settled then untold d else unsettled d) else d
+told Receiver x c o d = if is_meant x (origin_id (source d) c o) then (if x.settled then untold d else unsettled d) else d
 told Sender x c o d = d
 
 -- The end of a link: the consumer's, and the producer's. A durable link that isn't closed for good is suspended.
@@ -275,7 +283,7 @@ is_gone_with gone None = false
 is_gone_with gone (Some p) = gone p.link
 
 abbrev pub behind_origin : (Attachment → Bool) → Delivery → Delivery
-behind_origin gone d = if is_gone_with gone d.origin then untold d else d
+behind_origin gone d = if is_gone_with gone (source d) then untold d else d
 
 abbrev pub behind_ends : Bool → (Attachment → Bool) → Delivery → Delivery
 behind_ends closed gone d = behind_origin gone (if gone d.link then ended closed d else d)
@@ -309,7 +317,7 @@ is_settled_at x c v (Some p) = x.settled && is_on p.link c v && in_range x.first
 
 abbrev pub disposed : Role → Disposition → ℕ → Option PeerChannel → (ℕ → Option ℕ) → ℕ → Delivery → Delivery
 disposed Receiver x c v names n d = if is_on d.link c v then decided x names n d else d
-disposed Sender x c v names n d = if is_settled_at x c v d.origin then untold d else d
+disposed Sender x c v names n d = if is_settled_at x c v (source d) then untold d else d
 
 abbrev pub heard_in : Perf → ℕ → Option PeerChannel → (ℕ → ℕ → Option ℕ) → ℕ → Delivery → Delivery
 heard_in (perf.Disposition x) c v names n d = disposed x.role x c v (names d.link.channel) n d
@@ -356,11 +364,11 @@ is_of number (Some p) = p.link.number == number
 
 abbrev pub held_from : ℕ → Option Delivery → Bool
 held_from number None = false
-held_from number (Some d) = is_of number d.origin && (is_none d.outcome || has_row d.name)
+held_from number (Some d) = is_of number (source d) && (is_none d.outcome || has_row d.name)
 
 abbrev pub is_to_tell : Option Delivery → Bool
 is_to_tell None = false
-is_to_tell (Some d) = is_some d.outcome && (is_some d.origin && not d.told)
+is_to_tell (Some d) = is_some d.outcome && is_some d.origin
 
 -- The next delivery-id that the router gives on a session: 0 after its begin, then one more than the last that it gave.
 abbrev pub after_id : Option ℕ → ℕ → ℕ

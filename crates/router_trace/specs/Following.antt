@@ -46,7 +46,7 @@ is_still_attached t (Some p) = is_attached t p.link
 
 abbrev pub is_to_be_told : Trace → Option Delivery → Bool
 is_to_be_told t None = false
-is_to_be_told t (Some d) = is_some d.outcome && (not d.told && is_still_attached t d.origin)
+is_to_be_told t (Some d) = is_some d.outcome && is_still_attached t d.origin
 
 -- that of a durable delivery isn't settled: its producer does that
 abbrev pub outcome_to : Option Origin → Bool → Option DeliveryState → List Put
