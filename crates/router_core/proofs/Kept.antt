@@ -1,6 +1,6 @@
 -- In every trace of the router the session's window has room before each transfer: transfers are sent only while it is open.
 use Rattle.std.proofs.Common.{◌≡◌, sym, ap, refl, subst, ℕ, zero, suc, ◌+◌, ◌≤◌, Bool, true, false, not, List, [], ◌∷◌, ◌++◌, arith}
-use Rattle.std.specs.Prelude.{Option, Some, None, if◌then◌else◌, nat_eq, nat_lt}
+use Rattle.std.specs.Prelude.{Option, Some, None, not, if◌then◌else◌, nat_eq, nat_lt}
 use Rattle.amqp_perf.specs.declared.perf.Attach.{Attach as AnAttach}
 use Rattle.amqp_perf.specs.declared.perf.Perf.{Perf}
 use Rattle.amqp_perf.specs.declared.perf.Perf.TheVariants as perf
@@ -24,7 +24,7 @@ use Rattle.router_trace.specs.declared.event.Event.TheVariants as event
 use Rattle.router_trace.specs.Trace.{Entry, Did, Out, Put, Step, goes, puts, each_to, ups}
 use Rattle.router_trace.specs.Connection.{Connection, conn, standing, found, live, due, live_of}
 use Rattle.router_trace.specs.Frames.{closing, told_of}
-use Rattle.router_trace.specs.Deliveries.{Delivery, delivery}
+use Rattle.router_trace.specs.Deliveries.{Delivery, has_row, delivery}
 use Rattle.router_trace.specs.Settling.{unbound}
 use Rattle.router_trace.specs.Numbers.{Placed, first_placed}
 use Rattle.router_trace.specs.Following.{link_of, first_delivery, is_to_be_told, outcome_to, tell, tells_of, tells, is_wide, sends_due, drain_of, drain_on, drain_by, place_drained, drains_due}
@@ -235,7 +235,7 @@ none_tell : (d : Option Delivery) → NonePut (tell d)
 none_tell None = tt
 none_tell (Some d) = by d.origin d.outcome
   where
-    by : (origin : Option Origin) (decided : Option DeliveryState) → NonePut (outcome_to origin decided)
+    by : (origin : Option Origin) (decided : Option DeliveryState) → NonePut (outcome_to origin (not (has_row d.name)) decided)
     by None decided = tt
     by (Some p) None = tt
     by (Some p) (Some s) = (refl, tt)

@@ -1,5 +1,5 @@
 //! Laws of all delivery frames. The functions do nothing: their contracts are the laws.
-ghost use Rattle.std.specs.Prelude.{◌≡◌, ◌≤◌, ◌+◌, ◌↔◌, ℕ, List, [], length, true, false, is_some, Some};
+ghost use Rattle.std.specs.Prelude.{◌≡◌, Bool, ◌≤◌, ◌+◌, ◌↔◌, ℕ, List, [], length, true, false, is_some, Some};
 ghost use Rattle.amqp_perf.specs.Spelling.{state_spelling};
 ghost use Rattle.amqp_perf.specs.declared.perf.Role.{Role as ARole};
 ghost use Rattle.amqp_perf.specs.declared.state.DeliveryState.{DeliveryState as AState};

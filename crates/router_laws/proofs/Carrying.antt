@@ -13,7 +13,7 @@ use Rattle.router_trace.specs.declared.binding.Binding.{Binding}
 use Rattle.router_trace.specs.declared.binding.DeliveryName.{DeliveryName}
 use Rattle.router_trace.specs.Trace.{Entry, Did, Out, Took, Bound, Booked, Began}
 use Rattle.router_trace.specs.Sessions.{theirs}
-use Rattle.router_trace.specs.Deliveries.{Delivery, bindings, name_in, number_named, delivery, sending, named, unless_over, behind_frame, ended_by, put_in, behind_put, behind_event, carried, tag_in, is_number}
+use Rattle.router_trace.specs.Deliveries.{Delivery, bindings, name_in, number_named, delivery, sending, named, unless_over, behind_frame, closes, ended_by, put_in, behind_put, behind_event, carried, tag_in, is_number}
 use Rattle.router_laws.specs.OneConsumer.{IsOf, WhileThere}
 use Rattle.router_laws.specs.Each.{EachOut}
 use Rattle.router_laws.specs.Carried.{BeginsOrGoesOn, CarriesMessage, CarriesWhatWasBound, bytes_by, bytes_out, IsBeginning, GoesInOrder, CompletesMessage}
@@ -39,7 +39,9 @@ unmoved_left = record {
   same = unmoved;
   next = λ d e f first rest. record { id = rest.id ∙ first.id; sent = rest.sent ∙ first.sent; payload = rest.payload ∙ first.payload };
   untold = λ d. record { id = refl; sent = refl; payload = refl };
+  unsettled = λ d. record { id = refl; sent = refl; payload = refl };
   ended = λ d. record { id = refl; sent = refl; payload = refl };
+  suspended = λ d. record { id = refl; sent = refl; payload = refl };
   decided = λ d s. record { id = refl; sent = refl; payload = refl };
 }
 
@@ -50,7 +52,7 @@ frame_moves : (c : ℕ) (sasl : Bool) (own : ℕ) (x : Transfer) (payload : List
     → Unmoved (behind_frame x (length payload) d) (behind_put (number_named t) (item.Frame sasl own (perf.Transfer x) payload) c n (sending t c) d)
 frame_moves c sasl own x payload t n d e =
     subst (λ (f : Delivery). Unmoved f (behind_put (number_named t) (item.Frame sasl own (perf.Transfer x) payload) c n (sending t c) d)) (here (is_number (carried (number_named t) (tag_in x) (sending t c own x.handle)) n) e)
-    (ends_left Unmoved unmoved_left (ended_by (item.Frame sasl own (perf.Transfer x) payload) c) (put_in (number_named t) (perf.Transfer x) c own n (sending t c) (length payload) d))
+    (ends_left Unmoved unmoved_left false (ended_by (item.Frame sasl own (perf.Transfer x) payload) c) (put_in (number_named t) (perf.Transfer x) c own n (sending t c) (length payload) d))
   where
     here : (b : Bool) → b ≡ true → (if b then behind_frame x (length payload) d else d) ≡ behind_frame x (length payload) d
     here true e = refl
@@ -61,7 +63,7 @@ other_frame : (c : ℕ) (sasl : Bool) (own : ℕ) (x : Transfer) (payload : List
     → Unmoved d (behind_put (number_named t) (item.Frame sasl own (perf.Transfer x) payload) c n (sending t c) d)
 other_frame c sasl own x payload t n d e =
     subst (λ (f : Delivery). Unmoved f (behind_put (number_named t) (item.Frame sasl own (perf.Transfer x) payload) c n (sending t c) d)) (here (is_number (carried (number_named t) (tag_in x) (sending t c own x.handle)) n) e)
-    (ends_left Unmoved unmoved_left (ended_by (item.Frame sasl own (perf.Transfer x) payload) c) (put_in (number_named t) (perf.Transfer x) c own n (sending t c) (length payload) d))
+    (ends_left Unmoved unmoved_left false (ended_by (item.Frame sasl own (perf.Transfer x) payload) c) (put_in (number_named t) (perf.Transfer x) c own n (sending t c) (length payload) d))
   where
     here : (b : Bool) → b ≡ false → (if b then behind_frame x (length payload) d else d) ≡ d
     here true e = absurd cc
@@ -82,9 +84,9 @@ item_elim (item.Frame sasl own body payload) P transfer other = by body other
     by (perf.Disposition x) other =
         other (λ numbers c n sent d. unmoved_left.next d (put_in numbers (perf.Disposition x) c own n sent (length payload) d) (behind_put numbers (item.Frame sasl own (perf.Disposition x) payload) c n sent d)
         (told_left Unmoved unmoved_left x.role x c own d)
-        (ends_left Unmoved unmoved_left (ended_by (item.Frame sasl own (perf.Disposition x) payload) c) (put_in numbers (perf.Disposition x) c own n sent (length payload) d)))
+        (ends_left Unmoved unmoved_left false (ended_by (item.Frame sasl own (perf.Disposition x) payload) c) (put_in numbers (perf.Disposition x) c own n sent (length payload) d)))
         (λ numbers n sent bytes. refl)
-    by body other = other (λ numbers c n sent d. ends_left Unmoved unmoved_left (ended_by (item.Frame sasl own body payload) c) d) (λ numbers n sent bytes. refl)
+    by body other = other (λ numbers c n sent d. ends_left Unmoved unmoved_left (closes body) (ended_by (item.Frame sasl own body payload) c) d) (λ numbers n sent bytes. refl)
 item_elim _ P transfer other = other (λ numbers c n sent d. unmoved d) (λ numbers n sent bytes. refl)
 
 -- nothing was sent of a delivery without an id

@@ -1,5 +1,5 @@
 -- How an entry changes a delivery, from how each change does; its name, link, payload and format stay, and its origin stays or becomes none.
-use Rattle.std.proofs.Common.{◌≡◌, ◌∙◌, refl, inl, inr, ℕ, ◌+◌, ◌≤◌, Bool, true, false, ◌&&◌, List, [], ◌∷◌, ◌++◌, arith}
+use Rattle.std.proofs.Common.{◌≡◌, ◌∙◌, refl, inl, inr, ℕ, ◌+◌, ◌≤◌, Bool, true, false, not, ◌&&◌, List, [], ◌∷◌, ◌++◌, arith}
 use Rattle.std.specs.Prelude.{◌==◌, Option, Some, None, option_and_then, if◌then◌else◌, length}
 use Rattle.std.proofs.lemmas.Bool.{eqb-true}
 use Rattle.amqp_perf.specs.declared.perf.Disposition.{Disposition}
@@ -19,7 +19,7 @@ use Rattle.router_trace.specs.declared.event.Event.TheVariants as event
 use Rattle.router_trace.specs.declared.handle.Attachment.{Attachment}
 use Rattle.router_trace.specs.Trace.{Entry, Did, Out, Took, Booked, Bound, Began}
 use Rattle.router_trace.specs.Sessions.{theirs}
-use Rattle.router_trace.specs.Deliveries.{Delivery, bindings, name_in, same_name, number_named, unless_called, delivery, sending, named, is_over, unless_over, behind_frame, decided, untold, told, ended, is_undecided, is_meant, is_named, decision, terminal, is_gone_with, behind_origin, behind_ends, ended_by, put_in, behind_put, carried, tag_in, is_number, is_on, is_settled_at, disposed, heard_in, heard, lost_with, behind_event, origin_id}
+use Rattle.router_trace.specs.Deliveries.{Delivery, bindings, name_in, same_name, number_named, unless_called, delivery, sending, named, is_over, unless_over, behind_frame, decided, source, untold, unsettled, told, ended, decided_at_end, suspended_at_end, closes, is_undecided, is_meant, is_named, decision, terminal, is_gone_with, behind_origin, behind_ends, ended_by, put_in, behind_put, carried, tag_in, is_number, is_on, is_settled_at, disposed, heard_in, heard, lost_with, behind_event, origin_id}
 use Rattle.router_laws.specs.OneConsumer.{IsOrNone, WhileThere}
 use Rattle.router_conns.proofs.Lists.{by_test}
 
@@ -28,7 +28,9 @@ pub record Left (R : Delivery → Delivery → Type 0) : Type 0 where
   pub same : (d : Delivery) → R d d
   pub next : (d e f : Delivery) → R d e → R e f → R d f
   pub untold : (d : Delivery) → R d (untold d)
-  pub ended : (d : Delivery) → R d (ended d)
+  pub unsettled : (d : Delivery) → R d (unsettled d)
+  pub ended : (d : Delivery) → R d (decided_at_end d)
+  pub suspended : (d : Delivery) → R d (suspended_at_end d)
   pub decided : (d : Delivery) (s : Option DeliveryState) → R d (record d { outcome = s })
 
 -- the choice of two
@@ -37,15 +39,22 @@ choice R true d e f first second = first
 choice R false d e f first second = second
 
 origin_left : (R : Delivery → Delivery → Type 0) → Left R → (gone : Attachment → Bool) (d : Delivery) → R d (behind_origin gone d)
-origin_left R left gone d = choice R (is_gone_with gone d.origin) d (untold d) d (left.untold d) (left.same d)
+origin_left R left gone d = choice R (is_gone_with gone (source d)) d (untold d) d (left.untold d) (left.same d)
 
-pub ends_left : (R : Delivery → Delivery → Type 0) → Left R → (gone : Attachment → Bool) (d : Delivery) → R d (behind_ends gone d)
-ends_left R left gone d =
-    left.next d (if gone d.link then ended d else d) (behind_ends gone d) (choice R (gone d.link) d (ended d) d (left.ended d) (left.same d))
-    (origin_left R left gone (if gone d.link then ended d else d))
+ended_left : (R : Delivery → Delivery → Type 0) → Left R → (closed : Bool) (d : Delivery) → R d (ended closed d)
+ended_left R left closed d =
+    choice R d.suspended d d (if d.lasting && not closed then suspended_at_end d else decided_at_end d) (left.same d)
+    (choice R (d.lasting && not closed) d (suspended_at_end d) (decided_at_end d) (left.suspended d) (left.ended d))
+
+pub ends_left : (R : Delivery → Delivery → Type 0) → Left R → (closed : Bool) (gone : Attachment → Bool) (d : Delivery) → R d (behind_ends closed gone d)
+ends_left R left closed gone d =
+    left.next d (if gone d.link then ended closed d else d) (behind_ends closed gone d) (choice R (gone d.link) d (ended closed d) d (ended_left R left closed d) (left.same d))
+    (origin_left R left gone (if gone d.link then ended closed d else d))
 
 pub told_left : (R : Delivery → Delivery → Type 0) → Left R → (role : Role) (x : Disposition) (c o : ℕ) (d : Delivery) → R d (told role x c o d)
-told_left R left Receiver x c o d = choice R (x.settled && is_meant x (origin_id d.origin c o)) d (untold d) d (left.untold d) (left.same d)
+told_left R left Receiver x c o d =
+    choice R (is_meant x (origin_id (source d) c o)) d (if x.settled then untold d else unsettled d) d
+    (choice R x.settled d (untold d) (unsettled d) (left.untold d) (left.unsettled d)) (left.same d)
 told_left R left Sender x c o d = left.same d
 
 -- and across frames too
@@ -64,7 +73,7 @@ pub item_left : (R : Delivery → Delivery → Type 0) → Left R → Frames R �
 item_left R left frames numbers (item.Frame sasl own body payload) c n sent d =
     left.next d (put_in numbers body c own n sent (length payload) d) (behind_put numbers (item.Frame sasl own body payload) c n sent d)
     (perf_left R left frames numbers body c own n sent (length payload) d)
-    (ends_left R left (ended_by (item.Frame sasl own body payload) c) (put_in numbers body c own n sent (length payload) d))
+    (ends_left R left (closes body) (ended_by (item.Frame sasl own body payload) c) (put_in numbers body c own n sent (length payload) d))
 item_left R left frames numbers _ c n sent d = left.same d
 
 -- it holds across what is received
@@ -77,7 +86,7 @@ decided_left R left x names n d =
 disposed_left : (R : Delivery → Delivery → Type 0) → Left R → (role : Role) (x : Disposition) (c : ℕ) (v : Option PeerChannel) (names : ℕ → Option ℕ) (n : ℕ) (d : Delivery)
     → R d (disposed role x c v names n d)
 disposed_left R left Receiver x c v names n d = choice R (is_on d.link c v) d (decided x names n d) d (decided_left R left x names n d) (left.same d)
-disposed_left R left Sender x c v names n d = choice R (is_settled_at x c v d.origin) d (untold d) d (left.untold d) (left.same d)
+disposed_left R left Sender x c v names n d = choice R (is_settled_at x c v (source d)) d (untold d) d (left.untold d) (left.same d)
 
 heard_perf : (R : Delivery → Delivery → Type 0) → Left R → (body : Perf) (c : ℕ) (v : Option PeerChannel) (names : ℕ → ℕ → Option ℕ) (n : ℕ) (d : Delivery)
     → R d (heard_in body c v names n d)
@@ -93,7 +102,7 @@ heard_left R left _ c known names n d = left.same d
 pub event_left : (R : Delivery → Delivery → Type 0) → Left R
     → (e : Event) (known : ℕ → ℕ → Option PeerChannel) (names : ℕ → ℕ → ℕ → Option ℕ) (n : ℕ) (d : Delivery) → R d (behind_event e known names n d)
 event_left R left (event.Item c i) known names n d = heard_left R left i c.0 (known c.0) (names c.0) n d
-event_left R left (event.Down c) known names n d = ends_left R left (lost_with c.0) d
+event_left R left (event.Down c) known names n d = ends_left R left false (lost_with c.0) d
 event_left R left _ known names n d = left.same d
 
 -- the name, the link, the payload, the format, and the origin or none
@@ -129,6 +138,8 @@ follows_left = record {
   same = same;
   next = λ d e f first rest. then_follows first rest;
   untold = λ d. record { name = refl; link = refl; payload = refl; format = refl; presettled = refl; origin = inr refl };
+  unsettled = λ d. record { name = refl; link = refl; payload = refl; format = refl; presettled = refl; origin = inr refl };
+  suspended = λ d. record { name = refl; link = refl; payload = refl; format = refl; presettled = refl; origin = inl refl };
   ended = λ d. record { name = refl; link = refl; payload = refl; format = refl; presettled = refl; origin = inl refl };
   decided = λ d s. record { name = refl; link = refl; payload = refl; format = refl; presettled = refl; origin = inl refl };
 }

@@ -1,6 +1,6 @@
 -- The outcome of each delivery is reported at most once: after that no report is due.
 use Rattle.std.proofs.Common.{◌≡◌, ◌∙◌, sym, ap, refl, subst, ◌⊎◌, inl, inr, ℕ, ◌+◌, ◌≤◌, Bool, true, false, ◌&&◌, List, [], ◌∷◌, ◌++◌, arith}
-use Rattle.std.specs.Prelude.{◌==◌, ◌^◌, nat_lt, nat_le, Option, Some, None, option_and_then, unwrap_or}
+use Rattle.std.specs.Prelude.{◌==◌, ◌^◌, nat_lt, nat_le, Option, Some, None, if◌then◌else◌, option_and_then, unwrap_or}
 use Rattle.std.proofs.lemmas.Bool.{eqb-true}
 use Rattle.amqp_perf.specs.declared.perf.Disposition.{Disposition}
 use Rattle.amqp_perf.specs.declared.perf.Perf.{Perf}
@@ -12,7 +12,7 @@ use Rattle.amqp_frames.specs.declared.item.Item.TheVariants as item
 use Rattle.router_trace.specs.declared.binding.DeliveryName.{DeliveryName}
 use Rattle.router_trace.specs.declared.binding.Origin.{Origin}
 use Rattle.router_trace.specs.Trace.{Entry, Did, Out, Took, Bound, Booked, Began}
-use Rattle.router_trace.specs.Deliveries.{Delivery, bindings, name_in, same_name, number_named, unless_called, delivery, sending, named, unless_over, told, is_meant, last_of, origin_id, ended_by, behind_put, behind_event}
+use Rattle.router_trace.specs.Deliveries.{Delivery, bindings, name_in, same_name, number_named, unless_called, delivery, sending, named, unless_over, either_origin, source, untold, unsettled, told, is_meant, last_of, origin_id, ended_by, behind_put, behind_event}
 use Rattle.router_trace.specs.Sessions.{theirs}
 use Rattle.amqp_session.specs.Serials.{distance}
 use Rattle.amqp_session.specs.Ranges.{in_range}
@@ -34,20 +34,35 @@ stays_left = record {
   same = λ d none. none;
   next = λ d e f first rest none. rest (first none);
   untold = λ d none. refl;
+  unsettled = λ d none. refl;
   ended = λ d none. none;
+  suspended = λ d none. none;
   decided = λ d s none. none;
 }
 
 -- reported
 
+-- what is to be told, and what was told, is the producer's
+of_source : (o p : Option Origin) (c own k : ℕ) → origin_id o c own ≡ Some k → origin_id (either_origin o p) c own ≡ Some k
+of_source None p c own k e = absurd cc
+of_source (Some q) p c own k e = e
+
+meant_source : (x : Disposition) (o p : Option Origin) (c own : ℕ) → is_meant x (origin_id o c own) ≡ true → is_meant x (origin_id (either_origin o p) c own) ≡ true
+meant_source x None p c own e = absurd cc
+meant_source x (Some q) p c own e = e
+
 told_none : (role : Role) (x : Disposition) (c own : ℕ) (d : Delivery) → tells_as role x c own d.origin ≡ true → (told role x c own d).origin ≡ None
-told_none Receiver x c own d h = rw h refl
+told_none Receiver x c own d h = rw (meant_source x d.origin d.told c own h) (by x.settled)
+  where
+    by : (b : Bool) → (if b then untold d else unsettled d).origin ≡ None
+    by true = refl
+    by false = refl
 told_none Sender x c own d h = absurd cc
 
 none_behind : (numbers : DeliveryName → Option ℕ) (body : Perf) (sasl : Bool) (c own n : ℕ) (payload : List ℕ) (sent : ℕ → ℕ → Option ℕ) (d : Delivery) → tells_in body c own d.origin ≡ true
     → (behind_put numbers (item.Frame sasl own body payload) c n sent d).origin ≡ None
 none_behind numbers (perf.Disposition x) sasl c own n payload sent d h =
-    ends_left StaysNone stays_left (ended_by (item.Frame sasl own (perf.Disposition x) payload) c) (told x.role x c own d) (told_none x.role x c own d h)
+    ends_left StaysNone stays_left false (ended_by (item.Frame sasl own (perf.Disposition x) payload) c) (told x.role x c own d) (told_none x.role x c own d h)
 none_behind numbers _ sasl c own n payload sent d h = absurd cc
 
 told_behind : (numbers : DeliveryName → Option ℕ) (i : Item) (c n : ℕ) (sent : ℕ → ℕ → Option ℕ) (v : Option Delivery) → tells i c v ≡ true
@@ -60,11 +75,7 @@ told_behind numbers _ c n sent (Some d) h = absurd cc
 -- not reported again
 
 not_as : (role : Role) (x : Disposition) (c own : ℕ) → tells_as role x c own None ≡ false
-not_as Receiver x c own = by x.settled
-  where
-    by : (b : Bool) → (b && false) ≡ false
-    by true = refl
-    by false = refl
+not_as Receiver x c own = refl
 not_as Sender x c own = refl
 
 not_in : (body : Perf) (c own : ℕ) → tells_in body c own None ≡ false
@@ -194,7 +205,7 @@ none_before t n d p there origin = by (spent t n)
     by (inl none) = none
     by (inr was) = absurd (differ (sym origin ∙ subst (λ (v : Option Delivery). WhileThere NoOrigin v) there was.none))
 
--- with an id: no delivery gets a report due with an id, and after a disposition that settles the id none has one
+-- with an id: no delivery gets a report due with an id, and after a disposition of the id none has one
 
 abbrev NotUnder : ℕ → ℕ → ℕ → Delivery → Type 0
 NotUnder c own id d = IsUnder c own id d → ⊥
@@ -211,7 +222,9 @@ was_left c own id = record {
   same = λ d under. under;
   next = λ d e f first rest under. first (rest under);
   untold = λ d under. absurd (none_under id under);
+  unsettled = λ d under. absurd (none_under id under);
   ended = λ d under. under;
+  suspended = λ d under. under;
   decided = λ d s under. under;
 }
 
@@ -262,29 +275,28 @@ own_range first = by (distance first first) (none_between first)
     by : (d : ℕ) → d ≡ 0 → (nat_lt d (2 ^ 31) && nat_le d d) ≡ true
     by d e = rw e refl
 
-told_under : (role : Role) (x : Disposition) (c own : ℕ) (d : Delivery) → role ≡ Receiver → x.settled ≡ true → x.last ≡ None → NotUnder c own x.first (told role x c own d)
-told_under Sender x c own d role settled one under = absurd cc
-told_under Receiver x c own d role settled one under =
-    by_test (x.settled && is_meant x (origin_id d.origin c own))
-    (λ e. none_under x.first (rw e at under))
+told_under : (role : Role) (x : Disposition) (c own : ℕ) (d : Delivery) → role ≡ Receiver → x.last ≡ None → NotUnder c own x.first (told role x c own d)
+told_under Sender x c own d role one under = absurd cc
+told_under Receiver x c own d role one under =
+    by_test (is_meant x (origin_id (source d) c own))
+    (λ e. by_test x.settled (λ s. none_under x.first (rw (e, s) at under)) (λ s. none_under x.first (rw (e, s) at under)))
     (λ e. let was : origin_id d.origin c own ≡ Some x.first = rw e at under
     in let last : last_of x ≡ x.first = ap (λ (v : Option ℕ). unwrap_or v x.first) one
-    in let meant : is_meant x (origin_id d.origin c own) ≡ true
-    = ap (λ (v : Option ℕ). is_meant x v) was ∙ ap (λ (k : ℕ). in_range x.first k x.first) last ∙ own_range x.first
-    in let test : (x.settled && is_meant x (origin_id d.origin c own)) ≡ true = rw (settled, meant) refl
-    in clash (sym test ∙ e))
+    in let meant : is_meant x (origin_id (source d) c own) ≡ true
+    = ap (λ (v : Option ℕ). is_meant x v) (of_source d.origin d.told c own x.first was) ∙ ap (λ (k : ℕ). in_range x.first k x.first) last ∙ own_range x.first
+    in clash (sym meant ∙ e))
   where
     clash : true ≡ false → ⊥
     clash e = cc
 
-pub told_anew : (t later : List Entry) (c own : ℕ) (sasl : Bool) (x : Disposition) (payload : List ℕ) (n : ℕ) → x.role ≡ Receiver → x.settled ≡ true → x.last ≡ None
+pub told_anew : (t later : List Entry) (c own : ℕ) (sasl : Bool) (x : Disposition) (payload : List ℕ) (n : ℕ) → x.role ≡ Receiver → x.last ≡ None
     → n ≤ bindings t → WhileThere (λ d. IsUnder c own x.first d → ⊥) (delivery (later ++ Out c (item.Frame sasl own (perf.Disposition x) payload) ∷ t) n)
-told_anew t later c own sasl x payload n role settled one given =
+told_anew t later c own sasl x payload n role one given =
     later_under c own x.first later (Out c (item.Frame sasl own (perf.Disposition x) payload) ∷ t) n given (by (delivery t n))
   where
     by : (v : Option Delivery) → WhileThere (NotUnder c own x.first) (option_and_then (λ d. unless_over (behind_put (number_named t) (item.Frame sasl own (perf.Disposition x) payload) c n (sending t c) d)) v)
     by None = tt
     by (Some d) =
         unless_left (NotUnder c own x.first) (behind_put (number_named t) (item.Frame sasl own (perf.Disposition x) payload) c n (sending t c) d)
-        (λ under. told_under x.role x c own d role settled one
-        (ends_left (WasUnder c own x.first) (was_left c own x.first) (ended_by (item.Frame sasl own (perf.Disposition x) payload) c) (told x.role x c own d) under))
+        (λ under. told_under x.role x c own d role one
+        (ends_left (WasUnder c own x.first) (was_left c own x.first) false (ended_by (item.Frame sasl own (perf.Disposition x) payload) c) (told x.role x c own d) under))
