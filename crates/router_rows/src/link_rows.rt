@@ -7,8 +7,8 @@ ghost use Rattle.amqp_link.specs.Figures.{Sends};
 ghost use Rattle.amqp_link.specs.Receiving.{Received, delivery_count, unused as unused_of};
 ghost use Rattle.router_trace.specs.Sessions.{flow_state};
 ghost use Rattle.amqp_session.specs.Figures.{window_of};
-ghost use Rattle.router_trace.specs.Links.{LinkPlace, found_link, sends, receives};
-ghost use Rattle.router_rows.specs.LinkRows.{address_refusal, terminus_refusal, source_refusal, target_refusal, side_refusal, refusal, attach_fresh, session_attach_reply, session_detach_reply, detach_for, link_echo, flow_on, link_flow_reply, is_among, start_on, is_same_id, is_same_tag, continue_on, delivery_on, session_transfer_reply, session_disposition_reply};
+ghost use Rattle.router_trace.specs.Links.{LinkPlace, found_link, receives, with_grant};
+ghost use Rattle.router_rows.specs.LinkRows.{address_refusal, terminus_refusal, source_refusal, target_refusal, side_refusal, refusal, attach_fresh, session_attach_reply, session_detach_reply, detach_for, link_echo, sender_echo, flow_on, link_flow_reply, is_among, start_on, is_same_id, is_same_tag, continue_on, delivery_on, session_transfer_reply, session_disposition_reply};
 ghost use Rattle.router_rows.specs.declared.answer.Answer.TheVariants as answers;
 ghost use Rattle.router_trace.specs.declared.condition.Condition.TheVariants.{NotAllowed};
 ghost use Rattle.router_trace.specs.Deliveries.{terminal};
@@ -202,8 +202,8 @@ fn link_echo(
 
 /// The answer to a flow on a link on which the router is the sender.
 fn sender_flow(own: u16, window: Window, handle: u32, end: SendEnd, flow: &Flow) -> Answer
-    ensures { (h : Session) (list : SendList) (durable : Bool) → window ≡ window_of h → Sends end list
-        → result ≡ flow_on own (TheirFlow (flow_state flow.now) ∷ h) handle durable (sends list) flow.now }
+    ensures { (h : Session) (list : SendList) → window ≡ window_of h → Sends end list
+        → result ≡ sender_echo flow.now.echo own (TheirFlow (flow_state flow.now) ∷ h) handle (with_grant flow.now flow.now.link_credit list) }
 {
     let mut end = end;
     if let Some(credit) = flow.link_credit {
