@@ -4,6 +4,7 @@ use crate::lines::{Watch, reader_words, writer_words};
 use crate::socket::{LINGER, PATIENCE, swallow};
 use amqp_frames::{FrameReader, Item};
 use amqp_perf::Text;
+use disk_core::Disk;
 use route_table::Listener;
 use router_core::{ConnectionId, Door, Peer};
 use router_serve::{
@@ -23,13 +24,14 @@ pub fn connection<
     T: Hall + Send + Sync,
     S: Hall + Send + Sync,
     B: Hall + Send + Sync,
+    M: Disk + Send,
     R: Threads + Wait + Clock + Eprint + Sync,
 >(
     rt: &R,
-    hub: &Hub<Six<U, I, D, T, S, B>>,
+    hub: &Hub<M, Six<U, I, D, T, S, B>>,
     listener: &Listener,
     peer: SocketAddr,
-    stream: TcpStream,
+    stream: &TcpStream,
 ) {
     let _ = stream.set_nodelay(true);
     let _ = stream.set_write_timeout(Some(Duration::from_millis(PATIENCE)));
@@ -40,8 +42,8 @@ pub fn connection<
     let role = door.role();
     match greet(
         hub.alloc,
-        &mut &stream,
-        &mut &stream,
+        &mut &*stream,
+        &mut &*stream,
         &mut frames,
         &mut door,
     ) {
@@ -50,7 +52,7 @@ pub fn connection<
                 return;
             };
             let who = Peer { user: copy, role };
-            enter(rt, hub, &stream, peer, &user, who, items, &mut frames);
+            enter(rt, hub, stream, peer, &user, who, items, &mut frames);
         }
         Greeted::Ended(end) => {
             let words = reader_words(end);
@@ -60,7 +62,7 @@ pub fn connection<
             if end == ReadEnd::Door {
                 let _ = stream.shutdown(Shutdown::Write);
                 let _ = stream.set_read_timeout(Some(Duration::from_millis(LINGER)));
-                swallow(rt, &stream);
+                swallow(rt, stream);
             }
         }
     }
@@ -74,10 +76,11 @@ fn enter<
     T: Hall + Send + Sync,
     S: Hall + Send + Sync,
     B: Hall + Send + Sync,
+    M: Disk + Send,
     R: Threads + Wait + Clock + Eprint + Sync,
 >(
     rt: &R,
-    hub: &Hub<Six<U, I, D, T, S, B>>,
+    hub: &Hub<M, Six<U, I, D, T, S, B>>,
     stream: &TcpStream,
     peer: SocketAddr,
     user: &Text,
@@ -115,10 +118,11 @@ fn both<
     T: Hall + Send + Sync,
     S: Hall + Send + Sync,
     B: Hall + Send + Sync,
+    M: Disk + Send,
     R: Threads + Wait + Clock + Eprint + Sync,
 >(
     rt: &R,
-    hub: &Hub<Six<U, I, D, T, S, B>>,
+    hub: &Hub<M, Six<U, I, D, T, S, B>>,
     stream: &TcpStream,
     conn: ConnectionId,
     seat: Seat<Six<U, I, D, T, S, B>>,
@@ -146,6 +150,9 @@ fn both<
                 &mut &*stream,
                 watch,
             );
+            if let ReadEnd::Core(fault) = end {
+                hub.failed(rt, fault);
+            }
             swallow(rt, stream);
             *read.lock(rt) = true;
             rung.notify_all();
@@ -160,9 +167,9 @@ fn both<
 }
 
 /// Writes the router's output, then waits for the peer's end.
-fn output<G: Ledgers, R: Wait + Clock + Eprint>(
+fn output<M: Disk, G: Ledgers, R: Wait + Clock + Eprint>(
     rt: &R,
-    hub: &Hub<G>,
+    hub: &Hub<M, G>,
     stream: &TcpStream,
     conn: ConnectionId,
     watch: &Watch<'_, R>,
@@ -175,6 +182,9 @@ fn output<G: Ledgers, R: Wait + Clock + Eprint>(
     };
     let (seat, end) = serve_writer(rt, hub.alloc, &hub.shared, seat, conn, &mut &*stream, watch);
     hub.put_back(rt, seat);
+    if let WriteEnd::Core(fault) = end {
+        hub.failed(rt, fault);
+    }
     if end == WriteEnd::Ended {
         let _ = stream.shutdown(Shutdown::Write);
         let most = Duration::from_millis(LINGER);
@@ -186,9 +196,9 @@ fn output<G: Ledgers, R: Wait + Clock + Eprint>(
 }
 
 /// Takes what is still waiting for a connection that is over.
-fn drained<G: Ledgers, R: Wait>(
+fn drained<M: Disk, G: Ledgers, R: Wait + Eprint>(
     rt: &R,
-    hub: &Hub<G>,
+    hub: &Hub<M, G>,
     conn: ConnectionId,
     seat: Seat<G>,
 ) -> Seat<G> {
@@ -200,23 +210,23 @@ fn drained<G: Ledgers, R: Wait>(
                     return seat;
                 }
             }
-            Err(_) => return seat,
+            Err(fault) => {
+                hub.failed(rt, fault);
+                return seat;
+            }
         }
     }
     seat
 }
 
 /// Reports why a connection ended.
-fn tell_end<G: Ledgers, R: Wait + Eprint>(
+fn tell_end<M: Disk, G: Ledgers, R: Wait + Eprint>(
     rt: &R,
-    hub: &Hub<G>,
+    hub: &Hub<M, G>,
     conn: ConnectionId,
     end: ReadEnd,
     written: Option<WriteEnd>,
 ) {
-    if let ReadEnd::Core(fault) = end {
-        hub.failed(rt, fault);
-    }
     let number = conn.0;
     let reader = reader_words(end);
     let writer = match written {

@@ -9,7 +9,7 @@ mod status;
 mod words;
 
 pub use input::{InputFault, MOST_BYTES, read_whole};
-pub use journal::{format_disk, list_journal};
+pub use journal::{format_disk, journal_disk, list_journal};
 pub use listing::list;
 pub use print::{print_lines, refuse};
 pub use status::{Refusal, Status};
