@@ -4,7 +4,6 @@ use crate::lines::{Watch, reader_words, writer_words};
 use crate::socket::{LINGER, PATIENCE, swallow};
 use amqp_frames::{FrameReader, Item};
 use amqp_perf::Text;
-use disk_core::Disk;
 use route_table::Listener;
 use router_core::{ConnectionId, Door, Peer};
 use router_serve::{
@@ -24,11 +23,10 @@ pub fn connection<
     T: Hall + Send + Sync,
     S: Hall + Send + Sync,
     B: Hall + Send + Sync,
-    M: Disk + Send,
     R: Threads + Wait + Clock + Eprint + Sync,
 >(
     rt: &R,
-    hub: &Hub<M, Six<U, I, D, T, S, B>>,
+    hub: &Hub<Six<U, I, D, T, S, B>>,
     listener: &Listener,
     peer: SocketAddr,
     stream: &TcpStream,
@@ -76,11 +74,10 @@ fn enter<
     T: Hall + Send + Sync,
     S: Hall + Send + Sync,
     B: Hall + Send + Sync,
-    M: Disk + Send,
     R: Threads + Wait + Clock + Eprint + Sync,
 >(
     rt: &R,
-    hub: &Hub<M, Six<U, I, D, T, S, B>>,
+    hub: &Hub<Six<U, I, D, T, S, B>>,
     stream: &TcpStream,
     peer: SocketAddr,
     user: &Text,
@@ -118,11 +115,10 @@ fn both<
     T: Hall + Send + Sync,
     S: Hall + Send + Sync,
     B: Hall + Send + Sync,
-    M: Disk + Send,
     R: Threads + Wait + Clock + Eprint + Sync,
 >(
     rt: &R,
-    hub: &Hub<M, Six<U, I, D, T, S, B>>,
+    hub: &Hub<Six<U, I, D, T, S, B>>,
     stream: &TcpStream,
     conn: ConnectionId,
     seat: Seat<Six<U, I, D, T, S, B>>,
@@ -167,9 +163,9 @@ fn both<
 }
 
 /// Writes the router's output, then waits for the peer's end.
-fn output<M: Disk, G: Ledgers, R: Wait + Clock + Eprint>(
+fn output<G: Ledgers, R: Wait + Clock + Eprint>(
     rt: &R,
-    hub: &Hub<M, G>,
+    hub: &Hub<G>,
     stream: &TcpStream,
     conn: ConnectionId,
     watch: &Watch<'_, R>,
@@ -196,9 +192,9 @@ fn output<M: Disk, G: Ledgers, R: Wait + Clock + Eprint>(
 }
 
 /// Takes what is still waiting for a connection that is over.
-fn drained<M: Disk, G: Ledgers, R: Wait + Eprint>(
+fn drained<G: Ledgers, R: Wait + Eprint>(
     rt: &R,
-    hub: &Hub<M, G>,
+    hub: &Hub<G>,
     conn: ConnectionId,
     seat: Seat<G>,
 ) -> Seat<G> {
@@ -220,9 +216,9 @@ fn drained<M: Disk, G: Ledgers, R: Wait + Eprint>(
 }
 
 /// Reports why a connection ended.
-fn tell_end<M: Disk, G: Ledgers, R: Wait + Eprint>(
+fn tell_end<G: Ledgers, R: Wait + Eprint>(
     rt: &R,
-    hub: &Hub<M, G>,
+    hub: &Hub<G>,
     conn: ConnectionId,
     end: ReadEnd,
     written: Option<WriteEnd>,

@@ -1,7 +1,7 @@
 //! What the threads of a serving program share.
 use crate::lines::Lines;
 use crate::streams::Streams;
-use disk_core::Disk;
+use amqr_files::JournalDisk;
 use route_table::Config;
 use router_core::{ConnectionId, CoreFault, Event, Peer};
 use router_serve::{Ledgers, NoLog, Seat, Shared};
@@ -37,11 +37,11 @@ pub enum Taken {
 
 /// The router, its seats, and everything else that the threads share.
 #[derive(Drop)]
-pub struct Hub<M: Disk, G: Ledgers> {
+pub struct Hub<G: Ledgers> {
     /// For everything that grows.
     pub alloc: Global,
     /// The router.
-    pub shared: Shared<M, NoLog, G>,
+    pub shared: Shared<JournalDisk, NoLog, G>,
     /// The configuration.
     pub config: Config,
     /// The lines on standard error.
@@ -58,7 +58,7 @@ pub struct Hub<M: Disk, G: Ledgers> {
     pub streams: Mutex<Streams>,
 }
 
-impl<M: Disk, G: Ledgers> Hub<M, G> {
+impl<G: Ledgers> Hub<G> {
     /// Starts the router.
     pub fn start<R: Wait + Eprint>(&self, rt: &R) {
         let Some(mut seat) = self.seat(rt) else {

@@ -1,7 +1,6 @@
 //! Accepts connections, and gives the router the time.
 use crate::connection::connection;
 use crate::hub::{Hub, Taken};
-use disk_core::Disk;
 use route_table::Listener;
 use router_core::Event;
 use router_serve::{Hall, Ledgers, Six};
@@ -29,9 +28,8 @@ pub fn listen<
     T: Hall + Send + Sync,
     S: Hall + Send + Sync,
     B: Hall + Send + Sync,
-    M: Disk + Send,
     R: Net<Listener = TcpListener, Stream = TcpStream> + Threads + Wait + Sync + Clock + Eprint,
->(rt: &R, hub: &Hub<M, Six<U, I, D, T, S, B>>, listeners: &[Listener], sockets: &[TcpListener]) {
+>(rt: &R, hub: &Hub<Six<U, I, D, T, S, B>>, listeners: &[Listener], sockets: &[TcpListener]) {
     let done = Mutex::new(false);
     let rung = Condvar::new();
     let done = &done;
@@ -63,9 +61,8 @@ fn accept_all<
     T: Hall + Send + Sync,
     S: Hall + Send + Sync,
     B: Hall + Send + Sync,
-    M: Disk + Send,
     R: Threads + Wait + Sync + Clock + Eprint,
->(rt: &R, hub: &Hub<M, Six<U, I, D, T, S, B>>, listener: &Listener, socket: &TcpListener) {
+>(rt: &R, hub: &Hub<Six<U, I, D, T, S, B>>, listener: &Listener, socket: &TcpListener) {
     thread::scope(thread::scope_env(), rt, |scope| {
         let mut failing = false;
         for stream in socket.incoming() {
@@ -112,9 +109,8 @@ fn run_one<
     T: Hall + Send + Sync,
     S: Hall + Send + Sync,
     B: Hall + Send + Sync,
-    M: Disk + Send,
     R: Threads + Wait + Sync + Clock + Eprint,
->(rt: &R, hub: &Hub<M, Six<U, I, D, T, S, B>>, listener: &Listener, stream: TcpStream) {
+>(rt: &R, hub: &Hub<Six<U, I, D, T, S, B>>, listener: &Listener, stream: TcpStream) {
     if let Ok(peer) = stream.peer_addr() {
         if let Ok(stream) = Arc::new(hub.alloc, stream) {
             let number = hub.streams.lock(rt).add(&stream);
@@ -156,9 +152,9 @@ fn wake_one<R: Net<Listener = TcpListener, Stream = TcpStream> + Clock>(rt: &R, 
 }
 
 /// Gives the router the time every half second, until it is done; where the router failed, serving ends.
-fn tick<M: Disk, G: Ledgers, R: Wait + Clock + Eprint>(
+fn tick<G: Ledgers, R: Wait + Clock + Eprint>(
     rt: &R,
-    hub: &Hub<M, G>,
+    hub: &Hub<G>,
     done: &Mutex<bool>,
     rung: &Condvar,
 ) {

@@ -5,8 +5,8 @@ ghost use Rattle.router_core.specs.Counting.{uncounted};
 ghost use Rattle.router_shared.specs.History.{IsOpened};
 ghost use Rattle.amqr_files.specs.Journals.{IsNotListed};
 
-use amqr_files::{Refusal, journal_disk};
-use disk_core::{Disk, FileDisk, MemDisk};
+use amqr_files::{JournalDisk, Refusal, journal_disk};
+use disk_core::{Disk, DiskFault, MemDisk};
 use gate_journal::format;
 use route_table::Config;
 use router_core::Core;
@@ -14,43 +14,32 @@ use std::alloc::Global;
 use std::fs::File;
 use std::rt::Files;
 
-/// A router over the journal in a file.
+/// A router over the journal in the file that is named, or over a new one in memory.
 ///
 /// # Errors
 ///
 /// `File` where the file can't be opened for reading and writing; else as `opened`.
-pub fn over_file<R: Files<File = File>>(
+pub fn open_router<R: Files<File = File>>(
     rt: &R,
     alloc: Global,
-    path: &str,
+    journal: Option<&str>,
     config: &Config,
-) -> Result<Core<FileDisk>, Refusal>
+) -> Result<Core<JournalDisk>, Refusal>
     ensures opened { IfOk result IsOpened }
     ensures counts { IfOk result (λ core. counts_of core ≡ uncounted) }
 {
-    match journal_disk(rt, alloc, path) {
-        Ok(disk) => opened(alloc, disk, config),
-        Err(refusal) => Err(refusal),
-    }
+    let disk = match journal {
+        Some(path) => JournalDisk::File(journal_disk(rt, alloc, path)?),
+        None => JournalDisk::Memory(new_journal(alloc)?),
+    };
+    opened(alloc, disk, config)
 }
 
-/// A router over a new journal in memory.
-///
-/// # Errors
-///
-/// `Memory` where memory was refused.
-pub fn in_memory(alloc: Global, config: &Config) -> Result<Core<MemDisk>, Refusal>
-    ensures opened { IfOk result IsOpened }
-    ensures counts { IfOk result (λ core. counts_of core ≡ uncounted) }
-{
+/// A new journal in memory.
+fn new_journal(alloc: Global) -> Result<MemDisk, DiskFault> {
     let mut disk = MemDisk::new(alloc);
-    match format(&mut disk) {
-        Ok(()) => opened(alloc, disk, config),
-        Err(fault) => {
-            drop(disk);
-            Err(Refusal::from(fault))
-        }
-    }
+    format(&mut disk)?;
+    Ok(disk)
 }
 
 /// A router over the journal on a disk.
@@ -59,10 +48,10 @@ pub fn in_memory(alloc: Global, config: &Config) -> Result<Core<MemDisk>, Refusa
 ///
 /// `NoJournal` where the disk has none; `Damaged` where an open gate has no batch after it; `Disk` where it failed; `Memory` where
 /// memory was refused.
-fn opened<M: Disk>(alloc: Global, disk: M, config: &Config) -> Result<Core<M>, Refusal>
+fn opened(alloc: Global, disk: JournalDisk, config: &Config) -> Result<Core<JournalDisk>, Refusal>
     ensures opened { IfOk result IsOpened }
     ensures counts { IfOk result (λ core. counts_of core ≡ uncounted) }
-    ensures refusal { IfErr result (IsNotListed (M.seen disk) ⊤) }
+    ensures refusal { IfErr result (IsNotListed (⟦<JournalDisk as Disk>⟧.seen disk) ⊤) }
 {
     match Core::open(alloc, disk, config) {
         Ok(core) => Ok(core),

@@ -7,10 +7,10 @@ ghost use Rattle.router_shared.specs.History.{IsOpened};
 use crate::hub::{Hub, Taking};
 use crate::lines::Lines;
 use crate::listening::listen;
-use crate::opening::{in_memory, over_file};
+use crate::opening::open_router;
 use crate::streams::Streams;
 use amqr_commands::{Refusal, Serving, Status, config_at, refuse};
-use disk_core::Disk;
+use amqr_files::JournalDisk;
 use route_table::{Config, Listener, Role};
 use router_core::Core;
 use router_serve::{Blanks, Hall, NoLog, SEATS, Shared, Six};
@@ -37,7 +37,8 @@ enum Bound {
     Ended(Status),
 }
 
-/// Serves clients at the configuration's listeners, or at the standard one where it has none.
+/// Serves clients at the configuration's listeners, or at the standard one where it has none, over the journal in the file that is
+/// named, or over one in memory.
 pub fn serve<
     R: Net<Listener = TcpListener, Stream = TcpStream>
         + Files<File = File>
@@ -49,77 +50,45 @@ pub fn serve<
         + Eprint,
     O: Write,
 >(rt: &R, serving: Serving<'_>, output: &mut O) -> io::Result<Status> {
+    let alloc = rt.alloc();
     let config = match config_at(rt, serving.config) {
         Ok(config) => config,
         Err(refusal) => return refuse(output, refusal),
     };
-    let Ok(own) = standard_listeners(rt.alloc()) else {
-        return refuse(output, Refusal::Memory);
-    };
-    start(rt, config, own.as_slice(), serving, output)
-}
-
-/// Opens the router over the journal in the file that is named, or over a new one in memory, and serves.
-fn start<
-    R: Net<Listener = TcpListener, Stream = TcpStream>
-        + Files<File = File>
-        + AllocGlobal
-        + Threads
-        + Wait
-        + Sync
-        + Clock
-        + Eprint,
-    O: Write,
->(
-    rt: &R,
-    config: Config,
-    own: &[Listener],
-    serving: Serving<'_>,
-    output: &mut O,
-) -> io::Result<Status> {
-    let alloc = rt.alloc();
-    match serving.journal {
-        Some(path) => match over_file(rt, alloc, path, &config) {
-            Ok(core) => serve_over(rt, alloc, config, core, own, serving, output),
-            Err(refusal) => {
-                drop(config);
-                refuse(output, refusal)
-            }
-        },
-        None => match in_memory(alloc, &config) {
-            Ok(core) => serve_over(rt, alloc, config, core, own, serving, output),
-            Err(refusal) => {
-                drop(config);
-                refuse(output, refusal)
-            }
-        },
+    match open_router(rt, alloc, serving.journal, &config) {
+        Ok(core) => serve_over(rt, alloc, config, core, serving, output),
+        Err(refusal) => {
+            drop(config);
+            refuse(output, refusal)
+        }
     }
 }
 
 /// Serves with a router, once all listeners have their sockets.
 fn serve_over<
-    M: Disk + Send,
     R: Net<Listener = TcpListener, Stream = TcpStream> + Threads + Wait + Sync + Clock + Eprint,
     O: Write,
 >(
     rt: &R,
     alloc: Global,
     config: Config,
-    core: Core<M>,
-    own: &[Listener],
+    core: Core<JournalDisk>,
     serving: Serving<'_>,
     output: &mut O,
 ) -> io::Result<Status>
     requires opened { IsOpened core }
     requires counts { counts_of core ≡ uncounted }
 {
-    match bind(rt, alloc, listeners_of(&config, own), output) {
-        Ok(Bound::All(sockets)) => {
-            match with_ledgers(rt, alloc, config, core, own, sockets.as_slice(), serving) {
-                Ok(status) => Ok(status),
-                Err(_) => refuse(output, Refusal::Memory),
-            }
-        }
+    let Ok(own) = standard_listeners(alloc) else {
+        drop(core);
+        drop(config);
+        return refuse(output, Refusal::Memory);
+    };
+    match bind(rt, alloc, listeners_of(&config, &own), output) {
+        Ok(Bound::All(sockets)) => match start(rt, alloc, config, core, &own, &sockets, serving) {
+            Ok(status) => Ok(status),
+            Err(_) => refuse(output, Refusal::Memory),
+        },
         Ok(Bound::Ended(status)) => {
             drop(core);
             drop(config);
@@ -189,14 +158,13 @@ fn bind_all<R: Net<Listener = TcpListener, Stream = TcpStream>>(
 }
 
 /// Serves with a router, with ledgers that are made for it.
-fn with_ledgers<
-    M: Disk + Send,
+fn start<
     R: Net<Listener = TcpListener, Stream = TcpStream> + Threads + Wait + Sync + Clock + Eprint,
 >(
     rt: &R,
     alloc: Global,
     config: Config,
-    core: Core<M>,
+    core: Core<JournalDisk>,
     own: &[Listener],
     sockets: &[TcpListener],
     serving: Serving<'_>,
@@ -212,7 +180,7 @@ fn with_ledgers<
         starts: Blank::new(SEATS),
         batches: Blank::new(SEATS),
     };
-    counted::<Brand, Brand, Brand, Brand, Brand, Brand, M, R>(
+    counted::<Brand, Brand, Brand, Brand, Brand, Brand, R>(
         rt, alloc, config, own, sockets, serving, core, blanks,
     )
 }
@@ -225,7 +193,6 @@ fn counted<
     T: Hall + Send + Sync,
     S: Hall + Send + Sync,
     B: Hall + Send + Sync,
-    M: Disk + Send,
     R: Net<Listener = TcpListener, Stream = TcpStream> + Threads + Wait + Sync + Clock + Eprint,
 >(
     rt: &R,
@@ -234,7 +201,7 @@ fn counted<
     own: &[Listener],
     sockets: &[TcpListener],
     serving: Serving<'_>,
-    core: Core<M>,
+    core: Core<JournalDisk>,
     blanks: Blanks,
 ) -> Result<Status, AllocError>
     requires opened { IsOpened core }
@@ -246,7 +213,7 @@ fn counted<
     requires starts { (blanks.starts.name ≡ S.name) × (blanks.starts.parts ≡ S.parts) × (S.seats ≡ S.parts) × (S.seats ≡ 4611686018427387904) }
     requires batches { (blanks.batches.name ≡ B.name) × (blanks.batches.parts ≡ B.parts) × (B.seats ≡ B.parts) × (B.seats ≡ 4611686018427387904) }
 {
-    let shared: Shared<M, NoLog, Six<U, I, D, T, S, B>> = Shared::new(
+    let shared: Shared<JournalDisk, NoLog, Six<U, I, D, T, S, B>> = Shared::new(
         alloc,
         core,
         NoLog {},

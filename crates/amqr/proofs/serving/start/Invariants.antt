@@ -1,4 +1,4 @@
-use Rattle.amqr.proofs.serving.with_ledgers.Given as goal
+use Rattle.amqr.proofs.serving.start.Given as goal
 
 abbrev pub ghosts-counted-U-Ledger : goal.ghosts-counted-U-Ledger
 ghosts-counted-U-Ledger g a = record { name = a.blanks.ups.name; parts = 4611686018427387904 }
