@@ -1,4 +1,4 @@
-use Rattle.std.proofs.Common.{◌≡◌, List, drop}
+use Rattle.std.proofs.Common.{◌≡◌, List, drop, true}
 use Rattle.std.specs.Prelude.{map}
 use Rattle.amqp_perf.specs.declared.perf.Role.TheVariants.{Sender}
 use Rattle.router_trace.specs.Trace.{Entry, puts}
