@@ -59,7 +59,7 @@ either false x y name e f = f
 name_ended : (closed : Bool) (d : Delivery) → (ended closed d).name ≡ d.name
 name_ended closed d =
     let other : (if d.lasting && not closed then suspended_at_end d else decided_at_end d).name ≡ d.name =
-        either (d.lasting && not closed) (suspended_at_end d) (decided_at_end d) d.name refl refl in
+    either (d.lasting && not closed) (suspended_at_end d) (decided_at_end d) d.name refl refl in
     either d.suspended d (if d.lasting && not closed then suspended_at_end d else decided_at_end d) d.name refl other
 
 pub name_ends : (closed : Bool) (gone : Attachment → Bool) (d : Delivery) → (behind_ends closed gone d).name ≡ d.name

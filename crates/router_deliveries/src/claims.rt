@@ -16,8 +16,8 @@ ghost use Rattle.router_deliveries.specs.Claiming.{ClaimsFit, AreSmall, AreMarke
 ghost use Rattle.router_deliveries.specs.Places.{at_id};
 
 use crate::by_session::BySession;
-use crate::unbound::Unbound;
 use crate::names::HALF;
+use crate::unbound::Unbound;
 use amqp_frames::Item;
 use amqp_perf::{Disposition, Perf, Role, Transfer};
 use router_trace::{ConnectionId, Origin};

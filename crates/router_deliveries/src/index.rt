@@ -98,10 +98,7 @@ impl Keys {
             undecided: on_link(delivery.link.number, open),
             held: match source {
                 None => None,
-                Some(origin) => on_link(
-                    origin.link.number,
-                    undecided || delivery.name.has_row(),
-                ),
+                Some(origin) => on_link(origin.link.number, undecided || delivery.name.has_row()),
             },
             to_tell: !undecided && delivery.origin.is_some(),
             on: on_spot(spot_of(delivery.link), delivery.going_on || open),
