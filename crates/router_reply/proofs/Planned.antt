@@ -28,7 +28,7 @@ use Rattle.router_rows.specs.Finding.{finds}
 use Rattle.router_rows.specs.Rows.{item_reply}
 use Rattle.router_rows.specs.declared.answer.Answer.{Answer}
 use Rattle.router_rows.specs.declared.answer.Answer.TheVariants.{Nothing, Attach}
-use Rattle.router_rows.specs.Booking.{wanted_key, wanted_address, wants_durable, new_terminus, has_room, if_receiver, durable_refusal, volatile_refusal, attach_unless, book_refusal, booked_attach, attach_of, booked, answer_at}
+use Rattle.router_rows.specs.Booking.{wanted_key, wanted_address, wants_durable, new_terminus, has_room, durable_refusal, volatile_refusal, attach_unless, book_refusal, booked_attach, attach_of, booked, answer_at}
 use Rattle.router_reply.specs.Acts.{taken_acts, perf_acts, item_acts, event_answer, planned_acts}
 
 none_any : {X : Type 0} (p : X → Bool) (xs : List X) → find p xs ≡ None → list_any p xs ≡ false

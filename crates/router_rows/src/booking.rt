@@ -1,14 +1,15 @@
-//! Durable links and the book of durable deliveries: why a link that its row would take is refused after all.
+//! Durable links and the book of durable deliveries: why a link, or a delivery on one, that its row would take is refused after all.
 ghost use Rattle.std.specs.Prelude.{◌≡◌, [], List, option_map, unwrap_or, IfOk};
 ghost use Rattle.router_trace.specs.Trace.{Entry};
 ghost use Rattle.router_trace.specs.LinkFrames.{other};
 ghost use Rattle.router_state.specs.Tables.{TablesFind};
-ghost use Rattle.router_rows.specs.Booking.{wanted_key, wanted_address, wants_durable, new_terminus, has_room, if_receiver, durable_refusal, volatile_refusal, attach_unless};
+ghost use Rattle.router_rows.specs.Booking.{wanted_key, wanted_address, wants_durable, new_terminus, has_room, durable_refusal, volatile_refusal, attach_unless, stands_from, repeats_row, starts_anew, booked_transfer};
 ghost use Rattle.book_core.specs.Book.{terminus_of, same_bytes, is_short};
 
 use crate::answer::Answer;
 use crate::link_rows::LINK_TEXT;
-use amqp_perf::{Attach, Role, Text};
+use amqp_link::Delivery;
+use amqp_perf::{Attach, DeliveryTag, Role, Text, Transfer};
 use book_core::{Book, LinkKey, LinkRole, Terminus};
 use router_links::address_by;
 use router_state::State;
@@ -101,10 +102,7 @@ pub fn durable_refusal(book: &Book, full: bool, key: &LinkKey, attach: &Attach) 
         Some(terminus) if has_address(terminus, address) => Some(Condition::NotImplemented),
         Some(_) => Some(Condition::NotAllowed),
         None if !has_room(full, book, key, address) => Some(Condition::ResourceLimitExceeded),
-        None => match attach.role {
-            Role::Sender => Some(Condition::NotImplemented),
-            Role::Receiver => None,
-        },
+        None => None,
     }
 }
 
@@ -133,4 +131,58 @@ pub fn attach_unless(own: u16, free: Option<u32>, refusal: Option<Condition>) ->
             error: Some(Condition::ResourceLimitExceeded),
         },
     }
+}
+
+/// Whether the producer of a terminus has yet to settle a row with this tag.
+fn stands_from(book: &Book, terminus: Option<&Terminus>, tag: &Option<DeliveryTag>) -> bool
+    ensures { result ≡ stands_from (option_map (λ x. x.now) terminus.entry) (option_map (λ tag. tag.items) tag.now) book.now.rows }
+{
+    match (terminus, tag) {
+        (Some(terminus), Some(tag)) => book.row_named(terminus.number, tag).is_some(),
+        _ => false,
+    }
+}
+
+/// Whether the producer of the durable link with this key has yet to settle a row with this tag.
+fn repeats_row(book: &Book, key: Option<&LinkKey>, tag: &Option<DeliveryTag>) -> bool
+    ensures { result ≡ repeats_row book.now (option_map (λ k. k.now) key.entry) (option_map (λ tag. tag.items) tag.now) }
+{
+    match key {
+        None => false,
+        Some(key) => stands_from(book, book.terminus_of(key), tag),
+    }
+}
+
+/// Whether a transfer starts a delivery that isn't resumed.
+fn starts_anew(middle: Option<&Delivery>, transfer: &Transfer) -> bool
+    ensures { result ≡ starts_anew (option_map (λ d. d.now) middle.entry) transfer.now }
+{
+    middle.is_none() && !transfer.resume
+}
+
+/// The answer to a transfer whose row gave this one: if it starts a delivery on a durable link with the tag of a row that the producer has yet to
+/// settle, the link is detached (AMQP 1.0 part 2, section 2.6.12).
+pub fn booked_transfer(
+    state: &State,
+    book: &Book,
+    conn: u64,
+    transfer: &Transfer,
+    answer: Answer,
+) -> Answer
+    ensures { (t : List Entry) → TablesFind state.now t → result ≡ booked_transfer book.now t conn transfer.now answer }
+{
+    let Answer::Taken { own, handle } = answer else {
+        return answer;
+    };
+    let middle = state.middle(conn, own, transfer.handle);
+    let key = state.durable_key(conn, own, handle);
+    if starts_anew(middle, transfer) && repeats_row(book, key, &transfer.delivery_tag) {
+        return Answer::Detach {
+            own,
+            handle,
+            closed: false,
+            error: Some(Condition::NotAllowed),
+        };
+    }
+    Answer::Taken { own, handle }
 }

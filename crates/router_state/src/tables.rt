@@ -163,14 +163,16 @@ impl State {
 
     /// Whether a durable link is attached with a key.
     pub fn holds_durable(&self, key: &LinkKey) -> bool
-        ensures { (t : List Entry) → TablesFit self.now t → result ≡ holds_durable t key.now }
+        ensures now { (t : List Entry) → TablesFit self.now t → result ≡ holds_durable t key.now }
+        ensures found { (t : List Entry) → TablesFind self.now t → result ≡ holds_durable t key.now }
     {
         self.passing.links().holds_durable(key)
     }
 
     /// The key of the durable link on a handle of the router.
     pub fn durable_key(&self, conn: u64, own: u16, handle: u32) -> Option<&LinkKey>
-        ensures { (t : List Entry) → TablesFit self.now t → option_map (λ k. k.now) result ≡ durable_key (link t conn own handle) }
+        ensures now { (t : List Entry) → TablesFit self.now t → option_map (λ k. k.now) result ≡ durable_key (link t conn own handle) }
+        ensures found { (t : List Entry) → TablesFind self.now t → option_map (λ k. k.now) result ≡ durable_key (link t conn own handle) }
     {
         self.passing.links().durable_key(conn, own, handle)
     }
