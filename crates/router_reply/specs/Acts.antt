@@ -18,11 +18,6 @@ use Rattle.router_rows.specs.declared.answer.Answer.TheVariants.{Nothing}
 use Rattle.router_reply.specs.Admitting.{admits, event_admission}
 use Rattle.router_reply.specs.Deciding.{decided, forgotten, terminus_of_event}
 
--- the phase of the connection of an event's item, as the event finds it, if it is live then
-abbrev pub phase_found : Trace → Event → Option Conn
-phase_found t (event.Item c i) = standing (found t (event.Item c i) c.0)
-phase_found t _ = None
-
 -- The answer to an event's item, if the journal is full or not: nothing if its connection isn't live as the event finds it.
 abbrev pub live_answer : Bool → BookView → Trace → ℕ → Item → Option Conn → Answer
 live_answer full b t c i None = Nothing

@@ -4,7 +4,9 @@ use Rattle.amqp_perf.specs.declared.perf.Disposition.{Disposition as ADispositio
 use Rattle.amqp_frames.specs.declared.item.Item.{Item}
 use Rattle.router_trace.specs.declared.event.Event.{Event}
 use Rattle.router_trace.specs.declared.event.Event.TheVariants as event
+use Rattle.router_trace.specs.declared.event.ConnectionId.{ConnectionId}
 use Rattle.router_trace.specs.Trace.{Trace, puts_of}
+use Rattle.router_trace.specs.Connection.{standing, found}
 use Rattle.router_trace.specs.Deliveries.{last_of}
 use Rattle.router_trace.specs.Links.{link_place}
 use Rattle.router_trace.specs.Sessions.{theirs, maps}
@@ -25,13 +27,14 @@ abbrev pub ids_found : Trace → ℕ → Item → Answer → List ℕ → Type 0
 ids_found t c i (Settle own) ids = ids_named t c own (disposition_in i) ids
 ids_found t c i _ ids = Unit {0}
 
--- what a transfer makes of its delivery, and these deliveries
-pub record ItemHeard (t : Trace) (c : ℕ) (i : Item) (answer : Answer) (h : Heard) : Type 0 where
-  pub part : (own : ℕ) → maps (theirs t c (channel_of i)) own ≡ true → h.part ≡ part_of i (link_place t c own)
-  pub ids : ids_found t c i answer h.ids.items
+-- the phase of its connection as the event finds it, what a transfer makes of its delivery, and these deliveries
+pub record ItemHeard (t : Trace) (d : ConnectionId) (i : Item) (answer : Answer) (h : Heard) : Type 0 where
+  pub phase : h.phase ≡ standing (found t (event.Item d i) d.0)
+  pub part : (own : ℕ) → maps (theirs t d.0 (channel_of i)) own ≡ true → h.part ≡ part_of i (link_place t d.0 own)
+  pub ids : ids_found t d.0 i answer h.ids.items
 
 -- and the heartbeats that a tick makes due
 abbrev pub IsHeard : Trace → Event → Answer → Heard → Type 0
-IsHeard t (event.Item c i) answer h = ItemHeard t c.0 i answer h
+IsHeard t (event.Item d i) answer h = ItemHeard t d i answer h
 IsHeard t (event.Tick ms) answer h = puts_of h.beats.items ≡ beats t (event.Tick ms) ms
 IsHeard t _ answer h = Unit {0}

@@ -6,8 +6,8 @@ ghost use Rattle.router_trace.specs.Sessions.{theirs, maps};
 ghost use Rattle.router_trace.specs.Links.{link_place};
 ghost use Rattle.router_trace.specs.Settling.{part_of};
 ghost use Rattle.router_links.specs.Fits.{channel_of};
-ghost use Rattle.router_state.specs.Tables.{TablesFit, TablesAt, beats};
-ghost use Rattle.router_reply.specs.Acts.{phase_found, answer_of, answer_to_event};
+ghost use Rattle.router_state.specs.Tables.{TablesFit, beats};
+ghost use Rattle.router_reply.specs.Acts.{answer_of, answer_to_event};
 ghost use Rattle.router_reply.specs.Heard.{ids_named, ItemHeard, IsHeard};
 ghost use Rattle.router_reply.specs.Replies.{replied, replied_behind, given_behind, behind_answer, attach_put, settled_put, disposition_in, row_found};
 ghost use Rattle.router_trace.specs.declared.event.Event.TheVariants as event;
@@ -54,11 +54,13 @@ fn begin_item(
     row: Option<RowNumber>,
     heard: Heard,
 ) -> Result<(), AllocError>
-    ensures { OnOk result ((t after : List Entry) → TablesFit state.old after → ItemHeard t conn.0 item.now answer.now heard → answer.now ≡ answer_of t conn.0 phase item.now
+    ensures { OnOk result ((t after : List Entry) → TablesFit state.old after → ItemHeard t conn item.now answer.now heard → answer.now ≡ answer_of t conn.0 phase item.now
         → row ≡ row_found t → (u : List Entry) × TablesFit state.new u
         × (goes (attach_put u conn.0 item.now answer.now) u ≡ behind_answer id.now t after conn.0 phase item.now answer.now)) }
 {
-    let Heard { part, ids, beats } = heard;
+    let Heard {
+        part, ids, beats, ..
+    } = heard;
     drop(beats);
     match answer {
         Answer::Taken { own, handle } => {
@@ -84,18 +86,16 @@ fn begin_item(
 fn on_item(
     state: &mut State,
     id: &RouterId,
-    phase: Option<Conn>,
     conn: ConnectionId,
     item: Item,
     answer: Answer,
     row: Option<RowNumber>,
     heard: Heard,
 ) -> Result<(), AllocError>
-    ensures { OnOk result ((t after : List Entry) → TablesFit state.old after → phase ≡ standing (found t (event.Item conn item) conn.0)
-        → answer ≡ answer_to_event t (event.Item conn item) → row ≡ row_found t → ItemHeard t conn.0 item answer heard
+    ensures { OnOk result ((t after : List Entry) → TablesFit state.old after → answer ≡ answer_to_event t (event.Item conn item) → row ≡ row_found t → ItemHeard t conn item answer heard
         → TablesFit state.new (replied_behind id.now t after (event.Item conn item))) }
 {
-    let Some(phase) = phase else {
+    let Some(phase) = heard.phase else {
         drop(heard);
         drop(item);
         return Ok(());
@@ -113,21 +113,13 @@ fn on_tick(state: &mut State, heard: Heard) -> Result<(), AllocError>
     ensures { OnOk result ((t after : List Entry) (ms : ℕ) → TablesFit state.old after → puts_of heard.beats.items ≡ beats t (event.Tick ms) ms
         → TablesFit state.new (goes (beats t (event.Tick ms) ms) after)) }
 {
-    let Heard { part, ids, beats } = heard;
+    let Heard {
+        part, ids, beats, ..
+    } = heard;
     drop(part);
     drop(ids);
     state.put_all(beats)?;
     Ok(())
-}
-
-/// The phase of the connection of an event's item, as the event finds it: after its turn and before it is handled.
-pub fn phase_of(state: &State, event: &Event) -> Option<Conn>
-    ensures { (t : List Entry) (ends : List ℕ) → TablesAt state.now t event.now ends → result ≡ phase_found t event.now }
-{
-    match event {
-        Event::Item(conn, _) => state.standing(conn.0),
-        _ => None,
-    }
 }
 
 /// What an event's own row puts, behind the closes.
@@ -135,12 +127,11 @@ fn own_row(
     state: &mut State,
     id: &RouterId,
     event: Event,
-    phase: Option<Conn>,
     answer: Answer,
     row: Option<RowNumber>,
     heard: Heard,
 ) -> Result<(), AllocError>
-    ensures { OnOk result ((t after : List Entry) → TablesFit state.old after → phase ≡ phase_found t event → answer ≡ answer_to_event t event → row ≡ row_found t
+    ensures { OnOk result ((t after : List Entry) → TablesFit state.old after → answer ≡ answer_to_event t event → row ≡ row_found t
         → IsHeard t event answer heard → TablesFit state.new (replied_behind id.now t after event)) }
 {
     match event {
@@ -149,7 +140,7 @@ fn own_row(
             drop(heard);
         }
         Event::Item(conn, item) => {
-            on_item(state, id, phase, conn, item, answer, row, heard)?;
+            on_item(state, id, conn, item, answer, row, heard)?;
         }
         Event::Down(_) => drop(heard),
         Event::Tick(_) => on_tick(state, heard)?,
@@ -169,12 +160,11 @@ pub fn reply(
     id: &RouterId,
     ends: &[u64],
     event: Event,
-    phase: Option<Conn>,
     answer: Answer,
     row: Option<RowNumber>,
     heard: Heard,
 ) -> Result<(), AllocError>
-    ensures { OnOk result ((t : List Entry) → TablesFit state.old (did event ∷ t) → ends.now ≡ due t event → phase ≡ phase_found t event
+    ensures { OnOk result ((t : List Entry) → TablesFit state.old (did event ∷ t) → ends.now ≡ due t event
         → answer ≡ answer_to_event t event → row ≡ row_found t → IsHeard t event answer heard
         → TablesFit state.new (replied id.now t (step_of event))) }
 {
@@ -183,6 +173,6 @@ pub fn reply(
         drop(heard);
         return Err(AllocError);
     };
-    own_row(state, id, event, phase, answer, row, heard)?;
+    own_row(state, id, event, answer, row, heard)?;
     Ok(())
 }

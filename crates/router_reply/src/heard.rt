@@ -7,6 +7,7 @@ ghost use Rattle.router_state.specs.Tables.{TablesFit, TablesAt, TablesFind, bea
 ghost use Rattle.router_reply.specs.Heard.{ids_found, ItemHeard, IsHeard};
 
 use crate::passing::{disposition_in, last_of};
+use amqp_conn::Conn;
 use amqp_frames::Item;
 use amqp_link::Part;
 use router_rows::Answer;
@@ -17,6 +18,8 @@ use std::alloc::{AllocError, Global};
 /// What is kept of an event that was handled, for its answer.
 #[derive(Debug, Drop)]
 pub struct Heard {
+    /// The phase of the connection of the event's item, as the event finds it; none if it isn't live then, and of other events.
+    pub phase: Option<Conn>,
     /// What a transfer made of its delivery.
     pub part: Option<Part>,
     /// The deliveries that a disposition decided without settling them, by id.
@@ -29,6 +32,7 @@ impl Heard {
     /// Nothing.
     pub(crate) fn nothing(alloc: Global) -> Heard {
         Heard {
+            phase: None,
             part: None,
             ids: Vec::new(alloc),
             beats: Vec::new(alloc),
@@ -63,15 +67,17 @@ fn hear_item(
     item: &Item,
     answer: &Answer,
 ) -> Result<Heard, AllocError>
-    ensures heard { IfOk result (λ heard. (t : List Entry) (ends : List ℕ) → TablesAt state.old t (event.Item conn item.now) ends → ItemHeard t conn.0 item.now answer.now heard) }
+    ensures heard { IfOk result (λ heard. (t : List Entry) (ends : List ℕ) → TablesAt state.old t (event.Item conn item.now) ends → ItemHeard t conn item.now answer.now heard) }
     ensures fits { OnOk result ((t : List Entry) (ends : List ℕ) → TablesAt state.old t (event.Item conn item.now) ends → TablesFit state.new (did (event.Item conn item.now) ∷ t)) }
 {
+    let phase = state.standing(conn.0);
     let ids = ids_in(state, conn.0, item, answer)?;
     let Ok(part) = state.hear(conn, item) else {
         drop(ids);
         return Err(AllocError);
     };
     Ok(Heard {
+        phase,
         part,
         ids,
         beats: Vec::new(state.alloc()),
@@ -86,6 +92,7 @@ fn hear_tick(state: &mut State, moment: u64) -> Result<Heard, AllocError>
     let beats = state.beats(moment)?;
     state.tick(moment);
     Ok(Heard {
+        phase: None,
         part: None,
         ids: Vec::new(state.alloc()),
         beats,

@@ -11,7 +11,7 @@ mod passing;
 mod planning;
 
 pub use admitting::{admission_for, row_in};
-pub use events::{phase_of, reply};
+pub use events::reply;
 pub use heard::{Heard, hear};
 pub use passing::UNBOUND;
 pub use planning::{Plan, make_plan};
