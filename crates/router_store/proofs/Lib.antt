@@ -5,3 +5,7 @@ pub mod Started
 pub mod Ones
 pub mod Writing
 pub mod Moments
+pub mod Merging
+pub mod Numbered
+pub mod Rowwise
+pub mod Settled
