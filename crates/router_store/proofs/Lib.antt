@@ -9,3 +9,5 @@ pub mod Merging
 pub mod Numbered
 pub mod Rowwise
 pub mod Settled
+pub mod Released
+pub mod Gathered

@@ -49,7 +49,7 @@ listed (Some a) = a ∷ []
 
 pub as_lists : {V A : Type 0} (f : V → Option A) (vs : List V) → flat_map (λ v. listed (f v)) vs ≡ filter_map f vs
 as_lists f [] = refl
-as_lists f (v ∷ vs) = by_value (f v) (as_lists f vs)
+as_lists {V = V} {A = A} f (v ∷ vs) = by_value (f v) (as_lists f vs)
   where
     by_value : (o : Option A) → flat_map (λ v. listed (f v)) vs ≡ filter_map f vs → listed o ++ flat_map (λ v. listed (f v)) vs ≡ cons_option o (filter_map f vs)
     by_value None rest = rest
@@ -108,9 +108,9 @@ module _ {E : Type 0} (name : E → ℕ) (act : E → Row → List Act) where
       let found : (number_of_row r == name e) ≡ true = grind (arith, nat_tests) in
       let finds : (name e == number_of_row r) ≡ true = grind (arith, nat_tests) in
       let entries : by_entries (e ∷ es) (r ∷ rs) ≡ act e r ++ by_entries es rs =
-          rw found (ap (λ (acts : List Act). act e r ++ acts) (skip_row r rs es (above_weaker name (name e) (number_of_row r) es (omega (arith, same)) above))) in
+      rw found (ap (λ (acts : List Act). act e r ++ acts) (skip_row r rs es (above_weaker name (name e) (number_of_row r) es (omega (arith, same)) above))) in
       let rows : by_rows (e ∷ es) (r ∷ rs) ≡ act e r ++ by_rows es rs =
-          rw finds (ap (λ (acts : List Act). act e r ++ acts) (skip_entry e es rs (above_weaker number_of_row (number_of_row r) (name e) rs (omega (arith, same)) up))) in
+      rw finds (ap (λ (acts : List Act). act e r ++ acts) (skip_entry e es rs (above_weaker number_of_row (number_of_row r) (name e) rs (omega (arith, same)) up))) in
       entries ∙ ap (λ (acts : List Act). act e r ++ acts) rest ∙ sym rows
 
   row_first : (e : E) (es : List E) (r : Row) (rs : List Row) → number_of_row r < name e → AllAbove name (name e) es

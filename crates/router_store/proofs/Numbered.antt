@@ -91,9 +91,9 @@ decisions_found m ds b up named rise =
     same_lists (λ (e : ℕ × DeliveryState). found_decision e.1 (row_at e.0 b.rows)) (λ e. at_row number_of_entry decides_entry e (row_at (number_of_entry e) b.rows)) (λ e. at_each e (row_at e.0 b.rows)) m.entries
     ∙ merged number_of_entry decides_entry m.entries b.rows (entries_rise m.entries up) rise
     ∙ same_lists (λ r. by_entry number_of_entry decides_entry (find (λ e. number_of_entry e == number_of_row r) m.entries) r) (λ r. listed (decide_row ds r))
-      (λ r. entry_outcome (find (λ e. number_of_entry e == number_of_row r) m.entries) r
-      ∙ ap (λ (o : Option DeliveryState). by_outcome o r) (entry_found (number_of_row r) m.entries ∙ named (number_of_row r))
-      ∙ row_outcome (outcome_for (number_of_row r) ds) r) b.rows
+    (λ r. entry_outcome (find (λ e. number_of_entry e == number_of_row r) m.entries) r
+    ∙ ap (λ (o : Option DeliveryState). by_outcome o r) (entry_found (number_of_row r) m.entries ∙ named (number_of_row r))
+    ∙ row_outcome (outcome_for (number_of_row r) ds) r) b.rows
     ∙ as_lists (decide_row ds) b.rows
   where
     at_each : (e : ℕ × DeliveryState) (o : Option Row) → found_decision e.1 o ≡ at_row number_of_entry decides_entry e o
@@ -139,8 +139,8 @@ forgotten_found s numbers b up named rise =
     same_lists (λ (k : ℕ). found_forgotten (row_at k b.rows)) (λ k. at_row number_of_key forgets_key k (row_at (number_of_key k) b.rows)) (λ k. at_each k (row_at k b.rows)) s.keys
     ∙ merged number_of_key forgets_key s.keys b.rows (keys_rise s.keys up) rise
     ∙ same_lists (λ r. by_entry number_of_key forgets_key (find (λ k. number_of_key k == number_of_row r) s.keys) r) (λ r. listed (forget_row numbers r))
-      (λ r. key_member (find (λ k. number_of_key k == number_of_row r) s.keys) r
-      ∙ row_member (is_some (find (λ k. number_of_key k == number_of_row r) s.keys)) numbers r (key_found (number_of_row r) s.keys ∙ named (number_of_row r))) b.rows
+    (λ r. key_member (find (λ k. number_of_key k == number_of_row r) s.keys) r
+    ∙ row_member (is_some (find (λ k. number_of_key k == number_of_row r) s.keys)) numbers r (key_found (number_of_row r) s.keys ∙ named (number_of_row r))) b.rows
     ∙ as_lists (forget_row numbers) b.rows
   where
     at_each : (k : ℕ) (o : Option Row) → found_forgotten o ≡ at_row number_of_key forgets_key k o

@@ -97,11 +97,11 @@ module _ (act : Row → Option Act) (after : Row → Option Row) (does : (r : Ro
           }
       by_act (Some a) now c number rest =
           let rows : (effect b a).rows ≡ (done ++ listed now) ++ rs =
-              ap (λ (x : BookView). x.rows) (c.does b)
-              ∙ ap (with_row (number_of_row r) c.change) is
-              ∙ changed_behind c.change done r rs low up.0
-              ∙ ap (λ (n : Option Row). done ++ (listed n ++ rs)) c.leaves
-              ∙ sym (append_assoc done (listed now) rs) in
+          ap (λ (x : BookView). x.rows) (c.does b)
+          ∙ ap (with_row (number_of_row r) c.change) is
+          ∙ changed_behind c.change done r rs low up.0
+          ∙ ap (λ (n : Option Row). done ++ (listed n ++ rs)) c.leaves
+          ∙ sym (append_assoc done (listed now) rs) in
           let behind = rest (done ++ listed now) (effect b a) rows up.1 (before_more done now r rs number up.0 (before_rest done r rs low)) in
           record {
             applies = none_first (refusal b a) (first_fault (effect b a) (filter_map act rs)) (c.applies b (ap (row_at (number_of_row r)) is ∙ found_behind done r rs low)) behind.applies;

@@ -45,6 +45,7 @@ fn set_outcome(
 }
 
 /// The outcome for each row that decisions name: the first of them counts.
+#[tactic(auto, using(crate::proofs::Gathered::one_outcome))]
 fn outcomes_of(
     alloc: Global,
     decided: Vec<Decision>,
@@ -70,6 +71,7 @@ fn add_number(numbers: &mut BTreeSet<u64>, number: u64) -> Result<(), AllocError
 }
 
 /// The set of these numbers.
+#[tactic(auto, using(crate::proofs::Gathered::one_number))]
 fn numbers_of(alloc: Global, rows: Vec<RowNumber>) -> Result<BTreeSet<u64>, AllocError>
     ensures { IfOk result (λ numbers. (n : ℕ) → contains nat_cmp numbers n ≡ is_among n rows.items) }
 {
@@ -167,6 +169,7 @@ impl Settling {
     }
 
     /// Appends the decisions of rows.
+    #[tactic(auto, using(crate::proofs::Numbered::decisions_found))]
     fn add_decisions(
         &self,
         alloc: Global,
@@ -184,6 +187,7 @@ impl Settling {
     }
 
     /// Appends what is forgotten of rows.
+    #[tactic(auto, using(crate::proofs::Numbered::forgotten_found))]
     fn add_forgotten(&self, acts: &mut Vec<Act>, book: &Book) -> Result<(), AllocError>
         ensures { (ds : List ADecision) (numbers : List ARowNumber) → Names self.now ds numbers
             → OnOk result (acts.new.items ≡ acts.old.items ++ forgets book.now numbers) }
@@ -215,6 +219,7 @@ impl Settling {
     }
 
     /// Whether a book lets go of a terminus behind these acts.
+    #[tactic(auto, using(crate::proofs::Released::any_of_terminus))]
     pub(crate) fn lets_go(&self, book: &Book, number: TerminusNumber) -> bool
         ensures { (ds : List ADecision) (numbers : List ARowNumber) → Names self.now ds numbers
             → result ≡ lets_go_behind book.now ds numbers number }
