@@ -11,3 +11,4 @@ pub mod Rowwise
 pub mod Settled
 pub mod Released
 pub mod Gathered
+pub mod Events

@@ -169,7 +169,6 @@ impl Settling {
     }
 
     /// Appends the decisions of rows.
-    #[tactic(auto, using(crate::proofs::Numbered::decisions_found))]
     fn add_decisions(
         &self,
         alloc: Global,
@@ -187,7 +186,6 @@ impl Settling {
     }
 
     /// Appends what is forgotten of rows.
-    #[tactic(auto, using(crate::proofs::Numbered::forgotten_found))]
     fn add_forgotten(&self, acts: &mut Vec<Act>, book: &Book) -> Result<(), AllocError>
         ensures { (ds : List ADecision) (numbers : List ARowNumber) → Names self.now ds numbers
             → OnOk result (acts.new.items ≡ acts.old.items ++ forgets book.now numbers) }
@@ -219,7 +217,6 @@ impl Settling {
     }
 
     /// Whether a book lets go of a terminus behind these acts.
-    #[tactic(auto, using(crate::proofs::Released::any_of_terminus))]
     pub(crate) fn lets_go(&self, book: &Book, number: TerminusNumber) -> bool
         ensures { (ds : List ADecision) (numbers : List ARowNumber) → Names self.now ds numbers
             → result ≡ lets_go_behind book.now ds numbers number }
