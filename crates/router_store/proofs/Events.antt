@@ -37,7 +37,7 @@ use Rattle.router_store.proofs.Settled.{written_is_outcome, written_is_short, se
 
 -- Two lists of acts, one behind the other.
 bytes_more : (first more : List Act) → length (acts_bytes (first ++ more)) ≡ length (acts_bytes first) + length (acts_bytes more)
-bytes_more [] more = refl
+bytes_more [] more = omega arith
 bytes_more (act ∷ first) more =
     omega (arith, bytes_more first more, length-append (act_bytes act) (acts_bytes (first ++ more)), length-append (act_bytes act) (acts_bytes first))
 
@@ -59,16 +59,22 @@ module _ (size : ℕ) (act : Row → Option Act) (fine : (r : Row) → IfAny siz
   rows_short [] = omega arith
   rows_short (r ∷ rs) = by_act (act r) (fine r) (rows_short rs)
     where
+      longer : length (r ∷ rs) ≡ length rs + 1
+      longer = omega arith
+
+      one_more : (n m : ℕ) → n ≤ size * m → n ≤ size * (m + 1)
+      one_more n m rest = grind (arith, rest)
+
+      sum_up : (n k s m : ℕ) → k ≤ size → s ≡ k + n → n ≤ size * m → s ≤ size * (m + 1)
+      sum_up n k s m few is rest = grind (arith, few, is, rest)
+
       by_act : (o : Option Act) → IfAny size o → length (acts_bytes (filter_map act rs)) ≤ size * length rs → length (acts_bytes (cons_option o (filter_map act rs))) ≤ size * length (r ∷ rs)
-      by_act None is rest = more (length (acts_bytes (filter_map act rs))) 0 (length rs) (omega arith) rest
-        where
-          more : (n k m : ℕ) → k ≤ size → n ≤ size * m → k + n ≤ size * (m + 1)
-          more n k m few rest = grind (arith, few, rest)
+      by_act None is rest =
+          subst (λ (n : ℕ). length (acts_bytes (filter_map act rs)) ≤ size * n) (sym longer) (one_more (length (acts_bytes (filter_map act rs))) (length rs) rest)
       by_act (Some a) is rest =
-          sum_up (length (acts_bytes (filter_map act rs))) (length (act_bytes a)) (length (acts_bytes (a ∷ filter_map act rs))) (length rs) is.short (length-append (act_bytes a) (acts_bytes (filter_map act rs))) rest
-        where
-          sum_up : (n k s m : ℕ) → k ≤ size → s ≡ k + n → n ≤ size * m → s ≤ size * (m + 1)
-          sum_up n k s m few is rest = grind (arith, few, is, rest)
+          subst (λ (n : ℕ). length (acts_bytes (a ∷ filter_map act rs)) ≤ size * n) (sym longer)
+          (sum_up (length (acts_bytes (filter_map act rs))) (length (act_bytes a)) (length (acts_bytes (a ∷ filter_map act rs))) (length rs) is.short
+          (length-append (act_bytes a) (acts_bytes (filter_map act rs))) rest)
 
   rows_outcomes : (rs : List Row) → HaveOutcomes (filter_map act rs)
   rows_outcomes [] = tt
@@ -219,7 +225,7 @@ few_made b made = by_test (nat_le (length b.rows) 4096) refl
 
 -- What is asked for a terminus, by the book before the event.
 module _ (b : BookView) (ds : List Decision) (numbers : List RowNumber) (up : Rises number_of_row b.rows) where
-  asked : Option TerminusAct → List Act
+  abbrev asked : Option TerminusAct → List Act
   asked t = terminus_acts (effects b (settles b ds numbers)) t
 
   make_asked : (t : Terminus) (r : Option BookFault) → r ≡ make_refusal b t → asked (Some (terminus.Make t)) ≡ unless_refused (is_none r) (Make t)
@@ -246,7 +252,7 @@ module _ (b : BookView) (ds : List Decision) (numbers : List RowNumber) (up : Ri
   make_added t r is fine = sym (make_asked t r is ∙ not_refused r (Make t) fine)
 
   pub drop_left : (n : TerminusNumber) (g : Bool) (acts : List Act) → g ≡ lets_go_behind b ds numbers n → g ≡ false → acts ≡ acts ++ terminus_acts (effects b (settles b ds numbers)) (Some (terminus.Drop n))
-  drop_left n g acts is no = sym (ap (λ (xs : List Act). acts ++ xs) (drop_asked n g is ∙ ap (λ (v : Bool). unless_refused v (Drop n)) no) ∙ append-nil acts)
+  drop_left n g acts is kept = sym (ap (λ (xs : List Act). acts ++ xs) (drop_asked n g is ∙ ap (λ (v : Bool). unless_refused v (Drop n)) kept) ∙ append-nil acts)
 
   pub drop_added : (n : TerminusNumber) (g : Bool) → g ≡ lets_go_behind b ds numbers n → g ≡ true → Drop n ∷ [] ≡ terminus_acts (effects b (settles b ds numbers)) (Some (terminus.Drop n))
-  drop_added n g is yes = sym (drop_asked n g is ∙ ap (λ (v : Bool). unless_refused v (Drop n)) yes)
+  drop_added n g is free = sym (drop_asked n g is ∙ ap (λ (v : Bool). unless_refused v (Drop n)) free)

@@ -107,8 +107,9 @@ fn add_drop(
         → OnOk result (acts.new.items ≡ acts.old.items ++ terminus_acts (effects book.now (settles book.now ds numbers)) (Some (asked.Drop number))) }
 {
     book.rows_rise();
-    if !settling.lets_go(book, number) {
-        return Ok(());
+    if settling.lets_go(book, number) {
+        add(acts, Act::Drop(number))
+    } else {
+        Ok(())
     }
-    add(acts, Act::Drop(number))
 }
