@@ -1,5 +1,5 @@
 -- What is gathered from the last to the first.
-use Rattle.std.proofs.Common.{◌≡◌, ap, refl, ℕ, ◌||◌, Bool, true, false, cond, List, [], ◌∷◌, ◌++◌, Option, Some, None}
+use Rattle.std.proofs.Common.{◌≡◌, refl, ℕ, ◌||◌, Bool, true, false, cond, List, [], ◌∷◌, ◌++◌, Option, Some, None}
 use Rattle.std.specs.Prelude.{◌==◌, if◌then◌else◌}
 use Rattle.std.specs.Option.{option_or}
 use Rattle.amqp_perf.specs.declared.state.DeliveryState.{DeliveryState}

@@ -1,13 +1,13 @@
 -- What an event's decisions and what it forgets leave of a book: they apply, and the rows that they leave.
-use Rattle.std.proofs.Common.{◌≡◌, ◌∙◌, sym, ap, refl, subst, ℕ, ◌≤◌, ◌&&◌, Bool, true, false, cond, not, List, [], ◌∷◌, ◌++◌, length, Option, Some, None, arith}
-use Rattle.std.specs.Prelude.{filter_map, is_none, is_some, nat_le, option_map, ◌==◌, if◌then◌else◌}
+use Rattle.std.proofs.Common.{◌≡◌, ◌∙◌, sym, ap, refl, subst, ℕ, ◌≤◌, ◌&&◌, Bool, true, false, not, List, [], ◌∷◌, length, Option, Some, None, arith}
+use Rattle.std.specs.Prelude.{filter_map, is_some, nat_le, if◌then◌else◌}
 use Rattle.std.specs.List.{cons_option}
-use Rattle.std.specs.Option.{ForSome, unwrap_or}
+use Rattle.std.specs.Option.{unwrap_or}
 use Rattle.std.proofs.lemmas.Bool.Decides.{nat_tests}
 use Rattle.amqp_perf.specs.declared.state.DeliveryState.{DeliveryState}
 use Rattle.amqp_perf.specs.Spelling.{state_spelling}
 use Rattle.book_core.specs.declared.act.Act.{Act}
-use Rattle.book_core.specs.declared.act.Act.TheVariants.{Decide, Forget}
+use Rattle.book_core.specs.declared.act.Act.TheVariants.{Forget}
 use Rattle.book_core.specs.declared.act.Decision.{Decision}
 use Rattle.book_core.specs.declared.row.Row.{Row}
 use Rattle.book_core.specs.declared.row.RowNumber.{RowNumber}
@@ -21,7 +21,7 @@ use Rattle.router_store.specs.Lost.{failed}
 use Rattle.router_store.specs.Acting.{journal_outcome, outcome_for, is_among, decision, decide_row, forget_row, decides, forgets, settles}
 use Rattle.router_store.proofs.Makes.{effects_more, applies_more}
 use Rattle.router_store.proofs.Merging.{number_of_row}
-use Rattle.router_store.proofs.Rowwise.{Changes, Does, KeepsNumber, Leaves, each_row}
+use Rattle.router_store.proofs.Rowwise.{Does, KeepsNumber, Leaves, each_row}
 use Rattle.router_store.proofs.Started.{short_outcome, failed_is_outcome}
 
 -- The outcome that is written.

@@ -1,6 +1,6 @@
 -- The acts of an event: what a router decides of rows, which of them it forgets, and the terminus that it makes or drops. Whatever is
 -- asked, what doesn't apply to the book is left out, so that the acts can be written. An admission is a batch of its own.
-use Rattle.std.specs.Prelude.{ℕ, Bool, true, false, ◌==◌, ◌&&◌, not, if◌then◌else◌, Option, Some, None, is_none, option_map, List, [], ◌∷◌, ◌++◌, filter_map}
+use Rattle.std.specs.Prelude.{ℕ, Bool, ◌==◌, ◌&&◌, not, if◌then◌else◌, Option, Some, None, is_none, option_map, List, [], ◌∷◌, ◌++◌, filter_map}
 use Rattle.std.specs.List.{list_any}
 use Rattle.std.specs.Option.{unwrap_or}
 use Rattle.amqp_perf.specs.declared.state.DeliveryState.{DeliveryState}

@@ -1,5 +1,5 @@
 -- The delivery store: a book, and the journal that keeps it on a disk.
-use Rattle.std.specs.Prelude.{◌≡◌, ℕ, ◌+◌, Bool, false, List, [], ◌∷◌, None}
+use Rattle.std.specs.Prelude.{◌≡◌, ℕ, ◌+◌, Bool, false, List, [], ◌∷◌}
 use Rattle.book_core.specs.declared.act.Act.{Act}
 use Rattle.book_core.specs.Book.{BookView, empty_book, effects}
 use Rattle.gate_journal.specs.declared.journal.Journal.{Journal}
