@@ -11,10 +11,9 @@ use Rattle.book_core.specs.declared.terminus.LinkRole.{LinkRole}
 use Rattle.book_core.specs.declared.terminus.LinkRole.TheVariants.{Producer, Consumer}
 use Rattle.book_core.specs.declared.terminus.Terminus.{Terminus}
 use Rattle.book_core.specs.Book.{unless, drop_refusal, is_from, is_for, is_of, is_undecided, keeps, forgotten}
-use Rattle.router_store.specs.Acting.{outcome_for, is_among, journal_outcome}
+use Rattle.router_store.specs.Acting.{outcome_for, is_among, journal_outcome, decided_to, decided_by, forgotten_by, rows_behind}
 use Rattle.router_store.specs.Settling.{keeps_behind, lets_go_by}
 use Rattle.router_store.proofs.Merging.{number_of_row}
-use Rattle.router_store.proofs.Settled.{decided_to, decided_by, forgotten_by, rows_behind}
 
 module _ {V : Type 0} where
   -- whether what is left of a value passes

@@ -18,7 +18,7 @@ use Rattle.gate_journal.specs.Batches.{IsOutcome}
 use Rattle.gate_journal.specs.Outcome.{kept_outcome}
 use Rattle.gate_journal.proofs.Kept.{is_kept}
 use Rattle.router_store.specs.Lost.{failed}
-use Rattle.router_store.specs.Acting.{journal_outcome, outcome_for, is_among, decision, decide_row, forget_row, decides, forgets, settles}
+use Rattle.router_store.specs.Acting.{journal_outcome, outcome_for, is_among, decision, decide_row, forget_row, decides, forgets, settles, decided_to, decided_by, forgotten_by, rows_behind}
 use Rattle.router_store.proofs.Makes.{effects_more, applies_more}
 use Rattle.router_store.proofs.Merging.{number_of_row}
 use Rattle.router_store.proofs.Rowwise.{Does, KeepsNumber, Leaves, each_row}
@@ -43,13 +43,6 @@ tested_short : (n : ℕ) → n ≤ 400 → nat_le n 400 ≡ true
 tested_short n l = grind (arith, nat_tests)
 
 -- Decisions.
-abbrev pub decided_to : Option DeliveryState → Row → Option Row
-decided_to None r = Some r
-decided_to (Some outcome) r = decided (journal_outcome outcome) r
-
-abbrev pub decided_by : List Decision → Row → Option Row
-decided_by ds r = if is_undecided r then decided_to (outcome_for (number_of_row r) ds) r else Some r
-
 does_decide : (ds : List Decision) (r : Row) → Does r (decide_row ds r) (decided_by ds r)
 does_decide ds r = by_both (is_undecided r) refl (outcome_for (number_of_row r) ds)
   where
@@ -85,9 +78,6 @@ decides_leave : (b : BookView) (ds : List Decision) → Rises number_of_row b.ro
 decides_leave b ds up = each_row (decide_row ds) (decided_by ds) (does_decide ds) (decides_number ds) b up
 
 -- What is forgotten.
-abbrev pub forgotten_by : List RowNumber → Row → Option Row
-forgotten_by numbers r = if not r.forgotten && is_among (number_of_row r) numbers then forgotten r else Some r
-
 does_forget : (numbers : List RowNumber) (r : Row) → Does r (forget_row numbers r) (forgotten_by numbers r)
 does_forget numbers r = by_both r.forgotten refl (is_among (number_of_row r) numbers)
   where
@@ -132,10 +122,6 @@ forgets_same numbers ds (r ∷ rs) =
         → cons_option (forget_left numbers o) (filter_map (forget_row numbers) rs) ≡ filter_map (forget_row numbers) (cons_option o (filter_map (decided_by ds) rs))
     by_left None rest = rest
     by_left (Some s) rest = ap (cons_option (forget_row numbers s)) rest
-
--- the rows that both leave
-abbrev pub rows_behind : List Decision → List RowNumber → List Row → List Row
-rows_behind ds numbers rs = filter_map (forgotten_by numbers) (filter_map (decided_by ds) rs)
 
 still_rise : (ds : List Decision) (rs : List Row) → Rises number_of_row rs → Rises number_of_row (filter_map (decided_by ds) rs)
 still_rise ds rs up = shown.rises_shown number_of_row (decided_by ds) number_of_row (decides_number ds) rs up
