@@ -2,7 +2,8 @@
 use Rattle.std.proofs.Common.{◌≡◌, ◌∙◌, ◌<◌, ◌^◌, ℕ, Bool, true, false, refl, sym, ap, Option, Some, None}
 use Rattle.std.specs.Prelude.{◌==◌, if◌then◌else◌}
 use Rattle.std.proofs.lemmas.Bool.{eqb-true}
-use Rattle.router_trace.specs.Claims.{Claim, claims}
+use Rattle.amqp_perf.specs.declared.perf.Transfer.{Transfer}
+use Rattle.router_trace.specs.Claims.{Claim, claims, claim, claimed_later}
 use Rattle.router_trace.specs.Deliveries.{is_number}
 use Rattle.router_trace.specs.Settling.{is_unbound_on, is_of_link, unbound}
 use Rattle.router_trace.specs.Trace.{Trace}
@@ -88,6 +89,20 @@ marked_put handle_of test agree conn own id claim stood handle after known next 
     (dropped c o h q ∙ ap (λ v. set_mark (conn == c) (own == o) (is_number v h) (id == q) false (first c o h q)) before)
     (added c o h q ∙ ap (λ v. set_mark (conn == c) (own == o) (is_number v h) (id == q) true (mid c o h q)) behind)
     ∙ ap (test h) (sym (set c o q))
+
+-- what an id gets, told by the claim that it had
+pub put_there : (known : ℕ → ℕ → ℕ → Option Claim) (f : Option Claim → Option Claim) (conn own id c o q : ℕ) (v : Option Claim) → v ≡ f (known conn own id)
+    → set_claim (conn == c) (own == o) (id == q) v (known c o q) ≡ set_claim (conn == c) (own == o) (id == q) (f (known c o q)) (known c o q)
+put_there known f conn own id c o q v is = by_tests (conn == c) (own == o) (id == q) refl refl refl
+  where
+    by_tests : (x y z : Bool) → (conn == c) ≡ x → (own == o) ≡ y → (id == q) ≡ z → set_claim x y z v (known c o q) ≡ set_claim x y z (f (known c o q)) (known c o q)
+    by_tests true true true e g h = here_same (λ c o q. f (known c o q)) conn own id c o q v is e g h
+    by_tests true true false e g h = refl
+    by_tests true false z e g h = refl
+    by_tests false y z e g h = refl
+
+pub later_is : (h : ℕ) (x : Transfer) (w : Claim) (now v : Option Claim) → Some w ≡ now → (w.handle == h) ≡ true → v ≡ claim h w.tag x → v ≡ claimed_later h x now
+later_is h x w now v is same made = made ∙ sym (ap (λ b. if b then claim h w.tag x else Some w) same) ∙ ap (claimed_later h x) is
 
 no_mark : (here own same mid : Bool) → set_mark here own false same true mid ≡ mid
 no_mark true true same mid = refl

@@ -19,10 +19,10 @@ use Rattle.router_deliveries.proofs.Numbers.{not_true, none_below}
 
 -- one turn of a search, and its end
 pub turn : (p : ℕ → Bool) (ks rest : List ℕ) (k : ℕ) (all : Bool) → ks ≡ k ∷ rest → p k ≡ false → list_any p ks ≡ all → list_any p rest ≡ all
-turn p ks rest k all whole no so_far = ap (λ b. b || list_any p rest) (sym no) ∙ ap (list_any p) (sym whole) ∙ so_far
+turn p ks rest k all whole fails so_far = ap (λ b. b || list_any p rest) (sym fails) ∙ ap (list_any p) (sym whole) ∙ so_far
 
 pub found : (p : ℕ → Bool) (ks rest : List ℕ) (k : ℕ) (all : Bool) → ks ≡ k ∷ rest → p k ≡ true → list_any p ks ≡ all → true ≡ all
-found p ks rest k all whole yes so_far = ap (λ b. b || list_any p rest) (sym yes) ∙ ap (list_any p) (sym whole) ∙ so_far
+found p ks rest k all whole passes so_far = ap (λ b. b || list_any p rest) (sym passes) ∙ ap (list_any p) (sym whole) ∙ so_far
 
 pub nowhere_found : (p : ℕ → Bool) (ks : List ℕ) (all : Bool) → ks ≡ [] → list_any p ks ≡ all → false ≡ all
 nowhere_found p ks all none so_far = ap (list_any p) (sym none) ∙ so_far
@@ -109,10 +109,10 @@ uses_is s t c o h tag v false fit is e =
     sym (ap (λ (w : Option ℕ). is_some w) (none_below (2 ^ 32) (λ id. is_tagged_on h tag (claims t c o id)) (λ id l. sym (ap (is_tagged_on h tag) (fit.ids c o id)) ∙ none id)))
   where
     none : (id : ℕ) → is_tagged_on h tag (at_id s.ids c o id) ≡ false
-    none id = not_true (is_tagged_on h tag (at_id s.ids c o id)) (λ yes.
-        let there : in_set v id ≡ true = ap (λ w. in_set w id) is ∙ fit.marked.by_link c o h id ∙ of_link h tag (at_id s.ids c o id) yes in
-        let no : is_tagged_on h tag (at_id s.ids c o id) ≡ false = none_in (λ k. is_tagged_on h tag (at_id s.ids c o k)) v id (sym e) there in
-        wrong (is_tagged_on h tag (at_id s.ids c o id)) yes no)
+    none id = not_true (is_tagged_on h tag (at_id s.ids c o id)) (λ passes.
+        let there : in_set v id ≡ true = ap (λ w. in_set w id) is ∙ fit.marked.by_link c o h id ∙ of_link h tag (at_id s.ids c o id) passes in
+        let fails : is_tagged_on h tag (at_id s.ids c o id) ≡ false = none_in (λ k. is_tagged_on h tag (at_id s.ids c o k)) v id (sym e) there in
+        wrong (is_tagged_on h tag (at_id s.ids c o id)) passes fails)
       where
         wrong : (b : Bool) → b ≡ true → b ≡ false → ⊥
         wrong true f g = absurd cc

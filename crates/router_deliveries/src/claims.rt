@@ -468,7 +468,8 @@ fn bound_claim(claim: &Claim) -> Result<Claim, AllocError>
 
 /// A copy of a tag.
 fn copy_of(tag: &Option<DeliveryTag>) -> Result<Option<DeliveryTag>, AllocError>
-    ensures { IfOk result (λ copy. copy ≡ tag.now) }
+    ensures same { IfOk result (λ copy. copy ≡ tag.now) }
+    ensures text { IfOk result (λ copy. option_map (λ tag. tag.items) copy ≡ option_map (λ tag. tag.items) tag.now) }
 {
     match tag {
         None => Ok(None),
