@@ -24,3 +24,4 @@ pub mod Listed
 mod Marked
 pub mod Placed
 pub mod Detached
+mod Decided
