@@ -361,7 +361,7 @@ impl<D: Disk> Core<D> {
         ensures writable { IfOk result (λ p. Writable (kept_book self.now) p.acts.items) }
     {
         let planned = self.plan_as(false, ends, event)?;
-        if !self.store.exceeds(&planned.acts) {
+        if !self.store.exceeds(&planned.acts)? {
             return Ok(planned);
         }
         drop(planned);
@@ -419,12 +419,21 @@ impl<D: Disk> Core<D> {
             drop(acts);
             return Err(AllocError);
         };
-        if self.store.exceeds(&admits) {
-            drop(admits);
-            return Ok(acts);
+        match self.store.exceeds(&admits) {
+            Ok(false) => {
+                drop(acts);
+                Ok(admits)
+            }
+            Ok(true) => {
+                drop(admits);
+                Ok(acts)
+            }
+            Err(error) => {
+                drop(acts);
+                drop(admits);
+                Err(error)
+            }
         }
-        drop(acts);
-        Ok(admits)
     }
 
     /// The acts that admit a delivery of an event that was handled; none if it ends a connection for its full outbox.

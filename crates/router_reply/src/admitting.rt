@@ -51,7 +51,7 @@ fn admission_of(
         tag: copied(&delivery.tag)?,
         consumer,
         format: delivery.format.unwrap_or(0),
-        payload: payload.clone(),
+        payload: payload.clone()?,
     })
 }
 

@@ -20,7 +20,7 @@ use router_trace::{Attachment, Event};
 use std::alloc::{AllocError, Global};
 
 /// Adds to a list.
-fn add<T>(list: &mut Vec<T>, one: T) -> Result<(), AllocError>
+fn add<T: Drop>(list: &mut Vec<T>, one: T) -> Result<(), AllocError>
     ensures { OnOk result (list.new.items ≡ list.old.items ++ one ∷ []) }
 {
     if let Err(left) = list.push(one) {
