@@ -1,5 +1,5 @@
 -- What a journal keeps of an outcome.
-use Rattle.std.specs.Prelude.{List, length, Option, Some, None, Result, Ok, Err, nat_le, if◌then◌else◌}
+use Rattle.std.specs.Prelude.{length, Option, Some, None, Result, Ok, Err, nat_le, if◌then◌else◌}
 use Rattle.amqp_perf.specs.declared.state.DeliveryState.{DeliveryState}
 use Rattle.amqp_perf.specs.Spelling.{state_spelling}
 use Rattle.gate_journal.specs.declared.read.ReadFault.{ReadFault}

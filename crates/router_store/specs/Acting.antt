@@ -1,6 +1,6 @@
 -- The acts of an event: what a router decides of rows, which of them it forgets, and the terminus that it makes or drops. Whatever is
 -- asked, what doesn't apply to the book is left out, so that the acts can be written. An admission is a batch of its own.
-use Rattle.std.specs.Prelude.{ℕ, Bool, true, false, ◌==◌, ◌&&◌, not, if◌then◌else◌, Option, Some, None, is_none, option_map, List, [], ◌∷◌, ◌++◌, filter_map}
+use Rattle.std.specs.Prelude.{ℕ, Bool, ◌==◌, ◌&&◌, not, if◌then◌else◌, Option, Some, None, is_none, option_map, List, [], ◌∷◌, ◌++◌, filter_map}
 use Rattle.std.specs.List.{list_any}
 use Rattle.std.specs.Option.{unwrap_or}
 use Rattle.amqp_perf.specs.declared.state.DeliveryState.{DeliveryState}
@@ -10,7 +10,7 @@ use Rattle.book_core.specs.declared.act.Admission.{Admission}
 use Rattle.book_core.specs.declared.act.Decision.{Decision}
 use Rattle.book_core.specs.declared.row.Row.{Row}
 use Rattle.book_core.specs.declared.row.RowNumber.{RowNumber}
-use Rattle.book_core.specs.Book.{BookView, effects, is_undecided, make_refusal, admit_refusal, drop_refusal, terminus_at}
+use Rattle.book_core.specs.Book.{BookView, effects, is_undecided, decided, forgotten, make_refusal, admit_refusal, drop_refusal, terminus_at}
 use Rattle.gate_journal.specs.Outcome.{kept_outcome}
 use Rattle.router_store.specs.declared.acting.TerminusAct.{TerminusAct}
 use Rattle.router_store.specs.declared.acting.TerminusAct.TheVariants as terminus
@@ -53,6 +53,21 @@ forgets b numbers = filter_map (forget_row numbers) b.rows
 -- first the decisions, then what is forgotten
 abbrev pub settles : BookView → List Decision → List RowNumber → List Act
 settles b ds numbers = decides b ds ++ forgets b numbers
+
+-- what becomes of a row: the decision of it, and then that it is forgotten
+abbrev pub decided_to : Option DeliveryState → Row → Option Row
+decided_to None r = Some r
+decided_to (Some outcome) r = decided (journal_outcome outcome) r
+
+abbrev pub decided_by : List Decision → Row → Option Row
+decided_by ds r = if is_undecided r then decided_to (outcome_for r.number.0 ds) r else Some r
+
+abbrev pub forgotten_by : List RowNumber → Row → Option Row
+forgotten_by numbers r = if not r.forgotten && is_among r.number.0 numbers then forgotten r else Some r
+
+-- the rows behind both (`settled_rows_are_known`)
+abbrev pub rows_behind : List Decision → List RowNumber → List Row → List Row
+rows_behind ds numbers rs = filter_map (forgotten_by numbers) (filter_map (decided_by ds) rs)
 
 -- Termini.
 

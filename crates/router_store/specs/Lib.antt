@@ -3,3 +3,4 @@ pub mod Lost
 pub mod Made
 pub mod Settling
 pub mod Store
+pub mod Writable

@@ -6,7 +6,7 @@ ghost use Rattle.gate_journal.specs.Format.{acts_bytes};
 ghost use Rattle.router_store.specs.Acting.{admission_acts, event_acts};
 ghost use Rattle.router_store.specs.Lost.{start_acts};
 ghost use Rattle.router_store.specs.Made.{IsMade};
-ghost use Rattle.router_store.specs.Store.{Writable};
+ghost use Rattle.router_store.specs.Writable.{Writable};
 
 use crate::acting::{TerminusAct, admission_acts, event_acts};
 use crate::lost::start_acts;

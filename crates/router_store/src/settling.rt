@@ -45,6 +45,7 @@ fn set_outcome(
 }
 
 /// The outcome for each row that decisions name: the first of them counts.
+#[tactic(auto, using(crate::proofs::Gathered::one_outcome))]
 fn outcomes_of(
     alloc: Global,
     decided: Vec<Decision>,
@@ -70,6 +71,7 @@ fn add_number(numbers: &mut BTreeSet<u64>, number: u64) -> Result<(), AllocError
 }
 
 /// The set of these numbers.
+#[tactic(auto, using(crate::proofs::Gathered::one_number))]
 fn numbers_of(alloc: Global, rows: Vec<RowNumber>) -> Result<BTreeSet<u64>, AllocError>
     ensures { IfOk result (λ numbers. (n : ℕ) → contains nat_cmp numbers n ≡ is_among n rows.items) }
 {

@@ -219,10 +219,10 @@ impl<D: Disk> Store<D> {
     pub fn exceeds(&self, acts: &[Act]) -> Result<bool, AllocError>
         ensures { IfOk result (λ full. full ≡ exceeds (used_of self.now) (kept_of self.now) acts.now) }
     {
-        if acts.is_empty() {
-            return Ok(false);
+        match acts {
+            [] => Ok(false),
+            _ => self.journal.is_full(acts),
         }
-        self.journal.is_full(acts)
     }
 
     /// The book.
