@@ -11,7 +11,6 @@ use Rattle.std.proofs.lemmas.Bool.{eqb-true}
 use Rattle.std.proofs.lemmas.Bool.Decides.{nat_tests}
 use Rattle.amqp_perf.specs.declared.state.DeliveryState.{DeliveryState}
 use Rattle.amqp_session.specs.Ranges.{has}
-use Rattle.book_core.specs.declared.act.Decision.{Decision}
 use Rattle.book_core.specs.declared.row.RowNumber.{RowNumber}
 use Rattle.router_trace.specs.declared.handle.Attachment.{Attachment}
 use Rattle.router_trace.specs.Trace.{Trace}
@@ -95,19 +94,22 @@ walked zero low ns f rise above others none = give_nothing f low ns above (λ n 
 walked (suc k) low [] f rise above others none =
     walked k (low + 1) [] f tt tt (λ n l e. others n (omega (arith, l)) refl) (λ n l. none n (omega (arith, l)))
     ∙ ap (λ xs. xs ++ gathered_from (low + 1) k f) (sym (others low (omega arith) refl))
-walked (suc k) low (x ∷ ns) f rise above others none = by_test (x == low) refl
+walked (suc k) low (x ∷ ns) f rise above others none =
+    by_test (x == low) refl (λ ms r a o. walked k (low + 1) ms f r a o (λ n l. none n (omega (arith, l))))
   where
-    by_test : (b : Bool) → (x == low) ≡ b → f x ++ flat_map f ns ≡ f low ++ gathered_from (low + 1) k f
-    by_test true e =
+    by_test : (b : Bool) → (x == low) ≡ b
+        → ((ms : List ℕ) → IsStrictlySortedBy nat_cmp ms → AllByRecursion (λ n. low + 1 ≤ n) ms → ((n : ℕ) → low + 1 ≤ n → has n ms ≡ false → f n ≡ [])
+        → flat_map f ms ≡ gathered_from (low + 1) k f)
+        → f x ++ flat_map f ns ≡ f low ++ gathered_from (low + 1) k f
+    by_test true e rest =
         let is : x ≡ low = eqb-true x low e in
         ap (λ n. f n ++ flat_map f ns) is
         ∙ ap (λ xs. f low ++ xs)
-        (walked k (low + 1) ns f rise.1 (above_all low x ns above.0 rise.0)
-        (λ n l h. others n (omega (arith, l)) (ap (λ b. b || has n ns) (behind_apart n x (omega (arith, l, is))) ∙ h))
-        (λ n l. none n (omega (arith, l))))
-    by_test false e =
+        (rest ns rise.1 (above_all low x ns above.0 rise.0)
+        (λ n l h. others n (omega (arith, l)) (ap (λ b. b || has n ns) (behind_apart n x (omega (arith, l, is))) ∙ h)))
+    by_test false e rest =
         let all : AllByRecursion (λ n. low + 1 ≤ n) (x ∷ ns) = (beyond low x above.0 e, above_all low x ns above.0 rise.0) in
-        walked k (low + 1) (x ∷ ns) f rise all (λ n l h. others n (omega (arith, l)) h) (λ n l. none n (omega (arith, l)))
+        rest (x ∷ ns) rise all (λ n l h. others n (omega (arith, l)) h)
         ∙ ap (λ xs. xs ++ gathered_from (low + 1) k f) (sym (others low (omega arith) (not_among low (x ∷ ns) all)))
 
 gathered : {A : Type 0} (bound : ℕ) (f g : ℕ → List A) (ns : List ℕ) → IsStrictlySortedBy nat_cmp ns → ((n : ℕ) → f n ≡ g n)

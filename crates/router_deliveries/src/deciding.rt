@@ -136,10 +136,27 @@ pub(crate) fn rows_from(
 {
     let numbers = store.with_ids(conn, own, first, last)?;
     let mut rows = Vec::new(alloc);
-    for number in &numbers {
-        append_row(&mut rows, store.get(*number), conn, own, first, last)?;
-    }
+    append_rows(&mut rows, store, &numbers, conn, own, first, last)?;
     Ok(rows)
+}
+
+/// Appends the rows of the deliveries with these numbers to which a producer gave an id in this range, on a session.
+fn append_rows(
+    rows: &mut Vec<RowNumber>,
+    store: &Store,
+    numbers: &BTreeSet<u64>,
+    conn: u64,
+    own: u16,
+    first: u32,
+    last: u32,
+) -> Result<(), AllocError>
+    ensures rows { OnOk result (rows.new.items ≡ rows.old.items ++ flat_map (λ n. row_from conn own first last (get nat_cmp store.now.deliveries n)) numbers.now.keys) }
+    ensures rise { OnOk result (IsStrictlySortedBy nat_cmp numbers.now.keys) }
+{
+    for number in numbers {
+        append_row(rows, store.get(*number), conn, own, first, last)?;
+    }
+    Ok(())
 }
 
 /// Appends the row of a delivery, if it has one, and its producer gave it an id in this range, on a session.
