@@ -1,7 +1,8 @@
 -- The unbound claims stay marked at their links.
-use Rattle.std.proofs.Common.{◌≡◌, ◌∙◌, ◌<◌, ◌^◌, ℕ, Bool, true, false, refl, sym, ap, Option, Some, None}
+use Rattle.std.proofs.Common.{◌≡◌, ◌∙◌, ◌<◌, ◌^◌, ℕ, Bool, true, false, refl, sym, ap, arith, Option, Some, None}
 use Rattle.std.specs.Prelude.{◌==◌, if◌then◌else◌}
 use Rattle.std.proofs.lemmas.Bool.{eqb-true}
+use Rattle.std.proofs.lemmas.Bool.Decides.{nat_tests}
 use Rattle.amqp_perf.specs.declared.perf.Transfer.{Transfer}
 use Rattle.router_trace.specs.Claims.{Claim, claims, claim, claimed_later}
 use Rattle.router_trace.specs.Deliveries.{is_number}
@@ -100,6 +101,9 @@ put_there known f conn own id c o q v is = by_tests (conn == c) (own == o) (id =
     by_tests true true false e g h = refl
     by_tests true false z e g h = refl
     by_tests false y z e g h = refl
+
+pub same_handle : (a b : ℕ) → a ≡ b → (a == b) ≡ true
+same_handle a b e = grind (arith, nat_tests, e)
 
 pub later_is : (h : ℕ) (x : Transfer) (w : Claim) (now v : Option Claim) → Some w ≡ now → (w.handle == h) ≡ true → v ≡ claim h w.tag x → v ≡ claimed_later h x now
 later_is h x w now v is same made = made ∙ sym (ap (λ b. if b then claim h w.tag x else Some w) same) ∙ ap (claimed_later h x) is
