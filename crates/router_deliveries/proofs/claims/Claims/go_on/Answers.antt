@@ -1,4 +1,4 @@
-use Rattle.std.proofs.Common.{◌≡◌, ◌∙◌, ap, sym, ℕ, List}
+use Rattle.std.proofs.Common.{◌∙◌, ap, sym, ℕ, List}
 use Rattle.std.specs.Prelude.{◌==◌, Option}
 use Rattle.router_trace.specs.Claims.{Claim, claim, claimed_later}
 use Rattle.router_deliveries.specs.Places.{at_id}
