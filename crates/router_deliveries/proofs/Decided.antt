@@ -18,7 +18,7 @@ use Rattle.router_trace.specs.Deliveries.{Delivery, source, is_undecided, bindin
 use Rattle.router_deliveries.specs.declared.change.Change.{Change}
 use Rattle.router_deliveries.specs.declared.change.Change.TheVariants as change
 use Rattle.router_deliveries.specs.declared.store.Store.{Store}
-use Rattle.router_deliveries.specs.Deciding.{gathered_below, changed_by, bare, row_of, outcome_of_row, outcome_of, decision_of, decided_rows, listed_row, row_from, rows_from, concerned_by}
+use Rattle.router_deliveries.specs.Deciding.{gathered_below, changed_by, bare, row_of, open_row, outcome_of_row, outcome_of, decision_of, decided_rows, listed_row, row_from, rows_from, concerned_by}
 use Rattle.router_deliveries.specs.Fits.{StoreFit}
 use Rattle.router_deliveries.specs.Indexing.{standing, concerns}
 use Rattle.router_deliveries.specs.Placing.{is_id_there}
@@ -176,7 +176,7 @@ no_decision : (xs : List Change) (v : Option Delivery) → concerned_by xs (stan
 no_decision xs None e = refl
 no_decision xs (Some d) e = by_test (is_undecided d) refl
   where
-    by_test : (b : Bool) → is_undecided d ≡ b → (if b then outcome_of (row_of d.name) (changed_by xs d).outcome else []) ≡ []
+    by_test : (b : Bool) → is_undecided d ≡ b → outcome_of (if b then row_of d.name else None) (changed_by xs d).outcome ≡ []
     by_test true u = ap (λ (w : Delivery). outcome_of (row_of d.name) w.outcome) (stays xs d e) ∙ ap (outcome_of (row_of d.name)) (no_outcome d u) ∙ nothing_made (row_of d.name)
     by_test false u = refl
 
@@ -260,15 +260,14 @@ bare_outcome xs d u =
     ap (λ (o : Option DeliveryState). (changed_by xs (record d { payload = []; outcome = o })).outcome) (sym (no_outcome d u))
     ∙ ap (λ (w : Delivery). w.outcome) (light_by xs d)
 
--- what is decided of a delivery, by its state
-pub not_again : (xs : List Change) (d : Delivery) → is_undecided d ≡ false → decision_of xs (Some d) ≡ []
-not_again xs d e = ap (λ b. if b then outcome_of (row_of d.name) (changed_by xs d).outcome else []) e
+-- what is decided of a delivery with a row
+is_open : (d : Delivery) (r : RowNumber) → open_row d ≡ Some r → is_undecided d ≡ true
+is_open d r is = by_test (is_undecided d) refl is
+  where
+    by_test : (b : Bool) → is_undecided d ≡ b → (if b then row_of d.name else None) ≡ Some r → is_undecided d ≡ true
+    by_test true e f = e
+    by_test false e f = absurd cc
 
-pub without_row : (xs : List Change) (d : Delivery) → is_undecided d ≡ true → row_of d.name ≡ None → decision_of xs (Some d) ≡ []
-without_row xs d e none = ap (λ b. if b then outcome_of (row_of d.name) (changed_by xs d).outcome else []) e ∙ ap (λ r. outcome_of r (changed_by xs d).outcome) none
-
-pub with_row : (xs : List Change) (d : Delivery) (r : RowNumber) (made : Option DeliveryState) → is_undecided d ≡ true → row_of d.name ≡ Some r
+pub with_row : (xs : List Change) (d : Delivery) (r : RowNumber) (made : Option DeliveryState) → open_row d ≡ Some r
     → made ≡ (changed_by xs (bare d)).outcome → outcome_of_row r made ≡ decision_of xs (Some d)
-with_row xs d r made e is same =
-    ap (outcome_of_row r) (same ∙ bare_outcome xs d e) ∙ sym (ap (λ q. outcome_of q (changed_by xs d).outcome) is)
-    ∙ sym (ap (λ b. if b then outcome_of (row_of d.name) (changed_by xs d).outcome else []) e)
+with_row xs d r made is same = ap (outcome_of_row r) (same ∙ bare_outcome xs d (is_open d r is)) ∙ sym (ap (λ q. outcome_of q (changed_by xs d).outcome) is)

@@ -40,10 +40,14 @@ abbrev pub outcome_of : Option RowNumber → Option DeliveryState → List Decis
 outcome_of None made = []
 outcome_of (Some r) made = outcome_of_row r made
 
+-- the row of a delivery that is undecided and has one
+abbrev pub open_row : Delivery → Option RowNumber
+open_row d = if is_undecided d then row_of d.name else None
+
 -- what changes decide of a delivery: an undecided one with a row, that has an outcome after them
 abbrev pub decision_of : List Change → Option Delivery → List Decision
 decision_of xs None = []
-decision_of xs (Some d) = if is_undecided d then outcome_of (row_of d.name) (changed_by xs d).outcome else []
+decision_of xs (Some d) = outcome_of (open_row d) (changed_by xs d).outcome
 
 -- the rows that changes would decide, with their outcomes, in order of the deliveries' numbers
 abbrev pub decided_rows : Trace → List Change → List Decision

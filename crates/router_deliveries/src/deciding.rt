@@ -6,7 +6,7 @@ ghost use Rattle.std.specs.Option.{option_map};
 ghost use Rattle.std.specs.Ordering.{nat_cmp};
 ghost use Rattle.std.specs.BTreeMap.{get};
 ghost use Rattle.router_trace.specs.Trace.{Entry};
-ghost use Rattle.router_deliveries.specs.Deciding.{bare, changed_by, row_of, outcome_of_row, decision_of, decided_rows, row_from, rows_from};
+ghost use Rattle.router_deliveries.specs.Deciding.{bare, changed_by, row_of, open_row, outcome_of_row, decision_of, decided_rows, row_from, rows_from};
 ghost use Rattle.router_deliveries.specs.Fits.{StoreFit};
 
 use crate::change::{Change, comes_with_id};
@@ -71,10 +71,7 @@ fn append_decision_of(
 ) -> Result<(), AllocError>
     ensures { OnOk result (rows.new.items ≡ rows.old.items ++ decision_of changes.now (Some delivery.now)) }
 {
-    if !delivery.is_undecided() {
-        return Ok(());
-    }
-    match row_of(delivery.name) {
+    match open_row(delivery) {
         None => Ok(()),
         Some(row) => append_outcome(rows, row, outcome_after(delivery, changes)?),
     }
@@ -110,6 +107,17 @@ fn outcome_after(
     let mut later = delivery.bare();
     later.change_by(changes)?;
     Ok(later.outcome)
+}
+
+/// The row of a delivery that is undecided and has one.
+fn open_row(delivery: &Delivery) -> Option<RowNumber>
+    ensures { result ≡ open_row delivery.now }
+{
+    if delivery.is_undecided() {
+        row_of(delivery.name)
+    } else {
+        None
+    }
 }
 
 /// The row of a durable delivery.
