@@ -5,7 +5,7 @@ ghost use Rattle.router_trace.specs.Sessions.{session_on};
 ghost use Rattle.router_trace.specs.Links.{durable_key, link};
 ghost use Rattle.router_deliveries.specs.Deciding.{decided_rows, rows_from};
 ghost use Rattle.router_passing.specs.Passing.{consumer_of};
-ghost use Rattle.router_state.specs.Tables.{TablesFit};
+ghost use Rattle.router_state.specs.Tables.{TablesFit, TablesFind};
 ghost use Rattle.router_state.specs.Waiting.{NothingWaits};
 
 use crate::tables::State;
@@ -17,7 +17,7 @@ use std::alloc::AllocError;
 impl State {
     /// The router's channel of the session on a channel of the peer (AMQP 1.0 part 2, section 2.5.1).
     pub fn own_channel(&self, conn: u64, channel: u16) -> Option<u16>
-        ensures { (t : List Entry) → TablesFit self.now t → result ≡ session_on t conn channel }
+        ensures { (t : List Entry) → TablesFind self.now t → result ≡ session_on t conn channel }
     {
         self.sessions.own_channel(conn, channel)
     }
@@ -46,7 +46,7 @@ impl State {
 
     /// The rows that these changes of deliveries would decide, one after another, each with its outcome, in order of the deliveries' numbers.
     pub fn decided_rows(&self, changes: &[Change]) -> Result<Vec<Decision>, AllocError>
-        ensures { IfOk result (λ rows. (t : List Entry) → TablesFit self.now t → rows.items ≡ decided_rows t changes.now) }
+        ensures { IfOk result (λ rows. (t : List Entry) → TablesFind self.now t → rows.items ≡ decided_rows t changes.now) }
     {
         self.passing.deliveries().decided_rows(changes)
     }
@@ -59,7 +59,7 @@ impl State {
         first: u32,
         last: u32,
     ) -> Result<Vec<RowNumber>, AllocError>
-        ensures { IfOk result (λ rows. (t : List Entry) → TablesFit self.now t → rows.items ≡ rows_from t conn own first last) }
+        ensures { IfOk result (λ rows. (t : List Entry) → TablesFind self.now t → rows.items ≡ rows_from t conn own first last) }
     {
         self.passing.deliveries().rows_from(conn, own, first, last)
     }
