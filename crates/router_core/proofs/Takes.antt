@@ -31,10 +31,10 @@ use Rattle.router_core.proofs.Following.{passed_on, each_keeps, all_keep}
 use Rattle.router_core.proofs.Plain.{plain, plain_live, Calm, calm_goes, none_due, same_live, stood_found, live_found}
 
 -- what an event finds behind its acts is the same in a trace without its takes: the journal, the row that its acts admit, and whether the journal is full
-record FindsAlike (t : List Entry) (e : Event) : Type 0 where
-  journal : found_journal t ≡ found_journal (untaken t)
-  row : row_found t ≡ row_found (untaken t)
-  full : full_at t e ≡ plain_full_at (untaken t) e
+pub record FindsAlike (t : List Entry) (e : Event) : Type 0 where
+  pub journal : found_journal t ≡ found_journal (untaken t)
+  pub row : row_found t ≡ row_found (untaken t)
+  pub full : full_at t e ≡ plain_full_at (untaken t) e
 
 -- an event's own row, what follows its rows, and all of it, by the plain phases
 abbrev pub plain_item_row : List ℕ → List Entry → List Entry → ℕ → Item → Option Conn → List Put

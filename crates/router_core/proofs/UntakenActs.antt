@@ -56,7 +56,7 @@ use Rattle.router_core.proofs.UntakenRows.{same_answer_at, same_consumer_at, sam
 -- What an event that ends no connection does to the book, by what events alone leave of its connection: the changes of deliveries that it brings,
 -- the rows that it decides, the answer to its item, what is planned, and what is admitted.
 abbrev pub plain_changes : List Entry → Event → Answer → List Change
-plain_changes x (event.Item c i) answer = listed (heard_change c.0 (session_on x c.0 (channel_of i)) i) ++ ended_by x c.0 i answer
+plain_changes x (event.Item c i) answer = listed (heard_change c.0 (session_on x c.0 (channel_of i)) i) ++ map lost [] ++ ended_by x c.0 i answer
 plain_changes x (event.Down c) answer = lost c.0 ∷ []
 plain_changes x _ answer = []
 
@@ -122,7 +122,7 @@ changed_plainly t (event.Tick ms) a none = ap (map lost) none
 changed_plainly t event.Start a none = ap (map lost) none
 
 same_changes : (t : List Entry) (e : Event) (a : Answer) → plain_changes t e a ≡ plain_changes (untaken t) e a
-same_changes t (event.Item c i) a = λ j. listed (heard_change c.0 (same_session_on t c.0 (channel_of i) j) i) ++ same_ended t c.0 i a j
+same_changes t (event.Item c i) a = λ j. listed (heard_change c.0 (same_session_on t c.0 (channel_of i) j) i) ++ map lost [] ++ same_ended t c.0 i a j
 same_changes t (event.Down c) a = refl
 same_changes t (event.Up c p) a = refl
 same_changes t (event.Tick ms) a = refl
