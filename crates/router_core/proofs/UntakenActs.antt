@@ -30,7 +30,7 @@ use Rattle.router_trace.specs.declared.event.Event.TheVariants as event
 use Rattle.router_trace.specs.declared.handle.Attachment.{Attachment}
 use Rattle.router_trace.specs.Trace.{Entry, Did, Out, Took, Bound, Booked, Began, did}
 use Rattle.router_trace.specs.Connection.{due}
-use Rattle.router_trace.specs.Deliveries.{bindings, delivery, last_of}
+use Rattle.router_trace.specs.Deliveries.{last_of}
 use Rattle.router_trace.specs.LinkFrames.{plain_answer}
 use Rattle.router_trace.specs.Links.{Link, link, link_place, durable_key}
 use Rattle.router_trace.specs.Sessions.{own_of, session_on}
@@ -43,8 +43,8 @@ use Rattle.router_passing.specs.Passing.{consumer_of}
 use Rattle.router_rows.specs.declared.answer.Answer.{Answer}
 use Rattle.router_rows.specs.declared.answer.Answer.TheVariants.{Nothing, Attach, Detach, Taken}
 use Rattle.router_rows.specs.Booking.{answer_at}
-use Rattle.router_reply.specs.Admitting.{claimed_id, terminus_for, admission_of, admitted_to, whole_admission, part_admission, taken_admission, unless_ends, event_admission, admits}
-use Rattle.router_reply.specs.Deciding.{lost, stolen_from, stolen_for, ended_by, listed, event_changes, as_kept, decided, settled_on, sent_from, closed_terminus, forgotten_by, forgotten_in, forgotten, made_for, made_by, terminus_by, terminus_in, terminus_of_event}
+use Rattle.router_reply.specs.Admitting.{terminus_for, admission_of, admitted_to, whole_admission, part_admission, taken_admission, unless_ends, event_admission, admits}
+use Rattle.router_reply.specs.Deciding.{lost, stolen_from, stolen_for, ended_by, listed, event_changes, as_kept, decided, settled_on, sent_from, closed_terminus, forgotten_by, forgotten_in, forgotten, made_for, terminus_by, terminus_in, terminus_of_event}
 use Rattle.router_reply.specs.Acts.{Journaled, live_answer, event_answer, answer_acts, planned_acts, admitted_acts, or_admits, event_acts, finds_full, with_acts, journaled, book_in, acts_of, before_acts, found_journal, full_at, answer_of}
 use Rattle.router_core.specs.Laws.{untaken}
 use Rattle.router_core.proofs.Plain.{plain, Calm, stood_found}
