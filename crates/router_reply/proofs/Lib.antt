@@ -3,5 +3,4 @@ pub mod Unlinked
 pub mod Behind
 mod Given
 mod Answering
-mod Planned
 mod Refused
