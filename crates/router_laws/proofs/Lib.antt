@@ -13,4 +13,5 @@ pub mod Quiet
 pub mod Transfers
 pub mod Arriving
 pub mod AllSound
+pub mod Made
 pub mod Keeping
