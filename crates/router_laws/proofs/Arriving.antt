@@ -156,7 +156,7 @@ released_lawful after c own handle d payload (Some id) came fresh claimed none =
     by false lasts = (releases after c own handle d payload id false came fresh claimed lasts none, tt)
     by true lasts =
         by_test (nat_lt 1024 (unbound after c own handle))
-        (λ e. rw e (quiet_lawful (each_to c (let_go after c own handle ResourceLimitExceeded)) after (quiet_to c _ (let_go_quiet after c own handle ResourceLimitExceeded))))
+        (λ e. rw e (quiet_lawful (each_to c (let_go after c own handle ResourceLimitExceeded)) after (quiet_to c (let_go after c own handle ResourceLimitExceeded) (let_go_quiet after c own handle ResourceLimitExceeded))))
         (λ e. rw e (releases after c own handle d payload id true came fresh claimed lasts none, tt))
 
 -- bound
@@ -244,7 +244,7 @@ whole_cases after c own handle d row payload v resumed passes x sound came its a
     by : (v : Option Link) (resumed passes : Bool) (x : Option Attachment) → link after c own handle ≡ v → d.resume ≡ resumed
         → may_pass (lasts_on (link after c own handle)) claimed row ≡ passes → consumer_of after (link after c own handle) ≡ x
         → WholeSound after c own handle d row payload v resumed passes x
-    by v true passes x at fresh may chosen = quiet_sound (each_to c (ignored_put after c own handle claimed)) after (quiet_to c _ (ignored_quiet after c own handle claimed)) sound
+    by v true passes x at fresh may chosen = quiet_sound (each_to c (ignored_put after c own handle claimed)) after (quiet_to c (ignored_put after c own handle claimed) (ignored_quiet after c own handle claimed)) sound
     by None false false x at fresh may chosen = let_off fresh (no_row may)
     by (Some l) false false x at fresh may chosen = let_off fresh (no_row may)
     by None false true None at fresh may none = let_off fresh (inl none)
@@ -268,14 +268,14 @@ whole_sound after c own handle d row payload sound came its =
     (whole_cases after c own handle d row payload (link after c own handle) d.resume (may_pass (lasts_on (link after c own handle)) (claimed_id after c own handle d.id) row)
     (consumer_of after (link after c own handle)) sound came its refl refl refl refl)
 
-pub part_sound : (t after : List Entry) (c own handle : ℕ) (row : Option RowNumber) (q : Option Part) → Sound after → row ≡ row_found t
+part_sound : (t after : List Entry) (c own handle : ℕ) (row : Option RowNumber) (q : Option Part) → Sound after → row ≡ row_found t
     → ((d : Told) (payload : List ℕ) → q ≡ Some (part.Whole d payload) → CameAt t after c own handle d payload)
     → Sound (goes (each_to c (part_put after c own handle row q)) (with_bound (part_bound after c own handle row q) after))
 part_sound t after c own handle row (Some (part.Whole d payload)) sound its came =
     let here = came d payload refl
     in whole_sound after c own handle d row payload sound here.came (its ∙ sym (ap row_found here.at))
 part_sound t after c own handle row (Some part.TooLarge) sound its came =
-    quiet_sound (each_to c (let_go after c own handle MessageSizeExceeded)) after (quiet_to c _ (let_go_quiet after c own handle MessageSizeExceeded)) sound
+    quiet_sound (each_to c (let_go after c own handle MessageSizeExceeded)) after (quiet_to c (let_go after c own handle MessageSizeExceeded) (let_go_quiet after c own handle MessageSizeExceeded)) sound
 part_sound t after c own handle row _ sound its came = sound
 
 pub transfer_sound : (t after : List Entry) (s : Step) (conn : ConnectionId) (sasl : Bool) (channel : ℕ) (x : Transfer) (carried : List ℕ) (own handle : ℕ) → Sound after

@@ -22,7 +22,6 @@ use Rattle.router_store.specs.Acting.{outcome_for, is_among, decision, decide_ro
 use Rattle.router_store.specs.declared.acting.TerminusAct.TheVariants as terminus
 use Rattle.router_rows.specs.Booking.{new_terminus, has_room}
 use Rattle.router_reply.specs.Acts.{or_admits}
-use Rattle.router_conns.proofs.Lists.{by_test}
 use Rattle.router_core.proofs.Due.{both_true}
 
 -- acts that change rows alone
@@ -48,11 +47,11 @@ both_of_rows (act ∷ acts) more first rest = (first.0, both_of_rows acts more f
 
 each_of_rows : (f : Row → Option Act) → ((r : Row) → OfRow (f r)) → (rs : List Row) → AllOfRows (filter_map f rs)
 each_of_rows f each [] = tt
-each_of_rows f each (r ∷ rs) = by (f r) (each r)
+each_of_rows f each (r ∷ rs) = by (f r) (each r) (each_of_rows f each rs)
   where
-    by : (o : Option Act) → OfRow o → AllOfRows (cons_option o (filter_map f rs))
-    by None is = each_of_rows f each rs
-    by (Some act) is = (is, each_of_rows f each rs)
+    by : (o : Option Act) → OfRow o → AllOfRows (filter_map f rs) → AllOfRows (cons_option o (filter_map f rs))
+    by None is rest = rest
+    by (Some act) is rest = (is, rest)
 
 decision_of_row : (r : Row) (outcome : Option DeliveryState) → OfRow (decision r outcome)
 decision_of_row r None = tt
@@ -123,13 +122,12 @@ found_made b x none =
 
 none_any : (key : LinkKey) (ts : List Terminus) → terminus_of key ts ≡ None → list_any (λ u. same_key u.key key) ts ≡ false
 none_any key [] none = refl
-none_any key (t ∷ ts) none =
-    by_test (same_key t.key key)
-    (λ e. absurd (some_none (rw e at none)))
-    (λ e. rw e (none_any key ts (rw e at none)))
+none_any key (t ∷ ts) none = by (same_key t.key key) none (none_any key ts)
   where
-    some_none : {x : Terminus} → Some x ≡ None → ⊥
-    some_none e = cc
+    by : (b : Bool) → cond b (Some t) (terminus_of key ts) ≡ None → (terminus_of key ts ≡ None → list_any (λ u. same_key u.key key) ts ≡ false)
+        → (b || list_any (λ u. same_key u.key key) ts) ≡ false
+    by true none rest = absurd cc
+    by false none rest = rest none
 
 made_where : (c : BookView) (x : Terminus) → x.number.0 ≡ c.next_terminus → list_any (λ u. same_key u.key x.key) c.termini ≡ false → nat_lt (length c.termini) 1024 ≡ true
     → has_short_texts x ≡ true → make_refusal c x ≡ None
