@@ -1,6 +1,6 @@
 -- What a transfer that is taken causes: a complete message is bound, or released.
-use Rattle.std.proofs.Common.{◌≡◌, ◌∙◌, sym, ap, refl, subst, inl, inr, ℕ, Bool, true, false, not, ◌||◌, List, [], ◌∷◌, ◌++◌, length}
-use Rattle.std.specs.Prelude.{Option, Some, None, is_some, option_map, if◌then◌else◌, nat_lt, unwrap_or}
+use Rattle.std.proofs.Common.{◌≡◌, ◌∙◌, sym, ap, refl, subst, inl, inr, ℕ, Bool, true, false, not, List, [], ◌∷◌, ◌++◌, length}
+use Rattle.std.specs.Prelude.{Option, Some, None, option_map, if◌then◌else◌, nat_lt, unwrap_or}
 use Rattle.amqp_perf.specs.Spelling.{state_spelling}
 use Rattle.amqp_perf.specs.declared.perf.Perf.TheVariants as perf
 use Rattle.amqp_perf.specs.declared.perf.Role.TheVariants.{Receiver}
@@ -27,7 +27,7 @@ use Rattle.router_trace.specs.Links.{Link, LinkPlace, Happened, link, link_place
 use Rattle.router_trace.specs.Settling.{is_claimed_on, unbound, part_on, part_by, part_of}
 use Rattle.router_passing.specs.Passing.{consumer_of, binding_to, with_bound}
 use Rattle.router_reply.specs.Admitting.{claimed_id}
-use Rattle.router_reply.specs.Replies.{from_link, origin_of, lasts_on, may_pass, fresh_bound, whole_put, whole_bound, part_put, part_bound, let_go, unless_many, released_by, released, unbound_put, ignored_put, row_found}
+use Rattle.router_reply.specs.Replies.{from_link, origin_of, lasts_on, may_pass, fresh_bound, whole_put, whole_bound, part_put, part_bound, let_go, released_by, released, unbound_put, ignored_put, row_found}
 use Rattle.router_laws.specs.Came.{Handled, just_handled, bound_since, CameWhole, ComesFrom, HasRowOn}
 use Rattle.router_laws.specs.Told.{IsUnbound}
 use Rattle.router_conns.proofs.Lists.{by_test}
@@ -192,7 +192,7 @@ has_row false f None row e = tt
 
 -- a complete message, whether its link is attached or not, by whether it may be bound and the consumer chosen for it
 
-abbrev bound_on : List Entry → ℕ → ℕ → ℕ → Told → Option RowNumber → List ℕ → Option Link → Bool → Option Attachment → Option Binding
+abbrev pub bound_on : List Entry → ℕ → ℕ → ℕ → Told → Option RowNumber → List ℕ → Option Link → Bool → Option Attachment → Option Binding
 bound_on after c own handle d row payload None passes x = None
 bound_on after c own handle d row payload (Some l) passes x =
     if passes then option_map (binding_to after (option_map (origin_of (from_link c own handle l)) (claimed_id after c own handle d.id)) row (unwrap_or d.format 0) payload) x else None
@@ -253,7 +253,7 @@ whole_cases after c own handle d row payload v resumed passes x sound came its a
     by (Some l) false true (Some a) at fresh may chosen = passed l a at fresh may chosen
 
 -- what is bound, on the link that stands there
-bound_there : (after : List Entry) (c own handle : ℕ) (d : Told) (row : Option RowNumber) (payload : List ℕ) (v : Option Link) → link after c own handle ≡ v
+pub bound_there : (after : List Entry) (c own handle : ℕ) (d : Told) (row : Option RowNumber) (payload : List ℕ) (v : Option Link) → link after c own handle ≡ v
     → fresh_bound after c own handle d row payload v
     ≡ bound_on after c own handle d row payload v (may_pass (lasts_on (link after c own handle)) (claimed_id after c own handle d.id) row) (consumer_of after (link after c own handle))
 bound_there after c own handle d row payload None at = refl

@@ -15,3 +15,4 @@ pub mod Arriving
 pub mod AllSound
 pub mod Made
 pub mod Keeping
+pub mod Admitted

@@ -1,0 +1,228 @@
+-- In every trace of the router a message with a row is bound behind the act that admits it.
+use Rattle.std.proofs.Common.{◌≡◌, ◌∙◌, sym, ap, refl, subst, ◌⊎◌, inl, inr, ℕ, ◌+◌, ◌≤◌, ◌<◌, Bool, true, false, List, [], ◌∷◌, ◌++◌, append-nil, arith}
+use Rattle.std.specs.Prelude.{◌==◌, ◌||◌, if◌then◌else◌, Option, Some, None, is_none, option_map, unwrap_or, map, filter}
+use Rattle.amqp_perf.specs.declared.perf.Perf.{Perf}
+use Rattle.amqp_perf.specs.declared.perf.Perf.TheVariants as perf
+use Rattle.amqp_frames.specs.declared.item.Item.{Item}
+use Rattle.amqp_frames.specs.declared.item.Item.TheVariants as item
+use Rattle.amqp_conn.specs.declared.conn.Conn.{Conn}
+use Rattle.amqp_link.specs.declared.part.Delivery.{Delivery as Told}
+use Rattle.amqp_link.specs.declared.part.Part.{Part}
+use Rattle.amqp_link.specs.declared.part.Part.TheVariants as part
+use Rattle.book_core.specs.declared.act.Act.{Act}
+use Rattle.book_core.specs.declared.act.Act.TheVariants.{Make, Admit, Decide, Forget, Drop}
+use Rattle.book_core.specs.declared.act.Admission.{Admission}
+use Rattle.book_core.specs.declared.fault.BookFault.{BookFault}
+use Rattle.book_core.specs.declared.row.Row.{Row}
+use Rattle.book_core.specs.declared.row.RowNumber.{RowNumber}
+use Rattle.book_core.specs.declared.terminus.TerminusNumber.{TerminusNumber}
+use Rattle.book_core.specs.Book.{BookView, admit_refusal, make_refusal, drop_refusal, terminus_at, effects}
+use Rattle.router_store.specs.Acting.{settles, unless_refused, terminus_acts}
+use Rattle.router_store.specs.Lost.{failure_of, is_lost, start_acts}
+use Rattle.router_store.specs.declared.acting.TerminusAct.{TerminusAct}
+use Rattle.router_store.specs.declared.acting.TerminusAct.TheVariants as terminus
+use Rattle.router_trace.specs.declared.binding.Binding.{Binding}
+use Rattle.router_trace.specs.declared.binding.Origin.{Origin}
+use Rattle.router_trace.specs.declared.event.ConnectionId.{ConnectionId}
+use Rattle.router_trace.specs.declared.event.Event.{Event}
+use Rattle.router_trace.specs.declared.event.Event.TheVariants as event
+use Rattle.router_trace.specs.declared.handle.Attachment.{Attachment}
+use Rattle.router_trace.specs.Connection.{due, found, standing}
+use Rattle.router_trace.specs.Following.{link_of}
+use Rattle.router_trace.specs.Links.{Link, link, link_place, durable_key, free_handle, first_free_below}
+use Rattle.router_trace.specs.Sessions.{free_channel}
+use Rattle.router_trace.specs.Settling.{part_of}
+use Rattle.router_trace.specs.Trace.{Entry, Step, Did, Out, Took, Bound, Booked, Began, did, step_of}
+use Rattle.router_passing.specs.Passing.{choice_of, consumer_of, binding_to, with_bound}
+use Rattle.router_rows.specs.declared.answer.Answer.{Answer}
+use Rattle.router_rows.specs.declared.answer.Answer.TheVariants.{Taken}
+use Rattle.router_rows.specs.Booking.{answer_at}
+use Rattle.router_reply.specs.Acts.{live_answer, event_answer, planned_acts, admitted_acts, or_admits, event_acts, finds_full, journaled, book_in, acts_of, booked, answer_of}
+use Rattle.router_reply.specs.Admitting.{claimed_id, terminus_for, admitted_to, whole_admission, part_admission, unless_ends, event_admission, admits, row_in}
+use Rattle.router_reply.specs.Deciding.{decided, forgotten, terminus_of_event}
+use Rattle.router_reply.specs.Replies.{from_link, origin_of, lasts_on, may_pass, fresh_bound, whole_bound, part_bound, row_found, ends, heard, bound_for, item_bound, bound_by}
+use Rattle.router_conns.proofs.Lists.{by_test}
+use Rattle.router_laws.specs.Admitted.{IsFromTerminus, IsAdmitted, IsAdmittedUnder, RowIsAdmitted}
+use Rattle.router_laws.proofs.Arriving.{bound_on, bound_there}
+use Rattle.router_laws.proofs.Made.{is_of_row, AllOfRows, settled_of_rows}
+use Rattle.router_laws.proofs.Tests.{some_same, none_not_some}
+
+-- what an event decides, forgets, makes or drops admits nothing
+
+clash : false ≡ true → ⊥
+clash e = cc
+
+after_rows : (acts more : List Act) → AllOfRows acts → row_in (acts ++ more) ≡ row_in more
+after_rows [] more all = refl
+after_rows (Make x ∷ acts) more all = absurd (clash all.0)
+after_rows (Admit x ∷ acts) more all = absurd (clash all.0)
+after_rows (Decide x ∷ acts) more all = after_rows acts more all.1
+after_rows (Forget n ∷ acts) more all = after_rows acts more all.1
+after_rows (Drop n ∷ acts) more all = absurd (clash all.0)
+
+terminus_admits : (b : BookView) (o : Option TerminusAct) → row_in (terminus_acts b o) ≡ None
+terminus_admits b None = refl
+terminus_admits b (Some (terminus.Make x)) = by (is_none (make_refusal b x))
+  where
+    by : (applies : Bool) → row_in (unless_refused applies (Make x)) ≡ None
+    by true = refl
+    by false = refl
+terminus_admits b (Some (terminus.Drop n)) = by (is_none (drop_refusal (terminus_at n.0 b.termini) b.rows))
+  where
+    by : (applies : Bool) → row_in (unless_refused applies (Drop n)) ≡ None
+    by true = refl
+    by false = refl
+
+failures_of_rows : (rs : List Row) → AllOfRows (map failure_of rs)
+failures_of_rows [] = tt
+failures_of_rows (r ∷ rs) = (refl, failures_of_rows rs)
+
+start_admits : (b : BookView) → row_in (start_acts b) ≡ None
+start_admits b = ap row_in (sym (append-nil (start_acts b))) ∙ after_rows (start_acts b) [] (failures_of_rows (filter is_lost b.rows))
+
+answer_admits : (b : BookView) (t : List Entry) (e : Event) (y : Answer) → row_in (settles b (decided t e y) (forgotten b t e y)
+    ++ terminus_acts (effects b (settles b (decided t e y) (forgotten b t e y))) (terminus_of_event b t e y)) ≡ None
+answer_admits b t e y =
+    let settled : List Act = settles b (decided t e y) (forgotten b t e y) in
+    after_rows settled (terminus_acts (effects b settled) (terminus_of_event b t e y)) (settled_of_rows b (decided t e y) (forgotten b t e y))
+    ∙ terminus_admits (effects b settled) (terminus_of_event b t e y)
+
+planned_admits : (full : Bool) (b : BookView) (t : List Entry) (e : Event) → row_in (planned_acts full b t e) ≡ None
+planned_admits full b t event.Start = start_admits b
+planned_admits full b t e = answer_admits b t e (event_answer full b t e)
+
+-- so the acts of an event that admit a row are its admission, and nothing else
+
+record Admits (full : Bool) (b : BookView) (t : List Entry) (e : Event) (acts : List Act) (row : RowNumber) : Type 0 where
+  admission : Admission
+  alone : acts ≡ Admit admission ∷ []
+  room : full ≡ false
+  asked : event_admission b t e (event_answer false b t e) ≡ Some admission
+  applies : admit_refusal b admission ≡ None
+  number : admission.row ≡ row
+
+admitted_one : (full : Bool) (b : BookView) (t : List Entry) (e : Event) (row : RowNumber) → row_in (admitted_acts full b t e) ≡ Some row → Admits full b t e (admitted_acts full b t e) row
+admitted_one true b t e row is = absurd (none_not_some is)
+admitted_one false b t e row is = by (event_admission b t e (event_answer false b t e)) refl is
+  where
+    applied : (x : Admission) (f : Option BookFault) → event_admission b t e (event_answer false b t e) ≡ Some x → admit_refusal b x ≡ f → row_in (unless_refused (is_none f) (Admit x)) ≡ Some row
+        → Admits false b t e (unless_refused (is_none f) (Admit x)) row
+    applied x (Some fault) asked refusal is = absurd (none_not_some is)
+    applied x None asked refusal is = record { admission = x; alone = refl; room = refl; asked = asked; applies = refusal; number = some_same is }
+
+    by : (o : Option Admission) → event_admission b t e (event_answer false b t e) ≡ o → row_in (admits b o) ≡ Some row → Admits false b t e (admits b o) row
+    by None asked is = absurd (none_not_some is)
+    by (Some x) asked is = applied x (admit_refusal b x) asked refl is
+
+event_admits : (full : Bool) (b : BookView) (t : List Entry) (e : Event) (row : RowNumber) → row_in (event_acts full b t e) ≡ Some row → Admits full b t e (event_acts full b t e) row
+event_admits full b t e row is = by (planned_acts full b t e) (planned_admits full b t e) is
+  where
+    by : (planned : List Act) → row_in planned ≡ None → row_in (or_admits planned (admitted_acts full b t e)) ≡ Some row
+        → Admits full b t e (or_admits planned (admitted_acts full b t e)) row
+    by [] none is = admitted_one full b t e row is
+    by (act ∷ acts) none is = absurd (none_not_some (sym none ∙ is))
+
+-- what is admitted of a whole delivery
+
+record AdmittedWhole (b : BookView) (u : List Entry) (c own handle : ℕ) (d : Told) (payload : List ℕ) (x : Admission) : Type 0 where
+  id : ℕ
+  at : Attachment
+  row : x.row.0 ≡ b.next_row
+  claimed : claimed_id u c own handle d.id ≡ Some id
+  producer : terminus_for b (durable_key (link u c own handle)) ≡ Some x.producer
+  chosen : consumer_of u (link u c own handle) ≡ Some at
+  consumer : x.consumer ≡ terminus_for b (durable_key (link_of u at))
+  format : x.format ≡ unwrap_or d.format 0
+  carried : x.payload ≡ payload
+
+whole_admitted : (b : BookView) (u : List Entry) (c own handle : ℕ) (d : Told) (payload : List ℕ) (x : Admission) → whole_admission b u c own handle d payload ≡ Some x
+    → AdmittedWhole b u c own handle d payload x
+whole_admitted b u c own handle d payload x is =
+    by d.resume (claimed_id u c own handle d.id) (terminus_for b (durable_key (link u c own handle))) (consumer_of u (link u c own handle)) refl refl refl is
+  where
+    by : (resumed : Bool) (claimed : Option ℕ) (producer : Option TerminusNumber) (at : Option Attachment) → claimed_id u c own handle d.id ≡ claimed
+        → terminus_for b (durable_key (link u c own handle)) ≡ producer → consumer_of u (link u c own handle) ≡ at
+        → (if resumed || is_none claimed then None else admitted_to b u producer at d payload) ≡ Some x → AdmittedWhole b u c own handle d payload x
+    by true claimed producer at e f g is = absurd (none_not_some is)
+    by false None producer at e f g is = absurd (none_not_some is)
+    by false (Some id) None at e f g is = absurd (none_not_some is)
+    by false (Some id) (Some n) None e f g is = absurd (none_not_some is)
+    by false (Some id) (Some n) (Some a) e f g is =
+        let same = some_same is in
+        record {
+          id = id;
+          at = a;
+          row = sym (ap (λ (y : Admission). y.row.0) same);
+          claimed = e;
+          producer = f ∙ ap (λ (y : Admission). Some y.producer) same;
+          chosen = g;
+          consumer = sym (ap (λ (y : Admission). y.consumer) same);
+          format = sym (ap (λ (y : Admission). y.format) same);
+          carried = sym (ap (λ (y : Admission). y.payload) same);
+        }
+
+-- what is bound of a whole delivery
+
+record BoundWhole (after : List Entry) (c own handle : ℕ) (d : Told) (row : Option RowNumber) (payload : List ℕ) (x : Binding) : Type 0 where
+  place : Link
+  named : x.row ≡ row
+  at : link after c own handle ≡ Some place
+  origin : x.origin ≡ option_map (origin_of (from_link c own handle place)) (claimed_id after c own handle d.id)
+  chosen : consumer_of after (link after c own handle) ≡ Some x.consumer
+  format : x.format ≡ unwrap_or d.format 0
+  carried : x.payload ≡ payload
+
+whole_is_bound : (after : List Entry) (c own handle : ℕ) (d : Told) (row : Option RowNumber) (payload : List ℕ) (x : Binding) → whole_bound after c own handle d row payload ≡ Some x
+    → BoundWhole after c own handle d row payload x
+whole_is_bound after c own handle d row payload x is =
+    by d.resume (link after c own handle) (may_pass (lasts_on (link after c own handle)) (claimed_id after c own handle d.id) row) (consumer_of after (link after c own handle)) refl refl
+    (ap (λ (o : Option Binding). if d.resume then None else o) (sym (bound_there after c own handle d row payload (link after c own handle) refl)) ∙ is)
+  where
+    by : (resumed : Bool) (v : Option Link) (passes : Bool) (at : Option Attachment) → link after c own handle ≡ v → consumer_of after (link after c own handle) ≡ at
+        → (if resumed then None else bound_on after c own handle d row payload v passes at) ≡ Some x → BoundWhole after c own handle d row payload x
+    by true v passes at e f is = absurd (none_not_some is)
+    by false None passes at e f is = absurd (none_not_some is)
+    by false (Some l) false at e f is = absurd (none_not_some is)
+    by false (Some l) true None e f is = absurd (none_not_some is)
+    by false (Some l) true (Some a) e f is =
+        let same = some_same is in
+        record {
+          place = l;
+          named = sym (ap (λ (y : Binding). y.row) same);
+          at = e;
+          origin = sym (ap (λ (y : Binding). y.origin) same);
+          chosen = f ∙ ap (λ (y : Binding). Some y.consumer) same;
+          format = sym (ap (λ (y : Binding). y.format) same);
+          carried = sym (ap (λ (y : Binding). y.payload) same);
+        }
+
+-- behind the event that completed it
+
+unended : (ds : List ℕ) (o : Option Admission) (x : Admission) → unless_ends ds o ≡ Some x → (ds ≡ []) × (o ≡ Some x)
+unended [] o x is = (refl, is)
+unended (d ∷ ds) o x is = absurd (none_not_some is)
+
+-- views that an event's acts leave as they are
+link_behind : (acts : List Act) (e : Event) (t : List Entry) (c own handle : ℕ) → link (did e ∷ Booked acts ∷ t) c own handle ≡ link (did e ∷ t) c own handle
+link_behind acts e t c own handle = refl
+
+claimed_behind : (acts : List Act) (e : Event) (t : List Entry) (c own handle : ℕ) (v : Option ℕ)
+    → claimed_id (did e ∷ Booked acts ∷ t) c own handle v ≡ claimed_id (did e ∷ t) c own handle v
+claimed_behind acts e t c own handle None = refl
+claimed_behind acts e t c own handle (Some id) = refl
+
+consumer_behind : (acts : List Act) (e : Event) (t : List Entry) (l : Option Link) → consumer_of (did e ∷ Booked acts ∷ t) l ≡ consumer_of (did e ∷ t) l
+unfolding choice_of
+consumer_behind acts e t None = refl
+consumer_behind acts e t (Some l) = refl
+
+-- the answer to an item behind the acts of its event
+answer_behind : (acts : List Act) (t : List Entry) (full : Bool) (b : BookView) (c : ℕ) (p : Conn) (i : Item) → answer_at full b (Booked acts ∷ t) c p i ≡ answer_at full b t c p i
+unfolding free_handle first_free_below free_channel
+answer_behind acts t full b c p (item.Frame sasl channel body payload) = by body
+  where
+    by : (body : Perf) → answer_at full b (Booked acts ∷ t) c p (item.Frame sasl channel body payload) ≡ answer_at full b t c p (item.Frame sasl channel body payload)
+    by (perf.Attach a) = refl
+    by (perf.Transfer x) = refl
+    by _ = refl
+answer_behind acts t full b c p _ = refl
