@@ -226,3 +226,103 @@ answer_behind acts t full b c p (item.Frame sasl channel body payload) = by body
     by (perf.Transfer x) = refl
     by _ = refl
 answer_behind acts t full b c p _ = refl
+
+-- the message that is bound behind an event whose acts admit its row
+admitted_there : (t : List Entry) (e : Event) (c own handle : ℕ) (d : Told) (payload : List ℕ) (x : Binding) (row : RowNumber) (y : Admission)
+    → acts_of t e ≡ Admit y ∷ [] → admit_refusal (book_in t) y ≡ None → y.row ≡ row
+    → AdmittedWhole (book_in t) (did e ∷ t) c own handle d payload y
+    → BoundWhole (did e ∷ booked t e) c own handle d (row_found (booked t e)) payload x
+    → IsAdmitted (did e ∷ booked t e) x row
+admitted_there t e c own handle d payload x row y alone applies number whole is = record {
+  handled = record { step = step_of e; found = booked t e };
+  before = t;
+  admission = y;
+  just = refl;
+  acts = ap (λ (acts : List Act). Booked acts ∷ t) alone;
+  applies = applies;
+  number = number;
+  is_next = sym (ap (λ (r : RowNumber). r.0) number) ∙ whole.row;
+  producer = subst (λ (o : Option Origin). IsFromTerminus o (did e ∷ booked t e) (book_in t) y.producer) (sym origin) from;
+  consumer = whole.consumer ∙ ap (λ (a : Attachment). terminus_for (book_in t) (durable_key (link_of (did e ∷ t) a))) same;
+  format = whole.format ∙ sym is.format;
+  payload = whole.carried ∙ sym is.carried;
+}
+  where
+    origin : x.origin ≡ Some (origin_of (from_link c own handle is.place) whole.id)
+    origin =
+        is.origin ∙ ap (option_map (origin_of (from_link c own handle is.place))) (claimed_behind (acts_of t e) e t c own handle d.id ∙ whole.claimed)
+
+    from : terminus_for (book_in t) (durable_key (link (did e ∷ booked t e) c own handle)) ≡ Some y.producer
+    from = ap (λ (l : Option Link). terminus_for (book_in t) (durable_key l)) (link_behind (acts_of t e) e t c own handle) ∙ whole.producer
+
+    same : whole.at ≡ x.consumer
+    same =
+        some_same (sym whole.chosen ∙ sym (consumer_behind (acts_of t e) e t (link (did e ∷ t) c own handle)) ∙ is.chosen)
+
+-- any message that is bound
+
+abbrev RowAt : List ℕ → List Entry → Event → Binding → Type 0
+RowAt id t e x = RowIsAdmitted (heard id (booked t e) (step_of e)) x
+
+whole_row : (id : List ℕ) (t : List Entry) (from : ConnectionId) (i : Item) (p : Conn) (own handle : ℕ) (d : Told) (payload : List ℕ) (x : Binding)
+    → standing (found t (event.Item from i) from.0) ≡ Some p
+    → answer_at (finds_full (journaled t) t (event.Item from i)) (book_in t) t from.0 p i ≡ Taken own handle
+    → part_of i (link_place t from.0 own) ≡ Some (part.Whole d payload)
+    → whole_bound (heard id (booked t (event.Item from i)) (step_of (event.Item from i))) from.0 own handle d (row_found (booked t (event.Item from i))) payload ≡ Some x
+    → (row : Option RowNumber) → x.row ≡ row → IsAdmittedUnder (heard id (booked t (event.Item from i)) (step_of (event.Item from i))) x row
+whole_row id t from i p own handle d payload x stands answer part is None none = tt
+whole_row id t from i p own handle d payload x stands answer part is (Some row) its =
+    let e : Event = event.Item from i in
+    let b : BookView = book_in t in
+    let full : Bool = finds_full (journaled t) t e in
+    let at : List Entry = booked t e in
+    let after : List Entry = heard id at (step_of e) in
+    let first : BoundWhole after from.0 own handle d (row_found at) payload x = whole_is_bound after from.0 own handle d (row_found at) payload x is in
+    let found_row : row_in (acts_of t e) ≡ Some row = sym first.named ∙ its in
+    let adm : Admits full b t e (acts_of t e) row = event_admits full b t e row found_row in
+    let y : Admission = adm.admission in
+    let answered : event_answer false b t e ≡ Taken own handle =
+    ap (live_answer false b t from.0 i) stands ∙ ap (λ (f : Bool). answer_at f b t from.0 p i) (sym adm.room) ∙ answer in
+    let asked : unless_ends (due t e) (part_admission b (did e ∷ t) from.0 own handle (part_of i (link_place t from.0 own))) ≡ Some y =
+    sym (ap (event_admission b t e) answered) ∙ adm.asked in
+    let open_ended = unended (due t e) (part_admission b (did e ∷ t) from.0 own handle (part_of i (link_place t from.0 own))) y asked in
+    let admitted : whole_admission b (did e ∷ t) from.0 own handle d payload ≡ Some y =
+    sym (ap (part_admission b (did e ∷ t) from.0 own handle) part) ∙ open_ended.1 in
+    let same : after ≡ did e ∷ at = ap (λ (ds : List ℕ). ends id ds (did e ∷ at)) open_ended.0 in
+    let now : BoundWhole (did e ∷ at) from.0 own handle d (row_found at) payload x =
+    whole_is_bound (did e ∷ at) from.0 own handle d (row_found at) payload x (subst (λ (w : List Entry). whole_bound w from.0 own handle d (row_found at) payload ≡ Some x) same is) in
+    subst (λ (w : List Entry). IsAdmitted w x row) (sym same)
+    (admitted_there t e from.0 own handle d payload x row y adm.alone adm.applies adm.number
+    (whole_admitted b (did e ∷ t) from.0 own handle d payload y admitted) now)
+
+part_row : (id : List ℕ) (t : List Entry) (from : ConnectionId) (i : Item) (p : Conn) (own handle : ℕ) (x : Binding) (q : Option Part)
+    → standing (found t (event.Item from i) from.0) ≡ Some p
+    → answer_at (finds_full (journaled t) t (event.Item from i)) (book_in t) t from.0 p i ≡ Taken own handle
+    → part_of i (link_place t from.0 own) ≡ q
+    → part_bound (heard id (booked t (event.Item from i)) (step_of (event.Item from i))) from.0 own handle (row_found (booked t (event.Item from i))) q ≡ Some x
+    → RowAt id t (event.Item from i) x
+part_row id t from i p own handle x (Some (part.Whole d payload)) stands answer part is = whole_row id t from i p own handle d payload x stands answer part is x.row refl
+part_row id t from i p own handle x _ stands answer part is = absurd (none_not_some is)
+
+answer_row : (id : List ℕ) (t : List Entry) (from : ConnectionId) (i : Item) (p : Conn) (x : Binding) (y : Answer)
+    → standing (found t (event.Item from i) from.0) ≡ Some p
+    → answer_at (finds_full (journaled t) t (event.Item from i)) (book_in t) t from.0 p i ≡ y
+    → bound_for (booked t (event.Item from i)) (heard id (booked t (event.Item from i)) (step_of (event.Item from i))) from.0 i y ≡ Some x
+    → RowAt id t (event.Item from i) x
+answer_row id t from i p x (Taken own handle) stands answer is = part_row id t from i p own handle x (part_of i (link_place t from.0 own)) stands answer refl is
+answer_row id t from i p x _ stands answer is = absurd (none_not_some is)
+
+item_row : (id : List ℕ) (t : List Entry) (from : ConnectionId) (i : Item) (x : Binding) (v : Option Conn)
+    → standing (found t (event.Item from i) from.0) ≡ v
+    → item_bound (booked t (event.Item from i)) (heard id (booked t (event.Item from i)) (step_of (event.Item from i))) from.0 i v ≡ Some x
+    → RowAt id t (event.Item from i) x
+item_row id t from i x None stands is = absurd (none_not_some is)
+item_row id t from i x (Some p) stands is =
+    let e : Event = event.Item from i in
+    answer_row id t from i p x (answer_of (booked t e) from.0 p i) stands
+    (sym (answer_behind (acts_of t e) t (finds_full (journaled t) t e) (book_in t) from.0 p i)) is
+
+pub bound_row : (id : List ℕ) (t : List Entry) (e : Event) (x : Binding) → bound_by (booked t e) (heard id (booked t e) (step_of e)) e ≡ Some x
+    → RowIsAdmitted (heard id (booked t e) (step_of e)) x
+bound_row id t (event.Item from i) x is = item_row id t from i x (standing (found t (event.Item from i) from.0)) refl is
+bound_row id t _ x is = absurd (none_not_some is)
