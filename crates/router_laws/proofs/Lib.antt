@@ -16,3 +16,4 @@ pub mod AllSound
 pub mod Made
 pub mod Keeping
 pub mod Admitted
+pub mod Rows
