@@ -1,6 +1,6 @@
 -- In every trace of the router a message with a row is bound behind the act that admits it.
-use Rattle.std.proofs.Common.{◌≡◌, ◌∙◌, sym, ap, refl, subst, ◌⊎◌, inl, inr, ℕ, ◌+◌, ◌≤◌, ◌<◌, Bool, true, false, List, [], ◌∷◌, ◌++◌, append-nil, arith}
-use Rattle.std.specs.Prelude.{◌==◌, ◌||◌, if◌then◌else◌, Option, Some, None, is_none, option_map, unwrap_or, map, filter}
+use Rattle.std.proofs.Common.{◌≡◌, ◌∙◌, sym, ap, refl, subst, ℕ, Bool, true, false, List, [], ◌∷◌, ◌++◌, append-nil}
+use Rattle.std.specs.Prelude.{◌||◌, if◌then◌else◌, Option, Some, None, is_none, option_map, unwrap_or, map, filter}
 use Rattle.amqp_perf.specs.declared.perf.Perf.{Perf}
 use Rattle.amqp_perf.specs.declared.perf.Perf.TheVariants as perf
 use Rattle.amqp_frames.specs.declared.item.Item.{Item}
@@ -32,19 +32,18 @@ use Rattle.router_trace.specs.Following.{link_of}
 use Rattle.router_trace.specs.Links.{Link, link, link_place, durable_key, free_handle, first_free_below}
 use Rattle.router_trace.specs.Sessions.{free_channel}
 use Rattle.router_trace.specs.Settling.{part_of}
-use Rattle.router_trace.specs.Trace.{Entry, Step, Did, Out, Took, Bound, Booked, Began, did, step_of}
-use Rattle.router_passing.specs.Passing.{choice_of, consumer_of, binding_to, with_bound}
+use Rattle.router_trace.specs.Trace.{Entry, Booked, did, step_of}
+use Rattle.router_passing.specs.Passing.{choice_of, consumer_of}
 use Rattle.router_rows.specs.declared.answer.Answer.{Answer}
 use Rattle.router_rows.specs.declared.answer.Answer.TheVariants.{Taken}
 use Rattle.router_rows.specs.Booking.{answer_at}
 use Rattle.router_reply.specs.Acts.{live_answer, event_answer, planned_acts, admitted_acts, or_admits, event_acts, finds_full, journaled, book_in, acts_of, booked, answer_of}
 use Rattle.router_reply.specs.Admitting.{claimed_id, terminus_for, admitted_to, whole_admission, part_admission, unless_ends, event_admission, admits, row_in}
 use Rattle.router_reply.specs.Deciding.{decided, forgotten, terminus_of_event}
-use Rattle.router_reply.specs.Replies.{from_link, origin_of, lasts_on, may_pass, fresh_bound, whole_bound, part_bound, row_found, ends, heard, bound_for, item_bound, bound_by}
-use Rattle.router_conns.proofs.Lists.{by_test}
+use Rattle.router_reply.specs.Replies.{from_link, origin_of, lasts_on, may_pass, whole_bound, part_bound, row_found, ends, heard, bound_for, item_bound, bound_by}
 use Rattle.router_laws.specs.Admitted.{IsFromTerminus, IsAdmitted, IsAdmittedUnder, RowIsAdmitted}
 use Rattle.router_laws.proofs.Arriving.{bound_on, bound_there}
-use Rattle.router_laws.proofs.Made.{is_of_row, AllOfRows, settled_of_rows}
+use Rattle.router_laws.proofs.Made.{AllOfRows, settled_of_rows}
 use Rattle.router_laws.proofs.Tests.{some_same, none_not_some}
 
 -- what an event decides, forgets, makes or drops admits nothing

@@ -1,6 +1,6 @@
 -- In every trace of the router each message with a row stands in the book before it is bound, and each row is bound at most once.
-use Rattle.std.proofs.Common.{◌≡◌, ◌∙◌, sym, ap, refl, subst, ℕ, ◌+◌, ◌≤◌, Bool, true, false, List, [], ◌∷◌, arith}
-use Rattle.std.specs.Prelude.{◌==◌, if◌then◌else◌, Option, Some, None}
+use Rattle.std.proofs.Common.{◌≡◌, ◌∙◌, sym, ap, refl, subst, ℕ, ◌+◌, ◌≤◌, true, false, List, [], ◌∷◌, arith}
+use Rattle.std.specs.Prelude.{◌==◌, Option, Some, None}
 use Rattle.std.proofs.lemmas.Bool.{eqb-true}
 use Rattle.amqp_frames.specs.declared.item.Item.{Item}
 use Rattle.book_core.specs.declared.act.Act.{Act}
@@ -22,9 +22,8 @@ use Rattle.router_core.specs.Replies.{handled}
 use Rattle.router_core.specs.Runs.{took_one}
 use Rattle.router_core.proofs.Booking.{booked_keeps}
 use Rattle.router_core.proofs.Following.{all_keep}
-use Rattle.router_laws.specs.Each.{EachBound}
 use Rattle.router_laws.specs.Came.{Handled, just_handled}
-use Rattle.router_laws.specs.Admitted.{IsAdmitted, IsAdmittedUnder, RowIsAdmitted, is_row, times_bound, IsBoundOnce}
+use Rattle.router_laws.specs.Admitted.{IsAdmitted, IsAdmittedUnder, RowIsAdmitted, times_bound, IsBoundOnce}
 use Rattle.router_laws.specs.Laws.{AllAdmitted, AllRowsOnce}
 use Rattle.router_laws.proofs.Admitted.{bound_row}
 use Rattle.router_laws.proofs.Tests.{some_same, none_not_some}
@@ -91,8 +90,7 @@ new_once : (u : List Entry) (b : Binding) (row : RowNumber) → IsAdmitted u b r
 new_once u b row is before =
     let acts : List Act = Admit is.admission ∷ [] in
     let all : AllRowsOnce is.before = before_acts u is.handled acts is.before is.just is.acts before in
-    let sofar : Since u is.handled.found row.0 = since u is.handled row.0 is.just in
-    (
+    let sofar : Since u is.handled.found row.0 = since u is.handled row.0 is.just in (
       sofar.times ∙ ap (λ (v : List Entry). times_bound v row.0) is.acts ∙ (all row.0).known (at_most row.0 (book_in is.before).next_row is.is_next),
       ap (λ (c : BookView). c.next_row) (sofar.book ∙ ap book_in is.acts) ∙ next_behind (book_in is.before) is.admission ∙ ap (λ (k : ℕ). k + 1) (sym is.is_next),
     )

@@ -1,6 +1,6 @@
 -- Durable messages and the book (AMQP 1.0 part 2, sections 2.6.12 and 2.7.5; part 3, sections 3.5.3 to 3.5.5): a message that has a row is bound once the
 -- row is in the book.
-use Rattle.std.specs.Prelude.{◌≡◌, ◌<◌, ◌≤◌, ℕ, ◌+◌, ◌==◌, Bool, false, if◌then◌else◌, List, [], ◌∷◌, Option, Some, None}
+use Rattle.std.specs.Prelude.{◌≡◌, ◌≤◌, ℕ, ◌+◌, ◌==◌, Bool, false, if◌then◌else◌, [], ◌∷◌, Option, Some, None}
 use Rattle.book_core.specs.declared.act.Act.TheVariants.{Admit}
 use Rattle.book_core.specs.declared.act.Admission.{Admission}
 use Rattle.book_core.specs.declared.row.RowNumber.{RowNumber}
@@ -14,7 +14,6 @@ use Rattle.router_trace.specs.Trace.{Trace, Did, Out, Took, Bound, Booked, Began
 use Rattle.router_reply.specs.Acts.{book_in}
 use Rattle.router_reply.specs.Admitting.{terminus_for}
 use Rattle.router_laws.specs.Came.{Handled, just_handled}
-use Rattle.router_laws.specs.Each.{EachBound}
 
 -- the terminus of the link of an unsettled delivery's producer
 abbrev pub IsFromTerminus : Option Origin → Trace → BookView → TerminusNumber → Type 0
