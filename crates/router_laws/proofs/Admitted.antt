@@ -1,5 +1,5 @@
 -- In every trace of the router a message with a row is bound behind the act that admits it.
-use Rattle.std.proofs.Common.{◌≡◌, ◌∙◌, sym, ap, refl, subst, ℕ, Bool, true, false, List, [], ◌∷◌, ◌++◌, append-nil}
+use Rattle.std.proofs.Common.{◌≡◌, ◌∙◌, sym, ap, refl, subst, ℕ, ◌+◌, Bool, true, false, List, [], ◌∷◌, ◌++◌, append-nil}
 use Rattle.std.specs.Prelude.{◌||◌, if◌then◌else◌, Option, Some, None, is_none, option_map, unwrap_or, map, filter}
 use Rattle.amqp_perf.specs.declared.perf.Perf.{Perf}
 use Rattle.amqp_perf.specs.declared.perf.Perf.TheVariants as perf
@@ -33,14 +33,14 @@ use Rattle.router_trace.specs.Links.{Link, link, link_place, durable_key, free_h
 use Rattle.router_trace.specs.Sessions.{free_channel}
 use Rattle.router_trace.specs.Settling.{part_of}
 use Rattle.router_trace.specs.Trace.{Entry, Booked, did, step_of}
-use Rattle.router_passing.specs.Passing.{choice_of, consumer_of}
+use Rattle.router_passing.specs.Passing.{choice_of, consumer_of, binding_to}
 use Rattle.router_rows.specs.declared.answer.Answer.{Answer}
-use Rattle.router_rows.specs.declared.answer.Answer.TheVariants.{Taken}
+use Rattle.router_rows.specs.declared.answer.Answer.TheVariants.{Nothing, Taken}
 use Rattle.router_rows.specs.Booking.{answer_at}
 use Rattle.router_reply.specs.Acts.{live_answer, event_answer, planned_acts, admitted_acts, or_admits, event_acts, finds_full, journaled, book_in, acts_of, booked, answer_of}
-use Rattle.router_reply.specs.Admitting.{claimed_id, terminus_for, admitted_to, whole_admission, part_admission, unless_ends, event_admission, admits, row_in}
+use Rattle.router_reply.specs.Admitting.{claimed_id, terminus_for, admitted_to, whole_admission, part_admission, taken_admission, unless_ends, event_admission, admits, row_in}
 use Rattle.router_reply.specs.Deciding.{decided, forgotten, terminus_of_event}
-use Rattle.router_reply.specs.Replies.{from_link, origin_of, lasts_on, may_pass, whole_bound, part_bound, row_found, ends, heard, bound_for, item_bound, bound_by}
+use Rattle.router_reply.specs.Replies.{from_link, origin_of, lasts_on, may_pass, fresh_bound, whole_bound, part_bound, row_found, ends, heard, bound_for, item_bound, bound_by}
 use Rattle.router_laws.specs.Admitted.{IsFromTerminus, IsAdmitted, IsAdmittedUnder, RowIsAdmitted}
 use Rattle.router_laws.proofs.Arriving.{bound_on, bound_there}
 use Rattle.router_laws.proofs.Made.{AllOfRows, settled_of_rows}
@@ -127,6 +127,7 @@ record AdmittedWhole (b : BookView) (u : List Entry) (c own handle : ℕ) (d : T
   id : ℕ
   at : Attachment
   row : x.row.0 ≡ b.next_row
+  fresh : d.resume ≡ false
   claimed : claimed_id u c own handle d.id ≡ Some id
   producer : terminus_for b (durable_key (link u c own handle)) ≡ Some x.producer
   chosen : consumer_of u (link u c own handle) ≡ Some at
@@ -137,21 +138,22 @@ record AdmittedWhole (b : BookView) (u : List Entry) (c own handle : ℕ) (d : T
 whole_admitted : (b : BookView) (u : List Entry) (c own handle : ℕ) (d : Told) (payload : List ℕ) (x : Admission) → whole_admission b u c own handle d payload ≡ Some x
     → AdmittedWhole b u c own handle d payload x
 whole_admitted b u c own handle d payload x is =
-    by d.resume (claimed_id u c own handle d.id) (terminus_for b (durable_key (link u c own handle))) (consumer_of u (link u c own handle)) refl refl refl is
+    by d.resume (claimed_id u c own handle d.id) (terminus_for b (durable_key (link u c own handle))) (consumer_of u (link u c own handle)) refl refl refl refl is
   where
-    by : (resumed : Bool) (claimed : Option ℕ) (producer : Option TerminusNumber) (at : Option Attachment) → claimed_id u c own handle d.id ≡ claimed
+    by : (resumed : Bool) (claimed : Option ℕ) (producer : Option TerminusNumber) (at : Option Attachment) → d.resume ≡ resumed → claimed_id u c own handle d.id ≡ claimed
         → terminus_for b (durable_key (link u c own handle)) ≡ producer → consumer_of u (link u c own handle) ≡ at
         → (if resumed || is_none claimed then None else admitted_to b u producer at d payload) ≡ Some x → AdmittedWhole b u c own handle d payload x
-    by true claimed producer at e f g is = absurd (none_not_some is)
-    by false None producer at e f g is = absurd (none_not_some is)
-    by false (Some id) None at e f g is = absurd (none_not_some is)
-    by false (Some id) (Some n) None e f g is = absurd (none_not_some is)
-    by false (Some id) (Some n) (Some a) e f g is =
+    by true claimed producer at fresh e f g is = absurd (none_not_some is)
+    by false None producer at fresh e f g is = absurd (none_not_some is)
+    by false (Some id) None at fresh e f g is = absurd (none_not_some is)
+    by false (Some id) (Some n) None fresh e f g is = absurd (none_not_some is)
+    by false (Some id) (Some n) (Some a) fresh e f g is =
         let same = some_same is in
         record {
           id = id;
           at = a;
           row = sym (ap (λ (y : Admission). y.row.0) same);
+          fresh = fresh;
           claimed = e;
           producer = f ∙ ap (λ (y : Admission). Some y.producer) same;
           chosen = g;
@@ -294,34 +296,148 @@ whole_row id t from i p own handle d payload x stands answer part is (Some row) 
     (admitted_there t e from.0 own handle d payload x row y adm.alone adm.applies adm.number
     (whole_admitted b (did e ∷ t) from.0 own handle d payload y admitted) now)
 
-part_row : (id : List ℕ) (t : List Entry) (from : ConnectionId) (i : Item) (p : Conn) (own handle : ℕ) (x : Binding) (q : Option Part)
-    → standing (found t (event.Item from i) from.0) ≡ Some p
+-- where a message that an event binds comes from
+
+abbrev Comes : List ℕ → List Entry → ConnectionId → Item → Binding → Type 0 → Type 0
+Comes id t from i x Q =
+    (p : Conn) (own handle : ℕ) (d : Told) (payload : List ℕ) → standing (found t (event.Item from i) from.0) ≡ Some p
     → answer_at (finds_full (journaled t) t (event.Item from i)) (book_in t) t from.0 p i ≡ Taken own handle
-    → part_of i (link_place t from.0 own) ≡ q
-    → part_bound (heard id (booked t (event.Item from i)) (step_of (event.Item from i))) from.0 own handle (row_found (booked t (event.Item from i))) q ≡ Some x
-    → RowAt id t (event.Item from i) x
-part_row id t from i p own handle x (Some (part.Whole d payload)) stands answer part is = whole_row id t from i p own handle d payload x stands answer part is x.row refl
-part_row id t from i p own handle x _ stands answer part is = absurd (none_not_some is)
+    → part_of i (link_place t from.0 own) ≡ Some (part.Whole d payload)
+    → whole_bound (heard id (booked t (event.Item from i)) (step_of (event.Item from i))) from.0 own handle d (row_found (booked t (event.Item from i))) payload ≡ Some x → Q
 
-answer_row : (id : List ℕ) (t : List Entry) (from : ConnectionId) (i : Item) (p : Conn) (x : Binding) (y : Answer)
-    → standing (found t (event.Item from i) from.0) ≡ Some p
-    → answer_at (finds_full (journaled t) t (event.Item from i)) (book_in t) t from.0 p i ≡ y
-    → bound_for (booked t (event.Item from i)) (heard id (booked t (event.Item from i)) (step_of (event.Item from i))) from.0 i y ≡ Some x
-    → RowAt id t (event.Item from i) x
-answer_row id t from i p x (Taken own handle) stands answer is = part_row id t from i p own handle x (part_of i (link_place t from.0 own)) stands answer refl is
-answer_row id t from i p x _ stands answer is = absurd (none_not_some is)
+item_elim : (id : List ℕ) (t : List Entry) (from : ConnectionId) (i : Item) (x : Binding) (Q : Type 0) → Comes id t from i x Q
+    → item_bound (booked t (event.Item from i)) (heard id (booked t (event.Item from i)) (step_of (event.Item from i))) from.0 i (standing (found t (event.Item from i) from.0)) ≡ Some x → Q
+item_elim id t from i x Q comes is = by (standing (found t e from.0)) refl is
+  where
+    e : Event
+    e = event.Item from i
 
-item_row : (id : List ℕ) (t : List Entry) (from : ConnectionId) (i : Item) (x : Binding) (v : Option Conn)
-    → standing (found t (event.Item from i) from.0) ≡ v
-    → item_bound (booked t (event.Item from i)) (heard id (booked t (event.Item from i)) (step_of (event.Item from i))) from.0 i v ≡ Some x
-    → RowAt id t (event.Item from i) x
-item_row id t from i x None stands is = absurd (none_not_some is)
-item_row id t from i x (Some p) stands is =
-    let e : Event = event.Item from i in
-    answer_row id t from i p x (answer_of (booked t e) from.0 p i) stands
-    (sym (answer_behind (acts_of t e) t (finds_full (journaled t) t e) (book_in t) from.0 p i)) is
+    after : List Entry
+    after = heard id (booked t e) (step_of e)
+
+    by_part : (p : Conn) (own handle : ℕ) (q : Option Part) → standing (found t e from.0) ≡ Some p → answer_at (finds_full (journaled t) t e) (book_in t) t from.0 p i ≡ Taken own handle
+        → part_of i (link_place t from.0 own) ≡ q → part_bound after from.0 own handle (row_found (booked t e)) q ≡ Some x → Q
+    by_part p own handle (Some (part.Whole d payload)) stands answer part is = comes p own handle d payload stands answer part is
+    by_part p own handle _ stands answer part is = absurd (none_not_some is)
+
+    by_answer : (p : Conn) (y : Answer) → standing (found t e from.0) ≡ Some p → answer_at (finds_full (journaled t) t e) (book_in t) t from.0 p i ≡ y
+        → bound_for (booked t e) after from.0 i y ≡ Some x → Q
+    by_answer p (Taken own handle) stands answer is = by_part p own handle (part_of i (link_place t from.0 own)) stands answer refl is
+    by_answer p _ stands answer is = absurd (none_not_some is)
+
+    by : (v : Option Conn) → standing (found t e from.0) ≡ v → item_bound (booked t e) after from.0 i v ≡ Some x → Q
+    by None stands is = absurd (none_not_some is)
+    by (Some p) stands is =
+        by_answer p (answer_of (booked t e) from.0 p i) stands (sym (answer_behind (acts_of t e) t (finds_full (journaled t) t e) (book_in t) from.0 p i)) is
 
 pub bound_row : (id : List ℕ) (t : List Entry) (e : Event) (x : Binding) → bound_by (booked t e) (heard id (booked t e) (step_of e)) e ≡ Some x
     → RowIsAdmitted (heard id (booked t e) (step_of e)) x
-bound_row id t (event.Item from i) x is = item_row id t from i x (standing (found t (event.Item from i) from.0)) refl is
+bound_row id t (event.Item from i) x is =
+    item_elim id t from i x (RowAt id t (event.Item from i) x)
+    (λ p own handle d payload stands answer part is. whole_row id t from i p own handle d payload x stands answer part is x.row refl) is
 bound_row id t _ x is = absurd (none_not_some is)
+
+-- its row is the one that the acts admit
+pub row_of_bound : (id : List ℕ) (t : List Entry) (e : Event) (x : Binding) → bound_by (booked t e) (heard id (booked t e) (step_of e)) e ≡ Some x → x.row ≡ row_in (acts_of t e)
+row_of_bound id t (event.Item from i) x is =
+    item_elim id t from i x (x.row ≡ row_in (acts_of t (event.Item from i)))
+    (λ p own handle d payload stands answer part is.
+    (whole_is_bound (heard id (booked t (event.Item from i)) (step_of (event.Item from i))) from.0 own handle d (row_found (booked t (event.Item from i))) payload x is).named) is
+row_of_bound id t _ x is = absurd (none_not_some is)
+
+-- and where they admit one, the message is bound
+
+passes_row : (durable : Bool) (v : Option ℕ) (row : RowNumber) → may_pass durable v (Some row) ≡ true
+passes_row true (Some id) row = refl
+passes_row false (Some id) row = refl
+passes_row durable None row = refl
+
+terminus_of_link : (b : BookView) (v : Option Link) (n : TerminusNumber) → terminus_for b (durable_key v) ≡ Some n → (l : Link) × (v ≡ Some l)
+terminus_of_link b None n is = absurd (none_not_some is)
+terminus_of_link b (Some l) n is = (l, refl)
+
+-- the binding that the next step finds, and the number that the book gave its row
+pub record BindsNext (id : List ℕ) (t : List Entry) (e : Event) (row : RowNumber) : Type 0 where
+  pub binding : Binding
+  pub is : bound_by (booked t e) (heard id (booked t e) (step_of e)) e ≡ Some binding
+  pub number : row.0 ≡ (book_in t).next_row
+  pub next : (effects (book_in t) (acts_of t e)).next_row ≡ (book_in t).next_row + 1
+
+one_more : (b : BookView) (x : Admission) → (effects b (Admit x ∷ [])).next_row ≡ b.next_row + 1
+unfolding effects
+one_more b x = refl
+
+whole_next : (u : List Entry) (c own handle : ℕ) (d : Told) (payload : List ℕ) (row : RowNumber) (l : Link) (a : Attachment) → d.resume ≡ false → link u c own handle ≡ Some l
+    → consumer_of u (link u c own handle) ≡ Some a
+    → whole_bound u c own handle d (Some row) payload
+    ≡ Some (binding_to u (option_map (origin_of (from_link c own handle l)) (claimed_id u c own handle d.id)) (Some row) (unwrap_or d.format 0) payload a)
+whole_next u c own handle d payload row l a fresh at chosen =
+    ap (λ (r : Bool). if r then None else fresh_bound u c own handle d (Some row) payload (link u c own handle)) fresh
+    ∙ bound_there u c own handle d (Some row) payload (link u c own handle) refl
+    ∙ ap (λ (v : Option Link). bound_on u c own handle d (Some row) payload v (may_pass (lasts_on (link u c own handle)) (claimed_id u c own handle d.id) (Some row)) (consumer_of u (link u c own handle))) at
+    ∙ ap (λ (m : Bool). bound_on u c own handle d (Some row) payload (Some l) m (consumer_of u (link u c own handle))) (passes_row (lasts_on (link u c own handle)) (claimed_id u c own handle d.id) row)
+    ∙ ap (λ (o : Option Attachment). bound_on u c own handle d (Some row) payload (Some l) true o) chosen
+
+item_next : (id : List ℕ) (t : List Entry) (from : ConnectionId) (i : Item) (row : RowNumber) (p : Conn) (own handle : ℕ) (d : Told) (payload : List ℕ)
+    → (adm : Admits (finds_full (journaled t) t (event.Item from i)) (book_in t) t (event.Item from i) (acts_of t (event.Item from i)) row)
+    → standing (found t (event.Item from i) from.0) ≡ Some p → answer_at false (book_in t) t from.0 p i ≡ Taken own handle
+    → part_of i (link_place t from.0 own) ≡ Some (part.Whole d payload) → due t (event.Item from i) ≡ []
+    → whole_admission (book_in t) (did (event.Item from i) ∷ t) from.0 own handle d payload ≡ Some adm.admission
+    → BindsNext id t (event.Item from i) row
+item_next id t from i row p own handle d payload adm stands answer part open_ended admitted =
+    let e : Event = event.Item from i in
+    let b : BookView = book_in t in
+    let full : Bool = finds_full (journaled t) t e in
+    let at : List Entry = booked t e in
+    let u : List Entry = did e ∷ at in
+    let y : Admission = adm.admission in
+    let whole : AdmittedWhole b (did e ∷ t) from.0 own handle d payload y = whole_admitted b (did e ∷ t) from.0 own handle d payload y admitted in
+    let there = terminus_of_link b (link (did e ∷ t) from.0 own handle) y.producer whole.producer in
+    let named : row_found at ≡ Some row = ap row_in adm.alone ∙ ap (λ (r : RowNumber). Some r) adm.number in
+    let same : heard id at (step_of e) ≡ u = ap (λ (ds : List ℕ). ends id ds u) open_ended in
+    let after : List Entry = heard id at (step_of e) in
+    let answered : answer_of at from.0 p i ≡ Taken own handle =
+    answer_behind (acts_of t e) t full b from.0 p i ∙ ap (λ (f : Bool). answer_at f b t from.0 p i) adm.room ∙ answer in
+    let chosen : consumer_of u (link u from.0 own handle) ≡ Some whole.at = consumer_behind (acts_of t e) e t (link (did e ∷ t) from.0 own handle) ∙ whole.chosen in
+    record {
+      binding = binding_to u (option_map (origin_of (from_link from.0 own handle there.0)) (claimed_id u from.0 own handle d.id)) (Some row) (unwrap_or d.format 0) payload whole.at;
+      is =
+          ap (item_bound at after from.0 i) stands ∙ ap (bound_for at after from.0 i) answered ∙ ap (part_bound after from.0 own handle (row_found at)) part
+          ∙ ap (λ (w : List Entry). whole_bound w from.0 own handle d (row_found at) payload) same
+          ∙ ap (λ (r : Option RowNumber). whole_bound u from.0 own handle d r payload) named
+          ∙ whole_next u from.0 own handle d payload row there.0 whole.at whole.fresh there.1 chosen;
+      number = sym (ap (λ (r : RowNumber). r.0) adm.number) ∙ whole.row;
+      next = ap (λ (acts : List Act). (effects b acts).next_row) adm.alone ∙ one_more b y;
+    }
+
+admits_next : (id : List ℕ) (t : List Entry) (from : ConnectionId) (i : Item) (row : RowNumber)
+    → Admits (finds_full (journaled t) t (event.Item from i)) (book_in t) t (event.Item from i) (acts_of t (event.Item from i)) row → BindsNext id t (event.Item from i) row
+admits_next id t from i row adm = by (standing (found t e from.0)) refl adm.asked
+  where
+    e : Event
+    e = event.Item from i
+
+    y : Admission
+    y = adm.admission
+
+    by_part : (p : Conn) (own handle : ℕ) (q : Option Part) → standing (found t e from.0) ≡ Some p → answer_at false (book_in t) t from.0 p i ≡ Taken own handle
+        → part_of i (link_place t from.0 own) ≡ q → (due t e ≡ []) × (part_admission (book_in t) (did e ∷ t) from.0 own handle q ≡ Some y) → BindsNext id t e row
+    by_part p own handle (Some (part.Whole d payload)) stands answer part is = item_next id t from i row p own handle d payload adm stands answer part is.0 is.1
+    by_part p own handle _ stands answer part is = absurd (none_not_some is.1)
+
+    by_answer : (p : Conn) (z : Answer) → standing (found t e from.0) ≡ Some p → answer_at false (book_in t) t from.0 p i ≡ z
+        → (due t e ≡ []) × (taken_admission (book_in t) t (did e ∷ t) from.0 i z ≡ Some y) → BindsNext id t e row
+    by_answer p (Taken own handle) stands answer is = by_part p own handle (part_of i (link_place t from.0 own)) stands answer refl is
+    by_answer p _ stands answer is = absurd (none_not_some is.1)
+
+    by : (v : Option Conn) → standing (found t e from.0) ≡ v → event_admission (book_in t) t e (live_answer false (book_in t) t from.0 i v) ≡ Some y → BindsNext id t e row
+    by None stands is = absurd (none_not_some (unended (due t e) (taken_admission (book_in t) t (did e ∷ t) from.0 i Nothing) y is).1)
+    by (Some p) stands is =
+        by_answer p (answer_at false (book_in t) t from.0 p i) stands refl (unended (due t e) (taken_admission (book_in t) t (did e ∷ t) from.0 i (answer_at false (book_in t) t from.0 p i)) y is)
+
+pub binds_next : (id : List ℕ) (t : List Entry) (e : Event) (row : RowNumber) → row_in (acts_of t e) ≡ Some row → BindsNext id t e row
+binds_next id t e row is = by e (event_admits (finds_full (journaled t) t e) (book_in t) t e row is)
+  where
+    by : (e : Event) → Admits (finds_full (journaled t) t e) (book_in t) t e (acts_of t e) row → BindsNext id t e row
+    by (event.Item from i) adm = admits_next id t from i row adm
+    by _ adm = absurd (none_not_some adm.asked)
