@@ -17,3 +17,4 @@ pub mod Made
 pub mod Keeping
 pub mod Admitted
 pub mod Rows
+pub mod Numbered

@@ -145,7 +145,7 @@ pub record Rows (t : List Entry) : Type 0 where
   pub once : AllRowsOnce t
   before : Before t
 
-start_rows : (g : Beginning) → Rows (beginning g)
+pub start_rows : (g : Beginning) → Rows (beginning g)
 start_rows g = record { admitted = tt; once = λ n. record { once = zero_one; known = λ h. refl }; before = tt }
   where
     zero_one : 0 ≤ 1
@@ -157,7 +157,7 @@ did_rows s t was = record { admitted = was.admitted; once = λ n. record { once 
 out_rows : (c : ℕ) (i : Item) (t : List Entry) → Rows t → Rows (Out c i ∷ t)
 out_rows c i t was = record { admitted = was.admitted; once = λ n. record { once = (was.once n).once; known = (was.once n).known }; before = was.before }
 
-took_rows : (c k : ℕ) (t : List Entry) → Rows t → Rows (Took c k ∷ t)
+pub took_rows : (c k : ℕ) (t : List Entry) → Rows t → Rows (Took c k ∷ t)
 took_rows c k t was = record { admitted = was.admitted; once = λ n. record { once = (was.once n).once; known = (was.once n).known }; before = tt }
 
 batch_rows : (t : List Entry) (acts : List Act) → Rows t → Rows (Booked acts ∷ t)
@@ -177,7 +177,7 @@ ends_rows id (c ∷ cs) t was =
     let items : List Item = closing_of id (conn t c) ResourceLimitExceeded
     in ends_rows id cs (puts c items t) (goes_rows (each_to c items) t was)
 
-handled_rows : (id : List ℕ) (t : List Entry) (s : Step) → Rows t → Rows (handled id t s)
+pub handled_rows : (id : List ℕ) (t : List Entry) (s : Step) → Rows t → Rows (handled id t s)
 handled_rows id t s was =
     let at : List Entry = booked t s.event in
     let u : List Entry = heard id at s in

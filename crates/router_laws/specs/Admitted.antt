@@ -1,6 +1,6 @@
 -- Durable messages and the book (AMQP 1.0 part 2, sections 2.6.12 and 2.7.5; part 3, sections 3.5.3 to 3.5.5): a message that has a row is bound once the
 -- row is in the book.
-use Rattle.std.specs.Prelude.{◌≡◌, ◌≤◌, ℕ, ◌+◌, ◌==◌, Bool, false, if◌then◌else◌, [], ◌∷◌, Option, Some, None}
+use Rattle.std.specs.Prelude.{◌≡◌, ◌<◌, ◌≤◌, ℕ, ◌+◌, ◌==◌, Bool, false, if◌then◌else◌, [], ◌∷◌, Option, Some, None}
 use Rattle.book_core.specs.declared.act.Act.TheVariants.{Admit}
 use Rattle.book_core.specs.declared.act.Admission.{Admission}
 use Rattle.book_core.specs.declared.row.RowNumber.{RowNumber}
@@ -61,3 +61,7 @@ times_bound (Began g ∷ t) n = times_bound t n
 pub record IsBoundOnce (t : Trace) (n : ℕ) : Type 0 where
   pub once : times_bound t n ≤ 1
   pub known : (book_in t).next_row ≤ n → times_bound t n ≡ 0
+
+-- Each row that the book gave since it was opened is bound: none is admitted for nothing.
+abbrev pub AreBoundSince : ℕ → Trace → Type 0
+AreBoundSince first t = (n : ℕ) → first ≤ n → n < (book_in t).next_row → times_bound t n ≡ 1
