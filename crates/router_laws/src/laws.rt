@@ -3,7 +3,7 @@
 ghost use Rattle.router_laws.specs.OneConsumer.{StaysWithConsumer, NeverComesBack, OfMessages};
 ghost use Rattle.router_laws.specs.Decided.{OutcomesAreGiven, OutcomesAreOfConsumers};
 ghost use Rattle.router_laws.specs.Told.{ToldAtMostOnce, ToldAnew};
-ghost use Rattle.router_laws.specs.Laws.{InTraces, InRuns, AllCarry, AllJoin, AllBindOnce, AllCame, AllTell, AllKeptFirst};
+ghost use Rattle.router_laws.specs.Laws.{InTraces, InRuns, InTracesFrom, InRunsFrom, AllCarry, AllJoin, AllBindOnce, AllCame, AllTell, AllKeptFirst, AllAdmitted, AllRowsOnce, AllRowsBound};
 
 /// In every trace of the router a message is bound when it is complete: the last frame of its delivery has just been received. What is bound
 /// is what its frames carried, and it is bound once; so each delivery is of such a message (AMQP 1.0 part 2, sections 2.6.14 and 2.7.5).
@@ -57,4 +57,18 @@ pub fn outcomes_are_told_once()
 pub fn durable_links_are_kept_first()
     ensures traces { InTraces AllKeptFirst }
     ensures runs { InRuns AllKeptFirst }
+{}
+
+/// In every trace of the router a message that has a row is bound once the book has admitted it: before the event that completed it stands one act, the
+/// admission of that message under a new row, from the terminus of its producer's durable link. `Core::handle` has the acts on the disk before it puts
+/// anything out, so no consumer gets a durable message that a crash could lose. Each row is bound at most once, and each that the book gave since the router
+/// was opened is bound (AMQP 1.0 part 2, section 2.6.12, and
+/// part 3, sections 3.5.3 to 3.5.5). Lists of events have such traces.
+pub fn durable_messages_are_kept_first()
+    ensures traces { InTraces AllAdmitted }
+    ensures runs { InRuns AllAdmitted }
+    ensures once { InTraces AllRowsOnce }
+    ensures runs_once { InRuns AllRowsOnce }
+    ensures bound { InTracesFrom AllRowsBound }
+    ensures runs_bound { InRunsFrom AllRowsBound }
 {}
