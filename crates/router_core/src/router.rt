@@ -297,11 +297,11 @@ impl<D: Disk> Core<D> {
         ensures works { is_failed self.new ≡ is_failed self.old }
         ensures named { id_of self.new ≡ id_of self.old }
         ensures stands { OnOk result (Stands D.seen D.may_leave (store_of self.old) → Stands D.seen D.may_leave (store_of self.new)) }
-        ensures book { OnOk result ((t : List Entry) → Fits self.old t → kept_book self.new ≡ book_behind t event) }
-        ensures written { IfOk result (λ journal. (t : List Entry) → Fits self.old t → IfSome journal (λ batch.
+        ensures book { OnOk result ((t : List Entry) → Fits self.old t → declines t event ≡ false → kept_book self.new ≡ book_behind t event) }
+        ensures written { IfOk result (λ journal. (t : List Entry) → Fits self.old t → declines t event ≡ false → IfSome journal (λ batch.
             (batch.0 ≡ batch_count (journal_of (store_of self.old)) + 1) × (batch.1.items ≡ acts_of t event))) }
-        ensures silent { IfOk result (λ journal. (t : List Entry) → Fits self.old t → IfNone journal (acts_of t event ≡ [])) }
-        ensures any_moment { (t : List Entry) → Fits self.old t → Stands D.seen D.may_leave (store_of self.old)
+        ensures silent { IfOk result (λ journal. (t : List Entry) → Fits self.old t → declines t event ≡ false → IfNone journal (acts_of t event ≡ [])) }
+        ensures any_moment { (t : List Entry) → Fits self.old t → declines t event ≡ false → Stands D.seen D.may_leave (store_of self.old)
             → LeavesOnly D.moment D.left_since (disk_of (store_of self.old)) (disk_of (store_of self.new)) (BeforeOrBehind t event) }
         ensures counted { OnOk result (counts_of self.new ≡ with_event event (counts_of self.old)) }
         ensures uncounted { OnErr result (counts_of self.new ≡ counts_of self.old) }
