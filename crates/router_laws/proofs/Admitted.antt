@@ -30,7 +30,7 @@ use Rattle.router_trace.specs.declared.handle.Attachment.{Attachment}
 use Rattle.router_trace.specs.Connection.{due, found, standing}
 use Rattle.router_trace.specs.Following.{link_of}
 use Rattle.router_trace.specs.Links.{Link, link, link_place, durable_key, free_handle, first_free_below}
-use Rattle.router_trace.specs.Sessions.{free_channel}
+use Rattle.router_trace.specs.Sessions.{free_channel, theirs}
 use Rattle.router_trace.specs.Settling.{part_of}
 use Rattle.router_trace.specs.Trace.{Entry, Booked, did, step_of}
 use Rattle.router_passing.specs.Passing.{choice_of, consumer_of, binding_to}
@@ -42,7 +42,8 @@ use Rattle.router_reply.specs.Admitting.{claimed_id, terminus_for, admitted_to, 
 use Rattle.router_reply.specs.Deciding.{decided, forgotten, terminus_of_event}
 use Rattle.router_reply.specs.Replies.{from_link, origin_of, lasts_on, may_pass, fresh_bound, whole_bound, part_bound, row_found, ends, heard, bound_for, item_bound, bound_by}
 use Rattle.router_laws.specs.Admitted.{IsFromTerminus, IsAdmitted, IsAdmittedUnder, RowIsAdmitted}
-use Rattle.router_laws.proofs.Arriving.{bound_on, bound_there}
+use Rattle.router_laws.proofs.Arriving.{CameAt, came_whole, bound_on, bound_there}
+use Rattle.router_laws.proofs.Transfers.{IsOn, IfTaken, transfer_taken}
 use Rattle.router_laws.proofs.Made.{AllOfRows, settled_of_rows}
 use Rattle.router_laws.proofs.Tests.{some_same, none_not_some}
 
@@ -131,6 +132,7 @@ record AdmittedWhole (b : BookView) (u : List Entry) (c own handle : ℕ) (d : T
   claimed : claimed_id u c own handle d.id ≡ Some id
   producer : terminus_for b (durable_key (link u c own handle)) ≡ Some x.producer
   chosen : consumer_of u (link u c own handle) ≡ Some at
+  tag : x.tag ≡ unwrap_or d.tag (record { items = [] })
   consumer : x.consumer ≡ terminus_for b (durable_key (link_of u at))
   format : x.format ≡ unwrap_or d.format 0
   carried : x.payload ≡ payload
@@ -157,6 +159,7 @@ whole_admitted b u c own handle d payload x is =
           claimed = e;
           producer = f ∙ ap (λ (y : Admission). Some y.producer) same;
           chosen = g;
+          tag = sym (ap (λ (y : Admission). y.tag) same);
           consumer = sym (ap (λ (y : Admission). y.consumer) same);
           format = sym (ap (λ (y : Admission). y.format) same);
           carried = sym (ap (λ (y : Admission). y.payload) same);
@@ -199,6 +202,13 @@ whole_is_bound after c own handle d row payload x is =
 
 -- behind the event that completed it
 
+abbrev nothing : Option Part
+nothing = None
+
+no_part : (sasl : Bool) → (if sasl then nothing else nothing) ≡ nothing
+no_part true = refl
+no_part false = refl
+
 unended : (ds : List ℕ) (o : Option Admission) (x : Admission) → unless_ends ds o ≡ Some x → (ds ≡ []) × (o ≡ Some x)
 unended [] o x is = (refl, is)
 unended (d ∷ ds) o x is = absurd (none_not_some is)
@@ -231,20 +241,25 @@ answer_behind acts t full b c p _ = refl
 -- the message that is bound behind an event whose acts admit its row
 admitted_there : (t : List Entry) (e : Event) (c own handle : ℕ) (d : Told) (payload : List ℕ) (x : Binding) (row : RowNumber) (y : Admission)
     → acts_of t e ≡ Admit y ∷ [] → admit_refusal (book_in t) y ≡ None → y.row ≡ row
+    → CameAt (booked t e) (did e ∷ booked t e) c own handle d x.payload
     → AdmittedWhole (book_in t) (did e ∷ t) c own handle d payload y
     → BoundWhole (did e ∷ booked t e) c own handle d (row_found (booked t e)) payload x
     → IsAdmitted (did e ∷ booked t e) x row
-admitted_there t e c own handle d payload x row y alone applies number whole is = record {
-  handled = record { step = step_of e; found = booked t e };
+admitted_there t e c own handle d payload x row y alone applies number came whole is = record {
+  conn = c;
+  own = own;
+  handle = handle;
+  message = d;
+  came = came.came;
   before = t;
   admission = y;
-  just = refl;
-  acts = ap (λ (acts : List Act). Booked acts ∷ t) alone;
+  acts = came.at ∙ ap (λ (acts : List Act). Booked acts ∷ t) alone;
   applies = applies;
   number = number;
   is_next = sym (ap (λ (r : RowNumber). r.0) number) ∙ whole.row;
   producer = subst (λ (o : Option Origin). IsFromTerminus o (did e ∷ booked t e) (book_in t) y.producer) (sym origin) from;
   consumer = whole.consumer ∙ ap (λ (a : Attachment). terminus_for (book_in t) (durable_key (link_of (did e ∷ t) a))) same;
+  tag = whole.tag;
   format = whole.format ∙ sym is.format;
   payload = whole.carried ∙ sym is.carried;
 }
@@ -259,6 +274,20 @@ admitted_there t e c own handle d payload x row y alone applies number whole is 
     same : whole.at ≡ x.consumer
     same =
         some_same (sym whole.chosen ∙ sym (consumer_behind (acts_of t e) e t (link (did e ∷ t) c own handle)) ∙ is.chosen)
+
+-- it came whole
+came_there : (t : List Entry) (from : ConnectionId) (i : Item) (p : Conn) (own handle : ℕ) (d : Told) (payload : List ℕ)
+    → answer_at (finds_full (journaled t) t (event.Item from i)) (book_in t) t from.0 p i ≡ Taken own handle
+    → part_of i (link_place t from.0 own) ≡ Some (part.Whole d payload)
+    → CameAt (booked t (event.Item from i)) (did (event.Item from i) ∷ booked t (event.Item from i)) from.0 own handle d payload
+came_there t from (item.Frame sasl channel (perf.Transfer x) carried) p own handle d payload answer part =
+    let e : Event = event.Item from (item.Frame sasl channel (perf.Transfer x) carried) in
+    let here : IsOn sasl (theirs t from.0 channel) (link_place t from.0 own x.handle) own handle =
+    subst (λ (y : Answer). IfTaken sasl (theirs t from.0 channel) (λ own. link_place t from.0 own x.handle) y) answer
+    (transfer_taken (finds_full (journaled t) t e) (book_in t) p t from.0 sasl channel x carried) in
+    came_whole (booked t e) (did e ∷ booked t e) (step_of e) from sasl channel x carried own handle d payload refl refl here part
+came_there t from (item.Frame sasl channel body carried) p own handle d payload answer part = absurd (none_not_some (sym (no_part sasl) ∙ part))
+came_there t from _ p own handle d payload answer part = absurd (none_not_some part)
 
 -- any message that is bound
 
@@ -294,6 +323,7 @@ whole_row id t from i p own handle d payload x stands answer part is (Some row) 
     whole_is_bound (did e ∷ at) from.0 own handle d (row_found at) payload x (subst (λ (w : List Entry). whole_bound w from.0 own handle d (row_found at) payload ≡ Some x) same is) in
     subst (λ (w : List Entry). IsAdmitted w x row) (sym same)
     (admitted_there t e from.0 own handle d payload x row y adm.alone adm.applies adm.number
+    (subst (λ (bytes : List ℕ). CameAt at (did e ∷ at) from.0 own handle d bytes) (sym now.carried) (came_there t from i p own handle d payload answer part))
     (whole_admitted b (did e ∷ t) from.0 own handle d payload y admitted) now)
 
 -- where a message that an event binds comes from

@@ -61,11 +61,11 @@ given_whole f list d payload h =
     by false false false false h = (refl, refl, cc, cc)
 
 -- ... and the trace that its last frame found
-record CameAt (t after : List Entry) (c own handle : ℕ) (d : Told) (payload : List ℕ) : Type 0 where
-  came : CameWhole after c own handle d payload
-  at : came.handled.found ≡ t
+pub record CameAt (t after : List Entry) (c own handle : ℕ) (d : Told) (payload : List ℕ) : Type 0 where
+  pub came : CameWhole after c own handle d payload
+  pub at : came.handled.found ≡ t
 
-came_whole : (t after : List Entry) (s : Step) (conn : ConnectionId) (sasl : Bool) (channel : ℕ) (x : Transfer) (carried : List ℕ) (own handle : ℕ) (d : Told) (payload : List ℕ)
+pub came_whole : (t after : List Entry) (s : Step) (conn : ConnectionId) (sasl : Bool) (channel : ℕ) (x : Transfer) (carried : List ℕ) (own handle : ℕ) (d : Told) (payload : List ℕ)
     → s.event ≡ event.Item conn (item.Frame sasl channel (perf.Transfer x) carried) → just_handled after ≡ Some (record { step = s; found = t })
     → IsOn sasl (theirs t conn.0 channel) (link_place t conn.0 own x.handle) own handle
     → part_of (item.Frame sasl channel (perf.Transfer x) carried) (link_place t conn.0 own) ≡ Some (part.Whole d payload)

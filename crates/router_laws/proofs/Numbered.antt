@@ -9,7 +9,7 @@ use Rattle.book_core.specs.declared.row.RowNumber.{RowNumber}
 use Rattle.book_core.specs.Book.{BookView, effect, effects}
 use Rattle.router_trace.specs.Configuration.{beginning}
 use Rattle.router_trace.specs.Connection.{conn, due}
-use Rattle.router_trace.specs.Trace.{Beginning, Entry, Did, Out, Bound, Put, Step, goes, puts, each_to}
+use Rattle.router_trace.specs.Trace.{Beginning, Entry, Did, Out, Put, Step, goes, puts, each_to}
 use Rattle.router_trace.specs.declared.binding.Binding.{Binding}
 use Rattle.router_trace.specs.declared.condition.Condition.TheVariants.{ResourceLimitExceeded}
 use Rattle.router_passing.specs.Passing.{with_bound}
@@ -24,7 +24,7 @@ use Rattle.router_core.proofs.Following.{all_keep}
 use Rattle.router_laws.specs.Admitted.{is_row, times_bound, AreBoundSince}
 use Rattle.router_laws.proofs.Admitted.{row_of_bound, BindsNext, binds_next}
 use Rattle.router_laws.proofs.Rows.{Rows, start_rows, took_rows, handled_rows}
-use Rattle.router_laws.proofs.Tests.{some_same, none_not_some}
+use Rattle.router_laws.proofs.Tests.{none_not_some}
 
 -- acts that admit nothing give no number
 

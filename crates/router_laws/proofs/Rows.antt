@@ -89,8 +89,8 @@ next_behind b x = refl
 new_once : (u : List Entry) (b : Binding) (row : RowNumber) → IsAdmitted u b row → Before u → (times_bound u row.0 ≡ 0) × ((book_in u).next_row ≡ row.0 + 1)
 new_once u b row is before =
     let acts : List Act = Admit is.admission ∷ [] in
-    let all : AllRowsOnce is.before = before_acts u is.handled acts is.before is.just is.acts before in
-    let sofar : Since u is.handled.found row.0 = since u is.handled row.0 is.just in (
+    let all : AllRowsOnce is.before = before_acts u is.came.handled acts is.before is.came.just is.acts before in
+    let sofar : Since u is.came.handled.found row.0 = since u is.came.handled row.0 is.came.just in (
       sofar.times ∙ ap (λ (v : List Entry). times_bound v row.0) is.acts ∙ (all row.0).known (at_most row.0 (book_in is.before).next_row is.is_next),
       ap (λ (c : BookView). c.next_row) (sofar.book ∙ ap book_in is.acts) ∙ next_behind (book_in is.before) is.admission ∙ ap (λ (k : ℕ). k + 1) (sym is.is_next),
     )

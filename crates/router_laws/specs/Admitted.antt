@@ -1,6 +1,7 @@
 -- Durable messages and the book (AMQP 1.0 part 2, sections 2.6.12 and 2.7.5; part 3, sections 3.5.3 to 3.5.5): a message that has a row is bound once the
 -- row is in the book.
-use Rattle.std.specs.Prelude.{◌≡◌, ◌<◌, ◌≤◌, ℕ, ◌+◌, ◌==◌, Bool, false, if◌then◌else◌, [], ◌∷◌, Option, Some, None}
+use Rattle.std.specs.Prelude.{◌≡◌, ◌<◌, ◌≤◌, ℕ, ◌+◌, ◌==◌, Bool, false, if◌then◌else◌, [], ◌∷◌, Option, Some, None, unwrap_or}
+use Rattle.amqp_link.specs.declared.part.Delivery.{Delivery as Told}
 use Rattle.book_core.specs.declared.act.Act.TheVariants.{Admit}
 use Rattle.book_core.specs.declared.act.Admission.{Admission}
 use Rattle.book_core.specs.declared.row.RowNumber.{RowNumber}
@@ -13,7 +14,7 @@ use Rattle.router_trace.specs.Links.{durable_key}
 use Rattle.router_trace.specs.Trace.{Trace, Did, Out, Took, Bound, Booked, Began}
 use Rattle.router_reply.specs.Acts.{book_in}
 use Rattle.router_reply.specs.Admitting.{terminus_for}
-use Rattle.router_laws.specs.Came.{Handled, just_handled}
+use Rattle.router_laws.specs.Came.{CameWhole}
 
 -- the terminus of the link of an unsettled delivery's producer
 abbrev pub IsFromTerminus : Option Origin → Trace → BookView → TerminusNumber → Type 0
@@ -21,18 +22,22 @@ IsFromTerminus None t book n = ⊥
 IsFromTerminus (Some p) t book n = terminus_for book (durable_key (link_of t p.link)) ≡ Some n
 
 -- A message with a row is bound behind the event that completed it, and before that event stands one act: the book admits the message, under the row, whose
--- number is new. It is what is bound: an unsettled delivery on the durable link of the producer, for the same consumer, with the payload.
+-- number is new. It is what came and is bound: an unsettled delivery on the durable link of the producer, for the same consumer, with its tag and its payload.
 pub record IsAdmitted (t : Trace) (b : Binding) (row : RowNumber) : Type 0 where
-  pub handled : Handled
+  pub conn : ℕ
+  pub own : ℕ
+  pub handle : ℕ
+  pub message : Told
+  pub came : CameWhole t conn own handle message b.payload
   pub before : Trace
   pub admission : Admission
-  pub just : just_handled t ≡ Some handled
-  pub acts : handled.found ≡ Booked (Admit admission ∷ []) ∷ before
+  pub acts : came.handled.found ≡ Booked (Admit admission ∷ []) ∷ before
   pub applies : admit_refusal (book_in before) admission ≡ None
   pub number : admission.row ≡ row
   pub is_next : row.0 ≡ (book_in before).next_row
   pub producer : IsFromTerminus b.origin t (book_in before) admission.producer
   pub consumer : admission.consumer ≡ terminus_for (book_in before) (durable_key (link_of t b.consumer))
+  pub tag : admission.tag ≡ unwrap_or message.tag (record { items = [] })
   pub format : admission.format ≡ b.format
   pub payload : admission.payload ≡ b.payload
 

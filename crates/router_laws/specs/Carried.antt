@@ -91,8 +91,8 @@ GoesInOrder u = HasSmallNumbers u → (b : Binding) (t later : Trace) → u ≡ 
 
 abbrev pub perf_completes : Perf → Trace → ℕ → Item → ℕ → Type 0
 perf_completes (perf.Transfer x) t c i own =
-    HasSmallNumbers t → x.more ≡ false → (n : ℕ) (d : Delivery) → delivery t n ≡ Some d → carried (number_named t) (tag_in x) (sending t c own x.handle) ≡ Some n
-    → bytes_out (Out c i ∷ t) n ≡ d.payload
+    HasSmallNumbers t → x.more ≡ false → (n : ℕ) (d : Delivery) → delivery t n ≡ Some d
+    → carried (number_named t) (tag_in x) (sending t c own x.handle) ≡ Some n → bytes_out (Out c i ∷ t) n ≡ d.payload
 perf_completes _ t c i own = Unit {0}
 
 abbrev pub CompletesMessage : Trace → ℕ → Item → Type 0
