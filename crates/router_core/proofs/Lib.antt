@@ -42,3 +42,4 @@ pub mod Idle
 pub mod Only
 pub mod Settling
 pub mod Apart
+mod Preparing
