@@ -29,7 +29,7 @@ pub fn connection<
     hub: &Hub<Six<U, I, D, T, S, B>>,
     listener: &Listener,
     peer: SocketAddr,
-    stream: TcpStream,
+    stream: &TcpStream,
 ) {
     let _ = stream.set_nodelay(true);
     let _ = stream.set_write_timeout(Some(Duration::from_millis(PATIENCE)));
@@ -40,8 +40,8 @@ pub fn connection<
     let role = door.role();
     match greet(
         hub.alloc,
-        &mut &stream,
-        &mut &stream,
+        &mut &*stream,
+        &mut &*stream,
         &mut frames,
         &mut door,
     ) {
@@ -50,7 +50,7 @@ pub fn connection<
                 return;
             };
             let who = Peer { user: copy, role };
-            enter(rt, hub, &stream, peer, &user, who, items, &mut frames);
+            enter(rt, hub, stream, peer, &user, who, items, &mut frames);
         }
         Greeted::Ended(end) => {
             let words = reader_words(end);
@@ -60,7 +60,7 @@ pub fn connection<
             if end == ReadEnd::Door {
                 let _ = stream.shutdown(Shutdown::Write);
                 let _ = stream.set_read_timeout(Some(Duration::from_millis(LINGER)));
-                swallow(rt, &stream);
+                swallow(rt, stream);
             }
         }
     }
@@ -146,6 +146,9 @@ fn both<
                 &mut &*stream,
                 watch,
             );
+            if let ReadEnd::Core(fault) = end {
+                hub.failed(rt, fault);
+            }
             swallow(rt, stream);
             *read.lock(rt) = true;
             rung.notify_all();
@@ -175,6 +178,9 @@ fn output<G: Ledgers, R: Wait + Clock + Eprint>(
     };
     let (seat, end) = serve_writer(rt, hub.alloc, &hub.shared, seat, conn, &mut &*stream, watch);
     hub.put_back(rt, seat);
+    if let WriteEnd::Core(fault) = end {
+        hub.failed(rt, fault);
+    }
     if end == WriteEnd::Ended {
         let _ = stream.shutdown(Shutdown::Write);
         let most = Duration::from_millis(LINGER);
@@ -186,7 +192,7 @@ fn output<G: Ledgers, R: Wait + Clock + Eprint>(
 }
 
 /// Takes what is still waiting for a connection that is over.
-fn drained<G: Ledgers, R: Wait>(
+fn drained<G: Ledgers, R: Wait + Eprint>(
     rt: &R,
     hub: &Hub<G>,
     conn: ConnectionId,
@@ -200,7 +206,10 @@ fn drained<G: Ledgers, R: Wait>(
                     return seat;
                 }
             }
-            Err(_) => return seat,
+            Err(fault) => {
+                hub.failed(rt, fault);
+                return seat;
+            }
         }
     }
     seat
@@ -214,9 +223,6 @@ fn tell_end<G: Ledgers, R: Wait + Eprint>(
     end: ReadEnd,
     written: Option<WriteEnd>,
 ) {
-    if let ReadEnd::Core(fault) = end {
-        hub.failed(rt, fault);
-    }
     let number = conn.0;
     let reader = reader_words(end);
     let writer = match written {

@@ -1,6 +1,7 @@
 //! What the threads of a serving program share.
 use crate::lines::Lines;
-use disk_core::MemDisk;
+use crate::streams::Streams;
+use amqr_files::JournalDisk;
 use route_table::Config;
 use router_core::{ConnectionId, CoreFault, Event, Peer};
 use router_serve::{Ledgers, NoLog, Seat, Shared};
@@ -40,7 +41,7 @@ pub struct Hub<G: Ledgers> {
     /// For everything that grows.
     pub alloc: Global,
     /// The router.
-    pub shared: Shared<MemDisk, NoLog, G>,
+    pub shared: Shared<JournalDisk, NoLog, G>,
     /// The configuration.
     pub config: Config,
     /// The lines on standard error.
@@ -53,15 +54,19 @@ pub struct Hub<G: Ledgers> {
     pub taking: Mutex<Taking>,
     /// Notified when no more are accepted.
     pub over: Condvar,
+    /// The sockets of the connections.
+    pub streams: Mutex<Streams>,
 }
 
 impl<G: Ledgers> Hub<G> {
-    /// Starts the router. Where it answers a fault it fails, and every later call tells so.
-    pub fn start<R: Wait>(&self, rt: &R) {
+    /// Starts the router.
+    pub fn start<R: Wait + Eprint>(&self, rt: &R) {
         let Some(mut seat) = self.seat(rt) else {
             return;
         };
-        let _ = self.shared.submit(rt, &mut seat, Event::Start);
+        if let Err(fault) = self.shared.submit(rt, &mut seat, Event::Start) {
+            self.failed(rt, fault);
+        }
         self.put_back(rt, seat);
     }
 
@@ -126,10 +131,19 @@ impl<G: Ledgers> Hub<G> {
         self.taking.lock(rt).over
     }
 
-    /// The router answered a fault; where it failed, no more connections are accepted.
-    pub fn failed<R: Wait>(&self, rt: &R, fault: CoreFault) {
-        if fault != CoreFault::NoConnection {
-            self.stop(rt);
+    /// The router answered a fault. Where it failed, no more connections are accepted, and those that have threads lose their sockets,
+    /// also at their doors, so that none is waited for.
+    pub fn failed<R: Wait + Eprint>(&self, rt: &R, fault: CoreFault) {
+        match fault {
+            CoreFault::NoConnection => return,
+            CoreFault::Disk => self.lines.say(rt, "the router's disk failed"),
+            CoreFault::Memory => self.lines.say(rt, "memory was refused to the router"),
+            CoreFault::Failed => {}
+        }
+        self.stop(rt);
+        let first = self.streams.lock(rt).shut();
+        if first {
+            self.lines.say(rt, "the router failed: all connections end");
         }
     }
 

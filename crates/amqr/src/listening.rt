@@ -4,8 +4,9 @@ use crate::hub::{Hub, Taken};
 use route_table::Listener;
 use router_core::Event;
 use router_serve::{Hall, Ledgers, Six};
-use std::net::{Net, TcpListener, TcpStream};
-use std::sync::{Condvar, Mutex, Wait};
+use std::io::ErrorKind;
+use std::net::{Net, SocketAddr, TcpListener, TcpStream};
+use std::sync::{Arc, Condvar, Mutex, Wait};
 use std::thread;
 use std::thread::Threads;
 use std::time::{Clock, Duration, Instant};
@@ -15,6 +16,9 @@ const TICK: u64 = 500;
 
 /// The pause after no connection could be accepted, in milliseconds.
 const PAUSE: u64 = 20;
+
+/// How often a listener is connected to, to wake it.
+const TRIES: u64 = 500;
 
 /// Accepts connections at all listeners, each of which has its socket, until no more are accepted and all have ended.
 pub fn listen<
@@ -108,22 +112,52 @@ fn run_one<
     R: Threads + Wait + Sync + Clock + Eprint,
 >(rt: &R, hub: &Hub<Six<U, I, D, T, S, B>>, listener: &Listener, stream: TcpStream) {
     if let Ok(peer) = stream.peer_addr() {
-        connection(rt, hub, listener, peer, stream);
+        if let Ok(stream) = Arc::new(hub.alloc, stream) {
+            let number = hub.streams.lock(rt).add(&stream);
+            if let Some(number) = number {
+                connection(rt, hub, listener, peer, &stream);
+                hub.streams.lock(rt).remove(number);
+            }
+        }
     }
     hub.leave(rt);
 }
 
 /// Wakes the threads that wait at listeners: each accepts a connection that asks for nothing, and finds that no more are accepted.
-fn wake<R: Net<Listener = TcpListener, Stream = TcpStream>>(rt: &R, sockets: &[TcpListener]) {
+fn wake<R: Net<Listener = TcpListener, Stream = TcpStream> + Clock>(
+    rt: &R,
+    sockets: &[TcpListener],
+) {
     for socket in sockets {
         if let Ok(at) = socket.local_addr() {
-            let _ = TcpStream::connect(rt, at);
+            wake_one(rt, &at);
         }
     }
 }
 
-/// Gives the router the time every half second, until it is done; where the router fails no more connections are accepted.
-fn tick<G: Ledgers, R: Wait + Clock>(rt: &R, hub: &Hub<G>, done: &Mutex<bool>, rung: &Condvar) {
+/// Connects to a listener. Where none can be made, as while no descriptor is left, it is tried again for about ten seconds; one that isn't
+/// taken in time has others before it, which wake the listener too.
+fn wake_one<R: Net<Listener = TcpListener, Stream = TcpStream> + Clock>(rt: &R, at: &SocketAddr) {
+    for _turn in 0..TRIES {
+        match TcpStream::connect_timeout(rt, at, Duration::from_millis(TICK)) {
+            Ok(_) => return,
+            Err(error) => {
+                if error.kind() == ErrorKind::TimedOut {
+                    return;
+                }
+                thread::sleep(rt, Duration::from_millis(PAUSE));
+            }
+        }
+    }
+}
+
+/// Gives the router the time every half second, until it is done; where the router failed, serving ends.
+fn tick<G: Ledgers, R: Wait + Clock + Eprint>(
+    rt: &R,
+    hub: &Hub<G>,
+    done: &Mutex<bool>,
+    rung: &Condvar,
+) {
     let Some(mut seat) = hub.seat(rt) else {
         return;
     };

@@ -5,8 +5,10 @@ mod connection;
 mod hub;
 mod lines;
 mod listening;
+mod opening;
 mod serving;
 mod socket;
+mod streams;
 
 use crate::serving::serve;
 use amqr_commands::{Refusal, Status, refuse, run, serving_in};

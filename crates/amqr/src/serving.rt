@@ -1,5 +1,5 @@
 //! The command that serves clients.
-ghost use Rattle.std.specs.Prelude.{◌≡◌, ◌^◌, IfOk, IfSome};
+ghost use Rattle.std.specs.Prelude.{◌≡◌, ◌^◌};
 ghost use Rattle.router_core.specs.Handling.{counts_of};
 ghost use Rattle.router_core.specs.Counting.{uncounted};
 ghost use Rattle.router_shared.specs.History.{IsOpened};
@@ -7,9 +7,10 @@ ghost use Rattle.router_shared.specs.History.{IsOpened};
 use crate::hub::{Hub, Taking};
 use crate::lines::Lines;
 use crate::listening::listen;
+use crate::opening::open_router;
+use crate::streams::Streams;
 use amqr_commands::{Refusal, Serving, Status, config_at, refuse};
-use disk_core::MemDisk;
-use gate_journal::format;
+use amqr_files::JournalDisk;
 use route_table::{Config, Listener, Role};
 use router_core::Core;
 use router_serve::{Blanks, Hall, NoLog, SEATS, Shared, Six};
@@ -24,7 +25,20 @@ use std::sync::{Condvar, Mutex, Wait};
 use std::thread::Threads;
 use std::time::Clock;
 
-/// Serves clients at the configuration's listeners, or at the standard one where it has none.
+/// What is reported where the journal is kept in memory.
+const IN_MEMORY: &str =
+    "the journal is kept in memory: durable deliveries don't outlive this process";
+
+/// The sockets of the listeners.
+enum Bound {
+    /// Each has one.
+    All(Vec<TcpListener>),
+    /// Not all can be had: how the program ends.
+    Ended(Status),
+}
+
+/// Serves clients at the configuration's listeners, or at the standard one where it has none, over the journal in the file that is
+/// named, or over one in memory.
 pub fn serve<
     R: Net<Listener = TcpListener, Stream = TcpStream>
         + Files<File = File>
@@ -41,27 +55,74 @@ pub fn serve<
         Ok(config) => config,
         Err(refusal) => return refuse(output, refusal),
     };
+    match open_router(rt, alloc, serving.journal, &config) {
+        Ok(core) => serve_over(rt, alloc, config, core, serving, output),
+        Err(refusal) => {
+            drop(config);
+            refuse(output, refusal)
+        }
+    }
+}
+
+/// Serves with a router, once all listeners have their sockets.
+fn serve_over<
+    R: Net<Listener = TcpListener, Stream = TcpStream> + Threads + Wait + Sync + Clock + Eprint,
+    O: Write,
+>(
+    rt: &R,
+    alloc: Global,
+    config: Config,
+    core: Core<JournalDisk>,
+    serving: Serving<'_>,
+    output: &mut O,
+) -> io::Result<Status>
+    requires opened { IsOpened core }
+    requires counts { counts_of core ≡ uncounted }
+{
     let Ok(own) = standard_listeners(alloc) else {
+        drop(core);
+        drop(config);
         return refuse(output, Refusal::Memory);
     };
-    let listeners = listeners_of(&config, &own);
+    match bind(rt, alloc, listeners_of(&config, &own), output) {
+        Ok(Bound::All(sockets)) => match start(rt, alloc, config, core, &own, &sockets, serving) {
+            Ok(status) => Ok(status),
+            Err(_) => refuse(output, Refusal::Memory),
+        },
+        Ok(Bound::Ended(status)) => {
+            drop(core);
+            drop(config);
+            Ok(status)
+        }
+        Err(error) => {
+            drop(core);
+            drop(config);
+            Err(error)
+        }
+    }
+}
+
+/// Makes the sockets of listeners, and prints each listener, or the first that can't be bound.
+fn bind<R: Net<Listener = TcpListener, Stream = TcpStream>, O: Write>(
+    rt: &R,
+    alloc: Global,
+    listeners: &[Listener],
+    output: &mut O,
+) -> io::Result<Bound> {
     let Ok(sockets) = bind_all(rt, alloc, listeners) else {
-        return refuse(output, Refusal::Memory);
+        return Ok(Bound::Ended(refuse(output, Refusal::Memory)?));
     };
     if let Some(listener) = listeners.get(sockets.len()) {
         let (host, port) = (listener.host.as_str(), listener.port);
         writeln!(output, "listen {host}:{port}")?;
-        return Ok(Status::BadInput);
+        return Ok(Bound::Ended(Status::BadInput));
     }
     for listener in listeners {
         let (host, port) = (listener.host.as_str(), listener.port);
         writeln!(output, "listening {host}:{port}")?;
     }
     output.flush()?;
-    match start(rt, alloc, config, &own, &sockets, serving) {
-        Ok(status) => Ok(status),
-        Err(_) => refuse(output, Refusal::Memory),
-    }
+    Ok(Bound::All(sockets))
 }
 
 /// The listener of a configuration that has none.
@@ -96,36 +157,21 @@ fn bind_all<R: Net<Listener = TcpListener, Stream = TcpStream>>(
     Ok(sockets)
 }
 
-/// A router with a new journal in memory; none if memory is refused.
-fn opened(alloc: Global, config: &Config) -> Option<Core<MemDisk>>
-    ensures opened { IfSome result IsOpened }
-    ensures counts { IfSome result (λ core. counts_of core ≡ uncounted) }
-{
-    let mut disk = MemDisk::new(alloc);
-    let Ok(()) = format(&mut disk) else {
-        drop(disk);
-        return None;
-    };
-    match Core::open(alloc, disk, config) {
-        Ok(core) => Some(core),
-        Err(_) => None,
-    }
-}
-
-/// Opens the router and serves, with ledgers that are made for it.
+/// Serves with a router, with ledgers that are made for it.
 fn start<
     R: Net<Listener = TcpListener, Stream = TcpStream> + Threads + Wait + Sync + Clock + Eprint,
 >(
     rt: &R,
     alloc: Global,
     config: Config,
+    core: Core<JournalDisk>,
     own: &[Listener],
     sockets: &[TcpListener],
     serving: Serving<'_>,
-) -> Result<Status, AllocError> {
-    let Some(core) = opened(alloc, &config) else {
-        return Err(AllocError);
-    };
+) -> Result<Status, AllocError>
+    requires opened { IsOpened core }
+    requires counts { counts_of core ≡ uncounted }
+{
     let blanks = Blanks {
         ups: Blank::new(SEATS),
         items: Blank::new(SEATS),
@@ -155,7 +201,7 @@ fn counted<
     own: &[Listener],
     sockets: &[TcpListener],
     serving: Serving<'_>,
-    core: Core<MemDisk>,
+    core: Core<JournalDisk>,
     blanks: Blanks,
 ) -> Result<Status, AllocError>
     requires opened { IsOpened core }
@@ -167,7 +213,7 @@ fn counted<
     requires starts { (blanks.starts.name ≡ S.name) × (blanks.starts.parts ≡ S.parts) × (S.seats ≡ S.parts) × (S.seats ≡ 4611686018427387904) }
     requires batches { (blanks.batches.name ≡ B.name) × (blanks.batches.parts ≡ B.parts) × (B.seats ≡ B.parts) × (B.seats ≡ 4611686018427387904) }
 {
-    let shared: Shared<MemDisk, NoLog, Six<U, I, D, T, S, B>> = Shared::new(
+    let shared: Shared<JournalDisk, NoLog, Six<U, I, D, T, S, B>> = Shared::new(
         alloc,
         core,
         NoLog {},
@@ -187,7 +233,11 @@ fn counted<
             over: false,
         }),
         over: Condvar::new(),
+        streams: Mutex::new(Streams::new(alloc)),
     };
+    if serving.journal.is_none() {
+        hub.lines.say(rt, IN_MEMORY);
+    }
     hub.start(rt);
     listen(rt, &hub, listeners_of(&hub.config, own), sockets);
     let Hub { shared, bench, .. } = hub;

@@ -2,6 +2,8 @@
 use Rattle.std.specs.Prelude.{ℕ, List, ◌++◌, codes, decimal}
 use Rattle.disk_core.specs.declared.fault.DiskFault.{DiskFault}
 use Rattle.disk_core.specs.declared.fault.DiskFault.TheVariants as disk
+use Rattle.gate_journal.specs.declared.fault.OpenFault.{OpenFault}
+use Rattle.gate_journal.specs.declared.fault.OpenFault.TheVariants as opening
 use Rattle.route_table.specs.FaultNumbers.{fault_number}
 use Rattle.amqr_files.specs.declared.status.Status.{Status}
 use Rattle.amqr_files.specs.declared.status.Status.TheVariants as status
@@ -30,6 +32,13 @@ status_of refusal.Memory = status.Failed
 abbrev pub refusal_of : DiskFault → Refusal
 refusal_of disk.Failed = refusal.Disk
 refusal_of disk.Memory = refusal.Memory
+
+-- the refusal where a journal can't be opened
+abbrev pub refusal_to_open : OpenFault → Refusal
+refusal_to_open opening.NotAJournal = refusal.NoJournal
+refusal_to_open (opening.Damaged place) = refusal.Damaged place
+refusal_to_open opening.Disk = refusal.Disk
+refusal_to_open opening.Memory = refusal.Memory
 
 -- the line that the program prints then
 abbrev pub refusal_text : Refusal → List ℕ

@@ -1,16 +1,23 @@
 //! The journal commands: the lines of a journal, and making one.
-ghost use Rattle.std.specs.Prelude.{◌≡◌, ◌≢◌, ◌<◌, ◌++◌, ◌∷◌, [], map, IfOk, IfErr, IsErrOf, OnOk};
+ghost use Rattle.std.specs.Prelude.{◌≡◌, ◌≢◌, ◌⊎◌, ◌<◌, ◌++◌, ◌∷◌, [], false, map, IfOk, IfErr, IsErrOf, OnOk};
 ghost use Rattle.disk_core.specs.Disk.{NoMore};
+ghost use Rattle.disk_core.specs.File.{failures_of, has_lost};
 ghost use Rattle.amqr_files.specs.Journals.{kind_name, act_line, end_line, IsJournal, IsNotListed, IsNotMade, IsMade, ListsJournal, Formats};
 
+use crate::input::MOST_BYTES;
 use crate::print::{print_lines, refuse};
 use crate::status::{Refusal, Status};
 use book_core::ActKind;
-use disk_core::Disk;
-use gate_journal::{Entry, Listing, OpenFault, format, list};
+use disk_core::{Disk, DiskFault, FileDisk};
+use gate_journal::{Entry, Listing, format, list};
 use std::alloc::{AllocError, Global};
 use std::fmt::{self, Display, Formatter};
+use std::fs::{self, File};
 use std::io::{self, Write};
+use std::rt::Files;
+
+/// The most bytes of a journal's file that is opened: those of a journal, and one gate.
+const MOST_JOURNAL: u64 = MOST_BYTES as u64 + 1;
 
 /// A line of a journal's list; `{}` prints it, without the LF.
 #[derive(Clone, Copy, Debug, PartialEq, Eq)]
@@ -117,10 +124,7 @@ fn journal_lines<D: Disk>(alloc: Global, disk: &mut D) -> Result<Vec<JournalLine
             Ok(lines) => Ok(lines),
             Err(_) => Err(Refusal::Memory),
         },
-        Err(OpenFault::NotAJournal) => Err(Refusal::NoJournal),
-        Err(OpenFault::Damaged { at }) => Err(Refusal::Damaged { place: at }),
-        Err(OpenFault::Disk) => Err(Refusal::Disk),
-        Err(OpenFault::Memory) => Err(Refusal::Memory),
+        Err(fault) => Err(Refusal::from(fault)),
     }
 }
 
@@ -145,6 +149,37 @@ pub fn list_journal<D: Disk, O: Write>(
             Ok(Status::Done)
         }
         Err(refusal) => refuse(output, refusal),
+    }
+}
+
+/// The disk over the file of a journal, for reading and writing.
+///
+/// # Errors
+///
+/// `File` where it is no regular file, or can't be opened for both, or read; `Memory` where it has more bytes than a journal may have,
+/// or memory was refused.
+pub fn journal_disk<R: Files<File = File>>(
+    rt: &R,
+    alloc: Global,
+    path: &str,
+) -> Result<FileDisk, Refusal>
+    ensures failures { IfOk result (λ disk. failures_of disk ≡ 0) }
+    ensures works { IfOk result (λ disk. has_lost disk ≡ false) }
+    ensures refusal { IfErr result (λ refusal. (refusal ≡ Refusal.File) ⊎ (refusal ≡ Refusal.Memory)) }
+{
+    let Ok(found) = fs::metadata(rt, path) else {
+        return Err(Refusal::File);
+    };
+    if !found.is_file() {
+        return Err(Refusal::File);
+    }
+    if found.len() > MOST_JOURNAL {
+        return Err(Refusal::Memory);
+    }
+    match FileDisk::open(rt, alloc, path) {
+        Ok(disk) => Ok(disk),
+        Err(DiskFault::Failed) => Err(Refusal::File),
+        Err(DiskFault::Memory) => Err(Refusal::Memory),
     }
 }
 

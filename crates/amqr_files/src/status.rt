@@ -1,8 +1,9 @@
 //! How the program ends.
 ghost use Rattle.std.specs.Prelude.{◌≡◌, Some};
-ghost use Rattle.amqr_files.specs.Status.{code_of, status_of, refusal_of};
+ghost use Rattle.amqr_files.specs.Status.{code_of, status_of, refusal_of, refusal_to_open};
 
 use disk_core::DiskFault;
+use gate_journal::OpenFault;
 use route_table::FaultKind;
 use std::fmt::{self, Display, Formatter, Write};
 
@@ -95,6 +96,19 @@ impl From<DiskFault> for Refusal {
         match fault {
             DiskFault::Failed => Refusal::Disk,
             DiskFault::Memory => Refusal::Memory,
+        }
+    }
+}
+
+impl From<OpenFault> for Refusal {
+    ghost from_gives = { λ fault refusal. refusal ≡ refusal_to_open fault };
+
+    fn from(fault: OpenFault) -> Refusal {
+        match fault {
+            OpenFault::NotAJournal => Refusal::NoJournal,
+            OpenFault::Damaged { at } => Refusal::Damaged { place: at },
+            OpenFault::Disk => Refusal::Disk,
+            OpenFault::Memory => Refusal::Memory,
         }
     }
 }

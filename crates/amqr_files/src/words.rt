@@ -45,9 +45,11 @@ pub enum Task<'a> {
 pub struct Serving<'a> {
     /// The file of the router's configuration; the standard configuration where none is named.
     pub config: Option<&'a str>,
+    /// The file of the journal; without it the journal is kept in memory.
+    pub journal: Option<&'a str>,
     /// The number of connections after which the program ends, at least 1; without it the program doesn't end.
     pub connections: Option<u64>,
-    /// Whether nothing is reported of connections on standard error.
+    /// Whether nothing is reported on standard error.
     pub quiet: bool,
 }
 
@@ -75,6 +77,7 @@ pub fn read_words<'a, S: AsStr>(alloc: Global, words: &'a [S]) -> Result<Task<'a
             if let Some(connections) = connections_in(rest.get_str("connections")) {
                 return Ok(Task::Serve(Serving {
                     config: rest.get_str("config"),
+                    journal: rest.get_str("journal"),
                     connections,
                     quiet: rest.get_flag("quiet"),
                 }));
@@ -149,6 +152,13 @@ fn serve<'a>(alloc: Global) -> Result<Command<'a>, AllocError> {
         .help(
             "A file of the router's configuration; without it the router is R1 and listens on 127.0.0.1:5672",
         );
+    let journal = Arg::new(alloc, "journal")
+        .long("journal")
+        .value_name("FILE")
+        .action(ArgAction::Set)
+        .help(
+            "A file that a journal was made in; without it durable deliveries are lost when the program ends",
+        );
     let connections = Arg::new(alloc, "connections")
         .long("connections")
         .value_name("N")
@@ -157,10 +167,11 @@ fn serve<'a>(alloc: Global) -> Result<Command<'a>, AllocError> {
     let quiet = Arg::new(alloc, "quiet")
         .long("quiet")
         .action(ArgAction::SetTrue)
-        .help("Tells nothing of connections on standard error");
+        .help("Tells nothing on standard error");
     Command::new(alloc, "serve")
         .about("Serves clients, each connection in threads of its own")
         .arg(config)?
+        .arg(journal)?
         .arg(connections)?
         .arg(quiet)
 }

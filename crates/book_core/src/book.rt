@@ -1,11 +1,11 @@
 //! The book.
-ghost use Rattle.std.specs.Prelude.{◌≡◌, None, Some, OnOk, OnErr, IfErr, filter, length};
+ghost use Rattle.std.specs.Prelude.{◌≡◌, None, Some, OnOk, OnErr, IfErr, filter, is_none, length};
 ghost use Rattle.std.specs.Option.{option_copied};
-ghost use Rattle.book_core.specs.Book.{empty_book, first_fault, effects, is_of, row_at, row_named, terminus_at, terminus_of};
+ghost use Rattle.book_core.specs.Book.{empty_book, first_fault, effects, admit_refusal, drop_refusal, is_of, row_at, row_named, terminus_at, terminus_of};
 ghost use Rattle.book_core.specs.Rows.{rows_left};
 ghost use Rattle.book_core.specs.declared.fault.BookFault.TheVariants as fault;
 
-use crate::act::Act;
+use crate::act::{Act, Admission};
 use crate::fault::BookFault;
 use crate::look;
 use crate::row::{Row, RowNumber};
@@ -62,6 +62,20 @@ impl Book {
                 Err(fault)
             }
         }
+    }
+
+    /// Why the book refuses to admit a row; it is admitted where nothing does.
+    pub fn admit_refusal(&self, admission: &Admission) -> Option<BookFault>
+        ensures { result ≡ admit_refusal self.now admission.now }
+    {
+        self.tables.why_not_admit(admission)
+    }
+
+    /// Whether the book lets go of a terminus: it is there, and keeps no row.
+    pub fn lets_go(&self, number: TerminusNumber) -> bool
+        ensures { result ≡ is_none (drop_refusal (terminus_at number.0 self.now.termini) self.now.rows) }
+    {
+        self.tables.why_not_drop(number).is_none()
     }
 
     /// The rows that came on the link of a terminus or are bound to it, forgotten ones too, by number. It allocates

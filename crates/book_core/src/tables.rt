@@ -142,7 +142,7 @@ impl Tables {
         None
     }
 
-    fn why_not_admit(&self, admission: &Admission) -> Option<BookFault>
+    pub(crate) fn why_not_admit(&self, admission: &Admission) -> Option<BookFault>
         ensures { (b : BookView) → Shows self.now b → result ≡ admit_refusal b admission.now }
     {
         let producer = admission.producer;
@@ -206,7 +206,7 @@ impl Tables {
         }
     }
 
-    fn why_not_drop(&self, number: TerminusNumber) -> Option<BookFault>
+    pub(crate) fn why_not_drop(&self, number: TerminusNumber) -> Option<BookFault>
         ensures { (b : BookView) → Shows self.now b → result ≡ drop_refusal (terminus_at number.0 b.termini) b.rows }
     {
         match look::terminus(&self.termini.slots, number) {

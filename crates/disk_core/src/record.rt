@@ -26,6 +26,9 @@ impl Model for Record {
     ghost also_owns = { λ _. ftrue };
 }
 
+// It owns nothing.
+unsafe impl Send for Record {}
+
 impl Record {
     pub(crate) fn new() -> Record
         ensures { result.notes ≡ [] }

@@ -33,7 +33,7 @@ soonest_sends t r x = ap (send_of t) (soonest_is (bindings t + 1) (places t) r (
 pub sends_none : (t : Trace) (r : Option Candidate) → r ≡ None → IsSoonest (places t) r → [] ≡ sends_due t
 sends_none t r is x = ap (λ (v : Option Candidate). send_of t (option_map placed v)) (sym is) ∙ soonest_sends t r x
 
-pub sends_one : (t : Trace) (r : Option Candidate) (c : Candidate) (ps : List Put) → r ≡ Some c → IsSoonest (places t) r → ps ≡ send t c.number (delivery t c.number) → ps ≡ sends_due t
+pub sends_one : (t : Trace) (r : Option Candidate) (c : Candidate) (ps : List Put) → r ≡ Some c → IsSoonest (places t) r → ps ≡ send t (delivery t c.number) → ps ≡ sends_due t
 sends_one t r c ps is x e = e ∙ ap (λ (v : Option Candidate). send_of t (option_map placed v)) (sym is) ∙ soonest_sends t r x
 
 soonest_drains : (t : Trace) (r : Option Candidate) → IsSoonest (drains_at t) r → drain_by t (option_map placed r) ≡ drains_due t
@@ -47,17 +47,17 @@ pub drains_one : (t : Trace) (r : Option Candidate) (c : Candidate) (ps : List P
 drains_one t r c ps is x e = e ∙ ap (λ (v : Option Candidate). drain_by t (option_map placed v)) (sym is) ∙ soonest_drains t r x
 
 -- the transfer of a delivery that has begun, and of one that hasn't
-pub begun : (t : Trace) (n : ℕ) (d : Delivery) (x : Transfer) → is_some d.id ≡ true → x ≡ later_transfer d.link.handle d → x ≡ transfer_of t n d
-begun t n d x is e = by_id d.id is
+pub begun : (t : Trace) (d : Delivery) (x : Transfer) → is_some d.id ≡ true → x ≡ later_transfer d.link.handle d → x ≡ transfer_of t d
+begun t d x is e = by_id d.id is
   where
-    by_id : (v : Option ℕ) → is_some v ≡ true → x ≡ (if is_none v then first_transfer d.link.handle (next_id t d.link.conn.0 d.link.channel) n d else later_transfer d.link.handle d)
+    by_id : (v : Option ℕ) → is_some v ≡ true → x ≡ (if is_none v then first_transfer d.link.handle (next_id t d.link.conn.0 d.link.channel) d else later_transfer d.link.handle d)
     by_id None is = absurd cc
     by_id (Some k) is = e
 
-pub not_begun : (t : Trace) (n : ℕ) (d : Delivery) (x : Transfer) → is_some d.id ≡ false
-    → x ≡ first_transfer d.link.handle (next_id t d.link.conn.0 d.link.channel) n d → x ≡ transfer_of t n d
-not_begun t n d x is e = by_id d.id is
+pub not_begun : (t : Trace) (d : Delivery) (x : Transfer) → is_some d.id ≡ false
+    → x ≡ first_transfer d.link.handle (next_id t d.link.conn.0 d.link.channel) d → x ≡ transfer_of t d
+not_begun t d x is e = by_id d.id is
   where
-    by_id : (v : Option ℕ) → is_some v ≡ false → x ≡ (if is_none v then first_transfer d.link.handle (next_id t d.link.conn.0 d.link.channel) n d else later_transfer d.link.handle d)
+    by_id : (v : Option ℕ) → is_some v ≡ false → x ≡ (if is_none v then first_transfer d.link.handle (next_id t d.link.conn.0 d.link.channel) d else later_transfer d.link.handle d)
     by_id None is = e
     by_id (Some k) is = absurd cc

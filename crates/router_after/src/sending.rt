@@ -50,13 +50,13 @@ fn soonest(state: &State) -> Result<Option<Candidate>, AllocError>
 
 /// The next frame of a delivery.
 fn frame_of(state: &State, number: u64) -> Result<Option<Outgoing>, AllocError>
-    ensures { IfOk result (λ due. (t : List Entry) → TablesFit state.now t → puts_in due ≡ send t number (delivery t number)) }
+    ensures { IfOk result (λ due. (t : List Entry) → TablesFit state.now t → puts_in due ≡ send t (delivery t number)) }
 {
     let Some(delivery) = state.delivery(number) else {
         return Ok(None);
     };
     let link = delivery.link;
-    let transfer = transfer_of(state, number, delivery);
+    let transfer = transfer_of(state, delivery);
     let largest = state.largest_frame(link.conn.0).min(MAX_FRAME);
     Ok(Some(Outgoing {
         conn: link.conn,
@@ -72,8 +72,8 @@ fn frame_of(state: &State, number: u64) -> Result<Option<Outgoing>, AllocError>
 }
 
 /// The next transfer of a delivery, without its payload.
-fn transfer_of(state: &State, number: u64, delivery: &Delivery) -> Transfer
-    ensures { (t : List Entry) → TablesFit state.now t → result ≡ transfer_of t number delivery.now }
+fn transfer_of(state: &State, delivery: &Delivery) -> Transfer
+    ensures { (t : List Entry) → TablesFit state.now t → result ≡ transfer_of t delivery.now }
 {
     let link = delivery.link;
     if delivery.id.is_some() {
@@ -83,7 +83,7 @@ fn transfer_of(state: &State, number: u64, delivery: &Delivery) -> Transfer
     first_transfer(
         link.handle,
         id,
-        number,
+        delivery.name,
         delivery.format,
         delivery.presettled,
     )

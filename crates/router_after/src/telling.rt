@@ -77,6 +77,7 @@ fn outcome_of(state: &State, number: u64) -> Result<Option<Outgoing>, AllocError
             link.channel,
             Role::Receiver,
             origin.id,
+            !delivery.name.has_row(),
             outcome,
         )?,
     }))

@@ -204,7 +204,7 @@ rowed id c t s fine taken roomy lives bare =
       eased = eased_goes c row v (eased_bound c bound u (eased_ends id (due t s.event) (Did s ∷ t) c ((spared, lives), fine.eased)));
       unlinked = row_unlinked id t u v s.event c bare before (λ o h. spare_v.link o h ∙ unlinked_did c t s fine.unlinked o h);
       unnamed = unnamed_goes c row v (none_row id t u s.event) (λ o n. spare_v.named o n ∙ unnamed_did c t s fine.unnamed o n);
-      unclaimed = unclaimed_goes c row v (λ o n. spare_v.claims o n ∙ unclaimed_did c t s fine.unlinked fine.unclaimed o n);
+      unclaimed = unclaimed_goes c row v (λ o n. spare_v.claims o n (unclaimed_did c t s fine.unlinked fine.unclaimed o n));
       before = before;
       part = own_goes c row v ∙ ap (goes (only c row)) (own_bound c bound u ∙ own_ends id (due t s.event) (Did s ∷ t) c spared);
     }
@@ -228,7 +228,7 @@ stepped id c t s fine taken roomy lives bare =
         eased = eased_goes c (windows behind) behind eased;
         unlinked = unlinked_goes c (windows behind) behind (less_windows behind) (λ o h. aside.spares.link o h ∙ r.unlinked o h);
         unnamed = unnamed_goes c (windows behind) behind (none_window behind) (λ o n. aside.spares.named o n ∙ r.unnamed o n);
-        unclaimed = unclaimed_goes c (windows behind) behind (λ o n. aside.spares.claims o n ∙ r.unclaimed o n);
+        unclaimed = unclaimed_goes c (windows behind) behind (λ o n. aside.spares.claims o n (r.unclaimed o n));
         settled = ap (own_flows c) all ∙ settled_followed c (own_part c (replied id t s));
       };
       about = λ e.

@@ -17,7 +17,7 @@ use Rattle.router_trace.specs.LinkFrames.{attach_item, detach_item, answer_to, r
 use Rattle.router_trace.specs.Links.{Link, link, if_attached, last_of_key, free_handle, key_at}
 use Rattle.router_trace.specs.Order.{unwritten, of_session, has_turn}
 use Rattle.router_trace.specs.Peers.{largest_frame}
-use Rattle.router_trace.specs.Settling.{ignored}
+use Rattle.router_trace.specs.Settling.{unbound}
 use Rattle.router_passing.specs.Passing.{consumer_of}
 use Rattle.router_reply.specs.Replies.{stolen_by, attach_answer, taken, refused, claimed_id, ignored_put, unbound_put, part_put, settled_answers}
 use Rattle.router_conns.proofs.Lists.{by_test}
@@ -80,7 +80,7 @@ ignored_fit : (t : List Entry) (after : List Entry) (c own handle : ℕ) (q : Op
     → AllFit t (each_to c (ignored_put after c own handle q))
 ignored_fit t after c own handle None known begun = tt
 ignored_fit t after c own handle (Some id) known begun =
-    by_test (nat_lt 1024 (ignored after c own handle))
+    by_test (nat_lt 1024 (unbound after c own handle))
     (λ e. rw e (all_fit t c known (detach_item own handle true (Some ResourceLimitExceeded)) begun tt))
     (λ e. rw e tt)
 

@@ -25,7 +25,7 @@ use Rattle.router_trace.specs.declared.handle.PeerHandle.{PeerHandle}
 use Rattle.router_trace.specs.declared.handle.PeerHandle.TheVariants.{Mapped, Detaching}
 use Rattle.router_trace.specs.Links.{Link, link, link_place, link_place_by, on_link, their_handle}
 use Rattle.router_trace.specs.Deliveries.{named, terminal, last_of}
-use Rattle.router_trace.specs.Settling.{ids_between, is_open_id, names_open, ignored, part_on, part_in}
+use Rattle.router_trace.specs.Settling.{ids_between, is_open_id, names_open, unbound, part_on, part_in}
 use Rattle.router_passing.specs.Passing.{consumer_of}
 use Rattle.router_trace.specs.Sessions.{session, theirs}
 use Rattle.router_sessions.specs.Windows.{is_narrow, flow_due, flows_below, windows_over, windows}
@@ -78,7 +78,7 @@ less_said id c p (Settle own) = tt
 
 less_ignored : (after : List Entry) (c own handle : ℕ) (q : Option ℕ) → Attachless (each_to c (ignored_put after c own handle q))
 less_ignored after c own handle None = tt
-less_ignored after c own handle (Some id) = by_test (nat_lt 1024 (ignored after c own handle)) (λ e. rw e (refl, tt)) (λ e. rw e tt)
+less_ignored after c own handle (Some id) = by_test (nat_lt 1024 (unbound after c own handle)) (λ e. rw e (refl, tt)) (λ e. rw e tt)
 
 less_unbound : (c own : ℕ) (q : Option ℕ) (consumer : Option Attachment) → Attachless (each_to c (unbound_put own q consumer))
 less_unbound c own None None = tt

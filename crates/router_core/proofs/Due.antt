@@ -1,7 +1,7 @@
 -- The frames that are sent after an event's rows, before narrow windows are restored: flows, transfers and dispositions, each on the session of an
 -- attached link.
 use Rattle.std.proofs.Common.{◌≡◌, ◌∙◌, sym, ap, refl, subst, true≢false, ℕ, zero, suc, ◌+◌, Bool, true, false, not, ◌&&◌, ◌||◌, List, [], ◌∷◌}
-use Rattle.std.specs.Prelude.{◌==◌, Option, Some, None, is_some, is_none, option_map, if◌then◌else◌, take}
+use Rattle.std.specs.Prelude.{◌==◌, Option, Some, None, not, is_some, is_none, option_map, if◌then◌else◌, take}
 use Rattle.amqp_perf.specs.declared.perf.Perf.{Perf}
 use Rattle.amqp_perf.specs.declared.perf.Perf.TheVariants as perf
 use Rattle.amqp_perf.specs.declared.perf.Transfer.{Transfer}
@@ -19,7 +19,7 @@ use Rattle.router_trace.specs.LinkFrames.{fits}
 use Rattle.router_trace.specs.Links.{Link, Happened, sends, receives, link, link_in, link_behind, key_at, numbered, attachments, asked}
 use Rattle.router_trace.specs.Peers.{largest_frame}
 use Rattle.router_trace.specs.Sessions.{session}
-use Rattle.router_trace.specs.Deliveries.{Delivery, delivery, bindings, sending, next_id, is_number}
+use Rattle.router_trace.specs.Deliveries.{Delivery, has_row, delivery, bindings, sending, next_id, is_number}
 use Rattle.router_trace.specs.DeliveryFrames.{first_transfer, later_transfer, with_more, part_frame, filled, next_frame, largest_out, rest_of}
 use Rattle.router_trace.specs.Numbers.{or_other, if_passes, first_below, Placed, is_before, or_better, first_placed}
 use Rattle.router_trace.specs.Following.{link_of, is_still_attached, is_to_be_told, outcome_to, tell, tells_of, tells, goes_on_at, is_going, has_credit, takes_more, can_start, is_wide, is_there, can_go, place_to_go, transfer_of, send, send_of, sends_due, drain_of, drain_on, drain_by, place_drained, drains_due}
@@ -111,10 +111,10 @@ on_behind (q ∷ qs) t u p on_link all = (
 
 -- outcomes to producers
 
-told_origin : (t : List Entry) (origin : Option Origin) (decided : Option DeliveryState) → is_still_attached t origin ≡ true → AllOnLinks t (outcome_to origin decided)
-told_origin t None decided here = tt
-told_origin t (Some p) None here = tt
-told_origin t (Some p) (Some s) here = (
+told_origin : (t : List Entry) (origin : Option Origin) (settled : Bool) (decided : Option DeliveryState) → is_still_attached t origin ≡ true → AllOnLinks t (outcome_to origin settled decided)
+told_origin t None settled decided here = tt
+told_origin t (Some p) settled None here = tt
+told_origin t (Some p) settled (Some s) here = (
   record {
     own = p.link.channel;
     handle = p.link.handle;
@@ -129,7 +129,7 @@ told_origin t (Some p) (Some s) here = (
 
 told_on : (t : List Entry) (d : Option Delivery) → is_to_be_told t d ≡ true → AllOnLinks t (tell d)
 told_on t None h = tt
-told_on t (Some d) h = told_origin t d.origin d.outcome (both_true (is_some d.outcome) (is_still_attached t d.origin) h).1
+told_on t (Some d) h = told_origin t d.origin (not (has_row d.name)) d.outcome (both_true (is_some d.outcome) (is_still_attached t d.origin) h).1
 
 pub tells_on : (t : List Entry) → AllOnLinks t (tells t)
 tells_on t = first_elim (bindings t + 1) (λ n. is_to_be_told t (delivery t n)) (λ x. AllOnLinks t (tells_of t x)) tt (λ n e. told_on t (delivery t n) e)
@@ -189,10 +189,10 @@ next_is largest own x rest = by (fits largest (transfer_frame own x rest)) (fill
     by true n = record { transfer = x; payload = rest; frame = refl; on_handle = refl }
     by false n = record { transfer = with_more x; payload = take n rest; frame = refl; on_handle = refl }
 
-handle_is : (t : List Entry) (n : ℕ) (d : Delivery) → (transfer_of t n d).handle ≡ d.link.handle
-handle_is t n d = by (is_none d.id)
+handle_is : (t : List Entry) (d : Delivery) → (transfer_of t d).handle ≡ d.link.handle
+handle_is t d = by (is_none d.id)
   where
-    by : (b : Bool) → (if b then first_transfer d.link.handle (next_id t d.link.conn.0 d.link.channel) n d else later_transfer d.link.handle d).handle ≡ d.link.handle
+    by : (b : Bool) → (if b then first_transfer d.link.handle (next_id t d.link.conn.0 d.link.channel) d else later_transfer d.link.handle d).handle ≡ d.link.handle
     by true = refl
     by false = refl
 
@@ -209,12 +209,12 @@ AllSent t [] = Unit {0}
 AllSent t (p ∷ []) = IsSent t p
 AllSent t (p ∷ q ∷ qs) = ⊥
 
-sent_is : (t : List Entry) (n : ℕ) (d : Delivery) → Sent t n d → AllSent t (send t n (Some d))
+sent_is : (t : List Entry) (n : ℕ) (d : Delivery) → Sent t n d → AllSent t (send t (Some d))
 sent_is t n d is = record {
   own = d.link.channel;
   handle = d.link.handle;
-  transfer = subst (λ (h : ℕ). IsTransferOn d.link.channel h (next_frame (largest_out (largest_frame t d.link.conn.0)) d.link.channel (transfer_of t n d) (rest_of d)))
-      (handle_is t n d) (next_is (largest_out (largest_frame t d.link.conn.0)) d.link.channel (transfer_of t n d) (rest_of d));
+  transfer = subst (λ (h : ℕ). IsTransferOn d.link.channel h (next_frame (largest_out (largest_frame t d.link.conn.0)) d.link.channel (transfer_of t d) (rest_of d)))
+      (handle_is t d) (next_is (largest_out (largest_frame t d.link.conn.0)) d.link.channel (transfer_of t d) (rest_of d));
   wide = is.wide;
   takes = is.takes;
 }
@@ -223,7 +223,7 @@ passed_test : (b : Bool) (x a : Attachment) → (if b then Some x else None) ≡
 passed_test true x a e = refl
 passed_test false x a e = absurd cc
 
-sent_all : (t : List Entry) (n : ℕ) (d : Option Delivery) (a : Attachment) → place_to_go t n d ≡ Some a → AllSent t (send t n d)
+sent_all : (t : List Entry) (n : ℕ) (d : Option Delivery) (a : Attachment) → place_to_go t n d ≡ Some a → AllSent t (send t d)
 sent_all t n None a e = tt
 sent_all t n (Some d) a e = sent_is t n d (can_go_sent t n d (passed_test (can_go t n d) d.link a e))
 

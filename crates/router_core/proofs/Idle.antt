@@ -10,6 +10,7 @@ use Rattle.amqp_perf.specs.declared.perf.Transfer.{Transfer}
 use Rattle.amqp_frames.specs.declared.item.Item.{Item}
 use Rattle.amqp_frames.specs.declared.item.Item.TheVariants as item
 use Rattle.amqp_session.specs.Ranges.{in_range}
+use Rattle.router_trace.specs.declared.binding.DeliveryName.{DeliveryName}
 use Rattle.router_trace.specs.declared.channel.PeerChannel.{PeerChannel}
 use Rattle.router_trace.specs.declared.handle.PeerHandle.{PeerHandle}
 use Rattle.router_trace.specs.declared.handle.PeerHandle.TheVariants.{Mapped, Detaching}
@@ -18,7 +19,7 @@ use Rattle.router_trace.specs.declared.event.Event.TheVariants as event
 use Rattle.router_trace.specs.Trace.{Entry, Did, Out, Put, Step, goes}
 use Rattle.router_trace.specs.Links.{Link, link, is_lost, their_handle}
 use Rattle.router_trace.specs.Sessions.{maps, theirs}
-use Rattle.router_trace.specs.Deliveries.{last_of, named_in, named_by, named}
+use Rattle.router_trace.specs.Deliveries.{last_of, number_named, named_in, named_by, named}
 use Rattle.router_trace.specs.Claims.{Claim, claimed_on, claimed, settled_by, answered_by, claim_in, claim_by, claim_at, claim_behind_in, claim_behind, claims}
 use Rattle.router_conns.proofs.Lists.{by_test}
 use Rattle.router_core.proofs.Attachless.{Unlinked, Unnamed}
@@ -31,18 +32,18 @@ none_if_test false v e = e
 
 -- ids of deliveries
 
-unnamed_perf : (body : Perf) (own o id : ℕ) (v : Option ℕ) → is_transfer_in body ≡ false → v ≡ None → named_in body own o id v ≡ None
-unnamed_perf (perf.Transfer x) own o id v none e = absurd cc
-unnamed_perf (perf.End x) own o id v none e = none_if_test (own == o) v e
-unnamed_perf (perf.Close x) own o id v none e = refl
-unnamed_perf _ own o id v none e = e
+unnamed_perf : (numbers : DeliveryName → Option ℕ) (body : Perf) (own o id : ℕ) (v : Option ℕ) → is_transfer_in body ≡ false → v ≡ None → named_in numbers body own o id v ≡ None
+unnamed_perf numbers (perf.Transfer x) own o id v none e = absurd cc
+unnamed_perf numbers (perf.End x) own o id v none e = none_if_test (own == o) v e
+unnamed_perf numbers (perf.Close x) own o id v none e = refl
+unnamed_perf numbers _ own o id v none e = e
 
-unnamed_item : (i : Item) (o id : ℕ) (v : Option ℕ) → is_transfer i ≡ false → v ≡ None → named_by i o id v ≡ None
-unnamed_item (item.Frame sasl own body payload) o id v none e = unnamed_perf body own o id v none e
-unnamed_item _ o id v none e = e
+unnamed_item : (numbers : DeliveryName → Option ℕ) (i : Item) (o id : ℕ) (v : Option ℕ) → is_transfer i ≡ false → v ≡ None → named_by numbers i o id v ≡ None
+unnamed_item numbers (item.Frame sasl own body payload) o id v none e = unnamed_perf numbers body own o id v none e
+unnamed_item numbers _ o id v none e = e
 
 unnamed_out : (c : ℕ) (t : List Entry) (d : ℕ) (i : Item) → is_transfer i ≡ false → Unnamed c t → Unnamed c (Out d i ∷ t)
-unnamed_out c t d i none was o id = by_test (d == c) (λ e. rw e (unnamed_item i o id (named t c o id) none (was o id))) (λ e. rw e (was o id))
+unnamed_out c t d i none was o id = by_test (d == c) (λ e. rw e (unnamed_item (number_named t) i o id (named t c o id) none (was o id))) (λ e. rw e (was o id))
 
 pub unnamed_goes : (c : ℕ) (ps : List Put) (t : List Entry) → NonePut ps → Unnamed c t → Unnamed c (goes ps t)
 unnamed_goes c [] t none was = was

@@ -1,6 +1,6 @@
 -- In every trace of the router the session's window has room before each transfer: transfers are sent only while it is open.
 use Rattle.std.proofs.Common.{◌≡◌, sym, ap, refl, subst, ℕ, zero, suc, ◌+◌, ◌≤◌, Bool, true, false, not, List, [], ◌∷◌, ◌++◌, arith}
-use Rattle.std.specs.Prelude.{Option, Some, None, if◌then◌else◌, nat_eq, nat_lt}
+use Rattle.std.specs.Prelude.{Option, Some, None, not, if◌then◌else◌, nat_eq, nat_lt}
 use Rattle.amqp_perf.specs.declared.perf.Attach.{Attach as AnAttach}
 use Rattle.amqp_perf.specs.declared.perf.Perf.{Perf}
 use Rattle.amqp_perf.specs.declared.perf.Perf.TheVariants as perf
@@ -24,8 +24,8 @@ use Rattle.router_trace.specs.declared.event.Event.TheVariants as event
 use Rattle.router_trace.specs.Trace.{Entry, Did, Out, Put, Step, goes, puts, each_to, ups}
 use Rattle.router_trace.specs.Connection.{Connection, conn, standing, found, live, due, live_of}
 use Rattle.router_trace.specs.Frames.{closing, told_of}
-use Rattle.router_trace.specs.Deliveries.{Delivery, delivery}
-use Rattle.router_trace.specs.Settling.{ignored}
+use Rattle.router_trace.specs.Deliveries.{Delivery, has_row, delivery}
+use Rattle.router_trace.specs.Settling.{unbound}
 use Rattle.router_trace.specs.Numbers.{Placed, first_placed}
 use Rattle.router_trace.specs.Following.{link_of, first_delivery, is_to_be_told, outcome_to, tell, tells_of, tells, is_wide, sends_due, drain_of, drain_on, drain_by, place_drained, drains_due}
 use Rattle.router_trace.specs.Durable.{is_durable}
@@ -146,7 +146,7 @@ none_refused largest own handle e a = by (fits largest (attach_item own (refusal
 
 none_ignored : (after : List Entry) (c own handle : ℕ) (q : Option ℕ) → NoTransfer (ignored_put after c own handle q)
 none_ignored after c own handle None = tt
-none_ignored after c own handle (Some id) = by_test (nat_lt 1024 (ignored after c own handle)) (λ e. rw e (refl, tt)) (λ e. rw e tt)
+none_ignored after c own handle (Some id) = by_test (nat_lt 1024 (unbound after c own handle)) (λ e. rw e (refl, tt)) (λ e. rw e tt)
 
 none_unbound : (own : ℕ) (q : Option ℕ) (consumer : Option Attachment) → NoTransfer (unbound_put own q consumer)
 none_unbound own None None = tt
@@ -235,7 +235,7 @@ none_tell : (d : Option Delivery) → NonePut (tell d)
 none_tell None = tt
 none_tell (Some d) = by d.origin d.outcome
   where
-    by : (origin : Option Origin) (decided : Option DeliveryState) → NonePut (outcome_to origin decided)
+    by : (origin : Option Origin) (decided : Option DeliveryState) → NonePut (outcome_to origin (not (has_row d.name)) decided)
     by None decided = tt
     by (Some p) None = tt
     by (Some p) (Some s) = (refl, tt)

@@ -1,5 +1,5 @@
 -- A trace in which each connection's items are written in a permitted order, and what is put into it.
-use Rattle.std.proofs.Common.{◌≡◌, ◌∙◌, sym, ap, refl, subst, true≢false, ℕ, Bool, true, false, List, [], ◌∷◌, ◌++◌}
+use Rattle.std.proofs.Common.{◌≡◌, ◌∙◌, sym, ap, refl, subst, true≢false, ℕ, Bool, true, false, ◌&&◌, List, [], ◌∷◌, ◌++◌}
 use Rattle.std.specs.Prelude.{◌==◌, nat_eq, Option, Some, None, is_some, option_map, if◌then◌else◌}
 use Rattle.std.proofs.lemmas.Bool.{eqb-true, eq-eqb}
 use Rattle.amqp_perf.specs.declared.perf.Perf.{Perf}
@@ -11,6 +11,7 @@ use Rattle.amqp_conn.specs.declared.conn.Conn.{Conn}
 use Rattle.amqp_session.specs.declared.states.BeginState.{BeginState}
 use Rattle.amqp_session.specs.Session.{Session}
 use Rattle.router_trace.specs.declared.binding.Binding.{Binding}
+use Rattle.router_trace.specs.declared.binding.Origin.{Origin}
 use Rattle.router_trace.specs.declared.condition.Condition.{Condition}
 use Rattle.router_trace.specs.declared.condition.Condition.TheVariants.{ResourceLimitExceeded}
 use Rattle.router_trace.specs.Trace.{Entry, Put, Out, goes, puts, each_to, ups, newest}
@@ -21,8 +22,8 @@ use Rattle.router_trace.specs.Sessions.{session, offered, begun, behind_item, un
 use Rattle.router_trace.specs.Sessions.{behind_perf as session_behind_perf}
 use Rattle.router_trace.specs.Clocks.{terms}
 use Rattle.router_trace.specs.Links.{link}
-use Rattle.router_trace.specs.Deliveries.{named}
-use Rattle.router_trace.specs.Claims.{claims}
+use Rattle.router_trace.specs.Deliveries.{named, stands_on}
+use Rattle.router_trace.specs.Claims.{Claim, bind_claim, bound_claim, claims}
 use Rattle.router_trace.specs.Order.{Written, unwritten, begun_behind_perf, begun_behind, written_behind, is_open, of_session, perf_has_turn, has_turn, have_turns}
 use Rattle.router_passing.specs.Passing.{with_bound}
 use Rattle.router_reply.specs.Replies.{closing_of, ends}
@@ -193,7 +194,7 @@ pub record Spares (t u : List Entry) (k : ℕ) : Type 0 where
   pub terms : terms u k ≡ terms t k
   pub link : (o h : ℕ) → link u k o h ≡ link t k o h
   pub named : (o id : ℕ) → named u k o id ≡ named t k o id
-  pub claims : (o id : ℕ) → claims u k o id ≡ claims t k o id
+  pub claims : (o id : ℕ) → claims t k o id ≡ None → claims u k o id ≡ None
 
 pub spares_self : (t : List Entry) (k : ℕ) → Spares t t k
 spares_self t k = record {
@@ -204,7 +205,7 @@ spares_self t k = record {
   terms = refl;
   link = λ o h. refl;
   named = λ o id. refl;
-  claims = λ o id. refl;
+  claims = λ o id none. none;
 }
 
 pub spares_on : (t u v : List Entry) (k : ℕ) → Spares t u k → Spares u v k → Spares t v k
@@ -216,7 +217,7 @@ spares_on t u v k f g = record {
   terms = g.terms ∙ f.terms;
   link = λ o h. g.link o h ∙ f.link o h;
   named = λ o id. g.named o id ∙ f.named o id;
-  claims = λ o id. g.claims o id ∙ f.claims o id;
+  claims = λ o id none. g.claims o id (f.claims o id none);
 }
 
 spares_one : (t : List Entry) (c k : ℕ) (i : Item) → (c == k) ≡ false → Spares t (Out c i ∷ t) k
@@ -228,8 +229,16 @@ spares_one t c k i apart = record {
   terms = rw apart refl;
   link = λ o h. rw apart refl;
   named = λ o id. rw apart refl;
-  claims = λ o id. rw apart refl;
+  claims = λ o id none. rw apart none;
 }
+
+none_bound : (p : Option Origin) (c o id : ℕ) (v : Option Claim) → v ≡ None → bind_claim p c o id v ≡ None
+none_bound None c o id v none = none
+none_bound (Some q) c o id v none = rw none (by (stands_on q.link c o && (q.id == id)))
+  where
+    by : (b : Bool) → (if b then option_map bound_claim None else None) ≡ None
+    by true = refl
+    by false = refl
 
 pub bound_spares : (b : Option Binding) (t : List Entry) (k : ℕ) → Spares t (with_bound b t) k
 bound_spares None t k = spares_self t k
@@ -241,7 +250,7 @@ bound_spares (Some b) t k = record {
   terms = refl;
   link = λ o h. refl;
   named = λ o id. refl;
-  claims = λ o id. refl;
+  claims = λ o id none. none_bound b.origin k o id (claims t k o id) none;
 }
 
 -- items for other connections

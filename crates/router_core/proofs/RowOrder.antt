@@ -34,7 +34,7 @@ use Rattle.router_conns.proofs.Lists.{by_test}
 use Rattle.router_rows.specs.declared.answer.Answer.{Answer}
 use Rattle.router_rows.specs.declared.answer.Answer.TheVariants.{Nothing, Header, Open, Close, CloseWith, Begin, End, Flow, Attach, Refuse, Detach, LinkFlow, Taken, Settle}
 use Rattle.router_rows.specs.Rows.{Finds, Links, said, header_reply, open_by, open_reply, begin_by, begin_reply, end_reply, echo, flow_on, flow_reply, attach_reply, transfer_reply, detach_reply, disposition_reply, in_turn, turn_by, perf_reply, item_reply}
-use Rattle.router_rows.specs.LinkRows.{is_multicast_link, refusal, attach_or, attach_at, session_attach_reply, session_detach_reply, link_echo, is_reached, link_flow_reply, is_anonymous, asks, is_among, start_on, delivery_by, delivery_on, link_transfer_reply, is_unattached, session_transfer_reply}
+use Rattle.router_rows.specs.LinkRows.{is_multicast_link, refusal, attach_or, attach_at, session_attach_reply, session_detach_reply, link_echo, is_reached, detach_for, link_flow_reply, is_anonymous, asks, is_among, start_on, delivery_by, delivery_on, link_transfer_reply, is_unattached, session_transfer_reply}
 use Rattle.router_rows.specs.LinkRows.{flow_on as link_flow_on}
 use Rattle.router_rows.specs.Finding.{finds}
 use Rattle.router_rows.specs.Booking.{attach_unless, booked_attach, attach_in, booked, book_refusal}
@@ -242,32 +242,32 @@ link_flow_fits h b asked own s no_link f begun = (refl, begun)
 link_flow_fits h b asked own s detaching f begun = tt
 link_flow_fits h b asked own s (on_link k l) f begun = by l.happened
   where
-    by : (w : Happened) → SessionFits h b asked (link_flow_on own (TheirFlow (flow_state f) ∷ s) k w f)
+    by : (w : Happened) → SessionFits h b asked (link_flow_on own (TheirFlow (flow_state f) ∷ s) k l.durable w f)
     by (sends list) = link_echo_fits h b asked f.echo own (TheirFlow (flow_state f) ∷ s) k _ _ begun
     by (receives list) = by_test (is_reached f.delivery_count (delivery_count list) (unused list))
         (λ e. rw e (link_echo_fits h b asked f.echo own (TheirFlow (flow_state f) ∷ s) k _ _ begun))
         (λ e. rw e (refl, begun))
 
-start_fits : (h : Bool) (b : ℕ → Bool) (asked : Option BeginState) (own handle left : ℕ) (claimed : ℕ → Bool) (x : ATransfer) → b own ≡ true
-    → SessionFits h b asked (start_on own handle left claimed x)
-start_fits h b asked own handle left claimed x begun = by (is_anonymous x) (is_among claimed x.delivery_id) (nat_eq left 0)
+start_fits : (h : Bool) (b : ℕ → Bool) (asked : Option BeginState) (own handle : ℕ) (durable : Bool) (left : ℕ) (claimed : ℕ → Bool) (x : ATransfer) → b own ≡ true
+    → SessionFits h b asked (start_on own handle durable left claimed x)
+start_fits h b asked own handle durable left claimed x begun = by (is_anonymous x) (is_among claimed x.delivery_id) (nat_eq left 0)
   where
-    by : (anonymous again none : Bool) → SessionFits h b asked (if anonymous then Detach own handle true (Some NotAllowed)
-        else if again then End own (Some NotAllowed) else if none then Detach own handle true (Some TransferLimitExceeded) else Taken own handle)
+    by : (anonymous again none : Bool) → SessionFits h b asked (if anonymous then detach_for own handle durable NotAllowed
+        else if again then End own (Some NotAllowed) else if none then detach_for own handle durable TransferLimitExceeded else Taken own handle)
     by true again none = (refl, begun)
     by false true none = (refl, begun)
     by false false true = (refl, begun)
     by false false false = (refl, begun)
 
-continue_fits : (h : Bool) (b : ℕ → Bool) (asked : Option BeginState) (own handle : ℕ) (q : Bool) → b own ≡ true
-    → SessionFits h b asked (if q then Taken own handle else Detach own handle true (Some NotAllowed))
-continue_fits h b asked own handle true begun = (refl, begun)
-continue_fits h b asked own handle false begun = (refl, begun)
+continue_fits : (h : Bool) (b : ℕ → Bool) (asked : Option BeginState) (own handle : ℕ) (durable q : Bool) → b own ≡ true
+    → SessionFits h b asked (if q then Taken own handle else detach_for own handle durable NotAllowed)
+continue_fits h b asked own handle durable true begun = (refl, begun)
+continue_fits h b asked own handle durable false begun = (refl, begun)
 
-delivery_fits : (h : Bool) (b : ℕ → Bool) (asked : Option BeginState) (own handle left : ℕ) (claimed : ℕ → Bool) (first : Option Told) (x : ATransfer) → b own ≡ true
-    → SessionFits h b asked (delivery_by own handle left claimed first x)
-delivery_fits h b asked own handle left claimed None x begun = start_fits h b asked own handle left claimed x begun
-delivery_fits h b asked own handle left claimed (Some first) x begun = continue_fits h b asked own handle _ begun
+delivery_fits : (h : Bool) (b : ℕ → Bool) (asked : Option BeginState) (own handle : ℕ) (durable : Bool) (left : ℕ) (claimed : ℕ → Bool) (first : Option Told) (x : ATransfer) → b own ≡ true
+    → SessionFits h b asked (delivery_by own handle durable left claimed first x)
+delivery_fits h b asked own handle durable left claimed None x begun = start_fits h b asked own handle durable left claimed x begun
+delivery_fits h b asked own handle durable left claimed (Some first) x begun = continue_fits h b asked own handle durable _ begun
 
 session_transfer_fits : (h : Bool) (b : ℕ → Bool) (asked : Option BeginState) (own : ℕ) (s : Session) (claimed : ℕ → Bool) (at : LinkPlace) (x : ATransfer) → b own ≡ true
     → SessionFits h b asked (session_transfer_reply own s claimed at x)
@@ -275,14 +275,14 @@ session_transfer_fits h b asked own s claimed at x begun =
     by_test (is_unattached at) (λ e. rw e (refl, begun))
     (λ e. rw e (by_test (nat_eq (allowance s) 0) (λ f. rw f (refl, begun)) (λ f. rw f (by at))))
   where
-    carried : (k : ℕ) (w : Happened) → SessionFits h b asked (delivery_on own k claimed w x)
-    carried k (sends list) = (refl, begun)
-    carried k (receives list) = delivery_fits h b asked own k (unused list) claimed (middle_by (receives list)) x begun
+    carried : (k : ℕ) (durable : Bool) (w : Happened) → SessionFits h b asked (delivery_on own k durable claimed w x)
+    carried k durable (sends list) = (refl, begun)
+    carried k durable (receives list) = delivery_fits h b asked own k durable (unused list) claimed (middle_by (receives list)) x begun
 
     by : (at : LinkPlace) → SessionFits h b asked (link_transfer_reply own claimed at x)
     by no_link = (refl, begun)
     by detaching = tt
-    by (on_link k l) = carried k l.happened
+    by (on_link k l) = carried k l.durable l.happened
 
 -- the same by what is on the frame's channel
 attach_fits : (h : Bool) (b : ℕ → Bool) (asked : Option BeginState) (at : Place) (links : Links) (free : ℕ → Option ℕ) (multicast : List ℕ → Bool) (a : AnAttach) → PlaceFits at b

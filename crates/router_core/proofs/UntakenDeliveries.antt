@@ -1,13 +1,15 @@
 -- What takes don't change: a trace without its takes agrees on deliveries, and so on the sends and drains that are due.
 use Rattle.std.proofs.Common.{◌≡◌, ◌∙◌, ap, refl, ℕ, ◌+◌, not, ◌&&◌, ◌||◌, List, [], ◌∷◌, ◌==◌}
 use Rattle.std.specs.Prelude.{Bool, Option, Some, None, is_none, is_some, option_and_then, if◌then◌else◌}
+use Rattle.router_trace.specs.declared.binding.Binding.{Binding}
+use Rattle.router_trace.specs.declared.binding.DeliveryName.{DeliveryName}
 use Rattle.router_trace.specs.declared.binding.Origin.{Origin}
 use Rattle.router_trace.specs.declared.handle.Attachment.{Attachment}
 use Rattle.router_trace.specs.Trace.{Entry, Did, Out, Took, Bound, Booked, Began}
 use Rattle.router_trace.specs.Links.{is_lost, has_number, attachments, newest_by, numbered}
-use Rattle.router_trace.specs.Deliveries.{Delivery, bindings, delivery, bound, unless_over, behind_event, behind_put, sending_by, sending, named_by, named, next_id_by, next_id, stands_on}
+use Rattle.router_trace.specs.Deliveries.{Delivery, bindings, counters, name_of, name_in, same_name, number_named, unless_called, delivery, bound, unless_over, behind_event, behind_put, sending_by, sending, named_by, named, next_id_by, next_id, stands_on}
 use Rattle.router_trace.specs.DeliveryFrames.{next_frame, largest_out, rest_of, first_transfer, later_transfer}
-use Rattle.router_trace.specs.Claims.{Claim, claim_at, claim_behind, claims}
+use Rattle.router_trace.specs.Claims.{Claim, bind_claim, claim_at, claim_behind, claims}
 use Rattle.router_trace.specs.Numbers.{Placed, first_below, first_placed}
 use Rattle.router_trace.specs.Following.{is_still_attached, is_to_be_told, tell, tells_of, tells, goes_on_at, is_going, takes_more, is_going_on, is_busy, is_open, is_used, can_start, is_wide, is_there, can_go, place_to_go, send, send_of, sends_due, is_unsent_on, owes_one, place_drained, drain_on, drain_by, drains_due}
 use Rattle.router_core.specs.Laws.{untaken}
@@ -25,10 +27,31 @@ same_bindings (Bound b ∷ t) = ap (λ (n : ℕ). n + 1) (same_bindings t)
 same_bindings (Booked acts ∷ t) = same_bindings t
 same_bindings (Began g ∷ t) = same_bindings t
 
+pub same_counters : (t : List Entry) → counters t ≡ counters (untaken t)
+same_counters [] = refl
+same_counters (Did s ∷ t) = same_counters t
+same_counters (Out d i ∷ t) = same_counters t
+same_counters (Took d n ∷ t) = same_counters t
+same_counters (Bound b ∷ t) = ap (λ (n : ℕ). if is_none b.row then n + 1 else n) (same_counters t)
+same_counters (Booked acts ∷ t) = same_counters t
+same_counters (Began g ∷ t) = same_counters t
+
+same_name_in : (t : List Entry) (b : Binding) → name_in t b ≡ name_in (untaken t) b
+same_name_in t b = ap (λ (n : ℕ). name_of b.row (n + 1)) (same_counters t)
+
+same_numbers : (t : List Entry) (name : DeliveryName) → number_named t name ≡ number_named (untaken t) name
+same_numbers [] name = refl
+same_numbers (Did s ∷ t) name = same_numbers t name
+same_numbers (Out d i ∷ t) name = same_numbers t name
+same_numbers (Took d n ∷ t) name = same_numbers t name
+same_numbers (Bound b ∷ t) name = λ j. if same_name (same_name_in t b j) name then Some (same_bindings t j + 1) else same_numbers t name j
+same_numbers (Booked acts ∷ t) name = same_numbers t name
+same_numbers (Began g ∷ t) name = same_numbers t name
+
 same_sending : (t : List Entry) (c o h : ℕ) → sending t c o h ≡ sending (untaken t) c o h
 same_sending [] c o h = refl
 same_sending (Did s ∷ t) c o h = ap (λ (v : Option ℕ). if is_lost s.event c then None else v) (same_sending t c o h)
-same_sending (Out d i ∷ t) c o h = ap (λ (v : Option ℕ). if d == c then sending_by i o h v else v) (same_sending t c o h)
+same_sending (Out d i ∷ t) c o h = λ j. if d == c then sending_by (λ name. same_numbers t name j) i o h (same_sending t c o h j) else same_sending t c o h j
 same_sending (Took d n ∷ t) c o h = same_sending t c o h
 same_sending (Bound b ∷ t) c o h = same_sending t c o h
 same_sending (Booked acts ∷ t) c o h = same_sending t c o h
@@ -37,7 +60,7 @@ same_sending (Began g ∷ t) c o h = same_sending t c o h
 pub same_named : (t : List Entry) (c o id : ℕ) → named t c o id ≡ named (untaken t) c o id
 same_named [] c o id = refl
 same_named (Did s ∷ t) c o id = ap (λ (v : Option ℕ). if is_lost s.event c then None else v) (same_named t c o id)
-same_named (Out d i ∷ t) c o id = ap (λ (v : Option ℕ). if d == c then named_by i o id v else v) (same_named t c o id)
+same_named (Out d i ∷ t) c o id = λ j. if d == c then named_by (λ name. same_numbers t name j) i o id (same_named t c o id j) else same_named t c o id j
 same_named (Took d n ∷ t) c o id = same_named t c o id
 same_named (Bound b ∷ t) c o id = same_named t c o id
 same_named (Booked acts ∷ t) c o id = same_named t c o id
@@ -56,9 +79,9 @@ pub same_delivery : (t : List Entry) (n : ℕ) → delivery t n ≡ delivery (un
 same_delivery [] n = refl
 same_delivery (Did s ∷ t) n =
     λ j. option_and_then (λ d. unless_over (behind_event s.event (λ c p. same_theirs t c p j) (λ c o id. same_named t c o id j) n d)) (same_delivery t n j)
-same_delivery (Out c i ∷ t) n = λ j. option_and_then (λ d. unless_over (behind_put i c n (λ o h. same_sending t c o h j) d)) (same_delivery t n j)
+same_delivery (Out c i ∷ t) n = λ j. option_and_then (λ d. unless_over (behind_put (λ name. same_numbers t name j) i c n (λ o h. same_sending t c o h j) d)) (same_delivery t n j)
 same_delivery (Took c k ∷ t) n = same_delivery t n
-same_delivery (Bound b ∷ t) n = λ j. if same_bindings t j + 1 == n then Some (bound b) else same_delivery t n j
+same_delivery (Bound b ∷ t) n = λ j. if same_bindings t j + 1 == n then Some (bound (same_name_in t b j) b) else unless_called (same_name_in t b j) (same_delivery t n j)
 same_delivery (Booked acts ∷ t) n = same_delivery t n
 same_delivery (Began g ∷ t) n = same_delivery t n
 
@@ -68,7 +91,7 @@ same_claims (Did s ∷ t) c o id =
     λ j. claim_at s.event c o (λ p. same_theirs t c p j) (λ p. same_handle t c o p j) (λ h. same_link t c o h j) id (same_claims t c o id j)
 same_claims (Out d i ∷ t) c o id = ap (λ (v : Option Claim). if d == c then claim_behind i o id v else v) (same_claims t c o id)
 same_claims (Took d n ∷ t) c o id = same_claims t c o id
-same_claims (Bound b ∷ t) c o id = same_claims t c o id
+same_claims (Bound b ∷ t) c o id = ap (bind_claim b.origin c o id) (same_claims t c o id)
 same_claims (Booked acts ∷ t) c o id = same_claims t c o id
 same_claims (Began g ∷ t) c o id = same_claims t c o id
 
@@ -143,18 +166,18 @@ same_place_to_go : (t : List Entry) (n : ℕ) (d : Option Delivery) → place_to
 same_place_to_go t n None = refl
 same_place_to_go t n (Some d) = ap (λ (b : Bool). if b then Some d.link else None) (same_can_go t n d)
 
-same_send : (t : List Entry) (n : ℕ) (d : Option Delivery) → send t n d ≡ send (untaken t) n d
-same_send t n None = refl
-same_send t n (Some d) =
+same_send : (t : List Entry) (d : Option Delivery) → send t d ≡ send (untaken t) d
+same_send t None = refl
+same_send t (Some d) =
     λ j. record {
       conn = d.link.conn.0;
       item = next_frame (largest_out (same_largest t d.link.conn.0 j)) d.link.channel
-          (if is_none d.id then first_transfer d.link.handle (same_next_id t d.link.conn.0 d.link.channel j) n d else later_transfer d.link.handle d) (rest_of d);
+          (if is_none d.id then first_transfer d.link.handle (same_next_id t d.link.conn.0 d.link.channel j) d else later_transfer d.link.handle d) (rest_of d);
     } ∷ []
 
 same_send_of : (t : List Entry) (p : Option Placed) → send_of t p ≡ send_of (untaken t) p
 same_send_of t None = refl
-same_send_of t (Some p) = ap (send t p.number) (same_delivery t p.number) ∙ same_send t p.number (delivery (untaken t) p.number)
+same_send_of t (Some p) = ap (send t) (same_delivery t p.number) ∙ same_send t (delivery (untaken t) p.number)
 
 pub same_sends : (t : List Entry) → sends_due t ≡ sends_due (untaken t)
 same_sends t =

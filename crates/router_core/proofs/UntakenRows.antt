@@ -25,7 +25,7 @@ use Rattle.router_trace.specs.LinkFrames.{plain_answer, answer_to, detach_item}
 use Rattle.router_trace.specs.Links.{Link, link, free_handle, holder, key_at, link_place, durable_key}
 use Rattle.router_trace.specs.Deliveries.{terminal, last_of, named}
 use Rattle.router_trace.specs.Numbers.{count_below}
-use Rattle.router_trace.specs.Settling.{ids_between, is_open_as, names_open, is_open_id, is_of_link, is_ignored_on, ignored, part_of}
+use Rattle.router_trace.specs.Settling.{ids_between, is_open_as, names_open, is_open_id, is_of_link, is_unbound_on, unbound, part_of}
 use Rattle.router_passing.specs.Passing.{consumer_of, binding_to}
 use Rattle.router_rows.specs.declared.answer.Answer.{Answer}
 use Rattle.router_rows.specs.declared.answer.Answer.TheVariants.{Attach, Detach, Refuse, Taken, Settle}
@@ -107,8 +107,8 @@ same_claimed_id : (t : List Entry) (c own handle : ℕ) (q : Option ℕ) → cla
 same_claimed_id t c own handle None = refl
 same_claimed_id t c own handle (Some id) = ap (λ v. if is_of_link handle v then Some id else None) (same_claims t c own id)
 
-same_ignored : (t : List Entry) (c own handle : ℕ) → ignored t c own handle ≡ ignored (untaken t) c own handle
-same_ignored t c own handle = λ j. count_below (2 ^ 32) (λ id. is_ignored_on handle (same_claims t c own id j))
+same_ignored : (t : List Entry) (c own handle : ℕ) → unbound t c own handle ≡ unbound (untaken t) c own handle
+same_ignored t c own handle = λ j. count_below (2 ^ 32) (λ id. is_unbound_on handle (same_claims t c own id j))
 
 same_ignored_put : (t : List Entry) (c own handle : ℕ) (q : Option ℕ) → ignored_put t c own handle q ≡ ignored_put (untaken t) c own handle q
 same_ignored_put t c own handle None = refl

@@ -10,22 +10,28 @@ use Rattle.router_deliveries.specs.declared.store.Store.{Store}
 use Rattle.router_deliveries.specs.Finding.{IsFirstLink}
 use Rattle.router_deliveries.specs.Fits.{StoreFit}
 use Rattle.router_deliveries.specs.Indexing.{in_group}
+use Rattle.router_deliveries.specs.Calling.{NumbersFit}
+use Rattle.router_deliveries.proofs.Called.{called_same, numbers_fit}
 use Rattle.router_deliveries.proofs.Found.{waits_is, unsent_is, undecided_is, held_is, to_tell_is}
 
 pub waits_in : (s : Store) (t : Trace) → StoreFit s t → (k n : ℕ) → in_group s.index.waiting k n ≡ waits_on k (delivery t n)
-waits_in s t fit k n = fit.indexed.waiting k n ∙ waits_is k (get nat_cmp s.deliveries n) ∙ ap (waits_on k) (fit.deliveries n)
+waits_in s t fit k n = fit.indexed.indexes.waiting k n ∙ waits_is k (get nat_cmp s.deliveries n) ∙ ap (waits_on k) (fit.deliveries n)
 
 pub unsent_in : (s : Store) (t : Trace) → StoreFit s t → (k n : ℕ) → in_group s.index.unsent k n ≡ is_unsent_on k (delivery t n)
-unsent_in s t fit k n = fit.indexed.unsent k n ∙ unsent_is k (get nat_cmp s.deliveries n) ∙ ap (is_unsent_on k) (fit.deliveries n)
+unsent_in s t fit k n = fit.indexed.indexes.unsent k n ∙ unsent_is k (get nat_cmp s.deliveries n) ∙ ap (is_unsent_on k) (fit.deliveries n)
 
 pub undecided_in : (s : Store) (t : Trace) → StoreFit s t → (k n : ℕ) → in_group s.index.undecided k n ≡ undecided_on k (delivery t n)
-undecided_in s t fit k n = fit.indexed.undecided k n ∙ undecided_is k (get nat_cmp s.deliveries n) ∙ ap (undecided_on k) (fit.deliveries n)
+undecided_in s t fit k n = fit.indexed.indexes.undecided k n ∙ undecided_is k (get nat_cmp s.deliveries n) ∙ ap (undecided_on k) (fit.deliveries n)
 
 pub held_in : (s : Store) (t : Trace) → StoreFit s t → (k n : ℕ) → in_group s.index.held k n ≡ held_from k (delivery t n)
-held_in s t fit k n = fit.indexed.held k n ∙ held_is k (get nat_cmp s.deliveries n) ∙ ap (held_from k) (fit.deliveries n)
+held_in s t fit k n = fit.indexed.indexes.held k n ∙ held_is k (get nat_cmp s.deliveries n) ∙ ap (held_from k) (fit.deliveries n)
 
 pub to_tell_in : (s : Store) (t : Trace) → StoreFit s t → (n : ℕ) → contains nat_cmp s.index.to_tell n ≡ is_to_tell (delivery t n)
-to_tell_in s t fit n = fit.indexed.to_tell n ∙ to_tell_is (get nat_cmp s.deliveries n) ∙ ap is_to_tell (fit.deliveries n)
+to_tell_in s t fit n = fit.indexed.indexes.to_tell n ∙ to_tell_is (get nat_cmp s.deliveries n) ∙ ap is_to_tell (fit.deliveries n)
+
+-- and its names with the trace's
+pub numbers_of : (s : Store) (t : Trace) → StoreFit s t → NumbersFit s.by_name t
+numbers_of s t fit = numbers_fit s.by_name t (called_same s.by_name (get nat_cmp s.deliveries) (delivery t) fit.deliveries fit.indexed.called)
 
 -- the lowest link, by an equal test
 pub link_same : (p q : ℕ → ℕ → Bool) → ((k n : ℕ) → p k n ≡ q k n) → (above r : Option ℕ) → IsFirstLink p above r → IsFirstLink q above r

@@ -1,15 +1,15 @@
 -- What the indexes find agrees with the deliveries.
 use Rattle.std.proofs.Common.{◌≡◌, ◌∙◌, ℕ, Bool, true, false, refl, sym, ap, [], Option, Some, None}
-use Rattle.std.specs.Prelude.{◌&&◌, ◌==◌, not, is_none, is_some}
+use Rattle.std.specs.Prelude.{◌&&◌, ◌||◌, ◌==◌, not, is_none, is_some}
 use Rattle.std.specs.List.Sorted.{IsStrictlySortedBy}
 use Rattle.std.specs.Ordering.{nat_cmp}
 use Rattle.std.specs.BTreeMap.{get}
 use Rattle.amqp_perf.specs.declared.state.DeliveryState.{DeliveryState}
 use Rattle.router_trace.specs.declared.binding.Origin.{Origin}
-use Rattle.router_trace.specs.Deliveries.{Delivery, is_number, is_of, waits_on, undecided_on, held_from, is_to_tell}
+use Rattle.router_trace.specs.Deliveries.{Delivery, has_row, source, is_number, is_of, waits_on, undecided_on, held_from, is_to_tell}
 use Rattle.router_trace.specs.Following.{is_unsent_on}
 use Rattle.router_deliveries.specs.declared.groups.Groups.{Groups}
-use Rattle.router_deliveries.specs.declared.ignored.Ignored.{Ignored}
+use Rattle.router_deliveries.specs.declared.unbound.Unbound.{Unbound}
 use Rattle.router_deliveries.specs.Claiming.{is_marked}
 use Rattle.router_deliveries.specs.Places.{at}
 use Rattle.router_deliveries.specs.Finding.{IsFirst, IsCount}
@@ -22,7 +22,7 @@ no_rise = tt
 pub no_numbers : (g : Groups) (k : ℕ) → get nat_cmp g.sets k ≡ None → IsCount (in_group g k) 0
 no_numbers g k none = record { numbers = []; rise = no_rise; pass = λ n. sym (ap (λ s. in_set s n) none); are = refl }
 
-pub no_ids : (s : Ignored) (c o h : ℕ) → at s.sets c o h ≡ None → IsCount (is_marked s c o h) 0
+pub no_ids : (s : Unbound) (c o h : ℕ) → at s.sets c o h ≡ None → IsCount (is_marked s c o h) 0
 no_ids s c o h none = record { numbers = []; rise = no_rise; pass = λ n. sym (ap (λ s. in_set s n) none); are = refl }
 
 pub first_same : (p q : ℕ → Bool) → ((n : ℕ) → p n ≡ q n) → (r : Option ℕ) → IsFirst p r → IsFirst q r
@@ -58,15 +58,15 @@ unsent_is k (Some d) = on d.link.number k d.going_on
 
 pub undecided_is : (k : ℕ) (v : Option Delivery) → is_number (standing v).undecided k ≡ undecided_on k v
 undecided_is k None = refl
-undecided_is k (Some d) = on d.link.number k (is_none d.outcome)
+undecided_is k (Some d) = on d.link.number k (is_none d.outcome && not d.suspended)
 
 pub held_is : (k : ℕ) (v : Option Delivery) → is_number (standing v).held k ≡ held_from k v
 held_is k None = refl
-held_is k (Some d) = by_origin d.origin
+held_is k (Some d) = by_origin (source d) (is_none d.outcome || has_row d.name)
   where
-    by_origin : (o : Option Origin) → is_number (from_link o (is_none d.outcome)) k ≡ (is_of k o && is_none d.outcome)
-    by_origin None = refl
-    by_origin (Some p) = on p.link.number k (is_none d.outcome)
+    by_origin : (o : Option Origin) (holds : Bool) → is_number (from_link o holds) k ≡ (is_of k o && holds)
+    by_origin None holds = refl
+    by_origin (Some p) holds = on p.link.number k holds
 
 pub to_tell_is : (v : Option Delivery) → (standing v).to_tell ≡ is_to_tell v
 to_tell_is None = refl

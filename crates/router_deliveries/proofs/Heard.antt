@@ -1,6 +1,6 @@
 -- How a peer's item changes a delivery, by how a table changes it.
 use Rattle.std.proofs.Common.{◌≡◌, ◌∙◌, ℕ, Bool, true, false, refl, sym, ap, ◌∷◌, Option, Some, None}
-use Rattle.std.specs.Prelude.{◌&&◌, ◌==◌, if◌then◌else◌, is_none, not}
+use Rattle.std.specs.Prelude.{◌&&◌, ◌||◌, ◌==◌, if◌then◌else◌, is_none, not}
 use Rattle.std.specs.Option.{option_and_then}
 use Rattle.std.proofs.lemmas.Bool.{eqb-true}
 use Rattle.amqp_session.specs.Ranges.{in_range}
@@ -17,7 +17,7 @@ use Rattle.router_trace.specs.declared.event.Event.TheVariants as event
 use Rattle.router_trace.specs.declared.channel.PeerChannel.{PeerChannel}
 use Rattle.router_trace.specs.Trace.{Trace, did}
 use Rattle.router_trace.specs.Sessions.{theirs, maps, is_channel}
-use Rattle.router_trace.specs.Deliveries.{Delivery, delivery, unless_over, is_undecided, disposed, decided, is_on, is_meant, is_named, is_number, is_settled_at, stands_on, untold, last_of, decision, terminal, named}
+use Rattle.router_trace.specs.Deliveries.{Delivery, source, delivery, unless_over, is_undecided, disposed, decided, is_on, is_meant, is_named, is_number, is_settled_at, stands_on, untold, last_of, decision, terminal, named}
 use Rattle.router_deliveries.specs.declared.change.Change.{Change}
 use Rattle.router_deliveries.specs.declared.change.Change.TheVariants as change
 use Rattle.router_deliveries.specs.Fits.{channel_of}
@@ -58,14 +58,14 @@ sent_by_producer : (x : Disposition) (c own n : ℕ) (names : ℕ → ℕ → Op
     → behind_any (untold_by c own x) old ≡ by (λ d. disposed Sender x c v (names d.link.channel) n d) old
 sent_by_producer x c own n names v same old keeps = by_settled x.settled refl
   where
-    step : (d : Delivery) → disposed Sender x c v (names d.link.channel) n d ≡ (if x.settled && comes_with_id d.origin c own x.first (last_of x) then untold d else d)
-    step d = ap (λ b. if b then untold d else d) (settles x c own v same d.origin)
+    step : (d : Delivery) → disposed Sender x c v (names d.link.channel) n d ≡ (if x.settled && comes_with_id (source d) c own x.first (last_of x) then untold d else d)
+    step d = ap (λ b. if b then untold d else d) (settles x c own v same (source d))
 
     by_settled : (b : Bool) → x.settled ≡ b → behind_any (if b then Some (change.Untold c own x.first (last_of x)) else None) old ≡ by (λ d. disposed Sender x c v (names d.link.channel) n d) old
     by_settled true e = does (λ d. disposed Sender x c v (names d.link.channel) n d) (change.Untold c own x.first (last_of x)) old
-        (λ d. step d ∙ ap (λ b. if b && comes_with_id d.origin c own x.first (last_of x) then untold d else d) e)
+        (λ d. step d ∙ ap (λ b. if b && comes_with_id (source d) c own x.first (last_of x) then untold d else d) e)
     by_settled false e = quiet (λ d. disposed Sender x c v (names d.link.channel) n d) old keeps
-        (λ d is. step d ∙ ap (λ b. if b && comes_with_id d.origin c own x.first (last_of x) then untold d else d) e)
+        (λ d is. step d ∙ ap (λ b. if b && comes_with_id (source d) c own x.first (last_of x) then untold d else d) e)
 
 -- a disposition of a consumer without an outcome, ...
 none_meant : (x : Disposition) (o : Option ℕ) → is_meant x o ≡ is_in o x.first (last_of x)
@@ -75,7 +75,7 @@ none_meant x (Some id) = refl
 as_it_was : (d : Delivery) (made : Option DeliveryState) → is_undecided d ≡ true → made ≡ None → record d { outcome = made } ≡ d
 as_it_was d made undecided is = rw is (ap (λ o. record d { outcome = o }) (sym (none_of d.outcome undecided)))
   where
-    none_of : (o : Option DeliveryState) → (is_none o && not d.presettled) ≡ true → o ≡ None
+    none_of : (o : Option DeliveryState) → (is_none o && not (d.presettled || d.suspended)) ≡ true → o ≡ None
     none_of None e = refl
     none_of (Some s) e = absurd cc
 
@@ -101,7 +101,7 @@ same_name t n id stored view x undecided = by_entries (stored id) (view id) x
         contra closed same = let open_there : is_open (delivery t m) ≡ true = ap (λ k. is_open (delivery t k)) same ∙ undecided in absurd (cc)
 
         other : (b : Bool) → (m == n) ≡ b → (m == n) ≡ false
-        other true e = absurd (contra x.1 (eqb-true m n e))
+        other true e = absurd (contra x (eqb-true m n e))
         other false e = e
 
 same_names : (t : Trace) (n : ℕ) (o : Option ℕ) (stored view : ℕ → Option ℕ) → ((id : ℕ) → Remembers t (stored id) (view id)) → is_open (delivery t n) ≡ true → is_named o view n ≡ is_named o stored n
@@ -180,7 +180,7 @@ disposes : (r : Role) (x : Disposition) (c n : ℕ) (own : Option ℕ) (t : Trac
     → ((o : ℕ) → is_channel own o ≡ maps v o) → ((o id : ℕ) → Remembers t (stored c o id) (named t c o id))
     → heard_by (disposed_change r c own x) stored n (delivery t n) ≡ by (λ d. disposed r x c v (named t c d.link.channel) n d) (delivery t n)
 disposes Sender x c n None t stored v same remembers =
-    quiet (λ d. disposed Sender x c v (named t c d.link.channel) n d) (delivery t n) (kept t n) (λ d e. ap (λ b. if b then untold d else d) (by_origin d.origin))
+    quiet (λ d. disposed Sender x c v (named t c d.link.channel) n d) (delivery t n) (kept t n) (λ d e. ap (λ b. if b then untold d else d) (by_origin (source d)))
   where
     by_origin : (p : Option Origin) → is_settled_at x c v p ≡ false
     by_origin None = refl

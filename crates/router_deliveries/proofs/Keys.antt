@@ -4,7 +4,7 @@ use Rattle.std.specs.Prelude.{◌&&◌, ◌==◌, not, if◌then◌else◌, is_n
 use Rattle.amqp_perf.specs.declared.state.DeliveryState.{DeliveryState}
 use Rattle.router_trace.specs.declared.binding.Origin.{Origin}
 use Rattle.router_trace.specs.declared.handle.Attachment.{Attachment}
-use Rattle.router_trace.specs.Deliveries.{Delivery, unless_over, is_undecided, stands_on, behind_ends, behind_origin, is_gone_with, ended, untold, failed}
+use Rattle.router_trace.specs.Deliveries.{Delivery, source, unless_over, is_undecided, stands_on, behind_ends, behind_origin, is_gone_with, ended, decided_at_end, suspended_at_end, untold, unsettled, failed}
 use Rattle.router_deliveries.specs.declared.change.Change.{Change}
 use Rattle.router_deliveries.specs.declared.change.Change.TheVariants as change
 use Rattle.router_deliveries.specs.declared.change.Gone.{Gone}
@@ -41,33 +41,56 @@ on_false : (g : Gone) (p : Spot) (holds : Bool) → is_gone_there g (on_spot p h
 on_false g p true e h = e
 on_false g p false e h = absurd cc
 
-link_stays : (g : Gone) (d : Delivery) → is_gone_there g (on_spot (spot_of d.link) (d.going_on || is_none d.outcome)) ≡ false → (if is_gone g d.link then ended d else d) ≡ d
-link_stays g d e = by_rest d.going_on d.outcome refl refl
-  where
-    not_gone : (d.going_on || is_none d.outcome) ≡ true → (if is_gone g d.link then ended d else d) ≡ d
-    not_gone h = ap (λ b. if b then ended d else d) (by_place g d.link ∙ on_false g (spot_of d.link) (d.going_on || is_none d.outcome) e h)
+-- the end of its link may change it
+abbrev can_end : Delivery → Bool
+can_end d = d.going_on || (is_none d.outcome && not d.suspended)
 
-    either : (b : Bool) → ended d ≡ d → (if b then ended d else d) ≡ d
+-- a decided delivery without more frames
+decided_stays : (d : Delivery) (s : DeliveryState) → d.going_on ≡ false → d.outcome ≡ Some s → decided_at_end d ≡ d
+decided_stays d s x y =
+    ap (λ (v : Option DeliveryState). record d { going_on = false; outcome = (if is_none v then Some failed else v) }) y
+    ∙ ap (λ (v : Option DeliveryState). record d { going_on = false; outcome = v }) (sym y) ∙ ap (λ b. record d { going_on = b }) (sym x)
+
+suspends_nothing : (d : Delivery) (s : DeliveryState) → d.going_on ≡ false → d.outcome ≡ Some s → d.suspended ≡ false → suspended_at_end d ≡ d
+suspends_nothing d s x y z =
+    ap (λ (v : Option DeliveryState). record d { going_on = false; suspended = is_none v }) y
+    ∙ ap (λ b. record d { going_on = false; suspended = b }) (sym z) ∙ ap (λ b. record d { going_on = b }) (sym x)
+
+link_stays : (closed : Bool) (g : Gone) (d : Delivery) → is_gone_there g (on_spot (spot_of d.link) (can_end d)) ≡ false → (if is_gone g d.link then ended closed d else d) ≡ d
+link_stays closed g d e = by_rest d.going_on d.outcome d.suspended refl refl refl
+  where
+    not_gone : can_end d ≡ true → (if is_gone g d.link then ended closed d else d) ≡ d
+    not_gone h = ap (λ b. if b then ended closed d else d) (by_place g d.link ∙ on_false g (spot_of d.link) (can_end d) e h)
+
+    either : (b : Bool) → ended closed d ≡ d → (if b then ended closed d else d) ≡ d
     either true same = same
     either false same = refl
 
-    by_rest : (r : Bool) (o : Option DeliveryState) → d.going_on ≡ r → d.outcome ≡ o → (if is_gone g d.link then ended d else d) ≡ d
-    by_rest true o x y = not_gone (ap (λ b. b || is_none d.outcome) x)
-    by_rest false None x y = not_gone (ap (λ b. b || is_none d.outcome) x ∙ ap is_none y)
-    by_rest false (Some s) x y = either (is_gone g d.link)
-        (ap (λ (v : Option DeliveryState). record d { going_on = false; outcome = (if is_none v then Some failed else v) }) y
-        ∙ ap (λ (v : Option DeliveryState). record d { going_on = false; outcome = v }) (sym y) ∙ ap (λ b. record d { going_on = b }) (sym x))
+    is_suspended : d.suspended ≡ true → ended closed d ≡ d
+    is_suspended z = ap (λ b. if b then d else (if d.lasting && not closed then suspended_at_end d else decided_at_end d)) z
 
-ends_nothing : (g : Gone) (d : Delivery) → is_gone_there g (on_spot (spot_of d.link) (d.going_on || is_none d.outcome)) ≡ false
-    → is_gone_there g (from_spot d.origin) ≡ false → behind_ends (is_gone g) d ≡ d
-ends_nothing g d e f = ap (behind_origin (is_gone g)) (link_stays g d e) ∙ ap (λ b. if b then untold d else d) (origin_stays g d.origin f)
+    decided : (l : Bool) (s : DeliveryState) → d.going_on ≡ false → d.outcome ≡ Some s → d.suspended ≡ false → (if l then suspended_at_end d else decided_at_end d) ≡ d
+    decided true s x y z = suspends_nothing d s x y z
+    decided false s x y z = decided_stays d s x y
+
+    by_rest : (r : Bool) (o : Option DeliveryState) (s : Bool) → d.going_on ≡ r → d.outcome ≡ o → d.suspended ≡ s → (if is_gone g d.link then ended closed d else d) ≡ d
+    by_rest true o s x y z = not_gone (ap (λ b. b || (is_none d.outcome && not d.suspended)) x)
+    by_rest false None false x y z = not_gone (ap (λ b. b || (is_none d.outcome && not d.suspended)) x ∙ ap (λ v. is_none v && not d.suspended) y ∙ ap not z)
+    by_rest false None true x y z = either (is_gone g d.link) (is_suspended z)
+    by_rest false (Some v) true x y z = either (is_gone g d.link) (is_suspended z)
+    by_rest false (Some v) false x y z = either (is_gone g d.link)
+        (ap (λ b. if b then d else (if d.lasting && not closed then suspended_at_end d else decided_at_end d)) z ∙ decided (d.lasting && not closed) v x y z)
+
+ends_nothing : (closed : Bool) (g : Gone) (d : Delivery) → is_gone_there g (on_spot (spot_of d.link) (can_end d)) ≡ false
+    → is_gone_there g (from_spot (source d)) ≡ false → behind_ends closed (is_gone g) d ≡ d
+ends_nothing closed g d e f = ap (behind_origin (is_gone g)) (link_stays closed g d e) ∙ ap (λ b. if b then untold d else d) (origin_stays g (source d) f)
 
 untells_nothing : (p : Option Origin) (c o first last : ℕ) → is_id_there c o first last (id_spot p) ≡ false → comes_with_id p c o first last ≡ false
 untells_nothing None c o first last e = refl
 untells_nothing (Some p) c o first last e = e
 
-decides_nothing : (d : Delivery) (c o first last : ℕ) → is_gone_there (gone.Session c o) (on_spot (spot_of d.link) (d.going_on || is_none d.outcome)) ≡ false → is_decided_by d c o first last ≡ false
-decides_nothing d c o first last e = by_outcome d.outcome refl
+decides_nothing : (d : Delivery) (c o first last : ℕ) → is_gone_there (gone.Session c o) (on_spot (spot_of d.link) (can_end d)) ≡ false → is_decided_by d c o first last ≡ false
+decides_nothing d c o first last e = by_rest d.outcome d.suspended refl refl
   where
     no : (u s i : Bool) → s ≡ false → (u && (s && i)) ≡ false
     no true true i h = absurd cc
@@ -78,20 +101,28 @@ decides_nothing d c o first last e = by_outcome d.outcome refl
     or_true true = refl
     or_true false = refl
 
-    here : d.outcome ≡ None → stands_on d.link c o ≡ false
-    here y = ap (λ b. (d.link.conn.0 == c) && b) (equal_back o d.link.channel)
-        ∙ on_false (gone.Session c o) (spot_of d.link) (d.going_on || is_none d.outcome) e (ap (λ v. d.going_on || is_none v) y ∙ or_true d.going_on)
+    here : d.outcome ≡ None → d.suspended ≡ false → stands_on d.link c o ≡ false
+    here y z = ap (λ b. (d.link.conn.0 == c) && b) (equal_back o d.link.channel)
+        ∙ on_false (gone.Session c o) (spot_of d.link) (can_end d) e (ap (λ v. d.going_on || (is_none v && not d.suspended)) y ∙ ap (λ b. d.going_on || not b) z ∙ or_true d.going_on)
 
-    by_outcome : (v : Option DeliveryState) → d.outcome ≡ v → is_decided_by d c o first last ≡ false
-    by_outcome None y = no (is_undecided d) (stands_on d.link c o) (is_in d.id first last) (here y)
-    by_outcome (Some s) y = ap (λ v. (is_none v && not d.presettled) && (stands_on d.link c o && is_in d.id first last)) y
+    not_or : (a b : Bool) → b ≡ true → not (a || b) ≡ false
+    not_or true b h = refl
+    not_or false true h = refl
+    not_or false false h = absurd cc
+
+    by_rest : (v : Option DeliveryState) (s : Bool) → d.outcome ≡ v → d.suspended ≡ s → is_decided_by d c o first last ≡ false
+    by_rest None false y z = no (is_undecided d) (stands_on d.link c o) (is_in d.id first last) (here y z)
+    by_rest None true y z = ap (λ v. (is_none v && not (d.presettled || d.suspended)) && (stands_on d.link c o && is_in d.id first last)) y
+        ∙ ap (λ b. b && (stands_on d.link c o && is_in d.id first last)) (not_or d.presettled d.suspended z)
+    by_rest (Some s) b y z = ap (λ v. (is_none v && not (d.presettled || d.suspended)) && (stands_on d.link c o && is_in d.id first last)) y
 
 changes_nothing : (x : Change) (d : Delivery) → concerns x (standing (Some d)) ≡ false → changed x d ≡ d
-changes_nothing (change.Ends g) d e =
-    let on = is_gone_there g (on_spot (spot_of d.link) (d.going_on || is_none d.outcome)) in
-    let from = is_gone_there g (from_spot d.origin) in
-    ends_nothing g d (or_first on from e) (or_second on from e)
-changes_nothing (change.Untold c o first last) d e = ap (λ b. if b then untold d else d) (untells_nothing d.origin c o first last e)
+changes_nothing (change.Ends g closed) d e =
+    let on = is_gone_there g (on_spot (spot_of d.link) (can_end d)) in
+    let from = is_gone_there g (from_spot (source d)) in
+    ends_nothing closed g d (or_first on from e) (or_second on from e)
+changes_nothing (change.Untold c o first last) d e = ap (λ b. if b then untold d else d) (untells_nothing (source d) c o first last e)
+changes_nothing (change.Told c o first last) d e = ap (λ b. if b then unsettled d else d) (untells_nothing (source d) c o first last e)
 changes_nothing (change.Decided c o first last made) d e = ap (λ b. if b then record d { outcome = Some made } else d) (decides_nothing d c o first last e)
 
 -- a change applied to the deliveries that it concerns has been applied to all

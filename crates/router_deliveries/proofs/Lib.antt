@@ -1,9 +1,13 @@
 mod Again
+pub mod Low
+pub mod Called
+pub mod Known
 mod Tags
 mod Keys
 pub mod Puts
 mod Closed
 mod Named
+mod Bound
 mod Picked
 mod Heard
 mod Reindexed

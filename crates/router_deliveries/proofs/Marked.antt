@@ -1,21 +1,21 @@
--- The ignored claims stay marked at their links.
+-- The unbound claims stay marked at their links.
 use Rattle.std.proofs.Common.{◌≡◌, ◌∙◌, ◌<◌, ◌^◌, ℕ, Bool, true, false, refl, sym, ap, Option, Some, None}
 use Rattle.std.specs.Prelude.{◌==◌, if◌then◌else◌}
 use Rattle.std.proofs.lemmas.Bool.{eqb-true}
 use Rattle.router_trace.specs.Claims.{Claim, claims}
 use Rattle.router_trace.specs.Deliveries.{is_number}
-use Rattle.router_trace.specs.Settling.{is_ignored_on, ignored}
+use Rattle.router_trace.specs.Settling.{is_unbound_on, unbound}
 use Rattle.router_trace.specs.Trace.{Trace}
 use Rattle.router_deliveries.specs.declared.claims.Claims.{Claims}
-use Rattle.router_deliveries.specs.Claiming.{ClaimsFit, IsSmall, ignored_handle, is_marked}
+use Rattle.router_deliveries.specs.Claiming.{ClaimsFit, IsSmall, unbound_handle, is_marked}
 use Rattle.router_deliveries.specs.Finding.{IsCount}
 use Rattle.router_deliveries.specs.Places.{at_id}
 use Rattle.router_deliveries.proofs.Numbers.{count_is}
 use Rattle.router_deliveries.proofs.Found.{count_same}
 
-ignored_is : (h : ℕ) (v : Option Claim) → is_ignored_on h v ≡ is_number (ignored_handle v) h
-ignored_is h None = refl
-ignored_is h (Some v) = by_test v.ignored
+unbound_is : (h : ℕ) (v : Option Claim) → is_unbound_on h v ≡ is_number (unbound_handle v) h
+unbound_is h None = refl
+unbound_is h (Some v) = by_test v.unbound
   where
     by_test : (b : Bool) → (if b then v.handle == h else false) ≡ is_number (if b then Some v.handle else None) h
     by_test true = refl
@@ -30,13 +30,13 @@ set_claim here own same claim old = if here then (if own then (if same then clai
 
 -- the claim of an id changes
 row : (here own same : Bool) (h : ℕ) (stood claim old : Option Claim) (first mid last : Bool) → (here ≡ true → own ≡ true → same ≡ true → stood ≡ old)
-    → first ≡ is_ignored_on h old
-    → mid ≡ set_mark here own (is_number (ignored_handle stood) h) same false first
-    → last ≡ set_mark here own (is_number (ignored_handle claim) h) same true mid
-    → last ≡ is_ignored_on h (set_claim here own same claim old)
+    → first ≡ is_unbound_on h old
+    → mid ≡ set_mark here own (is_number (unbound_handle stood) h) same false first
+    → last ≡ set_mark here own (is_number (unbound_handle claim) h) same true mid
+    → last ≡ is_unbound_on h (set_claim here own same claim old)
 row true true true h stood claim old first mid last is marked dropped added =
-    added ∙ ap (λ b. if is_number (ignored_handle claim) h then true else b) (dropped ∙ gone (is_number (ignored_handle stood) h) first (marked ∙ ap (is_ignored_on h) (sym (is refl refl refl)) ∙ ignored_is h stood))
-    ∙ truth (is_number (ignored_handle claim) h) ∙ sym (ignored_is h claim)
+    added ∙ ap (λ b. if is_number (unbound_handle claim) h then true else b) (dropped ∙ gone (is_number (unbound_handle stood) h) first (marked ∙ ap (is_unbound_on h) (sym (is refl refl refl)) ∙ unbound_is h stood))
+    ∙ truth (is_number (unbound_handle claim) h) ∙ sym (unbound_is h claim)
   where
     gone : (b first : Bool) → first ≡ b → (if b then false else first) ≡ false
     gone true first e = refl
@@ -46,7 +46,7 @@ row true true true h stood claim old first mid last is marked dropped added =
     truth true = refl
     truth false = refl
 row true true false h stood claim old first mid last is marked dropped added =
-    added ∙ same_either (is_number (ignored_handle claim) h) mid ∙ dropped ∙ same_either (is_number (ignored_handle stood) h) first ∙ marked
+    added ∙ same_either (is_number (unbound_handle claim) h) mid ∙ dropped ∙ same_either (is_number (unbound_handle stood) h) first ∙ marked
   where
     same_either : (b v : Bool) → (if b then v else v) ≡ v
     same_either true v = refl
@@ -60,18 +60,18 @@ here_same known conn own id c o q stood is e f g =
 
 -- an id gets this claim, or none
 pub marked_put : (conn own id : ℕ) (claim stood : Option Claim) (handle after : Option ℕ) (known next : ℕ → ℕ → ℕ → Option Claim) (first mid last : ℕ → ℕ → ℕ → ℕ → Bool)
-    → stood ≡ known conn own id → handle ≡ ignored_handle stood → after ≡ ignored_handle claim
-    → ((c o h q : ℕ) → first c o h q ≡ is_ignored_on h (known c o q))
+    → stood ≡ known conn own id → handle ≡ unbound_handle stood → after ≡ unbound_handle claim
+    → ((c o h q : ℕ) → first c o h q ≡ is_unbound_on h (known c o q))
     → ((c o h q : ℕ) → mid c o h q ≡ set_mark (conn == c) (own == o) (is_number handle h) (id == q) false (first c o h q))
     → ((c o h q : ℕ) → last c o h q ≡ set_mark (conn == c) (own == o) (is_number after h) (id == q) true (mid c o h q))
     → ((c o q : ℕ) → next c o q ≡ set_claim (conn == c) (own == o) (id == q) claim (known c o q))
-    → (c o h q : ℕ) → last c o h q ≡ is_ignored_on h (next c o q)
+    → (c o h q : ℕ) → last c o h q ≡ is_unbound_on h (next c o q)
 marked_put conn own id claim stood handle after known next first mid last is before behind marked dropped added set c o h q =
     row (conn == c) (own == o) (id == q) h stood claim (known c o q) (first c o h q) (mid c o h q) (last c o h q)
     (here_same known conn own id c o q stood is) (marked c o h q)
     (dropped c o h q ∙ ap (λ v. set_mark (conn == c) (own == o) (is_number v h) (id == q) false (first c o h q)) before)
     (added c o h q ∙ ap (λ v. set_mark (conn == c) (own == o) (is_number v h) (id == q) true (mid c o h q)) behind)
-    ∙ ap (is_ignored_on h) (sym (set c o q))
+    ∙ ap (is_unbound_on h) (sym (set c o q))
 
 no_mark : (here own same mid : Bool) → set_mark here own false same true mid ≡ mid
 no_mark true true same mid = refl
@@ -79,28 +79,28 @@ no_mark true false same mid = refl
 no_mark false own same mid = refl
 
 pub marked_clear : (conn own id : ℕ) (stood : Option Claim) (handle : Option ℕ) (known next : ℕ → ℕ → ℕ → Option Claim) (first last : ℕ → ℕ → ℕ → ℕ → Bool)
-    → stood ≡ known conn own id → handle ≡ ignored_handle stood
-    → ((c o h q : ℕ) → first c o h q ≡ is_ignored_on h (known c o q))
+    → stood ≡ known conn own id → handle ≡ unbound_handle stood
+    → ((c o h q : ℕ) → first c o h q ≡ is_unbound_on h (known c o q))
     → ((c o h q : ℕ) → last c o h q ≡ set_mark (conn == c) (own == o) (is_number handle h) (id == q) false (first c o h q))
     → ((c o q : ℕ) → next c o q ≡ set_claim (conn == c) (own == o) (id == q) None (known c o q))
-    → (c o h q : ℕ) → last c o h q ≡ is_ignored_on h (next c o q)
+    → (c o h q : ℕ) → last c o h q ≡ is_unbound_on h (next c o q)
 marked_clear conn own id stood handle known next first last is before marked dropped set =
     marked_put conn own id None stood handle None known next first last last is before refl marked dropped
     (λ c o h q. sym (no_mark (conn == c) (own == o) (id == q) (last c o h q))) set
 
 -- all claims of a session or of a connection are gone
-pub marked_end : (here own : Bool) (h : ℕ) (old next : Option Claim) (first last : Bool) → first ≡ is_ignored_on h old → last ≡ (if here then (if own then false else first) else first)
-    → next ≡ (if here then (if own then None else old) else old) → last ≡ is_ignored_on h next
-marked_end true true h old next first last marked ended gone = ended ∙ ap (is_ignored_on h) (sym gone)
-marked_end true false h old next first last marked ended gone = ended ∙ marked ∙ ap (is_ignored_on h) (sym gone)
-marked_end false own h old next first last marked ended gone = ended ∙ marked ∙ ap (is_ignored_on h) (sym gone)
+pub marked_end : (here own : Bool) (h : ℕ) (old next : Option Claim) (first last : Bool) → first ≡ is_unbound_on h old → last ≡ (if here then (if own then false else first) else first)
+    → next ≡ (if here then (if own then None else old) else old) → last ≡ is_unbound_on h next
+marked_end true true h old next first last marked ended gone = ended ∙ ap (is_unbound_on h) (sym gone)
+marked_end true false h old next first last marked ended gone = ended ∙ marked ∙ ap (is_unbound_on h) (sym gone)
+marked_end false own h old next first last marked ended gone = ended ∙ marked ∙ ap (is_unbound_on h) (sym gone)
 
 -- how many there are
-pub ignored_count : (s : Claims) (t : Trace) (c o h k : ℕ) → ClaimsFit s t → IsCount (is_marked s.ignored c o h) k → k ≡ ignored t c o h
-ignored_count s t c o h k fit count =
-    count_is (2 ^ 32) (λ id. is_ignored_on h (claims t c o id)) (λ id e. low id (at_id s.ids c o id) (fit.small c o id) (ap (is_ignored_on h) (fit.ids c o id) ∙ e)) k
-    (count_same (is_marked s.ignored c o h) (λ id. is_ignored_on h (claims t c o id)) (λ id. fit.marked c o h id ∙ ap (is_ignored_on h) (fit.ids c o id)) k count)
+pub unbound_count : (s : Claims) (t : Trace) (c o h k : ℕ) → ClaimsFit s t → IsCount (is_marked s.unbound c o h) k → k ≡ unbound t c o h
+unbound_count s t c o h k fit count =
+    count_is (2 ^ 32) (λ id. is_unbound_on h (claims t c o id)) (λ id e. low id (at_id s.ids c o id) (fit.small c o id) (ap (is_unbound_on h) (fit.ids c o id) ∙ e)) k
+    (count_same (is_marked s.unbound c o h) (λ id. is_unbound_on h (claims t c o id)) (λ id. fit.marked c o h id ∙ ap (is_unbound_on h) (fit.ids c o id)) k count)
   where
-    low : (id : ℕ) (v : Option Claim) → IsSmall id v → is_ignored_on h v ≡ true → id < 2 ^ 32
+    low : (id : ℕ) (v : Option Claim) → IsSmall id v → is_unbound_on h v ≡ true → id < 2 ^ 32
     low id None small e = absurd cc
     low id (Some v) small e = small

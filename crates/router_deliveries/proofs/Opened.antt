@@ -14,7 +14,7 @@ open_same (Some d) = refl
 pub used_is : (t : Trace) (stored view : Option ℕ) (known : ℕ → Option Delivery) → ((n : ℕ) → known n ≡ delivery t n) → Remembers t stored view → uses known stored ≡ is_used t view
 used_is t (Some n) view known same x = ap is_open (same n) ∙ open_same (delivery t n) ∙ ap (is_used t) (sym x)
 used_is t None None known same x = refl
-used_is t None (Some n) known same x = sym (sym (open_same (delivery t n)) ∙ x.1)
+used_is t None (Some n) known same x = sym (sym (open_same (delivery t n)) ∙ x)
 
 closed_as : (c o id : ℕ) (v : Option Delivery) → is_open v ≡ false → is_open_as c o id v ≡ false
 closed_as c o id None e = refl
@@ -24,7 +24,7 @@ pub opens_is : (t : Trace) (c o id : ℕ) (stored view : Option ℕ) (known : �
     → opens known c o id stored ≡ names_open t c o id view
 opens_is t c o id (Some n) view known same x = ap (is_open_as c o id) (same n) ∙ ap (names_open t c o id) (sym x)
 opens_is t c o id None None known same x = refl
-opens_is t c o id None (Some n) known same x = sym (closed_as c o id (delivery t n) x.1)
+opens_is t c o id None (Some n) known same x = sym (closed_as c o id (delivery t n) x)
 
 -- what passes exists, and has 32 bits
 pub is_there : (known : ℕ → Option Delivery) (c o id : ℕ) (stored : Option ℕ) → opens known c o id stored ≡ true → is_some stored ≡ true

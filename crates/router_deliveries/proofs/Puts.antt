@@ -12,10 +12,12 @@ use Rattle.amqp_perf.specs.declared.perf.Role.TheVariants.{Sender, Receiver}
 use Rattle.amqp_perf.specs.declared.perf.Transfer.{Transfer}
 use Rattle.amqp_frames.specs.declared.item.Item.{Item}
 use Rattle.amqp_frames.specs.declared.item.Item.TheVariants as item
+use Rattle.router_trace.specs.declared.binding.DeliveryName.{DeliveryName}
 use Rattle.router_trace.specs.declared.binding.Origin.{Origin}
 use Rattle.router_trace.specs.declared.handle.Attachment.{Attachment}
+use Rattle.router_trace.specs.Sessions.{theirs}
 use Rattle.router_trace.specs.Trace.{Trace, Did, Out, Took, Bound, Booked, Began}
-use Rattle.router_trace.specs.Deliveries.{Delivery, delivery, bindings, bound, unless_over, is_over, behind_ends, behind_put, behind_frame, put_in, ended_by, is_number, carried, tag_in, told, is_meant, origin_id, stands_on, untold, last_of, sending}
+use Rattle.router_trace.specs.Deliveries.{Delivery, source, delivery, named, behind_event, bindings, bound, name_in, same_name, number_named, unless_called, unless_over, is_over, behind_ends, behind_put, behind_frame, put_in, ended_by, is_number, carried, tag_in, told, is_meant, origin_id, stands_on, untold, unsettled, last_of, sending}
 use Rattle.router_deliveries.specs.declared.change.Change.{Change}
 use Rattle.router_deliveries.specs.declared.change.Change.TheVariants as change
 use Rattle.router_deliveries.specs.declared.change.Gone.TheVariants as gone
@@ -37,25 +39,33 @@ kept_behind f (Some d) = kept_once (f d)
 
 pub kept : (t : Trace) (n : ℕ) → IsKept (delivery t n)
 kept [] n = refl
-kept (Did s ∷ t) n = kept_behind _ (delivery t n)
-kept (Out c i ∷ t) n = kept_behind _ (delivery t n)
+kept (Did s ∷ t) n = kept_behind (behind_event s.event (theirs t) (named t) n) (delivery t n)
+kept (Out c i ∷ t) n = kept_behind (behind_put (number_named t) i c n (sending t c)) (delivery t n)
 kept (Took c k ∷ t) n = kept t n
 kept (Began g ∷ t) n = kept t n
 kept (Booked acts ∷ t) n = kept t n
 kept (Bound b ∷ t) n = fresh (bindings t + 1 == n) (kept t n)
   where
-    fresh : (new : Bool) → IsKept (delivery t n) → IsKept (if new then Some (bound b) else delivery t n)
+    uncalled : (v : Option Delivery) → IsKept v → IsKept (unless_called (name_in t b) v)
+    uncalled None keeps = keeps
+    uncalled (Some d) keeps = by_test (same_name d.name (name_in t b))
+      where
+        by_test : (q : Bool) → IsKept (if q then None else Some d)
+        by_test true = refl
+        by_test false = keeps
+
+    fresh : (new : Bool) → IsKept (delivery t n) → IsKept (if new then Some (bound (name_in t b) b) else unless_called (name_in t b) (delivery t n))
     fresh true keeps = refl
-    fresh false keeps = keeps
+    fresh false keeps = uncalled (delivery t n) keeps
 
 -- links that end, by an equal test
-pub same_ends : (p q : Attachment → Bool) → ((a : Attachment) → p a ≡ q a) → (d : Delivery) → behind_ends p d ≡ behind_ends q d
-same_ends p q same d = ap (λ gone. behind_ends gone d) (λ i a. same a i)
+pub same_ends : (closed : Bool) (p q : Attachment → Bool) → ((a : Attachment) → p a ≡ q a) → (d : Delivery) → behind_ends closed p d ≡ behind_ends closed q d
+same_ends closed p q same d = ap (λ gone. behind_ends closed gone d) (λ i a. same a i)
 
-pub no_ends : (p : Attachment → Bool) → ((a : Attachment) → p a ≡ false) → (d : Delivery) → behind_ends p d ≡ d
-no_ends p none d = same_ends p (λ a. false) none d ∙ never d.origin refl
+pub no_ends : (closed : Bool) (p : Attachment → Bool) → ((a : Attachment) → p a ≡ false) → (d : Delivery) → behind_ends closed p d ≡ d
+no_ends closed p none d = same_ends closed p (λ a. false) none d ∙ never (source d) refl
   where
-    never : (o : Option Origin) → d.origin ≡ o → behind_ends (λ a. false) d ≡ d
+    never : (o : Option Origin) → source d ≡ o → behind_ends closed (λ a. false) d ≡ d
     never None e = rw e refl
     never (Some p) e = rw e refl
 
@@ -72,8 +82,8 @@ abbrev pub frame_of : ℕ → Bool → Perf → List ℕ → Item
 frame_of own sasl body payload = item.Frame sasl own body payload
 
 -- how it changes a delivery, and a delivery that may exist
-abbrev pub put_behind : ℕ → Item → ℕ → (ℕ → ℕ → Option ℕ) → Option Delivery → Option Delivery
-put_behind c i n known v = option_and_then (λ d. unless_over (behind_put i c n known d)) v
+abbrev pub put_behind : (DeliveryName → Option ℕ) → ℕ → Item → ℕ → (ℕ → ℕ → Option ℕ) → Option Delivery → Option Delivery
+put_behind numbers c i n known v = option_and_then (λ d. unless_over (behind_put numbers i c n known d)) v
 
 still : (d : Delivery) → IsKept (Some d) → Some d ≡ unless_over d
 still d keeps = sym keeps
@@ -82,30 +92,32 @@ none_either : (b : Bool) (f : Delivery → Option Delivery) → (if b then optio
 none_either true f = refl
 none_either false f = refl
 
-pub one_frame : (c own n : ℕ) (sasl : Bool) (x : Transfer) (payload : List ℕ) (known : ℕ → ℕ → Option ℕ) (number : Option ℕ) → number ≡ carried (tag_in x) (known own x.handle)
-    → (v : Option Delivery) → IsKept v
+pub one_frame : (numbers : DeliveryName → Option ℕ) (c own n : ℕ) (sasl : Bool) (x : Transfer) (payload : List ℕ) (known : ℕ → ℕ → Option ℕ) (number : Option ℕ)
+    → (v : Option Delivery) → ((d : Delivery) → v ≡ Some d → is_number number n ≡ is_number (carried numbers (tag_in x) (known own x.handle)) n) → IsKept v
     → (if is_number number n then option_and_then (λ d. unless_over (behind_frame x (length payload) d)) v else v)
-    ≡ put_behind c (item.Frame sasl own (perf.Transfer x) payload) n known v
-one_frame c own n sasl x payload known number is None keeps = none_either (is_number number n) (λ d. unless_over (behind_frame x (length payload) d))
-one_frame c own n sasl x payload known number is (Some d) keeps =
-    rw is (by_test (is_number (carried (tag_in x) (known own x.handle)) n)
-    ∙ sym (ap unless_over (no_ends (ended_by (item.Frame sasl own (perf.Transfer x) payload) c) (λ a. and_false (a.conn.0 == c)) (put_in (perf.Transfer x) c own n known (length payload) d))))
+    ≡ put_behind numbers c (item.Frame sasl own (perf.Transfer x) payload) n known v
+one_frame numbers c own n sasl x payload known number None is keeps = none_either (is_number number n) (λ d. unless_over (behind_frame x (length payload) d))
+one_frame numbers c own n sasl x payload known number (Some d) is keeps =
+    rw (is d refl) (by_test (is_number (carried numbers (tag_in x) (known own x.handle)) n)
+    ∙ sym (ap unless_over (no_ends false (ended_by (item.Frame sasl own (perf.Transfer x) payload) c) (λ a. and_false (a.conn.0 == c)) (put_in numbers (perf.Transfer x) c own n known (length payload) d))))
   where
     by_test : (b : Bool) → (if b then unless_over (behind_frame x (length payload) d) else Some d) ≡ unless_over (if b then behind_frame x (length payload) d else d)
     by_test true = refl
     by_test false = still d keeps
 
 -- any other performative of the router
-quiet : (c n : ℕ) (i : Item) (known : ℕ → ℕ → Option ℕ) → ((d : Delivery) → behind_put i c n known d ≡ d) → (v : Option Delivery) → IsKept v → v ≡ put_behind c i n known v
-quiet c n i known same None keeps = refl
-quiet c n i known same (Some d) keeps = still d keeps ∙ ap unless_over (sym (same d))
+quiet : (numbers : DeliveryName → Option ℕ) (c n : ℕ) (i : Item) (known : ℕ → ℕ → Option ℕ) → ((d : Delivery) → behind_put numbers i c n known d ≡ d) → (v : Option Delivery) → IsKept v
+    → v ≡ put_behind numbers c i n known v
+quiet numbers c n i known same None keeps = refl
+quiet numbers c n i known same (Some d) keeps = still d keeps ∙ ap unless_over (sym (same d))
 
-does : (c n : ℕ) (i : Item) (x : Change) (known : ℕ → ℕ → Option ℕ) → ((d : Delivery) → behind_put i c n known d ≡ changed x d) → (v : Option Delivery) → behind x v ≡ put_behind c i n known v
-does c n i x known same None = refl
-does c n i x known same (Some d) = ap unless_over (sym (same d))
+does : (numbers : DeliveryName → Option ℕ) (c n : ℕ) (i : Item) (x : Change) (known : ℕ → ℕ → Option ℕ) → ((d : Delivery) → behind_put numbers i c n known d ≡ changed x d)
+    → (v : Option Delivery) → behind x v ≡ put_behind numbers c i n known v
+does numbers c n i x known same None = refl
+does numbers c n i x known same (Some d) = ap unless_over (sym (same d))
 
-never : (c : ℕ) (d : Delivery) → behind_ends (λ a. (a.conn.0 == c) && false) d ≡ d
-never c d = no_ends (λ a. (a.conn.0 == c) && false) (λ a. and_false (a.conn.0 == c)) d
+never : (c : ℕ) (d : Delivery) → behind_ends false (λ a. (a.conn.0 == c) && false) d ≡ d
+never c d = no_ends false (λ a. (a.conn.0 == c) && false) (λ a. and_false (a.conn.0 == c)) d
 
 meant : (x : Disposition) (o : Option Origin) (c own : ℕ) → is_meant x (origin_id o c own) ≡ comes_with_id o c own x.first (last_of x)
 meant x None c own = refl
@@ -115,43 +127,48 @@ meant x (Some p) c own = by_test (stands_on p.link c own)
     by_test true = refl
     by_test false = refl
 
-disposes : (c own n : ℕ) (sasl : Bool) (x : Disposition) (payload : List ℕ) (known : ℕ → ℕ → Option ℕ) (r : Role) → x.role ≡ r → (v : Option Delivery) → IsKept v
-    → behind_any (put_by r c own x) v ≡ put_behind c (item.Frame sasl own (perf.Disposition x) payload) n known v
-disposes c own n sasl x payload known Sender is v keeps =
-    quiet c n (item.Frame sasl own (perf.Disposition x) payload) known (λ d. never c (told x.role x c own d) ∙ ap (λ r. told r x c own d) is) v keeps
-disposes c own n sasl x payload known Receiver is v keeps = by_settled x.settled refl
+disposes : (numbers : DeliveryName → Option ℕ) (c own n : ℕ) (sasl : Bool) (x : Disposition) (payload : List ℕ) (known : ℕ → ℕ → Option ℕ) (r : Role) → x.role ≡ r → (v : Option Delivery) → IsKept v
+    → behind_any (put_by r c own x) v ≡ put_behind numbers c (item.Frame sasl own (perf.Disposition x) payload) n known v
+disposes numbers c own n sasl x payload known Sender is v keeps =
+    quiet numbers c n (item.Frame sasl own (perf.Disposition x) payload) known (λ d. never c (told x.role x c own d) ∙ ap (λ r. told r x c own d) is) v keeps
+disposes numbers c own n sasl x payload known Receiver is v keeps = by_settled x.settled refl
   where
-    by_settled : (b : Bool) → x.settled ≡ b → behind_any (if b then Some (change.Untold c own x.first (last_of x)) else None) v ≡ put_behind c (item.Frame sasl own (perf.Disposition x) payload) n known v
-    by_settled true s = does c n (item.Frame sasl own (perf.Disposition x) payload) (change.Untold c own x.first (last_of x)) known
+    by_settled : (b : Bool) → x.settled ≡ b → behind (if b then change.Untold c own x.first (last_of x) else change.Told c own x.first (last_of x)) v ≡ put_behind numbers c (item.Frame sasl own (perf.Disposition x) payload) n known v
+    by_settled true s = does numbers c n (item.Frame sasl own (perf.Disposition x) payload) (change.Untold c own x.first (last_of x)) known
         (λ d. never c (told x.role x c own d) ∙ ap (λ r. told r x c own d) is
-        ∙ ap (λ b. if b && is_meant x (origin_id d.origin c own) then untold d else d) s
-        ∙ ap (λ b. if b then untold d else d) (meant x d.origin c own)) v
-    by_settled false s = quiet c n (item.Frame sasl own (perf.Disposition x) payload) known
+        ∙ ap (λ b. if is_meant x (origin_id (source d) c own) then (if b then untold d else unsettled d) else d) s
+        ∙ ap (λ b. if b then untold d else d) (meant x (source d) c own)) v
+    by_settled false s = does numbers c n (item.Frame sasl own (perf.Disposition x) payload) (change.Told c own x.first (last_of x)) known
         (λ d. never c (told x.role x c own d) ∙ ap (λ r. told r x c own d) is
-        ∙ ap (λ b. if b && is_meant x (origin_id d.origin c own) then untold d else d) s) v keeps
+        ∙ ap (λ b. if is_meant x (origin_id (source d) c own) then (if b then untold d else unsettled d) else d) s
+        ∙ ap (λ b. if b then unsettled d else d) (meant x (source d) c own)) v
 
-pub other_frame : (c own n : ℕ) (sasl : Bool) (body : Perf) (payload : List ℕ) (known : ℕ → ℕ → Option ℕ) → ((x : Transfer) → body ≡ perf.Transfer x → ⊥)
-    → (v : Option Delivery) → IsKept v → behind_any (put_change c own body) v ≡ put_behind c (item.Frame sasl own body payload) n known v
-other_frame c own n sasl (perf.Transfer x) payload known other v keeps = absurd (other x refl)
-other_frame c own n sasl (perf.Disposition x) payload known other v keeps = disposes c own n sasl x payload known x.role refl v keeps
-other_frame c own n sasl (perf.Detach x) payload known other v keeps =
-    does c n (item.Frame sasl own (perf.Detach x) payload) (change.Ends (gone.Link c own x.handle)) known (λ d. refl) v
-other_frame c own n sasl (perf.End x) payload known other v keeps =
-    does c n (item.Frame sasl own (perf.End x) payload) (change.Ends (gone.Session c own)) known (λ d. refl) v
-other_frame c own n sasl (perf.Close x) payload known other v keeps =
-    does c n (item.Frame sasl own (perf.Close x) payload) (change.Ends (gone.Connection c)) known
-    (λ d. same_ends (λ a. (a.conn.0 == c) && true) (is_gone (gone.Connection c)) (λ a. and_true (a.conn.0 == c)) d) v
-other_frame c own n sasl body payload known other v keeps = quiet c n (item.Frame sasl own body payload) known (λ d. never c d) v keeps
+pub other_frame : (numbers : DeliveryName → Option ℕ) (c own n : ℕ) (sasl : Bool) (body : Perf) (payload : List ℕ) (known : ℕ → ℕ → Option ℕ) → ((x : Transfer) → body ≡ perf.Transfer x → ⊥)
+    → (v : Option Delivery) → IsKept v → behind_any (put_change c own body) v ≡ put_behind numbers c (item.Frame sasl own body payload) n known v
+other_frame numbers c own n sasl (perf.Transfer x) payload known other v keeps = absurd (other x refl)
+other_frame numbers c own n sasl (perf.Disposition x) payload known other v keeps = disposes numbers c own n sasl x payload known x.role refl v keeps
+other_frame numbers c own n sasl (perf.Detach x) payload known other v keeps =
+    does numbers c n (item.Frame sasl own (perf.Detach x) payload) (change.Ends (gone.Link c own x.handle) x.closed) known (λ d. refl) v
+other_frame numbers c own n sasl (perf.End x) payload known other v keeps =
+    does numbers c n (item.Frame sasl own (perf.End x) payload) (change.Ends (gone.Session c own) false) known (λ d. refl) v
+other_frame numbers c own n sasl (perf.Close x) payload known other v keeps =
+    does numbers c n (item.Frame sasl own (perf.Close x) payload) (change.Ends (gone.Connection c) false) known
+    (λ d. same_ends false (λ a. (a.conn.0 == c) && true) (is_gone (gone.Connection c)) (λ a. and_true (a.conn.0 == c)) d) v
+other_frame numbers c own n sasl body payload known other v keeps = quiet numbers c n (item.Frame sasl own body payload) known (λ d. never c d) v keeps
 
 -- an item without a body
 pub unframed : (s : Store) (c : ℕ) (i : Item) (t : Trace) → ((sasl : Bool) (own : ℕ) (body : Perf) (payload : List ℕ) → i ≡ item.Frame sasl own body payload → ⊥)
     → StoreFit s t → StoreFit s (Out c i ∷ t)
 unframed s c (item.Frame sasl own body payload) t other fit = absurd (other sasl own body payload refl)
-unframed s c i t other fit = record { deliveries = λ n. fit.deliveries n ∙ quiet c n i (sending t c) (λ d. refl) (delivery t n) (kept t n); indexed = fit.indexed }
+unframed s c i t other fit = record { deliveries = λ n. fit.deliveries n ∙ quiet (number_named t) c n i (sending t c) (λ d. refl) (delivery t n) (kept t n); indexed = fit.indexed }
 
 pub on_ok : {T E P Q : Type 0} (r : Result T E) → (P → Q) → OnOk r P → OnOk r Q
 on_ok (Ok x) f h = f h
 on_ok (Err e) f h = tt
+
+pub on_ok_three : {T E P Q R S : Type 0} (r : Result T E) → (P → Q → R → S) → OnOk r P → OnOk r Q → OnOk r R → OnOk r S
+on_ok_three (Ok x) f p q s = f p q s
+on_ok_three (Err e) f p q s = tt
 
 pub on_ok_both : {T E P Q R : Type 0} (r : Result T E) → (P → Q → R) → OnOk r P → OnOk r Q → OnOk r R
 on_ok_both (Ok x) f p q = f p q

@@ -30,6 +30,14 @@ put_back s m w old middle new out back x = indexes_same s (λ n. if m == n then 
     by_test true n mid e = refl
     by_test false n mid e = ap standing (sym e)
 
+-- one that was taken out stays so
+pub none_back : (m : ℕ) (old middle : ℕ → Option Delivery) → ((n : ℕ) → middle n ≡ (if m == n then None else old n)) → (n : ℕ) → middle n ≡ (if m == n then None else middle n)
+none_back m old middle out n = by_test (m == n) refl
+  where
+    by_test : (b : Bool) → (m == n) ≡ b → middle n ≡ (if m == n then None else middle n)
+    by_test true e = out n ∙ ap (λ b. if b then None else old n) e ∙ sym (ap (λ b. if b then None else middle n) e)
+    by_test false e = sym (ap (λ b. if b then None else middle n) e)
+
 -- if there was none, nothing was taken out
 pub none_out : (s : Index) (m : ℕ) (old new : ℕ → Option Delivery) → None ≡ old m → ((n : ℕ) → new n ≡ (if m == n then None else old n))
     → Indexes s (λ n. standing (old n)) → Indexes s (λ n. standing (new n))

@@ -17,11 +17,11 @@ use Rattle.router_trace.specs.Links.{Link, Happened, sends, receives}
 use Rattle.router_trace.specs.Deliveries.{last_of}
 use Rattle.router_trace.specs.Trace.{Trace}
 use Rattle.router_trace.specs.Claims.{Claim, claims, claim, claimed_first, claimed_later, is_named}
-use Rattle.router_trace.specs.Settling.{is_ignored_on}
+use Rattle.router_trace.specs.Settling.{is_unbound_on}
 use Rattle.router_deliveries.specs.declared.claims.Claims.{Claims}
 use Rattle.router_deliveries.specs.declared.claims.Middle.{Middle}
 use Rattle.router_deliveries.specs.declared.claims.Receiving.{Receiving}
-use Rattle.router_deliveries.specs.declared.ignored.Ignored.{Ignored}
+use Rattle.router_deliveries.specs.declared.unbound.Unbound.{Unbound}
 use Rattle.router_deliveries.specs.Indexing.{in_set}
 use Rattle.router_deliveries.specs.Places.{at, at_id}
 
@@ -33,16 +33,16 @@ IsSmall id (Some c) = id < 2 ^ 32
 abbrev pub AreSmall : (ℕ → ℕ → ℕ → Option Claim) → Type 0
 AreSmall known = (c o id : ℕ) → IsSmall id (known c o id)
 
--- the ids of ignored claims are kept by link
-abbrev pub ignored_handle : Option Claim → Option ℕ
-ignored_handle None = None
-ignored_handle (Some v) = if v.ignored then Some v.handle else None
+-- the ids of unbound claims are kept by link
+abbrev pub unbound_handle : Option Claim → Option ℕ
+unbound_handle None = None
+unbound_handle (Some v) = if v.unbound then Some v.handle else None
 
-abbrev pub is_marked : Ignored → ℕ → ℕ → ℕ → ℕ → Bool
+abbrev pub is_marked : Unbound → ℕ → ℕ → ℕ → ℕ → Bool
 is_marked s c o h id = in_set (at s.sets c o h) id
 
 abbrev pub AreMarked : Claims → Type 0
-AreMarked s = (c o h id : ℕ) → is_marked s.ignored c o h id ≡ is_ignored_on h (at_id s.ids c o id)
+AreMarked s = (c o h id : ℕ) → is_marked s.unbound c o h id ≡ is_unbound_on h (at_id s.ids c o id)
 
 pub record ClaimsFit (s : Claims) (t : Trace) : Type 0 where
   pub ids : (c o id : ℕ) → at_id s.ids c o id ≡ claims t c o id
@@ -52,7 +52,7 @@ pub record ClaimsFit (s : Claims) (t : Trace) : Type 0 where
 -- what a transfer does to the claim of an id, on the link that it names
 abbrev pub claimed_by_middle : ℕ → Transfer → Bool → Option Middle → ℕ → Option Claim → Option Claim
 claimed_by_middle h x beyond None id v = claimed_first h x beyond id v
-claimed_by_middle h x beyond (Some m) id v = if is_named m.id id then claimed_later h (claim h m.resume x) v else v
+claimed_by_middle h x beyond (Some m) id v = if is_named m.id id then claimed_later h (claim h x) v else v
 
 abbrev pub claimed_at : Transfer → Option Receiving → ℕ → Option Claim → Option Claim
 claimed_at x None id v = v
@@ -89,7 +89,7 @@ heard_claim _ found id v = v
 -- the link on which the peer is the sender and that its transfer names
 abbrev pub middle_of : List Frame → Option Middle
 middle_of [] = None
-middle_of (f ∷ fs) = Some (record { id = (delivery f fs).id; resume = (delivery f fs).resume })
+middle_of (f ∷ fs) = Some (record { id = (delivery f fs).id })
 
 abbrev pub receiving_of : ℕ → Happened → Option Receiving
 receiving_of h (sends list) = None

@@ -4,7 +4,7 @@ use Rattle.std.specs.Ordering.{nat_cmp}
 use Rattle.std.specs.BTreeMap.{get}
 use Rattle.std.specs.BTreeSet.{BTreeSet, contains}
 use Rattle.router_trace.specs.declared.binding.Origin.{Origin}
-use Rattle.router_trace.specs.Deliveries.{Delivery, is_number}
+use Rattle.router_trace.specs.Deliveries.{Delivery, has_row, source, is_number}
 use Rattle.router_deliveries.specs.declared.change.Change.{Change}
 use Rattle.router_deliveries.specs.declared.change.Change.TheVariants as change
 use Rattle.router_deliveries.specs.declared.change.Gone.TheVariants as gone
@@ -33,12 +33,12 @@ abbrev pub keys : Delivery → Keys
 keys d = record {
   waiting = on_link d.link.number (is_none d.id && d.going_on);
   unsent = on_link d.link.number d.going_on;
-  undecided = on_link d.link.number (is_none d.outcome);
-  held = from_link d.origin (is_none d.outcome);
+  undecided = on_link d.link.number (is_none d.outcome && not d.suspended);
+  held = from_link (source d) (is_none d.outcome || has_row d.name);
   to_tell = not (is_none d.outcome) && is_some d.origin;
-  on = on_spot (spot_of d.link) (d.going_on || is_none d.outcome);
-  from = from_spot d.origin;
-  by_id = id_spot d.origin;
+  on = on_spot (spot_of d.link) (d.going_on || (is_none d.outcome && not d.suspended));
+  from = from_spot (source d);
+  by_id = id_spot (source d);
 }
 
 abbrev pub nowhere : Keys
@@ -61,6 +61,7 @@ pub record Indexes (s : Index) (known : ℕ → Keys) : Type 0 where
 
 -- a change may change a delivery with these entries
 abbrev pub concerns : Change → Keys → Bool
-concerns (change.Ends g) k = is_gone_there g k.on || is_gone_there g k.from
+concerns (change.Ends g closed) k = is_gone_there g k.on || is_gone_there g k.from
 concerns (change.Untold c o first last) k = is_id_there c o first last k.by_id
+concerns (change.Told c o first last) k = is_id_there c o first last k.by_id
 concerns (change.Decided c o first last made) k = is_gone_there (gone.Session c o) k.on

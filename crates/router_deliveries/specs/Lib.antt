@@ -4,6 +4,7 @@ pub mod Hearing
 pub mod Placing
 pub mod Indexing
 pub mod Finding
+pub mod Calling
 pub mod Claiming
 pub mod Fits
 pub mod Touching

@@ -1,11 +1,11 @@
 -- The deliveries that ids name, as a table has them: the table may forget the name of one that isn't undecided.
-use Rattle.std.specs.Prelude.{◌≡◌, ◌<◌, ◌≤◌, ◌^◌, ℕ, Bool, false, not, ◌&&◌, nat_le, if◌then◌else◌, Option, Some, None}
+use Rattle.std.specs.Prelude.{◌≡◌, ◌<◌, ◌^◌, ℕ, Bool, false, if◌then◌else◌, Option, Some, None}
 use Rattle.amqp_perf.specs.declared.perf.Perf.{Perf}
 use Rattle.amqp_perf.specs.declared.perf.Perf.TheVariants as perf
 use Rattle.amqp_frames.specs.declared.item.Item.{Item}
 use Rattle.amqp_frames.specs.declared.item.Item.TheVariants as item
 use Rattle.router_trace.specs.Trace.{Trace}
-use Rattle.router_trace.specs.Deliveries.{Delivery, is_undecided, bindings, delivery, named, last_of}
+use Rattle.router_trace.specs.Deliveries.{Delivery, is_undecided, delivery, named, last_of}
 use Rattle.router_trace.specs.Settling.{is_open_as}
 use Rattle.router_deliveries.specs.declared.names.Names.{Names}
 use Rattle.router_deliveries.specs.declared.change.Change.TheVariants as change
@@ -18,10 +18,10 @@ abbrev pub is_open : Option Delivery → Bool
 is_open None = false
 is_open (Some d) = is_undecided d
 
--- the name of a delivery that was bound and isn't undecided
+-- the number of a delivery that isn't undecided
 abbrev pub MayBeForgotten : Trace → Option ℕ → Type 0
 MayBeForgotten t None = Unit {0}
-MayBeForgotten t (Some n) = (n ≤ bindings t) × (is_open (delivery t n) ≡ false)
+MayBeForgotten t (Some n) = is_open (delivery t n) ≡ false
 
 -- the table's entry, and the delivery that the id names
 abbrev pub Remembers : Trace → Option ℕ → Option ℕ → Type 0
@@ -40,10 +40,10 @@ pub record NamesFit (s : Names) (t : Trace) : Type 0 where
   pub names : (c o id : ℕ) → Remembers t (at_id s.ids c o id) (named t c o id)
   pub small : AreSmall (at_id s.ids)
 
--- a name that is kept: its delivery is undecided, or wasn't bound yet
-abbrev pub kept_name : Option ℕ → ℕ → (ℕ → Option Delivery) → Option ℕ
-kept_name None b known = None
-kept_name (Some n) b known = if nat_le n b && not (is_open (known n)) then None else Some n
+-- a number that is kept: its delivery is undecided
+abbrev pub kept_name : Option ℕ → (ℕ → Option Delivery) → Option ℕ
+kept_name None known = None
+kept_name (Some n) known = if is_open (known n) then Some n else None
 
 -- the range of ids in a disposition, and the session on which the router detaches a link
 abbrev pub decided_in_body : Perf → Option (ℕ × ℕ)
@@ -64,7 +64,7 @@ detached_in _ = None
 
 -- a delivery with these entries is on a link that an item of the router detaches, or comes from such a link
 abbrev pub is_detached_in : Perf → ℕ → ℕ → Keys → Bool
-is_detached_in (perf.Detach x) c own k = concerns (change.Ends (gone.Link c own x.handle)) k
+is_detached_in (perf.Detach x) c own k = concerns (change.Ends (gone.Link c own x.handle) false) k
 is_detached_in _ c own k = false
 
 abbrev pub is_detached : Item → ℕ → Keys → Bool

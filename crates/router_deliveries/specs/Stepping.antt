@@ -8,7 +8,7 @@ use Rattle.amqp_perf.specs.declared.perf.Role.{Role}
 use Rattle.amqp_perf.specs.declared.perf.Role.TheVariants.{Sender, Receiver}
 use Rattle.router_trace.specs.declared.binding.Origin.{Origin}
 use Rattle.router_trace.specs.declared.handle.Attachment.{Attachment}
-use Rattle.router_trace.specs.Deliveries.{Delivery, unless_over, stands_on, untold, is_undecided, is_gone_with, behind_ends, last_of}
+use Rattle.router_trace.specs.Deliveries.{Delivery, source, unless_over, stands_on, untold, unsettled, is_undecided, is_gone_with, behind_ends, last_of}
 use Rattle.router_deliveries.specs.declared.change.Gone.{Gone}
 use Rattle.router_deliveries.specs.declared.change.Gone.TheVariants as gone
 use Rattle.router_deliveries.specs.declared.change.Change.{Change}
@@ -37,23 +37,27 @@ abbrev pub is_decided_by : Delivery → ℕ → ℕ → ℕ → ℕ → Bool
 is_decided_by d c o first last = is_undecided d && (stands_on d.link c o && is_in d.id first last)
 
 abbrev pub changed : Change → Delivery → Delivery
-changed (change.Ends g) d = behind_ends (is_gone g) d
-changed (change.Untold c o first last) d = if comes_with_id d.origin c o first last then untold d else d
+changed (change.Ends g closed) d = behind_ends closed (is_gone g) d
+changed (change.Untold c o first last) d = if comes_with_id (source d) c o first last then untold d else d
+changed (change.Told c o first last) d = if comes_with_id (source d) c o first last then unsettled d else d
 changed (change.Decided c o first last made) d = if is_decided_by d c o first last then record d { outcome = Some made } else d
 
 -- the immediate change to deliveries by a disposition that settles, and by what the router puts out
 abbrev pub untold_by : ℕ → ℕ → Disposition → Option Change
 untold_by c own x = if x.settled then Some (change.Untold c own x.first (last_of x)) else None
 
+abbrev pub told_by : ℕ → ℕ → Disposition → Change
+told_by c own x = if x.settled then change.Untold c own x.first (last_of x) else change.Told c own x.first (last_of x)
+
 abbrev pub put_by : Role → ℕ → ℕ → Disposition → Option Change
 put_by Sender c own x = None
-put_by Receiver c own x = untold_by c own x
+put_by Receiver c own x = Some (told_by c own x)
 
 abbrev pub put_change : ℕ → ℕ → Perf → Option Change
 put_change c own (perf.Disposition x) = put_by x.role c own x
-put_change c own (perf.Detach x) = Some (change.Ends (gone.Link c own x.handle))
-put_change c own (perf.End x) = Some (change.Ends (gone.Session c own))
-put_change c own (perf.Close x) = Some (change.Ends (gone.Connection c))
+put_change c own (perf.Detach x) = Some (change.Ends (gone.Link c own x.handle) x.closed)
+put_change c own (perf.End x) = Some (change.Ends (gone.Session c own) false)
+put_change c own (perf.Close x) = Some (change.Ends (gone.Connection c) false)
 put_change c own _ = None
 
 -- the same of a delivery that may exist, and that is removed once it is over

@@ -2,7 +2,7 @@
 ghost use Rattle.std.specs.Prelude.{◌≡◌, IfOk};
 ghost use Rattle.amqp_session.specs.Ranges.{in_range};
 ghost use Rattle.router_deliveries.specs.Hearing.{heard_change, heard_in_change, disposed_change, decided_by};
-ghost use Rattle.router_deliveries.specs.Stepping.{is_gone, is_gone_from, comes_with_id, put_change, untold_by, is_in};
+ghost use Rattle.router_deliveries.specs.Stepping.{is_gone, is_gone_from, comes_with_id, put_change, told_by, untold_by, is_in};
 
 use crate::state::decision;
 use amqp_frames::Item;
@@ -38,10 +38,26 @@ pub enum Gone {
 #[derive(Debug, Drop)]
 pub enum Change {
     /// Links end.
-    Ends(Gone),
+    Ends {
+        /// Which ones.
+        gone: Gone,
+        /// Whether they are closed for good; a durable one is suspended else.
+        closed: bool,
+    },
     /// Deliveries whose producer needs no outcome any more: on this session, with ids from the producer in this range (AMQP 1.0 part 2, section
     /// 2.7.6).
     Untold {
+        /// The connection.
+        conn: u64,
+        /// The router's channel of the session.
+        own: u16,
+        /// The first delivery-id.
+        first: u32,
+        /// The last one.
+        last: u32,
+    },
+    /// Deliveries whose producers were told the outcome, and have yet to settle it: the same.
+    Told {
         /// The connection.
         conn: u64,
         /// The router's channel of the session.
@@ -98,16 +114,48 @@ pub(crate) fn behind_put(conn: u64, own: u16, perf: &Perf) -> Option<Change>
     match perf {
         Perf::Disposition(disposition) => match disposition.role {
             Role::Sender => None,
-            Role::Receiver => untold_by(conn, own, disposition),
+            Role::Receiver => Some(told_by(conn, own, disposition)),
         },
-        Perf::Detach(detach) => Some(Change::Ends(Gone::Link {
+        Perf::Detach(detach) => Some(Change::Ends {
+            gone: Gone::Link {
+                conn,
+                own,
+                handle: detach.handle,
+            },
+            closed: detach.closed,
+        }),
+        Perf::End(_) => Some(Change::Ends {
+            gone: Gone::Session { conn, own },
+            closed: false,
+        }),
+        Perf::Close(_) => Some(Change::Ends {
+            gone: Gone::Connection(conn),
+            closed: false,
+        }),
+        _ => None,
+    }
+}
+
+/// The deliveries on a session whose outcomes the router's disposition tells, settled or not.
+fn told_by(conn: u64, own: u16, disposition: &Disposition) -> Change
+    ensures { result ≡ told_by conn own disposition.now }
+{
+    let first = disposition.first;
+    let last = disposition.last.unwrap_or(first);
+    if disposition.settled {
+        Change::Untold {
             conn,
             own,
-            handle: detach.handle,
-        })),
-        Perf::End(_) => Some(Change::Ends(Gone::Session { conn, own })),
-        Perf::Close(_) => Some(Change::Ends(Gone::Connection(conn))),
-        _ => None,
+            first,
+            last,
+        }
+    } else {
+        Change::Told {
+            conn,
+            own,
+            first,
+            last,
+        }
     }
 }
 

@@ -3,23 +3,24 @@ ghost use Rattle.std.specs.Prelude.{◌≡◌, ◌==◌, ◌∷◌, List, ℕ, S
 ghost use Rattle.std.specs.Option.{option_map};
 ghost use Rattle.router_trace.specs.Trace.{Beginning};
 ghost use Rattle.router_trace.specs.Configuration.{beginning};
-ghost use Rattle.router_trace.specs.Trace.{Entry, Out, did};
-ghost use Rattle.router_trace.specs.Claims.{claims, claim, claim_behind_in};
-ghost use Rattle.router_trace.specs.Settling.{is_claimed, is_claimed_on, ignored};
+ghost use Rattle.router_trace.specs.Trace.{Entry, Out, Bound, did};
+ghost use Rattle.router_trace.specs.declared.binding.Binding.{Binding};
+ghost use Rattle.router_trace.specs.Claims.{claims, claim, bound_claim, claim_behind_in};
+ghost use Rattle.router_trace.specs.Settling.{is_claimed, is_claimed_on, unbound};
 ghost use Rattle.router_trace.specs.Sessions.{theirs, maps, is_channel};
 ghost use Rattle.router_trace.specs.Links.{their_handle, link};
 ghost use Rattle.router_deliveries.specs.Fits.{channel_of};
 ghost use Rattle.router_trace.specs.declared.event.Event.TheVariants as event;
 ghost use Rattle.amqp_session.specs.Ranges.{in_range};
-ghost use Rattle.router_deliveries.specs.Claiming.{ClaimsFit, AreSmall, AreMarked, ignored_handle, claimed_at, heard_claim, settled_at, found_by, let_go_at, is_on};
+ghost use Rattle.router_deliveries.specs.Claiming.{ClaimsFit, AreSmall, AreMarked, unbound_handle, claimed_at, heard_claim, settled_at, found_by, let_go_at, is_on};
 ghost use Rattle.router_deliveries.specs.Places.{at_id};
 
 use crate::by_session::BySession;
-use crate::ignored::Ignored;
 use crate::names::HALF;
+use crate::unbound::Unbound;
 use amqp_frames::Item;
 use amqp_perf::{Disposition, Perf, Role, Transfer};
-use router_trace::ConnectionId;
+use router_trace::{ConnectionId, Origin};
 use std::alloc::{AllocError, Global};
 use std::marker::Model;
 
@@ -28,8 +29,8 @@ use std::marker::Model;
 pub struct Claim {
     /// The router's handle of its link.
     pub handle: u32,
-    /// Whether it was ignored: it is resumed, but the router doesn't know it.
-    pub ignored: bool,
+    /// Whether it came whole and is bound to no consumer.
+    pub unbound: bool,
 }
 
 impl Model for Claim {
@@ -37,7 +38,7 @@ impl Model for Claim {
 
     ghost Value = { View };
 
-    ghost view = { λ c. record { handle = c.handle; ignored = c.ignored } };
+    ghost view = { λ c. record { handle = c.handle; unbound = c.unbound } };
 }
 
 /// The delivery in the middle on a link: more frames of it are to come.
@@ -45,8 +46,6 @@ impl Model for Claim {
 pub struct Middle {
     /// Its delivery-id.
     pub id: Option<u32>,
-    /// Whether it is a resumed one.
-    pub resume: bool,
 }
 
 /// A link on which a peer is the sender, as a transfer finds it.
@@ -64,7 +63,7 @@ pub struct Receiving {
 #[derive(Debug, Drop)]
 pub struct Claims {
     ids: BySession<Claim>,
-    ignored: Ignored,
+    unbound: Unbound,
 }
 
 impl Claims {
@@ -74,7 +73,7 @@ impl Claims {
     {
         Claims {
             ids: BySession::new(alloc),
-            ignored: Ignored::new(alloc),
+            unbound: Unbound::new(alloc),
         }
     }
 
@@ -99,11 +98,43 @@ impl Claims {
         is_on(self.ids.get(conn, own, id), Some(handle))
     }
 
-    /// How many deliveries that the router ignored are unsettled by the peer, on the link at a handle of the router.
-    pub fn ignored(&self, conn: u64, own: u16, handle: u32) -> usize
-        ensures { (t : List Entry) → ClaimsFit self.now t → result ≡ ignored t conn own handle }
+    /// How many unsettled deliveries of the peer came whole and are bound to no consumer, on the link at a handle of the router.
+    pub fn unbound(&self, conn: u64, own: u16, handle: u32) -> usize
+        ensures { (t : List Entry) → ClaimsFit self.now t → result ≡ unbound t conn own handle }
     {
-        self.ignored.count(conn, own, handle)
+        self.unbound.count(conn, own, handle)
+    }
+
+    /// A message of a peer was bound to a consumer; the origin is its delivery, unless the peer settled it.
+    pub fn bind(&mut self, origin: Option<Origin>) -> Result<(), AllocError>
+        ensures { OnOk result ((t : List Entry) (b : Binding) → b.origin ≡ origin → ClaimsFit self.old t → ClaimsFit self.new (Bound b ∷ t)) }
+    {
+        let Some(origin) = origin else {
+            return Ok(());
+        };
+        self.bind_id(origin.link.conn.0, origin.link.channel, origin.id)?;
+        Ok(())
+    }
+
+    /// The delivery with an id is bound.
+    fn bind_id(&mut self, conn: u64, own: u16, id: u32) -> Result<(), AllocError>
+        ensures claims { OnOk result ((c o q : ℕ) → at_id self.new.ids c o q
+            ≡ (if conn == c then (if own == o then (if id == q then option_map bound_claim (at_id self.old.ids c o q) else at_id self.old.ids c o q) else at_id self.old.ids c o q) else at_id self.old.ids c o q)) }
+        ensures marked { OnOk result (AreMarked self.old → AreMarked self.new) }
+    {
+        let Some(claim) = self.ids.get(conn, own, id) else {
+            return Ok(());
+        };
+        let handle = claim.handle;
+        self.put_claim(
+            conn,
+            own,
+            id,
+            Claim {
+                handle,
+                unbound: false,
+            },
+        )
     }
 
     /// A connection is lost.
@@ -247,12 +278,7 @@ impl Claims {
                 None => {}
                 Some(id) => {
                     if !link.beyond {
-                        self.set(
-                            conn,
-                            own,
-                            id,
-                            claimed(link.handle, transfer.resume, transfer),
-                        )?;
+                        self.set(conn, own, id, claimed(link.handle, transfer))?;
                     }
                 }
             },
@@ -260,7 +286,7 @@ impl Claims {
                 None => {}
                 Some(id) => {
                     if is_on(self.ids.get(conn, own, id), Some(link.handle)) {
-                        self.set(conn, own, id, claimed(link.handle, middle.resume, transfer))?;
+                        self.set(conn, own, id, claimed(link.handle, transfer))?;
                     }
                 }
             },
@@ -305,7 +331,7 @@ impl Claims {
         ensures marked { AreMarked self.old → AreMarked self.new }
     {
         self.ids.end(conn, own);
-        self.ignored.end(conn, own);
+        self.unbound.end(conn, own);
     }
 
     /// Removes the claims on a connection.
@@ -314,7 +340,7 @@ impl Claims {
         ensures marked { AreMarked self.old → AreMarked self.new }
     {
         self.ids.forget(conn);
-        self.ignored.forget(conn);
+        self.unbound.forget(conn);
     }
 
     /// Removes the claim to an id.
@@ -323,8 +349,8 @@ impl Claims {
             ≡ (if conn == c then (if own == o then (if id == q then None else at_id self.old.ids c o q) else at_id self.old.ids c o q) else at_id self.old.ids c o q) }
         ensures marked { AreMarked self.old → AreMarked self.new }
     {
-        let handle = ignored_handle(self.ids.get(conn, own, id));
-        self.ignored.drop_from(conn, own, handle, id);
+        let handle = unbound_handle(self.ids.get(conn, own, id));
+        self.unbound.drop_from(conn, own, handle, id);
         self.ids.remove(conn, own, id);
     }
 
@@ -334,10 +360,10 @@ impl Claims {
             ≡ (if conn == c then (if own == o then (if id == q then Some claim else at_id self.old.ids c o q) else at_id self.old.ids c o q) else at_id self.old.ids c o q)) }
         ensures marked { OnOk result (AreMarked self.old → AreMarked self.new) }
     {
-        let before = ignored_handle(self.ids.get(conn, own, id));
-        let after = ignored_handle(Some(&claim));
-        self.ignored.drop_from(conn, own, before, id);
-        self.ignored.add(conn, own, after, id)?;
+        let before = unbound_handle(self.ids.get(conn, own, id));
+        let after = unbound_handle(Some(&claim));
+        self.unbound.drop_from(conn, own, before, id);
+        self.unbound.add(conn, own, after, id)?;
         self.ids.insert(conn, own, id, claim)?;
         Ok(())
     }
@@ -358,26 +384,26 @@ impl Claims {
 }
 
 /// The claim by a transfer that begins or continues a delivery.
-fn claimed(handle: u32, resume: bool, transfer: &Transfer) -> Option<Claim>
-    ensures { result ≡ claim handle resume transfer.now }
+fn claimed(handle: u32, transfer: &Transfer) -> Option<Claim>
+    ensures { result ≡ claim handle transfer.now }
 {
     if transfer.settled || transfer.aborted {
         return None;
     }
     Some(Claim {
         handle,
-        ignored: resume && !transfer.more,
+        unbound: !transfer.more,
     })
 }
 
-/// The router's handle of a claim that was ignored.
-fn ignored_handle(claim: Option<&Claim>) -> Option<u32>
-    ensures { result ≡ ignored_handle (option_map (λ c. c.now) claim.entry) }
+/// The router's handle of an unbound claim.
+fn unbound_handle(claim: Option<&Claim>) -> Option<u32>
+    ensures { result ≡ unbound_handle (option_map (λ c. c.now) claim.entry) }
 {
     match claim {
         None => None,
         Some(claim) => {
-            if claim.ignored {
+            if claim.unbound {
                 Some(claim.handle)
             } else {
                 None

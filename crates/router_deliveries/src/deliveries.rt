@@ -1,19 +1,20 @@
 //! The table of deliveries.
 ghost use Rattle.std.specs.Prelude.{◌≡◌, ◌==◌, ◌&&◌, ◌∷◌, List, ℕ, OnOk, IfOk, false, if◌then◌else◌};
-ghost use Rattle.std.specs.Option.{option_map, is_some};
+ghost use Rattle.std.specs.Option.{option_map, is_none, is_some};
 ghost use Rattle.std.specs.Ordering.{nat_cmp};
 ghost use Rattle.std.specs.BTreeMap.{get};
 ghost use Rattle.router_trace.specs.Trace.{Beginning};
 ghost use Rattle.router_trace.specs.Configuration.{beginning};
 ghost use Rattle.router_trace.specs.Trace.{Entry, Out, Bound, did};
 ghost use Rattle.router_trace.specs.declared.event.Event.TheVariants as event;
-ghost use Rattle.router_trace.specs.Deliveries.{delivery, next_id, sending, named, waits_on, undecided_on, held_from, is_to_tell};
+ghost use Rattle.router_trace.specs.Deliveries.{delivery, name_of, next_id, sending, named, waits_on, undecided_on, held_from, is_to_tell};
 ghost use Rattle.router_trace.specs.Sessions.{theirs, maps, is_channel};
 ghost use Rattle.router_trace.specs.Following.{first_delivery, is_unsent_on, is_used};
 ghost use Rattle.router_trace.specs.Settling.{open_ids};
-ghost use Rattle.router_deliveries.specs.Finding.{IsFirst, IsCount, IsListed, count_deliveries, is_above};
+ghost use Rattle.router_deliveries.specs.Calling.{Knows};
+ghost use Rattle.router_deliveries.specs.Finding.{IsFirst, IsCount, count_deliveries, is_above};
 ghost use Rattle.router_deliveries.specs.Naming.{Remembers};
-ghost use Rattle.router_deliveries.specs.Fits.{DeliveriesFit, channel_of};
+ghost use Rattle.router_deliveries.specs.Fits.{DeliveriesFit, AreSending, channel_of};
 ghost use Rattle.router_deliveries.specs.Touching.{is_touched, Touches};
 
 use crate::change::behind_heard;
@@ -24,15 +25,17 @@ use crate::next_ids::NextIds;
 use crate::sending::Sending;
 use crate::store::Store;
 use amqp_frames::Item;
-use router_trace::{Binding, ConnectionId};
+use book_core::RowNumber;
+use router_trace::{Binding, ConnectionId, DeliveryName};
 use std::alloc::{AllocError, Global};
 
 /// The deliveries that the router passes on. After an error the table's contents are unspecified.
 #[derive(Debug, Drop)]
 pub struct Deliveries {
     alloc: Global,
-    // how many messages were bound
+    // how many messages were bound, and how many of them have no row
     bindings: u64,
+    counters: u64,
     store: Store,
     sending: Sending,
     names: Names,
@@ -47,6 +50,7 @@ impl Deliveries {
         Deliveries {
             alloc,
             bindings: 0,
+            counters: 0,
             store: Store::new(alloc),
             sending: Sending::new(alloc),
             names: Names::new(alloc),
@@ -68,9 +72,9 @@ impl Deliveries {
         self.next_ids.get(conn, own)
     }
 
-    /// The delivery of which more frames remain to be sent on a handle of the router.
+    /// The delivery of which more frames remain to be sent on a handle of the router; it may be missing if the delivery is gone.
     pub fn sending(&self, conn: u64, own: u16, handle: u32) -> Option<u64>
-        ensures { (t : List Entry) → DeliveriesFit self.now t → result ≡ sending t conn own handle }
+        ensures { (t : List Entry) → DeliveriesFit self.now t → Knows (delivery t) result (sending t conn own handle) }
     {
         self.sending.on(conn, own, handle)
     }
@@ -187,9 +191,10 @@ impl Deliveries {
         Ok(self.names.open_ids(&self.store, conn, own, first, last)?)
     }
 
-    /// The numbers of the deliveries of which more frames remain to be sent on a router's session, in order of the handles.
+    /// The numbers of the deliveries of which more frames remain to be sent on a router's session, in order of the handles; those that are gone may
+    /// be missing.
     pub fn sending_on(&self, conn: u64, own: u16) -> Result<Vec<u64>, AllocError>
-        ensures { IfOk result (λ numbers. (t : List Entry) → DeliveriesFit self.now t → IsListed (sending t conn own) numbers.items) }
+        ensures { IfOk result (λ numbers. (t : List Entry) → DeliveriesFit self.now t → AreSending t conn own numbers.items) }
     {
         Ok(self.sending.all_on(self.alloc, conn, own)?)
     }
@@ -202,7 +207,12 @@ impl Deliveries {
         let Some(number) = self.bindings.checked_add(1) else {
             return Err(AllocError);
         };
-        self.store.bind(number, binding)?;
+        let Some(counter) = self.counters.checked_add(1) else {
+            return Err(AllocError);
+        };
+        self.counters = counted(binding.row, self.counters, counter);
+        self.store
+            .bind(number, name_of(binding.row, counter), binding)?;
         self.bindings = number;
         Ok(())
     }
@@ -232,8 +242,7 @@ impl Deliveries {
     {
         let change = behind_heard(conn.0, own, item)?;
         hear(&mut self.store, &self.names, change)?;
-        self.names
-            .settle_heard(&self.store, self.bindings, conn.0, own, item)?;
+        self.names.settle_heard(&self.store, conn.0, own, item)?;
         Ok(())
     }
 
@@ -243,14 +252,31 @@ impl Deliveries {
         ensures fits { OnOk result ((t : List Entry) → DeliveriesFit self.old t → DeliveriesFit self.new (Out conn item.now ∷ t)) }
         ensures touches { OnOk result (Touches self.old self.new) }
     {
-        let number = self.sending.carried_by(conn, item);
+        let number = self.sending.carried_by(conn, item, &self.store.by_name);
         let ids = self.store.detached_ids(conn, item)?;
         self.store.put(conn, item, number)?;
-        self.names.put(conn, item, &self.store, self.bindings)?;
+        self.names.put(conn, item, &self.store)?;
         self.names
-            .settle_put(&self.store, self.bindings, conn, item, ids.as_slice())?;
-        self.sending.put(conn, item)?;
+            .settle_put(&self.store, conn, item, ids.as_slice())?;
+        self.sending.put(conn, item, &self.store.by_name)?;
         self.next_ids.put(conn, item)?;
         Ok(())
     }
+}
+
+/// The name of a delivery: its row's number, or this counter.
+fn name_of(row: Option<RowNumber>, counter: u64) -> DeliveryName
+    ensures { result ≡ name_of row counter }
+{
+    match row {
+        None => DeliveryName::Counter(counter),
+        Some(row) => DeliveryName::Row(row),
+    }
+}
+
+/// How many messages without a row were bound: `next`, if this one has none.
+fn counted(row: Option<RowNumber>, before: u64, next: u64) -> u64
+    ensures { result ≡ (if is_none row then next else before) }
+{
+    if row.is_none() { next } else { before }
 }

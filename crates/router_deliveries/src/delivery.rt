@@ -1,23 +1,25 @@
 //! Deliveries as the table keeps them.
-ghost use Rattle.std.specs.Prelude.{◌≡◌, OnOk, Some, if◌then◌else◌};
+ghost use Rattle.std.specs.Prelude.{◌≡◌, ◌&&◌, OnOk, Some, if◌then◌else◌};
 ghost use Rattle.router_trace.specs.Settling.{is_open_as};
-ghost use Rattle.router_trace.specs.Deliveries.{bound, is_over, is_undecided, behind_frame, untold, ended, behind_ends};
+ghost use Rattle.router_trace.specs.Deliveries.{bound, source, is_over, is_undecided, behind_frame, untold, unsettled, ended, behind_ends};
 ghost use Rattle.router_deliveries.specs.Stepping.{is_gone, is_decided_by, comes_with_id, changed};
 
 use crate::change::{Change, Gone, comes_with_id, is_in};
 use crate::state::{copy, failed};
 use amqp_perf::{DeliveryState, Transfer};
 use bytes::Bytes;
-use router_trace::{Attachment, Binding, Origin};
+use router_trace::{Attachment, Binding, DeliveryName, Origin};
 use std::alloc::AllocError;
 use std::marker::Model;
 
 /// A message bound to one consumer link (AMQP 1.0 part 2, section 2.6.12).
 #[derive(Debug, Drop)]
 pub struct Delivery {
+    /// Its name, from which its tag is made.
+    pub name: DeliveryName,
     /// The consumer's link.
     pub link: Attachment,
-    /// The producer's delivery, to which the outcome is reported; none if the producer needs no outcome any more.
+    /// The producer's delivery, to which the outcome is reported; none if no report is due to it any more.
     pub origin: Option<Origin>,
     /// Whether its producer had settled it before it was bound.
     pub presettled: bool,
@@ -33,6 +35,12 @@ pub struct Delivery {
     pub going_on: bool,
     /// Its outcome, once decided.
     pub outcome: Option<DeliveryState>,
+    /// The producer's delivery once its outcome was told, as long as the producer has yet to settle it.
+    pub told: Option<Origin>,
+    /// Whether it has a row and its consumer's link is durable.
+    pub lasting: bool,
+    /// Whether that link was suspended before it was decided.
+    pub suspended: bool,
 }
 
 impl Model for Delivery {
@@ -41,6 +49,7 @@ impl Model for Delivery {
     ghost Value = { View };
 
     ghost view = { λ d. record {
+      name = d.name;
       link = d.link;
       origin = d.origin;
       presettled = d.presettled;
@@ -50,15 +59,19 @@ impl Model for Delivery {
       sent = d.sent;
       going_on = d.going_on;
       outcome = d.outcome;
+      told = d.told;
+      lasting = d.lasting;
+      suspended = d.suspended;
     } };
 }
 
 impl Delivery {
-    /// A message that was just bound.
-    pub(crate) fn bound(binding: Binding) -> Delivery
-        ensures { result ≡ bound binding }
+    /// A message that was just bound, under a name.
+    pub(crate) fn bound(name: DeliveryName, binding: Binding) -> Delivery
+        ensures { result ≡ bound name binding }
     {
         Delivery {
+            name,
             link: binding.consumer,
             origin: binding.origin,
             presettled: binding.origin.is_none(),
@@ -68,21 +81,34 @@ impl Delivery {
             sent: 0,
             going_on: true,
             outcome: None,
+            told: None,
+            lasting: name.has_row() && binding.lasting,
+            suspended: false,
         }
     }
 
-    /// Whether it is decided, no report of its outcome is due, and no frame remains to be sent.
+    /// Whether it is decided or suspended, its producer needs no more of it, and no frame remains to be sent.
     pub fn is_over(&self) -> bool
         ensures { result ≡ is_over self.now }
     {
-        !self.going_on && (self.outcome.is_some() && self.origin.is_none())
+        !self.going_on && ((self.outcome.is_some() || self.suspended) && self.source().is_none())
+    }
+
+    /// The producer's delivery, told or not.
+    pub(crate) fn source(&self) -> Option<Origin>
+        ensures { result ≡ source self.now }
+    {
+        match self.origin {
+            Some(origin) => Some(origin),
+            None => self.told,
+        }
     }
 
     /// Whether its consumer has yet to decide it.
     pub fn is_undecided(&self) -> bool
         ensures { result ≡ is_undecided self.now }
     {
-        self.outcome.is_none() && !self.presettled
+        self.outcome.is_none() && !(self.presettled || self.suspended)
     }
 
     /// Whether it is undecided and has this id on a router's session.
@@ -111,31 +137,48 @@ impl Delivery {
         Ok(())
     }
 
-    /// Its outcome needs no report any more.
+    /// Its producer needs no more of it.
     pub(crate) fn untell(&mut self)
         ensures { self.new ≡ untold self.old }
     {
         self.origin = None;
+        self.told = None;
     }
 
-    /// Its link ends.
-    pub(crate) fn end(&mut self)
-        ensures { self.new ≡ ended self.old }
+    /// Its outcome was told, and its producer has yet to settle it.
+    fn tell(&mut self)
+        ensures { self.new ≡ unsettled self.old }
     {
+        self.told = self.source();
+        self.origin = None;
+    }
+
+    /// Its link ends, closed for good or not.
+    pub(crate) fn end(&mut self, closed: bool)
+        ensures { self.new ≡ ended closed self.old }
+    {
+        if self.suspended {
+            return;
+        }
         self.going_on = false;
-        if self.outcome.is_none() {
+        if self.outcome.is_some() {
+            return;
+        }
+        if self.lasting && !closed {
+            self.suspended = true;
+        } else {
             self.outcome = Some(failed());
         }
     }
 
-    /// Links end, which may be its own or its producer's.
-    fn leave(&mut self, gone: Gone)
-        ensures { self.new ≡ behind_ends (is_gone gone) self.old }
+    /// Links end, closed for good or not, which may be its own or its producer's.
+    fn leave(&mut self, closed: bool, gone: Gone)
+        ensures { self.new ≡ behind_ends closed (is_gone gone) self.old }
     {
         if gone.has(self.link) {
-            self.end();
+            self.end(closed);
         }
-        if gone.has_origin(self.origin) {
+        if gone.has_origin(self.source()) {
             self.untell();
         }
     }
@@ -145,13 +188,19 @@ impl Delivery {
         ensures { OnOk result (self.new ≡ changed change.now self.old) }
     {
         match change {
-            Change::Ends(gone) => self.leave(*gone),
+            Change::Ends { gone, closed } => self.leave(*closed, *gone),
             Change::Untold {
                 conn,
                 own,
                 first,
                 last,
             } => self.untell_within(*conn, *own, *first, *last),
+            Change::Told {
+                conn,
+                own,
+                first,
+                last,
+            } => self.tell_within(*conn, *own, *first, *last),
             Change::Decided {
                 conn,
                 own,
@@ -169,10 +218,19 @@ impl Delivery {
 
     /// Its outcome needs no report any more, if its producer gave it an id in this range, on a session.
     fn untell_within(&mut self, conn: u64, own: u16, first: u32, last: u32)
-        ensures { self.new ≡ (if comes_with_id self.old.origin conn own first last then untold self.old else self.old) }
+        ensures { self.new ≡ (if comes_with_id (source self.old) conn own first last then untold self.old else self.old) }
     {
-        if comes_with_id(self.origin, conn, own, first, last) {
+        if comes_with_id(self.source(), conn, own, first, last) {
             self.untell();
+        }
+    }
+
+    /// Its outcome was told, if its producer gave it an id in this range, on a session.
+    fn tell_within(&mut self, conn: u64, own: u16, first: u32, last: u32)
+        ensures { self.new ≡ (if comes_with_id (source self.old) conn own first last then unsettled self.old else self.old) }
+    {
+        if comes_with_id(self.source(), conn, own, first, last) {
+            self.tell();
         }
     }
 

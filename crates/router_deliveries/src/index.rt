@@ -87,21 +87,23 @@ impl Keys {
         ensures { result ≡ keys delivery.now }
     {
         let undecided = delivery.outcome.is_none();
+        let open = undecided && !delivery.suspended;
+        let source = delivery.source();
         Keys {
             waiting: on_link(
                 delivery.link.number,
                 delivery.id.is_none() && delivery.going_on,
             ),
             unsent: on_link(delivery.link.number, delivery.going_on),
-            undecided: on_link(delivery.link.number, undecided),
-            held: match delivery.origin {
+            undecided: on_link(delivery.link.number, open),
+            held: match source {
                 None => None,
-                Some(origin) => on_link(origin.link.number, undecided),
+                Some(origin) => on_link(origin.link.number, undecided || delivery.name.has_row()),
             },
             to_tell: !undecided && delivery.origin.is_some(),
-            on: on_spot(spot_of(delivery.link), delivery.going_on || undecided),
-            from: from_spot(delivery.origin),
-            by_id: id_spot(delivery.origin),
+            on: on_spot(spot_of(delivery.link), delivery.going_on || open),
+            from: from_spot(source),
+            by_id: id_spot(source),
         }
     }
 }
@@ -202,8 +204,14 @@ impl Index {
         ensures { OnOk result ((known : ℕ → TheKeys) → Indexes self.now known → (n : ℕ) → concerns change.now (known n) ≡ true → has n numbers.new.items ≡ true) }
     {
         match change {
-            Change::Ends(gone) => self.append_ended(*gone, numbers)?,
+            Change::Ends { gone, .. } => self.append_ended(*gone, numbers)?,
             Change::Untold {
+                conn,
+                own,
+                first,
+                last,
+            } => self.by_id.append_ids(*conn, *own, *first, *last, numbers)?,
+            Change::Told {
                 conn,
                 own,
                 first,

@@ -9,6 +9,7 @@
 #![tactic(auto)]
 
 mod by_handle;
+mod by_name;
 mod by_session;
 mod change;
 mod claims;
@@ -16,7 +17,6 @@ mod deliveries;
 mod delivery;
 mod groups;
 mod hearing;
-mod ignored;
 mod index;
 mod names;
 mod next_ids;
@@ -26,6 +26,7 @@ mod state;
 mod store;
 mod tag;
 mod touched;
+mod unbound;
 
 pub use claims::{Claim, Claims, Middle, Receiving};
 pub use deliveries::Deliveries;

@@ -9,7 +9,8 @@ ghost use Rattle.router_trace.specs.Trace.{Beginning};
 ghost use Rattle.router_trace.specs.Configuration.{beginning};
 ghost use Rattle.router_trace.specs.Trace.{Entry, Out, did};
 ghost use Rattle.router_trace.specs.declared.event.Event.TheVariants as event;
-ghost use Rattle.router_trace.specs.Deliveries.{bindings, delivery, is_id, tagged, tag_in, is_number};
+ghost use Rattle.router_trace.specs.Deliveries.{delivery, is_id, number_tagged, tag_in, is_number};
+ghost use Rattle.router_deliveries.specs.Calling.{at_name};
 ghost use Rattle.router_deliveries.specs.Places.{at_id};
 ghost use Rattle.router_deliveries.specs.Fits.{StoreFit};
 ghost use Rattle.amqp_session.specs.Ranges.{has};
@@ -20,7 +21,6 @@ ghost use Rattle.std.specs.List.{filter};
 
 use crate::by_session::BySession;
 use crate::store::Store;
-use crate::tag::number_of;
 use amqp_frames::Item;
 use amqp_perf::{Perf, Transfer};
 use router_trace::ConnectionId;
@@ -134,20 +134,12 @@ impl Names {
         self.ids.forget(conn.0);
     }
 
-    /// An item is put into the outbox of a connection; the store has already applied it, and `count` messages were bound.
-    pub(crate) fn put(
-        &mut self,
-        conn: u64,
-        item: &Item,
-        store: &Store,
-        count: u64,
-    ) -> Result<(), AllocError>
-        ensures { OnOk result ((t : List Entry) → count ≡ bindings t → StoreFit store.now (Out conn item.now ∷ t) → NamesFit self.old t → NamesFit self.new (Out conn item.now ∷ t)) }
+    /// An item is put into the outbox of a connection; the store has already applied it.
+    pub(crate) fn put(&mut self, conn: u64, item: &Item, store: &Store) -> Result<(), AllocError>
+        ensures { OnOk result ((t : List Entry) → StoreFit store.now (Out conn item.now ∷ t) → NamesFit self.old t → NamesFit self.new (Out conn item.now ∷ t)) }
     {
         match item {
-            Item::Frame { channel, perf, .. } => {
-                self.put_perf(conn, *channel, perf, store, count)?
-            }
+            Item::Frame { channel, perf, .. } => { self.put_perf(conn, *channel, perf, store)? }
             _ => {}
         }
         Ok(())
@@ -160,13 +152,12 @@ impl Names {
         own: u16,
         perf: &Perf,
         store: &Store,
-        count: u64,
     ) -> Result<(), AllocError>
-        ensures { OnOk result ((t : List Entry) (sasl : Bool) (payload : List ℕ) → count ≡ bindings t → StoreFit store.now (Out conn (item.Frame sasl own perf.now payload) ∷ t)
+        ensures { OnOk result ((t : List Entry) (sasl : Bool) (payload : List ℕ) → StoreFit store.now (Out conn (item.Frame sasl own perf.now payload) ∷ t)
             → NamesFit self.old t → NamesFit self.new (Out conn (item.Frame sasl own perf.now payload) ∷ t)) }
     {
         match perf {
-            Perf::Transfer(transfer) => self.begin(conn, own, transfer, store, count)?,
+            Perf::Transfer(transfer) => self.begin(conn, own, transfer, store)?,
             Perf::End(_) => self.ids.end(conn, own),
             Perf::Close(_) => self.ids.forget(conn),
             _ => {}
@@ -181,14 +172,18 @@ impl Names {
         own: u16,
         transfer: &Transfer,
         store: &Store,
-        count: u64,
     ) -> Result<(), AllocError>
         ensures named { OnOk result ((c o q : ℕ) → at_id self.new.ids c o q
-            ≡ (if conn == c then (if own == o then (if is_id transfer.now.delivery_id q then kept_name (option_and_then tagged (tag_in transfer.now)) count (get nat_cmp store.now.deliveries) else at_id self.old.ids c o q) else at_id self.old.ids c o q) else at_id self.old.ids c o q)) }
+            ≡ (if conn == c then (if own == o then (if is_id transfer.now.delivery_id q then kept_name (option_and_then (number_tagged (at_name store.now.by_name)) (tag_in transfer.now)) (get nat_cmp store.now.deliveries) else at_id self.old.ids c o q) else at_id self.old.ids c o q) else at_id self.old.ids c o q)) }
         ensures small { OnOk result (AreSmall (at_id self.old.ids) → AreSmall (at_id self.new.ids)) }
     {
         if let Some(id) = transfer.delivery_id {
-            self.set(conn, own, id, kept_name(number_of(transfer), store, count))?;
+            self.set(
+                conn,
+                own,
+                id,
+                kept_name(store.by_name.begun(transfer), store),
+            )?;
         }
         Ok(())
     }
@@ -206,37 +201,29 @@ impl Names {
         Ok(())
     }
 
-    /// Forgets those ids in a session's range that name deliveries which are bound and not undecided.
+    /// Forgets those ids in a session's range that name deliveries which aren't undecided.
     pub(crate) fn settle(
         &mut self,
         store: &Store,
-        count: u64,
         conn: u64,
         own: u16,
         first: u32,
         last: u32,
     ) -> Result<(), AllocError>
-        ensures { OnOk result ((t : List Entry) → count ≡ bindings t → ((n : ℕ) → get nat_cmp store.now.deliveries n ≡ delivery t n) → NamesFit self.old t → NamesFit self.new t) }
+        ensures { OnOk result ((t : List Entry) → ((n : ℕ) → get nat_cmp store.now.deliveries n ≡ delivery t n) → NamesFit self.old t → NamesFit self.new t) }
     {
         let ids = self.ids.in_range(conn, own, first, last)?;
         for id in &ids {
-            self.settle_one(store, count, conn, own, id.number())?;
+            self.settle_one(store, conn, own, id.number())?;
         }
         Ok(())
     }
 
-    /// Forgets an id if it names a delivery which is bound and not undecided.
-    fn settle_one(
-        &mut self,
-        store: &Store,
-        count: u64,
-        conn: u64,
-        own: u16,
-        id: u32,
-    ) -> Result<(), AllocError>
-        ensures { OnOk result ((t : List Entry) → count ≡ bindings t → ((n : ℕ) → get nat_cmp store.now.deliveries n ≡ delivery t n) → NamesFit self.old t → NamesFit self.new t) }
+    /// Forgets an id if it names a delivery which isn't undecided.
+    fn settle_one(&mut self, store: &Store, conn: u64, own: u16, id: u32) -> Result<(), AllocError>
+        ensures { OnOk result ((t : List Entry) → ((n : ℕ) → get nat_cmp store.now.deliveries n ≡ delivery t n) → NamesFit self.old t → NamesFit self.new t) }
     {
-        let name = kept_name(self.get(conn, own, id), store, count);
+        let name = kept_name(self.get(conn, own, id), store);
         self.set(conn, own, id, name)?;
         Ok(())
     }
@@ -245,52 +232,49 @@ impl Names {
     pub(crate) fn settle_heard(
         &mut self,
         store: &Store,
-        count: u64,
         conn: u64,
         own: Option<u16>,
         item: &Item,
     ) -> Result<(), AllocError>
-        ensures { OnOk result ((t : List Entry) → count ≡ bindings t → ((n : ℕ) → get nat_cmp store.now.deliveries n ≡ delivery t n) → NamesFit self.old t → NamesFit self.new t) }
+        ensures { OnOk result ((t : List Entry) → ((n : ℕ) → get nat_cmp store.now.deliveries n ≡ delivery t n) → NamesFit self.old t → NamesFit self.new t) }
     {
         let Some(own) = own else {
             return Ok(());
         };
         if let Some((first, last)) = decided_in(item) {
-            self.settle(store, count, conn, own, first, last)?;
+            self.settle(store, conn, own, first, last)?;
         }
         Ok(())
     }
 
-    /// After an item of the router, forgets those of these ids that name deliveries which are bound and not undecided, on its session.
+    /// After an item of the router, forgets those of these ids that name deliveries which aren't undecided, on its session.
     pub(crate) fn settle_put(
         &mut self,
         store: &Store,
-        count: u64,
         conn: u64,
         item: &Item,
         ids: &[u32],
     ) -> Result<(), AllocError>
-        ensures { OnOk result ((t : List Entry) → count ≡ bindings t → ((n : ℕ) → get nat_cmp store.now.deliveries n ≡ delivery t n) → NamesFit self.old t → NamesFit self.new t) }
+        ensures { OnOk result ((t : List Entry) → ((n : ℕ) → get nat_cmp store.now.deliveries n ≡ delivery t n) → NamesFit self.old t → NamesFit self.new t) }
     {
         if let Some(own) = detached_in(item) {
-            self.settle_all(store, count, conn, own, ids)?;
+            self.settle_all(store, conn, own, ids)?;
         }
         Ok(())
     }
 
-    /// Forgets those of these ids that name deliveries which are bound and not undecided.
+    /// Forgets those of these ids that name deliveries which aren't undecided.
     fn settle_all(
         &mut self,
         store: &Store,
-        count: u64,
         conn: u64,
         own: u16,
         ids: &[u32],
     ) -> Result<(), AllocError>
-        ensures { OnOk result ((t : List Entry) → count ≡ bindings t → ((n : ℕ) → get nat_cmp store.now.deliveries n ≡ delivery t n) → NamesFit self.old t → NamesFit self.new t) }
+        ensures { OnOk result ((t : List Entry) → ((n : ℕ) → get nat_cmp store.now.deliveries n ≡ delivery t n) → NamesFit self.old t → NamesFit self.new t) }
     {
         for id in ids {
-            self.settle_one(store, count, conn, own, *id)?;
+            self.settle_one(store, conn, own, *id)?;
         }
         Ok(())
     }
@@ -328,15 +312,16 @@ fn detached_in(item: &Item) -> Option<u16>
     }
 }
 
-/// The number of a delivery whose name is kept: it is undecided, or wasn't bound yet.
-fn kept_name(number: Option<u64>, store: &Store, count: u64) -> Option<u64>
-    ensures { result ≡ kept_name number count (get nat_cmp store.now.deliveries) }
+/// The number of a delivery, if that is undecided.
+fn kept_name(number: Option<u64>, store: &Store) -> Option<u64>
+    ensures { result ≡ kept_name number (get nat_cmp store.now.deliveries) }
 {
     let number = number?;
-    if number <= count && !store.is_open(number) {
-        return None;
+    if store.is_open(number) {
+        Some(number)
+    } else {
+        None
     }
-    Some(number)
 }
 
 /// Appends a number, if there is one.

@@ -1,10 +1,9 @@
 //! The deliveries of which more frames remain to be sent, by the router's handles.
-ghost use Rattle.std.specs.Prelude.{◌≡◌, ◌∷◌, List, ℕ, Bool, None, if◌then◌else◌, OnOk, IfOk};
+ghost use Rattle.std.specs.Prelude.{◌≡◌, ◌==◌, ◌∷◌, List, ℕ, Bool, None, if◌then◌else◌, OnOk, IfOk};
 ghost use Rattle.std.specs.Ordering.{nat_cmp};
 ghost use Rattle.std.specs.Map.{values_of};
 ghost use Rattle.std.specs.BTreeMap.{IsOrdered};
 ghost use Rattle.router_deliveries.specs.Finding.{IsListed};
-ghost use Rattle.amqp_perf.specs.declared.perf.Perf.TheVariants as perf;
 ghost use Rattle.amqp_frames.specs.declared.item.Item.TheVariants as item;
 ghost use Rattle.router_trace.specs.Trace.{Beginning};
 ghost use Rattle.router_trace.specs.Configuration.{beginning};
@@ -12,10 +11,11 @@ ghost use Rattle.router_trace.specs.Trace.{Entry, Out, did};
 ghost use Rattle.router_trace.specs.declared.event.Event.TheVariants as event;
 ghost use Rattle.router_trace.specs.Deliveries.{carried, tag_in};
 ghost use Rattle.router_deliveries.specs.Places.{at};
+ghost use Rattle.router_deliveries.specs.Calling.{at_name, NumbersFit};
 ghost use Rattle.router_deliveries.specs.Fits.{SendingFit, carried_in, carried_by};
 
 use crate::by_handle::{ByHandle, InSession};
-use crate::tag::carried;
+use crate::by_name::ByName;
 use amqp_frames::Item;
 use amqp_perf::{Perf, Transfer};
 use router_trace::ConnectionId;
@@ -61,24 +61,30 @@ impl Sending {
         let _ = self.numbers.forget(conn.0);
     }
 
-    /// An item is put into the outbox of a connection.
-    pub(crate) fn put(&mut self, conn: u64, item: &Item) -> Result<(), AllocError>
-        ensures { OnOk result ((t : List Entry) → SendingFit self.old t → SendingFit self.new (Out conn item.now ∷ t)) }
+    /// An item is put into the outbox of a connection; `names` are those of the deliveries behind it.
+    pub(crate) fn put(&mut self, conn: u64, item: &Item, names: &ByName) -> Result<(), AllocError>
+        ensures { OnOk result ((t : List Entry) → NumbersFit names.now (Out conn item.now ∷ t) → SendingFit self.old t → SendingFit self.new (Out conn item.now ∷ t)) }
     {
         match item {
-            Item::Frame { channel, perf, .. } => self.put_perf(conn, *channel, perf)?,
+            Item::Frame { channel, perf, .. } => self.put_perf(conn, *channel, perf, names)?,
             _ => {}
         }
         Ok(())
     }
 
     /// A performative is put into the outbox of a connection, on a channel of the router.
-    fn put_perf(&mut self, conn: u64, own: u16, perf: &Perf) -> Result<(), AllocError>
-        ensures { OnOk result ((t : List Entry) (sasl : Bool) (payload : List ℕ) → SendingFit self.old t
-            → SendingFit self.new (Out conn (item.Frame sasl own perf.now payload) ∷ t)) }
+    fn put_perf(
+        &mut self,
+        conn: u64,
+        own: u16,
+        perf: &Perf,
+        names: &ByName,
+    ) -> Result<(), AllocError>
+        ensures { OnOk result ((t : List Entry) (sasl : Bool) (payload : List ℕ) → NumbersFit names.now (Out conn (item.Frame sasl own perf.now payload) ∷ t)
+            → SendingFit self.old t → SendingFit self.new (Out conn (item.Frame sasl own perf.now payload) ∷ t)) }
     {
         match perf {
-            Perf::Transfer(transfer) => self.put_transfer(conn, own, transfer)?,
+            Perf::Transfer(transfer) => self.put_transfer(conn, own, transfer, names)?,
             Perf::Detach(detach) => {
                 let _ = self.numbers.remove(conn, own, detach.handle);
             }
@@ -94,11 +100,18 @@ impl Sending {
     }
 
     /// The router's transfer.
-    fn put_transfer(&mut self, conn: u64, own: u16, transfer: &Transfer) -> Result<(), AllocError>
-        ensures { OnOk result ((t : List Entry) (sasl : Bool) (payload : List ℕ) → SendingFit self.old t
-            → SendingFit self.new (Out conn (item.Frame sasl own (perf.Transfer transfer.now) payload) ∷ t)) }
+    fn put_transfer(
+        &mut self,
+        conn: u64,
+        own: u16,
+        transfer: &Transfer,
+        names: &ByName,
+    ) -> Result<(), AllocError>
+        ensures { OnOk result ((c o h : ℕ) → at self.new.numbers c o h
+            ≡ (if conn == c then (if own == o then (if transfer.now.handle == h then (if transfer.now.more then carried (at_name names.now) (tag_in transfer.now) (at self.old.numbers c o h) else None)
+            else at self.old.numbers c o h) else at self.old.numbers c o h) else at self.old.numbers c o h)) }
     {
-        let number = self.number_behind(conn, own, transfer);
+        let number = self.number_behind(conn, own, transfer, names);
         match number {
             None => {
                 let _ = self.numbers.remove(conn, own, transfer.handle);
@@ -109,31 +122,34 @@ impl Sending {
     }
 
     /// The delivery that an item of the router carries.
-    pub(crate) fn carried_by(&self, conn: u64, item: &Item) -> Option<u64>
-        ensures { result ≡ carried_by item.now (at self.now.numbers conn) }
+    pub(crate) fn carried_by(&self, conn: u64, item: &Item, names: &ByName) -> Option<u64>
+        ensures { result ≡ carried_by (at_name names.now) item.now (at self.now.numbers conn) }
     {
         match item {
-            Item::Frame { channel, perf, .. } => self.carried_in(conn, *channel, perf),
+            Item::Frame { channel, perf, .. } => self.carried_in(conn, *channel, perf, names),
             _ => None,
         }
     }
 
     /// The delivery that a performative of the router carries.
-    fn carried_in(&self, conn: u64, own: u16, perf: &Perf) -> Option<u64>
-        ensures { result ≡ carried_in perf.now (at self.now.numbers conn own) }
+    fn carried_in(&self, conn: u64, own: u16, perf: &Perf, names: &ByName) -> Option<u64>
+        ensures { result ≡ carried_in (at_name names.now) perf.now (at self.now.numbers conn own) }
     {
         match perf {
-            Perf::Transfer(transfer) => carried(transfer, self.on(conn, own, transfer.handle)),
+            Perf::Transfer(transfer) => names.carried(
+                transfer,
+                self.on(conn, own, transfer.handle),
+            ),
             _ => None,
         }
     }
 
     /// The delivery of which more frames remain to be sent on a transfer's handle, after that transfer.
-    fn number_behind(&self, conn: u64, own: u16, transfer: &Transfer) -> Option<u64>
-        ensures { result ≡ (if transfer.now.more then carried (tag_in transfer.now) (at self.now.numbers conn own transfer.now.handle) else None) }
+    fn number_behind(&self, conn: u64, own: u16, transfer: &Transfer, names: &ByName) -> Option<u64>
+        ensures { result ≡ (if transfer.now.more then carried (at_name names.now) (tag_in transfer.now) (at self.now.numbers conn own transfer.now.handle) else None) }
     {
         if transfer.more {
-            carried(transfer, self.on(conn, own, transfer.handle))
+            names.carried(transfer, self.on(conn, own, transfer.handle))
         } else {
             None
         }

@@ -5,11 +5,13 @@ ghost use Rattle.std.specs.Ordering.{nat_cmp};
 ghost use Rattle.std.specs.Map.{keys_of};
 ghost use Rattle.std.specs.BTreeMap.{get};
 ghost use Rattle.amqp_session.specs.Ranges.{has};
-ghost use Rattle.router_trace.specs.Deliveries.{unless_over, bound, behind_frame, is_number, is_id, sending};
+ghost use Rattle.router_trace.specs.declared.binding.DeliveryName.{DeliveryName as Name};
+ghost use Rattle.router_trace.specs.Deliveries.{unless_over, unless_called, is_over, same_name, bound, behind_frame, is_number, is_id, delivery, number_named, sending};
 ghost use Rattle.router_trace.specs.Settling.{is_open_as};
 ghost use Rattle.router_trace.specs.Trace.{Entry, Out, did};
 ghost use Rattle.amqp_frames.specs.declared.item.Item.TheVariants as item;
 ghost use Rattle.router_trace.specs.declared.event.Event.TheVariants as event;
+ghost use Rattle.router_deliveries.specs.Calling.{at_name, is_called, Knows};
 ghost use Rattle.router_deliveries.specs.Fits.{Indexed, StoreFit, carried_in, carried_by};
 ghost use Rattle.router_deliveries.specs.declared.index.Keys.{Keys as TheKeys};
 ghost use Rattle.router_deliveries.specs.Indexing.{Indexes, standing, in_group, concerns};
@@ -20,6 +22,7 @@ ghost use Rattle.router_deliveries.specs.Hearing.{id_of};
 ghost use Rattle.router_deliveries.specs.Naming.{is_open, is_detached, is_detached_in};
 ghost use Rattle.router_deliveries.specs.Stepping.{behind, behind_any, IsKept};
 
+use crate::by_name::ByName;
 use crate::change::{Change, Gone, behind_put};
 use crate::delivery::Delivery;
 use crate::groups::{behind, first};
@@ -28,7 +31,7 @@ use crate::touched::Touched;
 use amqp_frames::Item;
 use amqp_perf::{Perf, Transfer};
 use bytes::Bytes;
-use router_trace::{Binding, ConnectionId};
+use router_trace::{Binding, ConnectionId, DeliveryName};
 use std::alloc::{AllocError, Global};
 use std::collections::BTreeMap;
 
@@ -37,6 +40,7 @@ use std::collections::BTreeMap;
 pub(crate) struct Store {
     alloc: Global,
     deliveries: BTreeMap<u64, Delivery>,
+    pub(crate) by_name: ByName,
     index: Index,
     touched: Touched,
 }
@@ -50,6 +54,7 @@ impl Store {
         Store {
             alloc,
             deliveries: BTreeMap::new(alloc),
+            by_name: ByName::new(alloc),
             index: Index::new(alloc),
             touched: Touched::new(alloc),
         }
@@ -121,6 +126,7 @@ impl Store {
     /// Forgets that a link was touched.
     pub(crate) fn forget_touched(&mut self, link: u64)
         ensures deliveries { self.new.deliveries ≡ self.old.deliveries }
+        ensures by_name { self.new.by_name ≡ self.old.by_name }
         ensures index { self.new.index ≡ self.old.index }
         ensures touched { (k : ℕ) → is_touched_in self.new.touched k ≡ (if link == k then false else is_touched_in self.old.touched k) }
     {
@@ -178,6 +184,7 @@ impl Store {
     fn take(&mut self, number: u64) -> Option<Delivery>
         ensures gives { result ≡ get nat_cmp self.old.deliveries number }
         ensures gone { (n : ℕ) → get nat_cmp self.new.deliveries n ≡ (if number == n then None else get nat_cmp self.old.deliveries n) }
+        ensures by_name { self.new.by_name ≡ self.old.by_name }
         ensures index { self.new.index ≡ self.old.index }
         ensures touched { self.new.touched ≡ self.old.touched }
     {
@@ -191,9 +198,11 @@ impl Store {
             → Indexes self.new.index (λ n. if number == n then standing (unless_over delivery) else known n)) }
         ensures touched { OnOk result ((k : ℕ) → is_touched_in self.new.touched k ≡ false
             → (is_touched_in self.old.touched k ≡ false) × StandsSame k before (standing (unless_over delivery))) }
+        ensures called { OnOk result ((m : Name) → at_name self.new.by_name m ≡ (if is_over delivery && same_name delivery.name m then None else at_name self.old.by_name m)) }
     {
         if delivery.is_over() {
             let _ = self.deliveries.remove(&number);
+            self.by_name.forget(delivery.name);
             return self.shift(number, before, Keys::nowhere());
         }
         self.shift(number, before, Keys::of(&delivery))?;
@@ -206,6 +215,7 @@ impl Store {
     /// Replaces a delivery's index entries.
     fn shift(&mut self, number: u64, before: Keys, after: Keys) -> Result<(), AllocError>
         ensures deliveries { self.new.deliveries ≡ self.old.deliveries }
+        ensures by_name { self.new.by_name ≡ self.old.by_name }
         ensures indexed { OnOk result ((known : ℕ → TheKeys) → known number ≡ before → Indexes self.old.index known
             → Indexes self.new.index (λ n. if number == n then after else known n)) }
         ensures touched { OnOk result ((k : ℕ) → is_touched_in self.new.touched k ≡ false
@@ -215,15 +225,60 @@ impl Store {
         self.index.shift(number, before, after)
     }
 
-    /// Adds a message that was bound, under its number.
-    pub(crate) fn bind(&mut self, number: u64, binding: Binding) -> Result<(), AllocError>
-        ensures deliveries { OnOk result ((n : ℕ) → get nat_cmp self.new.deliveries n ≡ (if number == n then Some (bound binding) else get nat_cmp self.old.deliveries n)) }
+    /// Adds a message that was bound, under its number and its name. An earlier delivery of this name is removed.
+    pub(crate) fn bind(
+        &mut self,
+        number: u64,
+        name: DeliveryName,
+        binding: Binding,
+    ) -> Result<(), AllocError>
+        ensures deliveries { OnOk result (Indexed self.old
+            → (n : ℕ) → get nat_cmp self.new.deliveries n ≡ (if number == n then Some (bound name binding) else unless_called name (get nat_cmp self.old.deliveries n))) }
+        ensures indexed { OnOk result (get nat_cmp self.old.deliveries number ≡ None → Indexed self.old → Indexed self.new) }
+        ensures touches { OnOk result (StoreTouches self.old self.new) }
+    {
+        self.remove_called(name)?;
+        self.add(number, name, binding)
+    }
+
+    /// Adds a message that was bound, under its number and its name.
+    fn add(&mut self, number: u64, name: DeliveryName, binding: Binding) -> Result<(), AllocError>
+        ensures deliveries { OnOk result ((n : ℕ) → get nat_cmp self.new.deliveries n ≡ (if number == n then Some (bound name binding) else get nat_cmp self.old.deliveries n)) }
+        ensures indexed { OnOk result (get nat_cmp self.old.deliveries number ≡ None → ((n : ℕ) → is_called name (get nat_cmp self.old.deliveries n) ≡ false)
+            → Indexed self.old → Indexed self.new) }
+        ensures touches { OnOk result (StoreTouches self.old self.new) }
+    {
+        self.by_name.set(name, number)?;
+        let taken = self.take(number);
+        let before = Keys::standing(&taken);
+        self.keep(number, before, Delivery::bound(name, binding))
+    }
+
+    /// Removes the delivery with a name.
+    #[tactic(auto, using(crate::proofs::Touching::touches_self))]
+    fn remove_called(&mut self, name: DeliveryName) -> Result<(), AllocError>
+        ensures deliveries { OnOk result (Indexed self.old → (n : ℕ) → get nat_cmp self.new.deliveries n ≡ unless_called name (get nat_cmp self.old.deliveries n)) }
         ensures indexed { OnOk result (Indexed self.old → Indexed self.new) }
         ensures touches { OnOk result (StoreTouches self.old self.new) }
     {
-        let taken = self.take(number);
-        let before = Keys::standing(&taken);
-        self.keep(number, before, Delivery::bound(binding))
+        match self.by_name.get(name) {
+            None => Ok(()),
+            Some(number) => self.remove(number),
+        }
+    }
+
+    /// Removes the delivery with a number.
+    fn remove(&mut self, number: u64) -> Result<(), AllocError>
+        ensures deliveries { OnOk result ((n : ℕ) → get nat_cmp self.new.deliveries n ≡ (if number == n then None else get nat_cmp self.old.deliveries n)) }
+        ensures indexed { OnOk result (Indexed self.old → Indexed self.new) }
+        ensures touches { OnOk result (StoreTouches self.old self.new) }
+    {
+        let Some(delivery) = self.take(number) else {
+            return Ok(());
+        };
+        let before = Keys::of(&delivery);
+        self.by_name.forget(delivery.name);
+        self.shift(number, before, Keys::nowhere())
     }
 
     /// Notes a transfer that carries `count` bytes of the delivery with a number.
@@ -327,7 +382,10 @@ impl Store {
         ensures fits { OnOk result ((t : List Entry) → StoreFit self.old t → StoreFit self.new (did (event.Down conn) ∷ t)) }
         ensures touches { OnOk result (StoreTouches self.old self.new) }
     {
-        self.apply(&Change::Ends(Gone::Connection(conn.0)))
+        self.apply(&Change::Ends {
+            gone: Gone::Connection(conn.0),
+            closed: false,
+        })
     }
 
     /// The ids of the deliveries on the link that an item of the router detaches.
@@ -349,7 +407,11 @@ impl Store {
         match perf {
             Perf::Detach(detach) => {
                 let handle = detach.handle;
-                Ok(self.ids_on(&Change::Ends(Gone::Link { conn, own, handle }))?)
+                let gone = Gone::Link { conn, own, handle };
+                Ok(self.ids_on(&Change::Ends {
+                    gone,
+                    closed: false,
+                })?)
             }
             _ => Ok(Vec::new(self.alloc)),
         }
@@ -376,7 +438,7 @@ impl Store {
         item: &Item,
         number: Option<u64>,
     ) -> Result<(), AllocError>
-        ensures fits { OnOk result ((t : List Entry) → number ≡ carried_by item.now (sending t conn) → StoreFit self.old t → StoreFit self.new (Out conn item.now ∷ t)) }
+        ensures fits { OnOk result ((t : List Entry) → Knows (delivery t) number (carried_by (number_named t) item.now (sending t conn)) → StoreFit self.old t → StoreFit self.new (Out conn item.now ∷ t)) }
         ensures touches { OnOk result (StoreTouches self.old self.new) }
     {
         match item {
@@ -400,7 +462,7 @@ impl Store {
         payload: &Bytes,
         number: Option<u64>,
     ) -> Result<(), AllocError>
-        ensures fits { OnOk result ((t : List Entry) (sasl : Bool) → number ≡ carried_in perf.now (sending t conn own) → StoreFit self.old t
+        ensures fits { OnOk result ((t : List Entry) (sasl : Bool) → Knows (delivery t) number (carried_in (number_named t) perf.now (sending t conn own)) → StoreFit self.old t
             → StoreFit self.new (Out conn (item.Frame sasl own perf.now payload.now) ∷ t)) }
         ensures touches { OnOk result (StoreTouches self.old self.new) }
     {

@@ -1,39 +1,31 @@
-//! The delivery-tags that the router gives: the byte 118 and the delivery's number in 8 bytes.
+//! The delivery-tags that the router gives: the number of the delivery's row in 8 bytes, or the byte 118 and a counter in 8 bytes.
 ghost use Rattle.std.specs.Prelude.{◌≡◌};
-ghost use Rattle.std.specs.Option.{option_and_then};
-ghost use Rattle.router_trace.specs.Deliveries.{tagged, tag_in, carried};
+ghost use Rattle.router_trace.specs.Deliveries.{tagged, row_in};
 
-use amqp_perf::Transfer;
+use book_core::RowNumber;
+use router_trace::DeliveryName;
 
-/// The number in a tag; none if the router gives no such tag.
+/// The name of the delivery that has a tag; none if the router gives no such tag.
 #[tactic(auto, using(crate::proofs::Tags::number_of_eight))]
-fn tagged(tag: &[u8]) -> Option<u64>
+pub(crate) fn tagged(tag: &[u8]) -> Option<DeliveryName>
     ensures { result ≡ tagged tag.now }
 {
     let (mark, number) = tag.split_first()?;
-    if *mark != 118 || number.len() != 8 {
-        return None;
+    if number.len() != 8 || *mark != 118 {
+        return row_in(tag);
     }
     let (number, _) = number.split_first_chunk::<8>()?;
-    Some(u64::from_be_bytes(*number))
+    Some(DeliveryName::Counter(u64::from_be_bytes(*number)))
 }
 
-/// The number of the delivery that a transfer of the router carries, after a frame of `before`.
-pub(crate) fn carried(transfer: &Transfer, before: Option<u64>) -> Option<u64>
-    ensures { result ≡ carried (tag_in transfer.now) before }
+/// The name of the durable delivery that has a tag.
+#[tactic(auto, using(crate::proofs::Tags::number_of_eight))]
+fn row_in(tag: &[u8]) -> Option<DeliveryName>
+    ensures { result ≡ row_in tag.now }
 {
-    match &transfer.delivery_tag {
-        None => before,
-        Some(tag) => tagged(tag.as_slice()),
+    if tag.len() != 8 {
+        return None;
     }
-}
-
-/// The number of the delivery that a transfer of the router begins, by its tag.
-pub(crate) fn number_of(transfer: &Transfer) -> Option<u64>
-    ensures { result ≡ option_and_then tagged (tag_in transfer.now) }
-{
-    match &transfer.delivery_tag {
-        None => None,
-        Some(tag) => tagged(tag.as_slice()),
-    }
+    let (number, _) = tag.split_first_chunk::<8>()?;
+    Some(DeliveryName::Row(RowNumber(u64::from_be_bytes(*number))))
 }

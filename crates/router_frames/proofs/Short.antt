@@ -117,18 +117,18 @@ disposition_joined : (r f s o : List ℕ) → length r ≡ 1 → length f ≤ 5 
 disposition_joined r f s o lr lf ls lo =
     omega (arith, lr, lf, ls, lo, length-append r (f ++ (0x40 ∷ (s ++ (o ++ (0x40 ∷ []))))), length-append f (0x40 ∷ (s ++ (o ++ (0x40 ∷ [])))), length-append s (o ++ (0x40 ∷ [])), length-append o (0x40 ∷ []))
 
-disposition_len : (role : Role) (id : ℕ) (s : DeliveryState) → length (state_spelling s) ≤ 400
-    → length (spelling (perf.Disposition (record { role = role; first = id; last = None; settled = true; state = Some s; batchable = false }))) ≤ 421
+disposition_len : (role : Role) (id : ℕ) (settled : Bool) (s : DeliveryState) → length (state_spelling s) ≤ 400
+    → length (spelling (perf.Disposition (record { role = role; first = id; last = None; settled = settled; state = Some s; batchable = false }))) ≤ 421
 unfolding spelling
-disposition_len role id s le =
-    let all = described_len is.Disposition (role_text role ∷ spelt (d.uint id) ∷ None ∷ flag_text true ∷ Some (state_spelling s) ∷ None ∷ []) in
-    omega (arith, all, disposition_joined (field_bytes (role_text role)) (value_spelling (d.uint id)) (field_bytes (flag_text true)) (state_spelling s) (role_len role) (number_len id) (flag_len true) le)
+disposition_len role id settled s le =
+    let all = described_len is.Disposition (role_text role ∷ spelt (d.uint id) ∷ None ∷ flag_text settled ∷ Some (state_spelling s) ∷ None ∷ []) in
+    omega (arith, all, disposition_joined (field_bytes (role_text role)) (value_spelling (d.uint id)) (field_bytes (flag_text settled)) (state_spelling s) (role_len role) (number_len id) (flag_len settled) le)
 
 frame_on_len : (own : ℕ) (p : Perf) → length (item_spelling (frame_on own p)) ≡ 8 + length (spelling p)
 unfolding item_spelling
 frame_on_len own p = omega (arith, length-append (spelling p) [])
 
-pub outcome_frame_len : (own id : ℕ) (role : Role) (s : DeliveryState) → is_some (terminal (Some s)) ≡ true → length (item_spelling (outcome_item own role id s)) ≤ 429
-outcome_frame_len own id role s h =
-    let body : Perf = perf.Disposition (record { role = role; first = id; last = None; settled = true; state = Some (kept_outcome s); batchable = false }) in
-    omega (arith, frame_on_len own body, disposition_len role id (kept_outcome s) (kept_len s h))
+pub outcome_frame_len : (own id : ℕ) (role : Role) (settled : Bool) (s : DeliveryState) → is_some (terminal (Some s)) ≡ true → length (item_spelling (outcome_item own role id settled s)) ≤ 429
+outcome_frame_len own id role settled s h =
+    let body : Perf = perf.Disposition (record { role = role; first = id; last = None; settled = settled; state = Some (kept_outcome s); batchable = false }) in
+    omega (arith, frame_on_len own body, disposition_len role id settled (kept_outcome s) (kept_len s h))

@@ -11,6 +11,8 @@ use Rattle.amqp_perf.specs.Texts.{FieldText, given, field_bytes, joined, describ
 use Rattle.amqp_perf.specs.Spelling.{spelling}
 use Rattle.amqp_frames.specs.ItemSpelling.{item_spelling}
 use Rattle.amqp_frames.specs.Room.{transfer_frame}
+use Rattle.router_trace.specs.declared.binding.DeliveryName.{DeliveryName}
+use Rattle.router_trace.specs.declared.binding.DeliveryName.TheVariants.{Row, Counter}
 use Rattle.router_trace.specs.Deliveries.{Delivery, tag_of}
 use Rattle.router_trace.specs.DeliveryFrames.{first_transfer, later_transfer, with_more}
 use Rattle.router_frames.proofs.Longer.{list_size, is_small, counted, stays_small, said_true, frame_len}
@@ -24,9 +26,10 @@ pub number_len : (n : ℕ) → length (value_spelling (d.uint n)) ≤ 5
 unfolding value_spelling
 number_len n = number_by (n == 0) (nat_lt n 256) n
 
-tag_len : (n : ℕ) → length (value_spelling (d.binary (tag_of n))) ≡ 11
+tag_len : (name : DeliveryName) → length (value_spelling (d.binary (tag_of name))) ≤ 11
 unfolding value_spelling
-tag_len n = refl
+tag_len (Row r) = omega arith
+tag_len (Counter k) = omega arith
 
 pub flag_len : (b : Bool) → length (field_bytes (flag_text b)) ≡ 1
 flag_len true = ap (λ (t : List ℕ). length t) said_true
@@ -59,7 +62,7 @@ unfolding given
 later_given a None m = refl
 later_given a (Some s) m = refl
 
-first_joined : (a b t c f m : List ℕ) → length a ≤ 5 → length b ≤ 5 → length t ≡ 11 → length c ≤ 5 → length f ≡ 1 → length m ≡ 1 → length (a ++ (b ++ (t ++ (c ++ (f ++ (m ++ [])))))) ≤ 28
+first_joined : (a b t c f m : List ℕ) → length a ≤ 5 → length b ≤ 5 → length t ≤ 11 → length c ≤ 5 → length f ≡ 1 → length m ≡ 1 → length (a ++ (b ++ (t ++ (c ++ (f ++ (m ++ [])))))) ≤ 28
 first_joined a b t c f m la lb lt lc lf lm =
     omega (arith, la, lb, lt, lc, lf, lm, length-append a (b ++ (t ++ (c ++ (f ++ (m ++ []))))), length-append b (t ++ (c ++ (f ++ (m ++ [])))), length-append t (c ++ (f ++ (m ++ []))), length-append c (f ++ (m ++ [])), length-append f (m ++ []), length-append m [])
 
@@ -70,16 +73,16 @@ later_joined a f m la lf lm =
 abbrev more_text : List ℕ
 more_text = value_spelling (d.boolean true)
 
-first_spelt : (handle id n : ℕ) (b : Delivery) → length (spelling (perf.Transfer (with_more (first_transfer handle id n b)))) ≤ 34
+first_spelt : (handle id : ℕ) (b : Delivery) → length (spelling (perf.Transfer (with_more (first_transfer handle id b)))) ≤ 34
 unfolding spelling
-first_spelt handle id n b =
+first_spelt handle id b =
     let one = value_spelling (d.uint handle) in
     let other = value_spelling (d.uint id) in
-    let tag = value_spelling (d.binary (tag_of n)) in
+    let tag = value_spelling (d.binary (tag_of b.name)) in
     let format = value_spelling (d.uint b.format) in
     let flag = flag_text b.presettled in
     text_len _ (Some one ∷ Some other ∷ Some tag ∷ Some format ∷ flag ∷ Some more_text ∷ []) 28 (first_given one other tag format flag more_text) (omega arith)
-    (first_joined one other tag format (field_bytes flag) more_text (number_len handle) (number_len id) (tag_len n) (number_len b.format) (flag_len b.presettled) (flag_len true)) (omega arith)
+    (first_joined one other tag format (field_bytes flag) more_text (number_len handle) (number_len id) (tag_len b.name) (number_len b.format) (flag_len b.presettled) (flag_len true)) (omega arith)
 
 later_spelt : (handle : ℕ) (b : Delivery) → length (spelling (perf.Transfer (with_more (later_transfer handle b)))) ≤ 16
 unfolding spelling
@@ -89,8 +92,8 @@ later_spelt handle b =
     text_len _ (Some one ∷ None ∷ None ∷ None ∷ flag ∷ Some more_text ∷ []) 10 (later_given one flag more_text) (omega arith)
     (later_joined one (field_bytes flag) more_text (number_len handle) (flag_len b.presettled) (flag_len true)) (omega arith)
 
-pub first_frame_len : (own handle id n : ℕ) (b : Delivery) (payload : List ℕ) → length (item_spelling (transfer_frame own (with_more (first_transfer handle id n b)) payload)) ≤ 42 + length payload
-first_frame_len own handle id n b payload = omega (arith, first_spelt handle id n b, frame_len own (with_more (first_transfer handle id n b)) payload)
+pub first_frame_len : (own handle id : ℕ) (b : Delivery) (payload : List ℕ) → length (item_spelling (transfer_frame own (with_more (first_transfer handle id b)) payload)) ≤ 42 + length payload
+first_frame_len own handle id b payload = omega (arith, first_spelt handle id b, frame_len own (with_more (first_transfer handle id b)) payload)
 
 pub later_frame_len : (own handle : ℕ) (b : Delivery) (payload : List ℕ) → length (item_spelling (transfer_frame own (with_more (later_transfer handle b)) payload)) ≤ 24 + length payload
 later_frame_len own handle b payload = omega (arith, later_spelt handle b, frame_len own (with_more (later_transfer handle b)) payload)

@@ -1,5 +1,5 @@
 //! Laws of all delivery frames. The functions do nothing: their contracts are the laws.
-ghost use Rattle.std.specs.Prelude.{◌≡◌, ◌≤◌, ◌+◌, ◌↔◌, ℕ, List, [], length, true, false, is_some, Some};
+ghost use Rattle.std.specs.Prelude.{◌≡◌, Bool, ◌≤◌, ◌+◌, ◌↔◌, ℕ, List, [], length, true, false, is_some, Some};
 ghost use Rattle.amqp_perf.specs.Spelling.{state_spelling};
 ghost use Rattle.amqp_perf.specs.declared.perf.Role.{Role as ARole};
 ghost use Rattle.amqp_perf.specs.declared.state.DeliveryState.{DeliveryState as AState};
@@ -27,14 +27,14 @@ pub fn frames_are_filled()
 /// Beside its payload a frame of a delivery has at most 42 bytes, and at most 24 if it isn't the first. So a frame that says that more is
 /// to come fills all but that many of the bytes that the peer accepts, which are 512 or more (AMQP 1.0 part 2, section 2.7.1).
 pub fn frames_have_room()
-    ensures first { (largest own handle id n : ℕ) (d : Delivery) (rest : List ℕ)
-        → 42 ≤ largest → has_more (next_frame largest own (first_transfer handle id n d) rest) ≡ true
-        → largest ≤ 42 + length (payload_in (next_frame largest own (first_transfer handle id n d) rest)) }
+    ensures first { (largest own handle id : ℕ) (d : Delivery) (rest : List ℕ)
+        → 42 ≤ largest → has_more (next_frame largest own (first_transfer handle id d) rest) ≡ true
+        → largest ≤ 42 + length (payload_in (next_frame largest own (first_transfer handle id d) rest)) }
     ensures later { (largest own handle : ℕ) (d : Delivery) (rest : List ℕ)
         → 24 ≤ largest → has_more (next_frame largest own (later_transfer handle d) rest) ≡ true
         → largest ≤ 24 + length (payload_in (next_frame largest own (later_transfer handle d) rest)) }
-    ensures first_size { (own handle id n : ℕ) (d : Delivery) (payload : List ℕ)
-        → length (item_spelling (transfer_frame own (with_more (first_transfer handle id n d)) payload)) ≤ 42 + length payload }
+    ensures first_size { (own handle id : ℕ) (d : Delivery) (payload : List ℕ)
+        → length (item_spelling (transfer_frame own (with_more (first_transfer handle id d)) payload)) ≤ 42 + length payload }
     ensures later_size { (own handle : ℕ) (d : Delivery) (payload : List ℕ)
         → length (item_spelling (transfer_frame own (with_more (later_transfer handle d)) payload)) ≤ 24 + length payload }
 {}
@@ -43,6 +43,6 @@ pub fn frames_have_room()
 /// part 2, section 2.7.1).
 pub fn outcomes_are_short()
     ensures kept { (s : AState) → is_some (terminal (Some s)) ≡ true → length (state_spelling (kept_outcome s)) ≤ 400 }
-    ensures told { (own id : ℕ) (role : ARole) (s : AState)
-        → is_some (terminal (Some s)) ≡ true → length (item_spelling (outcome_item own role id s)) ≤ 429 }
+    ensures told { (own id : ℕ) (role : ARole) (settled : Bool) (s : AState)
+        → is_some (terminal (Some s)) ≡ true → length (item_spelling (outcome_item own role id settled s)) ≤ 429 }
 {}

@@ -19,7 +19,7 @@ const MAX_OUTCOME: usize = 400;
 /// The condition that replaces one that is too long (AMQP 1.0 part 2, section 2.8.15).
 const INTERNAL_ERROR: &str = "amqp:internal-error";
 
-/// The router's disposition of one delivery, which settles it with this outcome (AMQP 1.0 part 2, section 2.7.6).
+/// The router's disposition of one delivery with this outcome, which settles it or not (AMQP 1.0 part 2, section 2.7.6).
 ///
 /// # Errors
 ///
@@ -29,9 +29,10 @@ pub fn outcome_item(
     own: u16,
     role: Role,
     id: u32,
+    settled: bool,
     state: &DeliveryState,
 ) -> Result<Item, AllocError>
-    ensures item { IfOk result (λ item. item ≡ outcome_item own role id state.now) }
+    ensures item { IfOk result (λ item. item ≡ outcome_item own role id settled state.now) }
     ensures plain { is_plain state.now ≡ true → IsOk result }
 {
     let kept = kept_outcome(alloc, state)?;
@@ -42,7 +43,7 @@ pub fn outcome_item(
             role,
             first: id,
             last: None,
-            settled: true,
+            settled,
             state: Some(kept),
             batchable: false,
         }),

@@ -45,6 +45,7 @@ use Rattle.router_laws.proofs.Sound.{Sound, sound_start, did_sound, took_sound, 
 use Rattle.router_laws.proofs.Quiet.{closing_of_quiet, said_quiet, taken_quiet, refused_quiet, settled_quiet, beats_quiet, windows_quiet, drains_quiet, grants_quiet}
 use Rattle.router_laws.proofs.Transfers.{IfTaken, transfer_taken}
 use Rattle.router_laws.proofs.Arriving.{transfer_sound}
+use Rattle.router_laws.proofs.Names.{names_told}
 use Rattle.router_laws.proofs.Sending.{sends_lawful}
 use Rattle.router_laws.proofs.Tells.{tells_lawful}
 
@@ -53,7 +54,7 @@ use Rattle.router_laws.proofs.Tells.{tells_lawful}
 passed_sound : Steps Sound
 passed_sound = record {
   telling = λ t sound. goes_sound (tells t) t (tells_lawful t) sound;
-  sending = λ t sound. goes_sound (sends_due t) t (sends_lawful t sound.unstarted) sound;
+  sending = λ t sound. goes_sound (sends_due t) t (sends_lawful t sound.unstarted (names_told t sound.binds)) sound;
   draining = λ t sound. quiet_sound (drains_due t) t (drains_quiet t) sound;
   granting = λ t sound. quiet_sound (grants_due t) t (grants_quiet t) sound;
 }

@@ -116,7 +116,6 @@ released_lawful after c own handle d payload (Some id) came fresh claimed nobody
       (
         tt,
         record {
-          settles = refl;
           one = refl;
           of = inr (record {
             handle = handle;
@@ -128,6 +127,7 @@ released_lawful after c own handle d payload (Some id) came fresh claimed nobody
             unsettled = is.1;
             nobody = nobody;
             told = ap (λ (s : DeliveryState). Some s) kept_released;
+            settled = refl;
           });
         },
       ),
@@ -178,6 +178,7 @@ whole_sound after c own handle d payload v sound came e = by v e d.resume refl
           came = came;
           once = none_since after came.handled came.just;
           not_resumed = fresh;
+          no_row = refl;
           format = refl;
           producer = l;
           attached = e;

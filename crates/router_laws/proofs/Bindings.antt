@@ -3,18 +3,20 @@ use Rattle.std.proofs.Common.{◌≡◌, ◌∙◌, sym, ap, refl, subst, inl, i
 use Rattle.std.specs.Prelude.{◌==◌, Option, Some, None, is_none, option_and_then, if◌then◌else◌}
 use Rattle.std.proofs.lemmas.Bool.{eqb-true, eq-eqb}
 use Rattle.router_trace.specs.declared.binding.Binding.{Binding}
+use Rattle.router_trace.specs.declared.binding.DeliveryName.{DeliveryName}
 use Rattle.router_trace.specs.declared.binding.Origin.{Origin}
 use Rattle.router_trace.specs.Trace.{Entry, Did, Out, Took, Bound, Booked, Began}
 use Rattle.router_trace.specs.Sessions.{theirs}
-use Rattle.router_trace.specs.Deliveries.{Delivery, bound, bindings, delivery, sending, named, is_over, unless_over, behind_put, behind_event}
+use Rattle.router_trace.specs.Deliveries.{Delivery, bound, bindings, name_in, number_named, delivery, sending, named, is_over, unless_over, behind_put, behind_event}
 use Rattle.router_laws.specs.Each.{EachBound}
 use Rattle.router_laws.specs.OneConsumer.{IsOrNone, IsOf, WhileThere, IsOfMessage}
 use Rattle.router_conns.proofs.Lists.{by_test}
+use Rattle.router_deliveries.proofs.Called.{uncalled}
 use Rattle.router_laws.proofs.Tests.{some_same}
 use Rattle.router_laws.proofs.Followed.{Follows, AllFollow, same, origin_on, all_bound, item_follows, event_follows, later_follows}
 
-bound_is : (b : Binding) → IsOf b (bound b)
-bound_is b = record { consumer = refl; payload = refl; format = refl; origin = inl refl; presettled = refl }
+bound_is : (name : DeliveryName) (b : Binding) → IsOf b (bound name b)
+bound_is name b = record { consumer = refl; payload = refl; format = refl; origin = inl refl; presettled = refl }
 
 pub follows_is : (b : Binding) (d e : Delivery) → IsOf b d → Follows d e → IsOf b e
 follows_is b d e is follows = record {
@@ -31,8 +33,8 @@ while_is b d (Some e) is follows = follows_is b d e is follows
 
 pub stays_with_consumer : (b : Binding) (t later : List Entry) → WhileThere (IsOf b) (delivery (later ++ Bound b ∷ t) (bindings t + 1))
 stays_with_consumer b t later =
-    let now : delivery (Bound b ∷ t) (bindings t + 1) ≡ Some (bound b) = rw (eq-eqb (bindings t + 1) (bindings t + 1) refl) refl
-    in while_is b (bound b) (delivery (later ++ Bound b ∷ t) (bindings t + 1)) (bound_is b)
+    let now : delivery (Bound b ∷ t) (bindings t + 1) ≡ Some (bound (name_in t b) b) = rw (eq-eqb (bindings t + 1) (bindings t + 1) refl) refl
+    in while_is b (bound (name_in t b) b) (delivery (later ++ Bound b ∷ t) (bindings t + 1)) (bound_is (name_in t b) b)
     (subst (λ (v : Option Delivery). AllFollow v (delivery (later ++ Bound b ∷ t) (bindings t + 1))) now (later_follows later (Bound b ∷ t) (bindings t + 1) (least (bindings t + 1))))
   where
     least : (n : ℕ) → n ≤ n
@@ -59,6 +61,7 @@ later_message x t n d e was follows = record {
   before = was.before;
   trace = ap (λ (u : List Entry). x ∷ u) was.trace;
   number = was.number;
+  name = follows.name ∙ was.name;
   is = follows_is was.binding d e was.is follows;
 }
 
@@ -69,9 +72,9 @@ of_messages (Did s ∷ t) n d h =
     in later_message (Did s) t n was.0 d (of_messages t n was.0 was.1)
     (subst (λ (e : Delivery). Follows was.0 e) (sym was.2) (event_follows s.event (theirs t) (named t) n was.0))
 of_messages (Out c i ∷ t) n d h =
-    let was = of_what (behind_put i c n (sending t c)) (delivery t n) d h
+    let was = of_what (behind_put (number_named t) i c n (sending t c)) (delivery t n) d h
     in later_message (Out c i) t n was.0 d (of_messages t n was.0 was.1)
-    (subst (λ (e : Delivery). Follows was.0 e) (sym was.2) (item_follows i c n (sending t c) was.0))
+    (subst (λ (e : Delivery). Follows was.0 e) (sym was.2) (item_follows (number_named t) i c n (sending t c) was.0))
 of_messages (Took c k ∷ t) n d h = later_message (Took c k) t n d d (of_messages t n d h) (same d)
 of_messages (Booked acts ∷ t) n d h = later_message (Booked acts) t n d d (of_messages t n d h) (same d)
 of_messages (Began g ∷ t) n d h = later_message (Began g) t n d d (of_messages t n d h) (same d)
@@ -83,9 +86,10 @@ of_messages (Bound b ∷ t) n d h =
       before = t;
       trace = refl;
       number = eqb-true (bindings t + 1) n e;
-      is = subst (λ (f : Delivery). IsOf b f) (some_same (rw e at h)) (bound_is b);
+      name = sym (ap (λ (f : Delivery). f.name) (some_same (rw e at h)));
+      is = subst (λ (f : Delivery). IsOf b f) (some_same (rw e at h)) (bound_is (name_in t b) b);
     })
-    (λ e. later_message (Bound b) t n d d (of_messages t n d (rw e at h)) (same d))
+    (λ e. later_message (Bound b) t n d d (of_messages t n d (uncalled (name_in t b) (delivery t n) d (rw e at h)).0) (same d))
 
 -- only bound deliveries exist
 pub there_bound : (u : List Entry) (n : ℕ) (d : Delivery) → delivery u n ≡ Some d → n ≤ bindings u

@@ -10,16 +10,17 @@ use Rattle.amqp_perf.specs.declared.perf.Transfer.{Transfer}
 use Rattle.amqp_frames.specs.declared.item.Item.{Item}
 use Rattle.amqp_frames.specs.declared.item.Item.TheVariants as item
 use Rattle.router_trace.specs.declared.binding.Binding.{Binding}
+use Rattle.router_trace.specs.declared.binding.DeliveryName.{DeliveryName}
 use Rattle.router_trace.specs.Trace.{Entry, Did, Out, Took, Bound, Booked, Began}
 use Rattle.router_trace.specs.Sessions.{theirs}
-use Rattle.router_trace.specs.Deliveries.{Delivery, bindings, delivery, sending, named, unless_over, behind_frame, ended_by, put_in, behind_put, behind_event, carried, tag_in, is_number}
+use Rattle.router_trace.specs.Deliveries.{Delivery, bindings, name_in, number_named, delivery, sending, named, unless_over, behind_frame, closes, ended_by, put_in, behind_put, behind_event, carried, tag_in, is_number}
 use Rattle.router_laws.specs.OneConsumer.{IsOf, WhileThere}
 use Rattle.router_laws.specs.Each.{EachOut}
 use Rattle.router_laws.specs.Carried.{BeginsOrGoesOn, CarriesMessage, CarriesWhatWasBound, bytes_by, bytes_out, IsBeginning, GoesInOrder, CompletesMessage}
 use Rattle.router_conns.proofs.Lists.{by_test}
 use Rattle.router_laws.proofs.Tests.{some_same}
 use Rattle.router_laws.proofs.Followed.{Left, ends_left, told_left, event_left}
-use Rattle.router_laws.proofs.Tags.{tag_tells}
+use Rattle.router_deliveries.proofs.Called.{uncalled, there_named}
 use Rattle.router_laws.proofs.Outcomes.{number_is}
 use Rattle.router_laws.proofs.Bindings.{of_what, there_bound, stays_with_consumer}
 
@@ -38,29 +39,31 @@ unmoved_left = record {
   same = unmoved;
   next = λ d e f first rest. record { id = rest.id ∙ first.id; sent = rest.sent ∙ first.sent; payload = rest.payload ∙ first.payload };
   untold = λ d. record { id = refl; sent = refl; payload = refl };
+  unsettled = λ d. record { id = refl; sent = refl; payload = refl };
   ended = λ d. record { id = refl; sent = refl; payload = refl };
+  suspended = λ d. record { id = refl; sent = refl; payload = refl };
   decided = λ d s. record { id = refl; sent = refl; payload = refl };
 }
 
 -- a frame advances its own delivery, and nothing else advances one
 
 frame_moves : (c : ℕ) (sasl : Bool) (own : ℕ) (x : Transfer) (payload : List ℕ) (t : List Entry) (n : ℕ) (d : Delivery)
-    → is_number (carried (tag_in x) (sending t c own x.handle)) n ≡ true
-    → Unmoved (behind_frame x (length payload) d) (behind_put (item.Frame sasl own (perf.Transfer x) payload) c n (sending t c) d)
+    → is_number (carried (number_named t) (tag_in x) (sending t c own x.handle)) n ≡ true
+    → Unmoved (behind_frame x (length payload) d) (behind_put (number_named t) (item.Frame sasl own (perf.Transfer x) payload) c n (sending t c) d)
 frame_moves c sasl own x payload t n d e =
-    subst (λ (f : Delivery). Unmoved f (behind_put (item.Frame sasl own (perf.Transfer x) payload) c n (sending t c) d)) (here (is_number (carried (tag_in x) (sending t c own x.handle)) n) e)
-    (ends_left Unmoved unmoved_left (ended_by (item.Frame sasl own (perf.Transfer x) payload) c) (put_in (perf.Transfer x) c own n (sending t c) (length payload) d))
+    subst (λ (f : Delivery). Unmoved f (behind_put (number_named t) (item.Frame sasl own (perf.Transfer x) payload) c n (sending t c) d)) (here (is_number (carried (number_named t) (tag_in x) (sending t c own x.handle)) n) e)
+    (ends_left Unmoved unmoved_left false (ended_by (item.Frame sasl own (perf.Transfer x) payload) c) (put_in (number_named t) (perf.Transfer x) c own n (sending t c) (length payload) d))
   where
     here : (b : Bool) → b ≡ true → (if b then behind_frame x (length payload) d else d) ≡ behind_frame x (length payload) d
     here true e = refl
     here false e = absurd cc
 
 other_frame : (c : ℕ) (sasl : Bool) (own : ℕ) (x : Transfer) (payload : List ℕ) (t : List Entry) (n : ℕ) (d : Delivery)
-    → is_number (carried (tag_in x) (sending t c own x.handle)) n ≡ false
-    → Unmoved d (behind_put (item.Frame sasl own (perf.Transfer x) payload) c n (sending t c) d)
+    → is_number (carried (number_named t) (tag_in x) (sending t c own x.handle)) n ≡ false
+    → Unmoved d (behind_put (number_named t) (item.Frame sasl own (perf.Transfer x) payload) c n (sending t c) d)
 other_frame c sasl own x payload t n d e =
-    subst (λ (f : Delivery). Unmoved f (behind_put (item.Frame sasl own (perf.Transfer x) payload) c n (sending t c) d)) (here (is_number (carried (tag_in x) (sending t c own x.handle)) n) e)
-    (ends_left Unmoved unmoved_left (ended_by (item.Frame sasl own (perf.Transfer x) payload) c) (put_in (perf.Transfer x) c own n (sending t c) (length payload) d))
+    subst (λ (f : Delivery). Unmoved f (behind_put (number_named t) (item.Frame sasl own (perf.Transfer x) payload) c n (sending t c) d)) (here (is_number (carried (number_named t) (tag_in x) (sending t c own x.handle)) n) e)
+    (ends_left Unmoved unmoved_left false (ended_by (item.Frame sasl own (perf.Transfer x) payload) c) (put_in (number_named t) (perf.Transfer x) c own n (sending t c) (length payload) d))
   where
     here : (b : Bool) → b ≡ false → (if b then behind_frame x (length payload) d else d) ≡ d
     here true e = absurd cc
@@ -69,22 +72,22 @@ other_frame c sasl own x payload t n d e =
 -- an item is a transfer, or advances no delivery and carries nothing
 pub item_elim : (i : Item) (P : Item → Type 0)
     → ((sasl : Bool) (own : ℕ) (x : Transfer) (payload : List ℕ) → P (item.Frame sasl own (perf.Transfer x) payload))
-    → (((c n : ℕ) (sent : ℕ → ℕ → Option ℕ) (d : Delivery) → Unmoved d (behind_put i c n sent d))
-    → ((n : ℕ) (sent : ℕ → ℕ → Option ℕ) (bytes : List ℕ) → bytes_by i n sent bytes ≡ bytes) → P i) → P i
+    → (((numbers : DeliveryName → Option ℕ) (c n : ℕ) (sent : ℕ → ℕ → Option ℕ) (d : Delivery) → Unmoved d (behind_put numbers i c n sent d))
+    → ((numbers : DeliveryName → Option ℕ) (n : ℕ) (sent : ℕ → ℕ → Option ℕ) (bytes : List ℕ) → bytes_by numbers i n sent bytes ≡ bytes) → P i) → P i
 item_elim (item.Frame sasl own body payload) P transfer other = by body other
   where
     by : (body : Perf)
-        → (((c n : ℕ) (sent : ℕ → ℕ → Option ℕ) (d : Delivery) → Unmoved d (behind_put (item.Frame sasl own body payload) c n sent d))
-        → ((n : ℕ) (sent : ℕ → ℕ → Option ℕ) (bytes : List ℕ) → bytes_by (item.Frame sasl own body payload) n sent bytes ≡ bytes) → P (item.Frame sasl own body payload))
+        → (((numbers : DeliveryName → Option ℕ) (c n : ℕ) (sent : ℕ → ℕ → Option ℕ) (d : Delivery) → Unmoved d (behind_put numbers (item.Frame sasl own body payload) c n sent d))
+        → ((numbers : DeliveryName → Option ℕ) (n : ℕ) (sent : ℕ → ℕ → Option ℕ) (bytes : List ℕ) → bytes_by numbers (item.Frame sasl own body payload) n sent bytes ≡ bytes) → P (item.Frame sasl own body payload))
         → P (item.Frame sasl own body payload)
     by (perf.Transfer x) other = transfer sasl own x payload
     by (perf.Disposition x) other =
-        other (λ c n sent d. unmoved_left.next d (put_in (perf.Disposition x) c own n sent (length payload) d) (behind_put (item.Frame sasl own (perf.Disposition x) payload) c n sent d)
+        other (λ numbers c n sent d. unmoved_left.next d (put_in numbers (perf.Disposition x) c own n sent (length payload) d) (behind_put numbers (item.Frame sasl own (perf.Disposition x) payload) c n sent d)
         (told_left Unmoved unmoved_left x.role x c own d)
-        (ends_left Unmoved unmoved_left (ended_by (item.Frame sasl own (perf.Disposition x) payload) c) (put_in (perf.Disposition x) c own n sent (length payload) d)))
-        (λ n sent bytes. refl)
-    by body other = other (λ c n sent d. ends_left Unmoved unmoved_left (ended_by (item.Frame sasl own body payload) c) d) (λ n sent bytes. refl)
-item_elim _ P transfer other = other (λ c n sent d. unmoved d) (λ n sent bytes. refl)
+        (ends_left Unmoved unmoved_left false (ended_by (item.Frame sasl own (perf.Disposition x) payload) c) (put_in numbers (perf.Disposition x) c own n sent (length payload) d)))
+        (λ numbers n sent bytes. refl)
+    by body other = other (λ numbers c n sent d. ends_left Unmoved unmoved_left (closes body) (ended_by (item.Frame sasl own body payload) c) d) (λ numbers n sent bytes. refl)
+item_elim _ P transfer other = other (λ numbers c n sent d. unmoved d) (λ numbers n sent bytes. refl)
 
 -- nothing was sent of a delivery without an id
 
@@ -106,20 +109,20 @@ pub bound_unstarted : (t : List Entry) (b : Binding) → Unstarted t → Unstart
 bound_unstarted t b was n d there none =
     by_test (bindings t + 1 == n)
     (λ e. sym (ap (λ (f : Delivery). f.sent) (some_same (rw e at there))))
-    (λ e. was n d (rw e at there) none)
+    (λ e. was n d (uncalled (name_in t b) (delivery t n) d (rw e at there)).0 none)
 
 -- the number that a frame of the router carries
-pub carries_number : (t : List Entry) (c own : ℕ) (x : Transfer) (payload : List ℕ) (is : CarriesMessage t c own x payload) → is.number < 2 ^ 64
-    → carried (tag_in x) (sending t c own x.handle) ≡ Some is.number
+pub carries_number : (t : List Entry) (c own : ℕ) (x : Transfer) (payload : List ℕ) (is : CarriesMessage t c own x payload) → bindings t < 2 ^ 64
+    → carried (number_named t) (tag_in x) (sending t c own x.handle) ≡ Some is.number
 carries_number t c own x payload is small = by is.of.id is.begins_or_goes_on
   where
-    by : (id : Option ℕ) → BeginsOrGoesOn id t c own is.number is.of x → carried (tag_in x) (sending t c own x.handle) ≡ Some is.number
-    by None first = ap (λ (v : Option (List ℕ)). carried v (sending t c own x.handle)) first.tag ∙ tag_tells is.number small
-    by (Some id) later = ap (λ (v : Option (List ℕ)). carried v (sending t c own x.handle)) later.tag ∙ later.same_delivery
+    by : (id : Option ℕ) → BeginsOrGoesOn id t c own is.number is.of x → carried (number_named t) (tag_in x) (sending t c own x.handle) ≡ Some is.number
+    by None first = ap (λ (v : Option (List ℕ)). carried (number_named t) v (sending t c own x.handle)) first.tag ∙ ap (option_and_then (number_named t)) (first.tells_name small) ∙ there_named t is.number is.of is.there
+    by (Some id) later = ap (λ (v : Option (List ℕ)). carried (number_named t) v (sending t c own x.handle)) later.tag ∙ later.same_delivery
 
 -- after a frame of the router its delivery has an id
 has_id : (t : List Entry) (c own : ℕ) (x : Transfer) (payload : List ℕ) (n : ℕ) (d : Delivery) → CarriesMessage t c own x payload
-    → carried (tag_in x) (sending t c own x.handle) ≡ Some n → delivery t n ≡ Some d → (if is_none d.id then x.delivery_id else d.id) ≡ None → ⊥
+    → carried (number_named t) (tag_in x) (sending t c own x.handle) ≡ Some n → delivery t n ≡ Some d → (if is_none d.id then x.delivery_id else d.id) ≡ None → ⊥
 has_id t c own x payload n d is number there none = by is.of.id refl is.begins_or_goes_on
   where
     some_none : (v : Option ℕ) → is_some v ≡ true → v ≡ None → ⊥
@@ -137,22 +140,22 @@ has_id t c own x payload n d is number there none = by is.of.id refl is.begins_o
     by : (id : Option ℕ) → is.of.id ≡ id → BeginsOrGoesOn id t c own is.number is.of x → ⊥
     by None e first = either d.id x.delivery_id first.id none
     by (Some id) e later =
-        let same : Some n ≡ Some is.number = sym number ∙ ap (λ (v : Option (List ℕ)). carried v (sending t c own x.handle)) later.tag ∙ later.same_delivery
+        let same : Some n ≡ Some is.number = sym number ∙ ap (λ (v : Option (List ℕ)). carried (number_named t) v (sending t c own x.handle)) later.tag ∙ later.same_delivery
         in let of : d ≡ is.of = some_same (sym there ∙ ap (λ (k : ℕ). delivery t k) (some_same same) ∙ is.there)
         in begun d.id x.delivery_id id (ap (λ (f : Delivery). f.id) of ∙ e) none
 
 pub out_unstarted : (t : List Entry) (c : ℕ) (i : Item) → CarriesWhatWasBound t c i → Unstarted t → Unstarted (Out c i ∷ t)
 out_unstarted t c i =
     item_elim i (λ i. CarriesWhatWasBound t c i → Unstarted t → Unstarted (Out c i ∷ t)) by_transfer
-    (λ moves bytes is was n. moves_unstarted (behind_put i c n (sending t c)) (delivery t n) (moves c n (sending t c)) (was n))
+    (λ moves bytes is was n. moves_unstarted (behind_put (number_named t) i c n (sending t c)) (delivery t n) (moves (number_named t) c n (sending t c)) (was n))
   where
     by_transfer : (sasl : Bool) (own : ℕ) (x : Transfer) (payload : List ℕ) → CarriesMessage t c own x payload → Unstarted t
         → Unstarted (Out c (item.Frame sasl own (perf.Transfer x) payload) ∷ t)
     by_transfer sasl own x payload is was n e there none =
-        let d = of_what (behind_put (item.Frame sasl own (perf.Transfer x) payload) c n (sending t c)) (delivery t n) e there
-        in by_test (is_number (carried (tag_in x) (sending t c own x.handle)) n)
+        let d = of_what (behind_put (number_named t) (item.Frame sasl own (perf.Transfer x) payload) c n (sending t c)) (delivery t n) e there
+        in by_test (is_number (carried (number_named t) (tag_in x) (sending t c own x.handle)) n)
         (λ test. let moved = frame_moves c sasl own x payload t n d.0 test
-        in absurd (has_id t c own x payload n d.0 is (number_is (carried (tag_in x) (sending t c own x.handle)) n test) d.1
+        in absurd (has_id t c own x payload n d.0 is (number_is (carried (number_named t) (tag_in x) (sending t c own x.handle)) n test) d.1
         (sym moved.id ∙ sym (ap (λ (f : Delivery). f.id) d.2) ∙ none)))
         (λ test. let same = other_frame c sasl own x payload t n d.0 test
         in ap (λ (f : Delivery). f.sent) d.2 ∙ same.sent ∙ was n d.0 d.1 (sym same.id ∙ sym (ap (λ (f : Delivery). f.id) d.2) ∙ none))
@@ -164,29 +167,26 @@ AllCarried u = EachOut CarriesWhatWasBound u
 
 -- a frame belongs only to the delivery of its entry
 same_number : (t : List Entry) (c own : ℕ) (x : Transfer) (payload : List ℕ) (n : ℕ) (is : CarriesMessage t c own x payload) → bindings t < 2 ^ 64
-    → carried (tag_in x) (sending t c own x.handle) ≡ Some n → is.number ≡ n
+    → carried (number_named t) (tag_in x) (sending t c own x.handle) ≡ Some n → is.number ≡ n
 same_number t c own x payload n is small number =
-    some_same (sym (carries_number t c own x payload is (below is.number (bindings t) (there_bound t is.number is.of is.there) small)) ∙ number)
-  where
-    below : (n k : ℕ) → n ≤ k → k < 2 ^ 64 → n < 2 ^ 64
-    below n k h small = omega (arith, h, small)
+    some_same (sym (carries_number t c own x payload is small) ∙ number)
 
 -- nothing is sent before it is bound
 none_early : (u : List Entry) (n : ℕ) → AllCarried u → bindings u < 2 ^ 64 → bindings u < n → bytes_out u n ≡ []
 none_early [] n all small early = refl
 none_early (Did s ∷ t) n all small early = none_early t n all small early
 none_early (Out c i ∷ t) n all small early =
-    item_elim i (λ i. CarriesWhatWasBound t c i → bytes_by i n (sending t c) (bytes_out t n) ≡ []) (by_transfer (none_early t n all.1 small early))
-    (λ moves bytes is. bytes n (sending t c) (bytes_out t n) ∙ none_early t n all.1 small early) all.0
+    item_elim i (λ i. CarriesWhatWasBound t c i → bytes_by (number_named t) i n (sending t c) (bytes_out t n) ≡ []) (by_transfer (none_early t n all.1 small early))
+    (λ moves bytes is. bytes (number_named t) n (sending t c) (bytes_out t n) ∙ none_early t n all.1 small early) all.0
   where
     above : (n k : ℕ) → n ≤ k → k < n → ⊥
     above n k h early = omega (arith, h, early)
 
     by_transfer : bytes_out t n ≡ [] → (sasl : Bool) (own : ℕ) (x : Transfer) (payload : List ℕ) → CarriesMessage t c own x payload
-        → (if is_number (carried (tag_in x) (sending t c own x.handle)) n then bytes_out t n ++ payload else bytes_out t n) ≡ []
+        → (if is_number (carried (number_named t) (tag_in x) (sending t c own x.handle)) n then bytes_out t n ++ payload else bytes_out t n) ≡ []
     by_transfer before sasl own x payload is =
-        by_test (is_number (carried (tag_in x) (sending t c own x.handle)) n)
-        (λ test. let same = same_number t c own x payload n is small (number_is (carried (tag_in x) (sending t c own x.handle)) n test)
+        by_test (is_number (carried (number_named t) (tag_in x) (sending t c own x.handle)) n)
+        (λ test. let same = same_number t c own x payload n is small (number_is (carried (number_named t) (tag_in x) (sending t c own x.handle)) n test)
         in absurd (above n (bindings t) (subst (λ (k : ℕ). k ≤ bindings t) same (there_bound t is.number is.of is.there)) early))
         (λ test. rw test before)
 none_early (Began g ∷ t) n all small early = none_early t n all small early
@@ -209,12 +209,12 @@ joined d before payload was next =
 
 -- the frame of a delivery is the one of its entry
 of_entry : (t : List Entry) (c own : ℕ) (x : Transfer) (payload : List ℕ) (n : ℕ) (d : Delivery) (is : CarriesMessage t c own x payload) → bindings t < 2 ^ 64
-    → carried (tag_in x) (sending t c own x.handle) ≡ Some n → delivery t n ≡ Some d → is.of ≡ d
+    → carried (number_named t) (tag_in x) (sending t c own x.handle) ≡ Some n → delivery t n ≡ Some d → is.of ≡ d
 of_entry t c own x payload n d is small number there =
     some_same (sym is.there ∙ ap (λ (k : ℕ). delivery t k) (same_number t c own x payload n is small number) ∙ there)
 
 next_bytes : (t : List Entry) (c own : ℕ) (x : Transfer) (payload : List ℕ) (n : ℕ) (d : Delivery) → CarriesMessage t c own x payload → bindings t < 2 ^ 64
-    → carried (tag_in x) (sending t c own x.handle) ≡ Some n → delivery t n ≡ Some d → payload ≡ take (length payload) (drop d.sent d.payload)
+    → carried (number_named t) (tag_in x) (sending t c own x.handle) ≡ Some n → delivery t n ≡ Some d → payload ≡ take (length payload) (drop d.sent d.payload)
 next_bytes t c own x payload n d is small number there =
     subst (λ (e : Delivery). payload ≡ take (length payload) (drop e.sent e.payload)) (of_entry t c own x payload n d is small number there) is.bytes
 
@@ -235,7 +235,7 @@ unmoved_went bytes d e was same = was ∙ ap (λ (k : ℕ). take k d.payload) (s
 out_went : (t : List Entry) (c n : ℕ) (i : Item) → bindings t < 2 ^ 64 → AllWent t n → CarriesWhatWasBound t c i → AllWent (Out c i ∷ t) n
 out_went t c n i small was =
     item_elim i (λ i. CarriesWhatWasBound t c i → AllWent (Out c i ∷ t) n) by_transfer
-    (λ moves bytes is e there. by_other (behind_put i c n (sending t c)) (bytes_by i n (sending t c) (bytes_out t n)) (moves c n (sending t c)) (bytes n (sending t c) (bytes_out t n)) e there)
+    (λ moves bytes is e there. by_other (behind_put (number_named t) i c n (sending t c)) (bytes_by (number_named t) i n (sending t c) (bytes_out t n)) (moves (number_named t) c n (sending t c)) (bytes (number_named t) n (sending t c) (bytes_out t n)) e there)
   where
     by_other : (f : Delivery → Delivery) (bytes : List ℕ) → ((d : Delivery) → Unmoved d (f d)) → bytes ≡ bytes_out t n
         → (e : Delivery) → option_and_then (λ d. unless_over (f d)) (delivery t n) ≡ Some e → bytes ≡ take e.sent e.payload
@@ -246,11 +246,11 @@ out_went t c n i small was =
     by_transfer : (sasl : Bool) (own : ℕ) (x : Transfer) (payload : List ℕ) → CarriesMessage t c own x payload
         → AllWent (Out c (item.Frame sasl own (perf.Transfer x) payload) ∷ t) n
     by_transfer sasl own x payload is e there =
-        let d = of_what (behind_put (item.Frame sasl own (perf.Transfer x) payload) c n (sending t c)) (delivery t n) e there
-        in by_test (is_number (carried (tag_in x) (sending t c own x.handle)) n)
+        let d = of_what (behind_put (number_named t) (item.Frame sasl own (perf.Transfer x) payload) c n (sending t c)) (delivery t n) e there
+        in by_test (is_number (carried (number_named t) (tag_in x) (sending t c own x.handle)) n)
         (λ test. let moved : Unmoved (behind_frame x (length payload) d.0) e
         = subst (λ (g : Delivery). Unmoved (behind_frame x (length payload) d.0) g) (sym d.2) (frame_moves c sasl own x payload t n d.0 test)
-        in let number = number_is (carried (tag_in x) (sending t c own x.handle)) n test
+        in let number = number_is (carried (number_named t) (tag_in x) (sending t c own x.handle)) n test
         in let all : bytes_out t n ++ payload ≡ take e.sent e.payload
         = unmoved_went (bytes_out t n ++ payload) (behind_frame x (length payload) d.0) e
         (joined d.0 (bytes_out t n) payload (was d.0 d.1) (next_bytes t c own x payload n d.0 is small number d.1)) moved
@@ -272,7 +272,7 @@ went (Bound b ∷ t) n all small d there =
     by_test (bindings t + 1 == n)
     (λ e. none_early t n all (lower (bindings t) small) (just_below (bindings t) n (eqb-true (bindings t + 1) n e))
     ∙ ap (λ (f : Delivery). take f.sent f.payload) (some_same (rw e at there)))
-    (λ e. went t n all (lower (bindings t) small) d (rw e at there))
+    (λ e. went t n all (lower (bindings t) small) d (uncalled (name_in t b) (delivery t n) d (rw e at there)).0)
   where
     just_below : (k n : ℕ) → k + 1 ≡ n → k < n
     just_below k n h = omega (arith, h)
@@ -285,7 +285,7 @@ completes t c (item.Frame sasl own body payload) all is = by body is
     by (perf.Transfer x) is = λ small last n d there number.
         let of = of_entry t c own x payload n d is small number there
         in let rest : payload ≡ drop d.sent d.payload = subst (λ (e : Delivery). payload ≡ drop e.sent e.payload) of (is.last last)
-        in let test : is_number (carried (tag_in x) (sending t c own x.handle)) n ≡ true = ap (λ (v : Option ℕ). is_number v n) number ∙ eq-eqb n n refl
+        in let test : is_number (carried (number_named t) (tag_in x) (sending t c own x.handle)) n ≡ true = ap (λ (v : Option ℕ). is_number v n) number ∙ eq-eqb n n refl
         in let joined : bytes_out t n ++ payload ≡ d.payload
         = ap (λ (bytes : List ℕ). bytes ++ payload) (went t n all small d there) ∙ ap (λ (bytes : List ℕ). take d.sent d.payload ++ bytes) rest ∙ take-append-drop d.sent d.payload
         in rw test joined
@@ -310,13 +310,13 @@ out_begins : (u : List Entry) (c n : ℕ) (i : Item) (whole : List ℕ) → bind
     → IsBeginning (bytes_out u n) whole → CarriesWhatWasBound u c i → IsBeginning (bytes_out (Out c i ∷ u) n) whole
 out_begins u c n i whole small all same was =
     item_elim i (λ i. CarriesWhatWasBound u c i → IsBeginning (bytes_out (Out c i ∷ u) n) whole) by_transfer
-    (λ moves bytes is. subst (λ (xs : List ℕ). IsBeginning xs whole) (sym (bytes n (sending u c) (bytes_out u n))) was)
+    (λ moves bytes is. subst (λ (xs : List ℕ). IsBeginning xs whole) (sym (bytes (number_named u) n (sending u c) (bytes_out u n))) was)
   where
     by_transfer : (sasl : Bool) (own : ℕ) (x : Transfer) (payload : List ℕ) → CarriesMessage u c own x payload
         → IsBeginning (bytes_out (Out c (item.Frame sasl own (perf.Transfer x) payload) ∷ u) n) whole
     by_transfer sasl own x payload is =
-        by_test (is_number (carried (tag_in x) (sending u c own x.handle)) n)
-        (λ test. let number = number_is (carried (tag_in x) (sending u c own x.handle)) n test
+        by_test (is_number (carried (number_named u) (tag_in x) (sending u c own x.handle)) n)
+        (λ test. let number = number_is (carried (number_named u) (tag_in x) (sending u c own x.handle)) n test
         in let there : delivery u n ≡ Some is.of = sym (ap (λ (k : ℕ). delivery u k) (same_number u c own x payload n is small number)) ∙ is.there
         in let of_whole : is.of.payload ≡ whole = subst (λ (v : Option Delivery). WhileThere (λ d. d.payload ≡ whole) v) there same
         in let all_gone : IsBeginning (bytes_out u n ++ payload) whole

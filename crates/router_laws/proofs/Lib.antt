@@ -5,6 +5,7 @@ pub mod Bindings
 pub mod Outcomes
 pub mod Telling
 pub mod Carrying
+pub mod Names
 pub mod Sound
 pub mod Sending
 pub mod Tells

@@ -1,5 +1,5 @@
 -- Outcomes are as they were given.
-use Rattle.std.proofs.Common.{◌≡◌, ◌∙◌, sym, ap, refl, subst, ◌⊎◌, inl, inr, ℕ, ◌+◌, Bool, true, false, not, ◌&&◌, List, [], ◌∷◌, ◌++◌}
+use Rattle.std.proofs.Common.{◌≡◌, ◌∙◌, sym, ap, refl, subst, ◌⊎◌, inl, inr, ℕ, ◌+◌, Bool, true, false, not, ◌&&◌, ◌||◌, List, [], ◌∷◌, ◌++◌}
 use Rattle.std.specs.Prelude.{◌==◌, Option, Some, None, is_none, if◌then◌else◌, length}
 use Rattle.std.proofs.lemmas.Bool.{eqb-true}
 use Rattle.amqp_perf.specs.declared.perf.Disposition.{Disposition}
@@ -21,10 +21,11 @@ use Rattle.router_trace.specs.declared.handle.Attachment.{Attachment}
 use Rattle.router_trace.specs.Trace.{Entry, Did, Out, Took, Booked, Bound, Began, Step}
 use Rattle.router_trace.specs.Links.{ends_handle}
 use Rattle.router_trace.specs.Sessions.{maps, theirs}
-use Rattle.router_trace.specs.Deliveries.{Delivery, bindings, delivery, sending, named, failed, behind_frame, decided, untold, told, ended, is_undecided, is_meant, is_named, is_number, last_of, decision, terminal, is_gone_with, behind_origin, behind_ends, ended_by, put_in, behind_put, carried, tag_in, is_on, is_settled_at, disposed, heard_in, heard, lost_with, behind_event, origin_id}
+use Rattle.router_trace.specs.Deliveries.{Delivery, bindings, name_in, number_named, delivery, sending, named, failed, behind_frame, decided, source, untold, unsettled, told, ended, decided_at_end, suspended_at_end, closes, is_undecided, is_meant, is_named, is_number, last_of, decision, terminal, is_gone_with, behind_origin, behind_ends, ended_by, put_in, behind_put, carried, tag_in, is_on, is_settled_at, disposed, heard_in, heard, lost_with, behind_event, origin_id}
 use Rattle.router_laws.specs.Decided.{GivenByConsumer, Decides, Decided, IsByConsumer, DecidedByConsumer}
 use Rattle.router_laws.specs.Decided.Decides.{given_by_consumer, link_lost, link_ended, sent_settled}
 use Rattle.router_conns.proofs.Lists.{by_test}
+use Rattle.router_deliveries.proofs.Called.{uncalled}
 use Rattle.router_core.proofs.Due.{both_true}
 use Rattle.router_laws.proofs.Tests.{never_both, none_is, some_same, none_not_some}
 use Rattle.router_laws.specs.OneConsumer.{WhileThere}
@@ -45,23 +46,29 @@ choice D false d e f first second = second refl
 -- ends of links
 
 origin_outcome : (gone : Attachment → Bool) (d : Delivery) → (behind_origin gone d).outcome ≡ d.outcome
-origin_outcome gone d = by (is_gone_with gone d.origin)
+origin_outcome gone d = by (is_gone_with gone (source d))
   where
     by : (b : Bool) → (if b then untold d else d).outcome ≡ d.outcome
     by true = refl
     by false = refl
 
-ended_from : (D : DeliveryState → Type 0) (d : Delivery) → (d.outcome ≡ None → (s : DeliveryState) → s ≡ failed → D s) → From D d (ended d)
-ended_from D d gives s h =
+decided_from : (D : DeliveryState → Type 0) (d : Delivery) → (d.outcome ≡ None → (s : DeliveryState) → s ≡ failed → D s) → From D d (decided_at_end d)
+decided_from D d gives s h =
     by_test (is_none d.outcome)
     (λ e. inr (gives (none_is d.outcome e) s (sym (some_same (rw e at h)))))
     (λ e. inl (rw e at h))
 
-ends_from : (D : DeliveryState → Type 0) (gone : Attachment → Bool) (d : Delivery)
-    → (gone d.link ≡ true → d.outcome ≡ None → (s : DeliveryState) → s ≡ failed → D s) → From D d (behind_ends gone d)
-ends_from D gone d gives s h =
-    choice D (gone d.link) d (ended d) d (λ e. ended_from D d (gives e)) (λ e. was_there D d) s
-    (sym (origin_outcome gone (if gone d.link then ended d else d)) ∙ h)
+-- a link that is suspended decides nothing
+ended_from : (D : DeliveryState → Type 0) (closed : Bool) (d : Delivery) → (d.outcome ≡ None → (s : DeliveryState) → s ≡ failed → D s) → From D d (ended closed d)
+ended_from D closed d gives =
+    choice D d.suspended d d (if d.lasting && not closed then suspended_at_end d else decided_at_end d) (λ e. was_there D d)
+    (λ e. choice D (d.lasting && not closed) d (suspended_at_end d) (decided_at_end d) (λ f s h. inl h) (λ f. decided_from D d gives))
+
+ends_from : (D : DeliveryState → Type 0) (closed : Bool) (gone : Attachment → Bool) (d : Delivery)
+    → (gone d.link ≡ true → d.outcome ≡ None → (s : DeliveryState) → s ≡ failed → D s) → From D d (behind_ends closed gone d)
+ends_from D closed gone d gives s h =
+    choice D (gone d.link) d (ended closed d) d (λ e. ended_from D closed d (gives e)) (λ e. was_there D d) s
+    (sym (origin_outcome gone (if gone d.link then ended closed d else d)) ∙ h)
 
 -- items put out
 
@@ -69,11 +76,12 @@ abbrev Now : Entry → List Entry → ℕ → Delivery → DeliveryState → Typ
 Now x t n d s = Decides x t n d s
 
 told_outcome : (role : Role) (x : Disposition) (c o : ℕ) (d : Delivery) → (told role x c o d).outcome ≡ d.outcome
-told_outcome Receiver x c o d = by (x.settled && is_meant x (origin_id d.origin c o))
+told_outcome Receiver x c o d = by (is_meant x (origin_id (source d) c o)) x.settled
   where
-    by : (b : Bool) → (if b then untold d else d).outcome ≡ d.outcome
-    by true = refl
-    by false = refl
+    by : (b settled : Bool) → (if b then (if settled then untold d else unsettled d) else d).outcome ≡ d.outcome
+    by true true = refl
+    by true false = refl
+    by false settled = refl
 told_outcome Sender x c o d = refl
 
 pub number_is : (v : Option ℕ) (n : ℕ) → is_number v n ≡ true → v ≡ Some n
@@ -81,7 +89,7 @@ number_is None n h = absurd cc
 number_is (Some k) n h = ap (λ (m : ℕ). Some m) (eqb-true k n h)
 
 frame_from : (c : ℕ) (sasl : Bool) (own : ℕ) (x : Transfer) (payload : List ℕ) (t : List Entry) (n : ℕ) (d : Delivery)
-    → carried (tag_in x) (sending t c own x.handle) ≡ Some n
+    → carried (number_named t) (tag_in x) (sending t c own x.handle) ≡ Some n
     → From (Now (Out c (item.Frame sasl own (perf.Transfer x) payload)) t n d) d (behind_frame x (length payload) d)
 frame_from c sasl own x payload t n d carries s h =
     by_test (d.presettled && not x.more)
@@ -95,39 +103,39 @@ frame_from c sasl own x payload t n d carries s h =
     negated false f = refl
 
 transfer_from : (c : ℕ) (sasl : Bool) (own : ℕ) (x : Transfer) (payload : List ℕ) (t : List Entry) (n : ℕ) (d : Delivery)
-    → From (Now (Out c (item.Frame sasl own (perf.Transfer x) payload)) t n d) d (put_in (perf.Transfer x) c own n (sending t c) (length payload) d)
+    → From (Now (Out c (item.Frame sasl own (perf.Transfer x) payload)) t n d) d (put_in (number_named t) (perf.Transfer x) c own n (sending t c) (length payload) d)
 transfer_from c sasl own x payload t n d =
-    choice (Now (Out c (item.Frame sasl own (perf.Transfer x) payload)) t n d) (is_number (carried (tag_in x) (sending t c own x.handle)) n) d
+    choice (Now (Out c (item.Frame sasl own (perf.Transfer x) payload)) t n d) (is_number (carried (number_named t) (tag_in x) (sending t c own x.handle)) n) d
     (behind_frame x (length payload) d) d
-    (λ e. frame_from c sasl own x payload t n d (number_is (carried (tag_in x) (sending t c own x.handle)) n e))
+    (λ e. frame_from c sasl own x payload t n d (number_is (carried (number_named t) (tag_in x) (sending t c own x.handle)) n e))
     (λ e. was_there _ d)
 
 -- items that end no link
-quiet_from : (D : DeliveryState → Type 0) (c : ℕ) (d e : Delivery) → From D d e → From D d (behind_ends (λ a. (a.conn.0 == c) && false) e)
-quiet_from D c d e before s h = by (ends_from (λ s. ⊥) (λ a. (a.conn.0 == c) && false) e (λ gone. absurd (never_both (e.link.conn.0 == c) gone)) s h)
+quiet_from : (D : DeliveryState → Type 0) (c : ℕ) (d e : Delivery) → From D d e → From D d (behind_ends false (λ a. (a.conn.0 == c) && false) e)
+quiet_from D c d e before s h = by (ends_from (λ s. ⊥) false (λ a. (a.conn.0 == c) && false) e (λ gone. absurd (never_both (e.link.conn.0 == c) gone)) s h)
   where
     by : (e.outcome ≡ Some s) ⊎ ⊥ → (d.outcome ≡ Some s) ⊎ D s
     by (inl was) = before s was
     by (inr never) = absurd never
 
 -- items that may end one
-ending_from : (c : ℕ) (i : Item) (t : List Entry) (n : ℕ) (d : Delivery) → From (Now (Out c i) t n d) d (behind_ends (ended_by i c) d)
-ending_from c i t n d =
-    ends_from (Now (Out c i) t n d) (ended_by i c) d
+ending_from : (closed : Bool) (c : ℕ) (i : Item) (t : List Entry) (n : ℕ) (d : Delivery) → From (Now (Out c i) t n d) d (behind_ends closed (ended_by i c) d)
+ending_from closed c i t n d =
+    ends_from (Now (Out c i) t n d) closed (ended_by i c) d
     (λ gone none s is. let both = both_true (d.link.conn.0 == c) (ends_handle i d.link.channel d.link.handle) gone
     in link_ended (record { conn = c; item = i; entry_is = refl; on_connection = eqb-true d.link.conn.0 c both.0; ends = both.1 }) none is)
 
 frame_put_from : (body : Perf) (c : ℕ) (sasl : Bool) (own : ℕ) (payload : List ℕ) (t : List Entry) (n : ℕ) (d : Delivery)
-    → From (Now (Out c (item.Frame sasl own body payload)) t n d) d (behind_put (item.Frame sasl own body payload) c n (sending t c) d)
+    → From (Now (Out c (item.Frame sasl own body payload)) t n d) d (behind_put (number_named t) (item.Frame sasl own body payload) c n (sending t c) d)
 frame_put_from (perf.Transfer x) c sasl own payload t n d =
-    quiet_from (Now (Out c (item.Frame sasl own (perf.Transfer x) payload)) t n d) c d (put_in (perf.Transfer x) c own n (sending t c) (length payload) d)
+    quiet_from (Now (Out c (item.Frame sasl own (perf.Transfer x) payload)) t n d) c d (put_in (number_named t) (perf.Transfer x) c own n (sending t c) (length payload) d)
     (transfer_from c sasl own x payload t n d)
 frame_put_from (perf.Disposition x) c sasl own payload t n d =
     quiet_from (Now (Out c (item.Frame sasl own (perf.Disposition x) payload)) t n d) c d (told x.role x c own d)
     (λ s h. inl (sym (told_outcome x.role x c own d) ∙ h))
-frame_put_from body c sasl own payload t n d = ending_from c (item.Frame sasl own body payload) t n d
+frame_put_from body c sasl own payload t n d = ending_from (closes body) c (item.Frame sasl own body payload) t n d
 
-put_from : (c : ℕ) (i : Item) (t : List Entry) (n : ℕ) (d : Delivery) → From (Now (Out c i) t n d) d (behind_put i c n (sending t c) d)
+put_from : (c : ℕ) (i : Item) (t : List Entry) (n : ℕ) (d : Delivery) → From (Now (Out c i) t n d) d (behind_put (number_named t) i c n (sending t c) d)
 put_from c (item.Frame sasl own body payload) t n d = frame_put_from body c sasl own payload t n d
 put_from c _ t n d = was_there _ d
 
@@ -171,7 +179,7 @@ consumer_gives s t n d conn channel x payload outcome came role here tests gives
       in_its_range = meant.2;
       id_names_it = subst (λ (c : ℕ). named t c d.link.channel meant.0 ≡ Some n) on_connection (number_is (named t conn.0 d.link.channel meant.0) n names);
       gives = gives;
-      undecided = none_is d.outcome (both_true (is_none d.outcome) (not d.presettled) inner.0).0;
+      undecided = none_is d.outcome (both_true (is_none d.outcome) (not (d.presettled || d.suspended)) inner.0).0;
     }
 
 disposed_from : (s : Step) (t : List Entry) (n : ℕ) (d : Delivery) (conn : ConnectionId) (channel : ℕ) (x : Disposition) (payload : List ℕ)
@@ -185,7 +193,7 @@ disposed_from s t n d conn channel x payload came Receiver role =
     (λ e. was_there _ d))
     (λ e. was_there _ d)
 disposed_from s t n d conn channel x payload came Sender role =
-    λ outcome h. inl (sym (untold_outcome (is_settled_at x conn.0 (theirs t conn.0 channel) d.origin)) ∙ h)
+    λ outcome h. inl (sym (untold_outcome (is_settled_at x conn.0 (theirs t conn.0 channel) (source d))) ∙ h)
   where
     untold_outcome : (b : Bool) → (if b then untold d else d).outcome ≡ d.outcome
     untold_outcome true = refl
@@ -206,7 +214,7 @@ heard_from s t n d conn _ came = was_there _ d
 event_from : (s : Step) (t : List Entry) (n : ℕ) (d : Delivery) (e : Event) → s.event ≡ e → From (Now (Did s) t n d) d (behind_event e (theirs t) (named t) n d)
 event_from s t n d (event.Item c i) is = heard_from s t n d c i is
 event_from s t n d (event.Down c) is =
-    ends_from (Now (Did s) t n d) (lost_with c.0) d
+    ends_from (Now (Did s) t n d) false (lost_with c.0) d
     (λ gone none outcome e. link_lost (record { step = s; conn = c; entry_is = refl; lost = is; on_connection = eqb-true d.link.conn.0 c.0 gone }) none e)
 event_from s t n d _ is = was_there _ d
 
@@ -238,7 +246,7 @@ outcomes_given (Did x ∷ t) n d s h e =
     in either_decided (Did x) t n was.0 s was.1 (outcomes_given t n was.0 s was.1)
     (event_from x t n was.0 x.event refl s (sym (ap (λ (f : Delivery). f.outcome) was.2) ∙ e))
 outcomes_given (Out c i ∷ t) n d s h e =
-    let was = of_what (behind_put i c n (sending t c)) (delivery t n) d h
+    let was = of_what (behind_put (number_named t) i c n (sending t c)) (delivery t n) d h
     in either_decided (Out c i) t n was.0 s was.1 (outcomes_given t n was.0 s was.1)
     (put_from c i t n was.0 s (sym (ap (λ (f : Delivery). f.outcome) was.2) ∙ e))
 outcomes_given (Took c k ∷ t) n d s h e = later_decided (Took c k) t n s (outcomes_given t n d s h e)
@@ -247,7 +255,7 @@ outcomes_given (Began g ∷ t) n d s h e = later_decided (Began g) t n s (outcom
 outcomes_given (Bound b ∷ t) n d s h e =
     by_test (bindings t + 1 == n)
     (λ f. absurd (none_not_some (ap (λ (g : Delivery). g.outcome) (some_same (rw f at h)) ∙ e)))
-    (λ f. later_decided (Bound b) t n s (outcomes_given t n d s (rw f at h) e))
+    (λ f. later_decided (Bound b) t n s (outcomes_given t n d s (uncalled (name_in t b) (delivery t n) d (rw f at h)).0 e))
 
 -- if its producer hadn't settled it, by its consumer
 

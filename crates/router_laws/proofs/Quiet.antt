@@ -13,7 +13,7 @@ use Rattle.router_trace.specs.Trace.{Entry, Put}
 use Rattle.router_trace.specs.Connection.{Connection, live}
 use Rattle.router_trace.specs.Frames.{closing, told_of}
 use Rattle.router_trace.specs.Numbers.{Placed, first_placed}
-use Rattle.router_trace.specs.Settling.{ignored}
+use Rattle.router_trace.specs.Settling.{unbound}
 use Rattle.router_trace.specs.Durable.{is_durable}
 use Rattle.router_trace.specs.LinkFrames.{attach_item, detach_item, answer_to, refusal_of, fits}
 use Rattle.router_trace.specs.Links.{Link, Happened, sends, receives, holder, key_at, numbered, attachments}
@@ -87,7 +87,7 @@ refused_quiet largest own handle e a = by (fits largest (attach_item own (refusa
 
 pub ignored_quiet : (after : List Entry) (c own handle : ℕ) (q : Option ℕ) → Quiet (ignored_put after c own handle q)
 ignored_quiet after c own handle None = tt
-ignored_quiet after c own handle (Some id) = by_test (nat_lt 1024 (ignored after c own handle)) (λ e. rw e (refl, tt)) (λ e. rw e tt)
+ignored_quiet after c own handle (Some id) = by_test (nat_lt 1024 (unbound after c own handle)) (λ e. rw e (refl, tt)) (λ e. rw e tt)
 
 pub settled_quiet : (own : ℕ) (s : Option DeliveryState) (ids : List ℕ) → Quiet (settled_answers own s ids)
 settled_quiet own None ids = tt

@@ -18,6 +18,7 @@ use Rattle.router_core.proofs.Due.{both_true, placed_elim}
 use Rattle.router_laws.proofs.Tests.{none_is}
 use Rattle.router_laws.proofs.Outcomes.{number_is}
 use Rattle.router_laws.proofs.Carrying.{Unstarted}
+use Rattle.router_laws.proofs.Names.{NamesTold}
 use Rattle.router_laws.proofs.Sound.{Lawful, AllLawful}
 
 -- a delivery goes on, or starts
@@ -58,7 +59,7 @@ can_go_due t n d h =
 -- the content of its frame
 
 names_more : (id : Option ℕ) (t : List Entry) (c own n : ℕ) (d : Delivery) (x : Transfer) → BeginsOrGoesOn id t c own n d x → BeginsOrGoesOn id t c own n d (with_more x)
-names_more None t c own n d x is = record { id = is.id; tag = is.tag; format = is.format; starts = is.starts }
+names_more None t c own n d x is = record { id = is.id; tag = is.tag; tells_name = is.tells_name; format = is.format; starts = is.starts }
 names_more (Some id) t c own n d x is = record { id = is.id; tag = is.tag; format = is.format; same_delivery = is.same_delivery }
 
 pub record IsFrameOf (t : List Entry) (n : ℕ) (d : Delivery) (x : Transfer) : Type 0 where
@@ -66,16 +67,16 @@ pub record IsFrameOf (t : List Entry) (n : ℕ) (d : Delivery) (x : Transfer) : 
   pub aborted : x.aborted ≡ false
   pub names : BeginsOrGoesOn d.id t d.link.conn.0 d.link.channel n d x
 
-transfer_is : (t : List Entry) (n : ℕ) (d : Delivery) → Unstarted t → delivery t n ≡ Some d → IsDue t n d → IsFrameOf t n d (transfer_of t n d)
-transfer_is t n d unstarted there due = by due.kind
+transfer_is : (t : List Entry) (n : ℕ) (d : Delivery) → Unstarted t → NamesTold t → delivery t n ≡ Some d → IsDue t n d → IsFrameOf t n d (transfer_of t d)
+transfer_is t n d unstarted told there due = by due.kind
   where
-    fresh : d.id ≡ None → transfer_of t n d ≡ first_transfer d.link.handle (next_id t d.link.conn.0 d.link.channel) n d
+    fresh : d.id ≡ None → transfer_of t d ≡ first_transfer d.link.handle (next_id t d.link.conn.0 d.link.channel) d
     fresh e = rw e refl
 
-    begun : (k : ℕ) → d.id ≡ Some k → transfer_of t n d ≡ later_transfer d.link.handle d
+    begun : (k : ℕ) → d.id ≡ Some k → transfer_of t d ≡ later_transfer d.link.handle d
     begun k e = rw e refl
 
-    later : (v : Option ℕ) → d.id ≡ v → is_some v ≡ true → sending t d.link.conn.0 d.link.channel d.link.handle ≡ Some n → IsFrameOf t n d (transfer_of t n d)
+    later : (v : Option ℕ) → d.id ≡ v → is_some v ≡ true → sending t d.link.conn.0 d.link.channel d.link.handle ≡ Some n → IsFrameOf t n d (transfer_of t d)
     later None e some sends = absurd cc
     later (Some k) e some sends =
         subst (λ (x : Transfer). IsFrameOf t n d x) (sym (begun k e)) (record {
@@ -85,13 +86,13 @@ transfer_is t n d unstarted there due = by due.kind
               (record { id = refl; tag = refl; format = refl; same_delivery = sends });
         })
 
-    by : (d.id ≡ None) ⊎ ((is_some d.id ≡ true) × (sending t d.link.conn.0 d.link.channel d.link.handle ≡ Some n)) → IsFrameOf t n d (transfer_of t n d)
+    by : (d.id ≡ None) ⊎ ((is_some d.id ≡ true) × (sending t d.link.conn.0 d.link.channel d.link.handle ≡ Some n)) → IsFrameOf t n d (transfer_of t d)
     by (inl e) =
         subst (λ (x : Transfer). IsFrameOf t n d x) (sym (fresh e)) (record {
           handle = refl;
           aborted = refl;
-          names = subst (λ (id : Option ℕ). BeginsOrGoesOn id t d.link.conn.0 d.link.channel n d (first_transfer d.link.handle (next_id t d.link.conn.0 d.link.channel) n d)) (sym e)
-              (record { id = refl; tag = refl; format = refl; starts = unstarted n d there e });
+          names = subst (λ (id : Option ℕ). BeginsOrGoesOn id t d.link.conn.0 d.link.channel n d (first_transfer d.link.handle (next_id t d.link.conn.0 d.link.channel) d)) (sym e)
+              (record { id = refl; tag = refl; tells_name = told n d there; format = refl; starts = unstarted n d there e });
         })
     by (inr both) = later d.id refl both.0 both.1
 
@@ -151,12 +152,12 @@ passed_test : (b : Bool) (x a : Attachment) → (if b then Some x else None) ≡
 passed_test true x a e = refl
 passed_test false x a e = absurd cc
 
-sent_lawful : (t : List Entry) → Unstarted t → (n : ℕ) (a : Attachment) (v : Option Delivery) → delivery t n ≡ v → place_to_go t n v ≡ Some a → AllLawful t (send t n v)
-sent_lawful t unstarted n a None there e = tt
-sent_lawful t unstarted n a (Some d) there e =
+sent_lawful : (t : List Entry) → Unstarted t → NamesTold t → (n : ℕ) (a : Attachment) (v : Option Delivery) → delivery t n ≡ v → place_to_go t n v ≡ Some a → AllLawful t (send t v)
+sent_lawful t unstarted told n a None there e = tt
+sent_lawful t unstarted told n a (Some d) there e =
     let due : IsDue t n d = can_go_due t n d (passed_test (can_go t n d) d.link a e)
-    in (frame_lawful t n d (largest_out (largest_frame t d.link.conn.0)) (transfer_of t n d) there due (transfer_is t n d unstarted there due), tt)
+    in (frame_lawful t n d (largest_out (largest_frame t d.link.conn.0)) (transfer_of t d) there due (transfer_is t n d unstarted told there due), tt)
 
-pub sends_lawful : (t : List Entry) → Unstarted t → AllLawful t (sends_due t)
-sends_lawful t unstarted =
-    placed_elim (bindings t + 1) (λ n. place_to_go t n (delivery t n)) (λ x. AllLawful t (send_of t x)) tt (λ n a e. sent_lawful t unstarted n a (delivery t n) refl e)
+pub sends_lawful : (t : List Entry) → Unstarted t → NamesTold t → AllLawful t (sends_due t)
+sends_lawful t unstarted told =
+    placed_elim (bindings t + 1) (λ n. place_to_go t n (delivery t n)) (λ x. AllLawful t (send_of t x)) tt (λ n a e. sent_lawful t unstarted told n a (delivery t n) refl e)

@@ -1,6 +1,6 @@
 -- The outcome of each delivery is reported at most once: after that no report is due.
 use Rattle.std.proofs.Common.{◌≡◌, ◌∙◌, sym, ap, refl, subst, ◌⊎◌, inl, inr, ℕ, ◌+◌, ◌≤◌, Bool, true, false, ◌&&◌, List, [], ◌∷◌, ◌++◌, arith}
-use Rattle.std.specs.Prelude.{◌==◌, ◌^◌, nat_lt, nat_le, Option, Some, None, option_and_then, unwrap_or}
+use Rattle.std.specs.Prelude.{◌==◌, ◌^◌, nat_lt, nat_le, Option, Some, None, if◌then◌else◌, option_and_then, unwrap_or}
 use Rattle.std.proofs.lemmas.Bool.{eqb-true}
 use Rattle.amqp_perf.specs.declared.perf.Disposition.{Disposition}
 use Rattle.amqp_perf.specs.declared.perf.Perf.{Perf}
@@ -9,9 +9,10 @@ use Rattle.amqp_perf.specs.declared.perf.Role.{Role}
 use Rattle.amqp_perf.specs.declared.perf.Role.TheVariants.{Sender, Receiver}
 use Rattle.amqp_frames.specs.declared.item.Item.{Item}
 use Rattle.amqp_frames.specs.declared.item.Item.TheVariants as item
+use Rattle.router_trace.specs.declared.binding.DeliveryName.{DeliveryName}
 use Rattle.router_trace.specs.declared.binding.Origin.{Origin}
 use Rattle.router_trace.specs.Trace.{Entry, Did, Out, Took, Bound, Booked, Began}
-use Rattle.router_trace.specs.Deliveries.{Delivery, bindings, delivery, sending, named, unless_over, told, is_meant, last_of, origin_id, ended_by, behind_put, behind_event}
+use Rattle.router_trace.specs.Deliveries.{Delivery, bindings, name_in, same_name, number_named, unless_called, delivery, sending, named, unless_over, either_origin, source, untold, unsettled, told, is_meant, last_of, origin_id, ended_by, behind_put, behind_event}
 use Rattle.router_trace.specs.Sessions.{theirs}
 use Rattle.amqp_session.specs.Serials.{distance}
 use Rattle.amqp_session.specs.Ranges.{in_range}
@@ -33,37 +34,48 @@ stays_left = record {
   same = λ d none. none;
   next = λ d e f first rest none. rest (first none);
   untold = λ d none. refl;
+  unsettled = λ d none. refl;
   ended = λ d none. none;
+  suspended = λ d none. none;
   decided = λ d s none. none;
 }
 
 -- reported
 
+-- what is to be told, and what was told, is the producer's
+of_source : (o p : Option Origin) (c own k : ℕ) → origin_id o c own ≡ Some k → origin_id (either_origin o p) c own ≡ Some k
+of_source None p c own k e = absurd cc
+of_source (Some q) p c own k e = e
+
+meant_source : (x : Disposition) (o p : Option Origin) (c own : ℕ) → is_meant x (origin_id o c own) ≡ true → is_meant x (origin_id (either_origin o p) c own) ≡ true
+meant_source x None p c own e = absurd cc
+meant_source x (Some q) p c own e = e
+
 told_none : (role : Role) (x : Disposition) (c own : ℕ) (d : Delivery) → tells_as role x c own d.origin ≡ true → (told role x c own d).origin ≡ None
-told_none Receiver x c own d h = rw h refl
+told_none Receiver x c own d h = rw (meant_source x d.origin d.told c own h) (by x.settled)
+  where
+    by : (b : Bool) → (if b then untold d else unsettled d).origin ≡ None
+    by true = refl
+    by false = refl
 told_none Sender x c own d h = absurd cc
 
-none_behind : (body : Perf) (sasl : Bool) (c own n : ℕ) (payload : List ℕ) (sent : ℕ → ℕ → Option ℕ) (d : Delivery) → tells_in body c own d.origin ≡ true
-    → (behind_put (item.Frame sasl own body payload) c n sent d).origin ≡ None
-none_behind (perf.Disposition x) sasl c own n payload sent d h =
-    ends_left StaysNone stays_left (ended_by (item.Frame sasl own (perf.Disposition x) payload) c) (told x.role x c own d) (told_none x.role x c own d h)
-none_behind _ sasl c own n payload sent d h = absurd cc
+none_behind : (numbers : DeliveryName → Option ℕ) (body : Perf) (sasl : Bool) (c own n : ℕ) (payload : List ℕ) (sent : ℕ → ℕ → Option ℕ) (d : Delivery) → tells_in body c own d.origin ≡ true
+    → (behind_put numbers (item.Frame sasl own body payload) c n sent d).origin ≡ None
+none_behind numbers (perf.Disposition x) sasl c own n payload sent d h =
+    ends_left StaysNone stays_left false (ended_by (item.Frame sasl own (perf.Disposition x) payload) c) (told x.role x c own d) (told_none x.role x c own d h)
+none_behind numbers _ sasl c own n payload sent d h = absurd cc
 
-told_behind : (i : Item) (c n : ℕ) (sent : ℕ → ℕ → Option ℕ) (v : Option Delivery) → tells i c v ≡ true
-    → WhileThere NoOrigin (option_and_then (λ d. unless_over (behind_put i c n sent d)) v)
-told_behind i c n sent None h = tt
-told_behind (item.Frame sasl own body payload) c n sent (Some d) h =
-    unless_left NoOrigin (behind_put (item.Frame sasl own body payload) c n sent d) (none_behind body sasl c own n payload sent d h)
-told_behind _ c n sent (Some d) h = absurd cc
+told_behind : (numbers : DeliveryName → Option ℕ) (i : Item) (c n : ℕ) (sent : ℕ → ℕ → Option ℕ) (v : Option Delivery) → tells i c v ≡ true
+    → WhileThere NoOrigin (option_and_then (λ d. unless_over (behind_put numbers i c n sent d)) v)
+told_behind numbers i c n sent None h = tt
+told_behind numbers (item.Frame sasl own body payload) c n sent (Some d) h =
+    unless_left NoOrigin (behind_put numbers (item.Frame sasl own body payload) c n sent d) (none_behind numbers body sasl c own n payload sent d h)
+told_behind numbers _ c n sent (Some d) h = absurd cc
 
 -- not reported again
 
 not_as : (role : Role) (x : Disposition) (c own : ℕ) → tells_as role x c own None ≡ false
-not_as Receiver x c own = by x.settled
-  where
-    by : (b : Bool) → (b && false) ≡ false
-    by true = refl
-    by false = refl
+not_as Receiver x c own = refl
 not_as Sender x c own = refl
 
 not_in : (body : Perf) (c own : ℕ) → tells_in body c own None ≡ false
@@ -115,7 +127,7 @@ put_spent c i t n was = by_test (tells i c (delivery t n)) (λ e. now e was) (λ
     now e (inl none) = inr (record {
       once = rw e (plus_one (tellings t n) none);
       given = there (delivery t n) refl e;
-      none = told_behind i c n (sending t c) (delivery t n) e;
+      none = told_behind (number_named t) i c n (sending t c) (delivery t n) e;
     })
       where
         plus_one : (a : ℕ) → a ≡ 0 → a + 1 ≡ 1
@@ -193,7 +205,7 @@ none_before t n d p there origin = by (spent t n)
     by (inl none) = none
     by (inr was) = absurd (differ (sym origin ∙ subst (λ (v : Option Delivery). WhileThere NoOrigin v) there was.none))
 
--- with an id: no delivery gets a report due with an id, and after a disposition that settles the id none has one
+-- with an id: no delivery gets a report due with an id, and after a disposition of the id none has one
 
 abbrev NotUnder : ℕ → ℕ → ℕ → Delivery → Type 0
 NotUnder c own id d = IsUnder c own id d → ⊥
@@ -210,7 +222,9 @@ was_left c own id = record {
   same = λ d under. under;
   next = λ d e f first rest under. first (rest under);
   untold = λ d under. absurd (none_under id under);
+  unsettled = λ d under. absurd (none_under id under);
   ended = λ d under. under;
+  suspended = λ d under. under;
   decided = λ d s under. under;
 }
 
@@ -222,17 +236,25 @@ not_under : (c own id : ℕ) (f : Delivery → Delivery) → ((d : Delivery) →
 not_under c own id f was None none = tt
 not_under c own id f was (Some d) none = unless_left (NotUnder c own id) (f d) (λ under. none (was d under))
 
+uncalled_under : (c own id : ℕ) (name : DeliveryName) (v : Option Delivery) → WhileThere (NotUnder c own id) v → WhileThere (NotUnder c own id) (unless_called name v)
+uncalled_under c own id name None none = none
+uncalled_under c own id name (Some d) none = by (same_name d.name name)
+  where
+    by : (b : Bool) → WhileThere (NotUnder c own id) (if b then None else Some d)
+    by true = tt
+    by false = none
+
 entry_under : (c own id : ℕ) (e : Entry) (t : List Entry) (n : ℕ) → n ≤ bindings t → WhileThere (NotUnder c own id) (delivery t n)
     → WhileThere (NotUnder c own id) (delivery (e ∷ t) n)
 entry_under c own id (Did s) t n given none =
     not_under c own id (behind_event s.event (theirs t) (named t) n) (event_left (WasUnder c own id) (was_left c own id) s.event (theirs t) (named t) n) (delivery t n) none
 entry_under c own id (Out d i) t n given none =
-    not_under c own id (behind_put i d n (sending t d)) (item_left (WasUnder c own id) (was_left c own id) (was_frames c own id) i d n (sending t d)) (delivery t n) none
+    not_under c own id (behind_put (number_named t) i d n (sending t d)) (item_left (WasUnder c own id) (was_left c own id) (was_frames c own id) (number_named t) i d n (sending t d)) (delivery t n) none
 entry_under c own id (Took d k) t n given none = none
 entry_under c own id (Began g) t n given none = none
 entry_under c own id (Booked acts) t n given none = none
 entry_under c own id (Bound b) t n given none =
-    by_test (bindings t + 1 == n) (λ e. absurd (too_high n (bindings t) given (eqb-true (bindings t + 1) n e))) (λ e. rw e none)
+    by_test (bindings t + 1 == n) (λ e. absurd (too_high n (bindings t) given (eqb-true (bindings t + 1) n e))) (λ e. rw e (uncalled_under c own id (name_in t b) (delivery t n) none))
   where
     too_high : (n k : ℕ) → n ≤ k → k + 1 ≡ n → ⊥
     too_high n k h e = omega (arith, h, e)
@@ -253,29 +275,28 @@ own_range first = by (distance first first) (none_between first)
     by : (d : ℕ) → d ≡ 0 → (nat_lt d (2 ^ 31) && nat_le d d) ≡ true
     by d e = rw e refl
 
-told_under : (role : Role) (x : Disposition) (c own : ℕ) (d : Delivery) → role ≡ Receiver → x.settled ≡ true → x.last ≡ None → NotUnder c own x.first (told role x c own d)
-told_under Sender x c own d role settled one under = absurd cc
-told_under Receiver x c own d role settled one under =
-    by_test (x.settled && is_meant x (origin_id d.origin c own))
-    (λ e. none_under x.first (rw e at under))
+told_under : (role : Role) (x : Disposition) (c own : ℕ) (d : Delivery) → role ≡ Receiver → x.last ≡ None → NotUnder c own x.first (told role x c own d)
+told_under Sender x c own d role one under = absurd cc
+told_under Receiver x c own d role one under =
+    by_test (is_meant x (origin_id (source d) c own))
+    (λ e. by_test x.settled (λ s. none_under x.first (rw (e, s) at under)) (λ s. none_under x.first (rw (e, s) at under)))
     (λ e. let was : origin_id d.origin c own ≡ Some x.first = rw e at under
     in let last : last_of x ≡ x.first = ap (λ (v : Option ℕ). unwrap_or v x.first) one
-    in let meant : is_meant x (origin_id d.origin c own) ≡ true
-    = ap (λ (v : Option ℕ). is_meant x v) was ∙ ap (λ (k : ℕ). in_range x.first k x.first) last ∙ own_range x.first
-    in let test : (x.settled && is_meant x (origin_id d.origin c own)) ≡ true = rw (settled, meant) refl
-    in clash (sym test ∙ e))
+    in let meant : is_meant x (origin_id (source d) c own) ≡ true
+    = ap (λ (v : Option ℕ). is_meant x v) (of_source d.origin d.told c own x.first was) ∙ ap (λ (k : ℕ). in_range x.first k x.first) last ∙ own_range x.first
+    in clash (sym meant ∙ e))
   where
     clash : true ≡ false → ⊥
     clash e = cc
 
-pub told_anew : (t later : List Entry) (c own : ℕ) (sasl : Bool) (x : Disposition) (payload : List ℕ) (n : ℕ) → x.role ≡ Receiver → x.settled ≡ true → x.last ≡ None
+pub told_anew : (t later : List Entry) (c own : ℕ) (sasl : Bool) (x : Disposition) (payload : List ℕ) (n : ℕ) → x.role ≡ Receiver → x.last ≡ None
     → n ≤ bindings t → WhileThere (λ d. IsUnder c own x.first d → ⊥) (delivery (later ++ Out c (item.Frame sasl own (perf.Disposition x) payload) ∷ t) n)
-told_anew t later c own sasl x payload n role settled one given =
+told_anew t later c own sasl x payload n role one given =
     later_under c own x.first later (Out c (item.Frame sasl own (perf.Disposition x) payload) ∷ t) n given (by (delivery t n))
   where
-    by : (v : Option Delivery) → WhileThere (NotUnder c own x.first) (option_and_then (λ d. unless_over (behind_put (item.Frame sasl own (perf.Disposition x) payload) c n (sending t c) d)) v)
+    by : (v : Option Delivery) → WhileThere (NotUnder c own x.first) (option_and_then (λ d. unless_over (behind_put (number_named t) (item.Frame sasl own (perf.Disposition x) payload) c n (sending t c) d)) v)
     by None = tt
     by (Some d) =
-        unless_left (NotUnder c own x.first) (behind_put (item.Frame sasl own (perf.Disposition x) payload) c n (sending t c) d)
-        (λ under. told_under x.role x c own d role settled one
-        (ends_left (WasUnder c own x.first) (was_left c own x.first) (ended_by (item.Frame sasl own (perf.Disposition x) payload) c) (told x.role x c own d) under))
+        unless_left (NotUnder c own x.first) (behind_put (number_named t) (item.Frame sasl own (perf.Disposition x) payload) c n (sending t c) d)
+        (λ under. told_under x.role x c own d role one
+        (ends_left (WasUnder c own x.first) (was_left c own x.first) false (ended_by (item.Frame sasl own (perf.Disposition x) payload) c) (told x.role x c own d) under))

@@ -1,10 +1,10 @@
 -- The disposition that is due next reports an outcome that was given, for the first time.
 use Rattle.std.proofs.Common.{◌≡◌, refl, inl, ℕ, ◌+◌, List}
-use Rattle.std.specs.Prelude.{Option, Some, None}
+use Rattle.std.specs.Prelude.{Option, Some, None, not}
 use Rattle.amqp_perf.specs.declared.state.DeliveryState.{DeliveryState}
 use Rattle.router_trace.specs.declared.binding.Origin.{Origin}
 use Rattle.router_trace.specs.Trace.{Entry}
-use Rattle.router_trace.specs.Deliveries.{Delivery, bindings, delivery}
+use Rattle.router_trace.specs.Deliveries.{Delivery, has_row, bindings, delivery}
 use Rattle.router_trace.specs.Following.{is_to_be_told, outcome_to, tell, tells_of, tells}
 use Rattle.router_core.proofs.Due.{first_elim}
 use Rattle.router_laws.proofs.Outcomes.{outcomes_of_consumers}
@@ -13,14 +13,13 @@ use Rattle.router_laws.proofs.Telling.{none_before}
 use Rattle.router_laws.proofs.Sound.{AllLawful}
 
 outcome_lawful : (t : List Entry) (n : ℕ) (d : Delivery) (origin : Option Origin) (outcome : Option DeliveryState) → delivery t n ≡ Some d → d.origin ≡ origin
-    → d.outcome ≡ outcome → AllLawful t (outcome_to origin outcome)
+    → d.outcome ≡ outcome → AllLawful t (outcome_to origin (not (has_row d.name)) outcome)
 outcome_lawful t n d None outcome there e f = tt
 outcome_lawful t n d (Some p) None there e f = tt
 outcome_lawful t n d (Some p) (Some s) there e f = (
   (
     tt,
     record {
-      settles = refl;
       one = refl;
       of = inl (record {
         number = n;
@@ -35,6 +34,7 @@ outcome_lawful t n d (Some p) (Some s) there e f = (
         was_decided = f;
         given = outcomes_of_consumers t n d s there f (not_presettled t n d p there e);
         told = refl;
+        settled = refl;
         first_time = none_before t n d p there e;
       });
     },

@@ -47,14 +47,14 @@ by_link own claimed links x (on handle l) at = by l.happened refl
     is list e = record { plain = refl; session = refl; place = l; happened = list; on_handle = at; receiving = e }
 
     within : (list : Received) → l.happened ≡ receives list → (first : Option Told)
-        → IfTaken false (Some (Mapped own)) links (delivery_by own handle (unused list) claimed first x)
+        → IfTaken false (Some (Mapped own)) links (delivery_by own handle l.durable (unused list) claimed first x)
     within list e None =
         by_test (is_anonymous x) (λ f. rw f tt)
         (λ f. rw f (by_test (is_among claimed x.delivery_id) (λ g. rw g tt) (λ g. rw g (by_test (nat_eq (unused list) 0) (λ h. rw h tt) (λ h. rw h (is list e))))))
     within list e (Some first) =
         by_test (is_same_id x.delivery_id first.id && is_same_tag (tag_in x) (option_map (λ tag. tag.items) first.tag)) (λ f. rw f (is list e)) (λ f. rw f tt)
 
-    by : (w : Happened) → l.happened ≡ w → IfTaken false (Some (Mapped own)) links (delivery_on own handle claimed w x)
+    by : (w : Happened) → l.happened ≡ w → IfTaken false (Some (Mapped own)) links (delivery_on own handle l.durable claimed w x)
     by (sends list) e = tt
     by (receives list) e = within list e (middle_by (receives list))
 

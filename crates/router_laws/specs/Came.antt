@@ -72,7 +72,7 @@ ComesFrom (Some p) t c own handle l message =
     (p.link ≡ from_link c own handle l) × (message.id ≡ Some p.id) × (is_claimed_on t c own handle p.id ≡ true)
 
 -- A message is bound when it is just complete, as it was received, to the consumer chosen for the address of its producer's link.
--- No message was bound after that event before, so none is bound twice.
+-- No message was bound after that event before, so none is bound twice. It has no row: durable deliveries come later.
 pub record BindsMessage (t : Trace) (b : Binding) : Type 0 where
   pub conn : ℕ
   pub own : ℕ
@@ -81,6 +81,7 @@ pub record BindsMessage (t : Trace) (b : Binding) : Type 0 where
   pub came : CameWhole t conn own handle message b.payload
   pub once : bound_since t ≡ 0
   pub not_resumed : message.resume ≡ false
+  pub no_row : b.row ≡ None
   pub format : b.format ≡ unwrap_or message.format 0
   pub producer : Link
   pub attached : link t conn own handle ≡ Some producer

@@ -7,13 +7,16 @@ use Rattle.amqp_perf.specs.declared.perf.Transfer.{Transfer}
 use Rattle.amqp_frames.specs.declared.item.Item.{Item}
 use Rattle.amqp_frames.specs.declared.item.Item.TheVariants as item
 use Rattle.router_trace.specs.declared.binding.Binding.{Binding}
+use Rattle.router_trace.specs.declared.binding.DeliveryName.{DeliveryName}
 use Rattle.router_trace.specs.Trace.{Trace, Did, Out, Took, Bound, Booked, Began}
-use Rattle.router_trace.specs.Deliveries.{Delivery, bindings, delivery, sending, carried, tag_in, tag_of, is_number}
+use Rattle.router_trace.specs.Deliveries.{Delivery, bindings, number_named, delivery, sending, carried, tag_in, tag_of, tagged, is_number}
 
--- The first frame of a delivery: it has an id, the delivery's tag and the message format, and nothing of the delivery was sent before.
-pub record IsFirst (n : ℕ) (d : Delivery) (x : Transfer) : Type 0 where
+-- The first frame of a delivery: it has an id, the delivery's tag and the message format, and nothing of the delivery was sent before. The tag tells
+-- the delivery's name. (It has 8 bytes of a number.)
+pub record IsFirst (t : Trace) (d : Delivery) (x : Transfer) : Type 0 where
   pub id : is_some x.delivery_id ≡ true
-  pub tag : tag_in x ≡ Some (tag_of n)
+  pub tag : tag_in x ≡ Some (tag_of d.name)
+  pub tells_name : bindings t < 2 ^ 64 → tagged (tag_of d.name) ≡ Some d.name
   pub format : x.message_format ≡ Some d.format
   pub starts : d.sent ≡ 0
 
@@ -25,7 +28,7 @@ pub record IsLater (t : Trace) (c own n : ℕ) (x : Transfer) : Type 0 where
   pub same_delivery : sending t c own x.handle ≡ Some n
 
 abbrev pub BeginsOrGoesOn : Option ℕ → Trace → ℕ → ℕ → ℕ → Delivery → Transfer → Type 0
-BeginsOrGoesOn None t c own n d x = IsFirst n d x
+BeginsOrGoesOn None t c own n d x = IsFirst t d x
 BeginsOrGoesOn (Some id) t c own n d x = IsLater t c own n x
 
 -- A transfer of the router carries the message of a delivery, on the link that it was bound to: the next bytes of it, and all remaining bytes
@@ -51,27 +54,26 @@ abbrev pub CarriesWhatWasBound : Trace → ℕ → Item → Type 0
 CarriesWhatWasBound t c (item.Frame sasl own body payload) = perf_carries body t c own payload
 CarriesWhatWasBound t c _ = Unit {0}
 
--- What a consumer gets of a delivery: the payloads of its frames, in the order in which they are sent. A frame with a tag belongs to the delivery
--- with that tag, any other to the one that was begun on its handle.
-abbrev pub bytes_in : Perf → ℕ → ℕ → List ℕ → (ℕ → ℕ → Option ℕ) → List ℕ → List ℕ
-bytes_in (perf.Transfer x) own n payload sent before = if is_number (carried (tag_in x) (sent own x.handle)) n then before ++ payload else before
-bytes_in _ own n payload sent before = before
+-- What a consumer gets of a delivery: the payloads of its frames, in the order in which they are sent. A frame with a tag belongs to the last delivery
+-- bound with that tag, any other to the one that was begun on its handle.
+abbrev pub bytes_in : (DeliveryName → Option ℕ) → Perf → ℕ → ℕ → List ℕ → (ℕ → ℕ → Option ℕ) → List ℕ → List ℕ
+bytes_in numbers (perf.Transfer x) own n payload sent before = if is_number (carried numbers (tag_in x) (sent own x.handle)) n then before ++ payload else before
+bytes_in numbers _ own n payload sent before = before
 
-abbrev pub bytes_by : Item → ℕ → (ℕ → ℕ → Option ℕ) → List ℕ → List ℕ
-bytes_by (item.Frame sasl own body payload) n sent before = bytes_in body own n payload sent before
-bytes_by _ n sent before = before
+abbrev pub bytes_by : (DeliveryName → Option ℕ) → Item → ℕ → (ℕ → ℕ → Option ℕ) → List ℕ → List ℕ
+bytes_by numbers (item.Frame sasl own body payload) n sent before = bytes_in numbers body own n payload sent before
+bytes_by numbers _ n sent before = before
 
 abbrev pub bytes_out : Trace → ℕ → List ℕ
 bytes_out [] n = []
 bytes_out (Did s ∷ t) n = bytes_out t n
-bytes_out (Out c i ∷ t) n = bytes_by i n (sending t c) (bytes_out t n)
+bytes_out (Out c i ∷ t) n = bytes_by (number_named t) i n (sending t c) (bytes_out t n)
 bytes_out (Took c k ∷ t) n = bytes_out t n
 bytes_out (Bound b ∷ t) n = bytes_out t n
 bytes_out (Booked acts ∷ t) n = bytes_out t n
 bytes_out (Began g ∷ t) n = bytes_out t n
 
--- It is a beginning of the message that was bound, and after a frame that says that no more are to come it is the whole message. (A tag has
--- 8 bytes of the number.)
+-- It is a beginning of the message that was bound, and after a frame that says that no more are to come it is the whole message.
 pub record IsBeginning (bytes whole : List ℕ) : Type 0 where
   pub rest : List ℕ
   pub joined : bytes ++ rest ≡ whole
@@ -81,7 +83,7 @@ GoesInOrder u = bindings u < 2 ^ 64 → (b : Binding) (t later : Trace) → u �
 
 abbrev pub perf_completes : Perf → Trace → ℕ → Item → ℕ → Type 0
 perf_completes (perf.Transfer x) t c i own =
-    bindings t < 2 ^ 64 → x.more ≡ false → (n : ℕ) (d : Delivery) → delivery t n ≡ Some d → carried (tag_in x) (sending t c own x.handle) ≡ Some n
+    bindings t < 2 ^ 64 → x.more ≡ false → (n : ℕ) (d : Delivery) → delivery t n ≡ Some d → carried (number_named t) (tag_in x) (sending t c own x.handle) ≡ Some n
     → bytes_out (Out c i ∷ t) n ≡ d.payload
 perf_completes _ t c i own = Unit {0}
 

@@ -16,7 +16,7 @@ use Rattle.router_trace.specs.declared.channel.PeerChannel.TheVariants.{Mapped}
 use Rattle.router_trace.specs.Trace.{Trace, Entry, Did, Out, Step}
 use Rattle.router_trace.specs.Links.{ends_handle}
 use Rattle.router_trace.specs.Sessions.{theirs}
-use Rattle.router_trace.specs.Deliveries.{Delivery, delivery, named, terminal, decision, failed, last_of, tag_in, carried, sending}
+use Rattle.router_trace.specs.Deliveries.{Delivery, number_named, delivery, named, terminal, decision, failed, last_of, tag_in, carried, sending}
 
 -- Its consumer gave it: a disposition was received, as a receiver's, on the link's session; the delivery's id is in its range, and
 -- names this delivery; the outcome is its state if that is terminal, and modified with delivery-failed if it settles without one.
@@ -62,7 +62,7 @@ pub record SentSettled (entry : Entry) (t : Trace) (n : ℕ) (d : Delivery) : Ty
   pub transfer : Transfer
   pub payload : List ℕ
   pub entry_is : entry ≡ Out conn (item.Frame sasl own (perf.Transfer transfer) payload)
-  pub carries : carried (tag_in transfer) (sending t conn own transfer.handle) ≡ Some n
+  pub carries : carried (number_named t) (tag_in transfer) (sending t conn own transfer.handle) ≡ Some n
   pub last : transfer.more ≡ false
   pub presettled : d.presettled ≡ true
 

@@ -4,7 +4,7 @@ use Rattle.std.specs.Prelude.{◌≡◌, ◌≤◌, ◌⊎◌, ℕ, ◌+◌, ◌
 use Rattle.router_trace.specs.declared.binding.Binding.{Binding}
 use Rattle.router_trace.specs.declared.binding.Origin.{Origin}
 use Rattle.router_trace.specs.Trace.{Trace, Bound}
-use Rattle.router_trace.specs.Deliveries.{Delivery, bindings, delivery}
+use Rattle.router_trace.specs.Deliveries.{Delivery, bindings, name_in, delivery}
 
 -- where an outcome is still to be reported: to the producer's delivery, or nowhere
 abbrev pub IsOrNone : Option Origin → Option Origin → Type 0
@@ -28,17 +28,18 @@ WhileThere P (Some d) = P d
 abbrev pub StaysWithConsumer : Type 0
 StaysWithConsumer = (b : Binding) (t later : Trace) → WhileThere (IsOf b) (delivery (later ++ Bound b ∷ t) (bindings t + 1))
 
--- Once a delivery is over it never comes back.
+-- Once a delivery is gone it never comes back.
 abbrev pub NeverComesBack : Type 0
 NeverComesBack = (n : ℕ) (t later : Trace) → n ≤ bindings t → delivery t n ≡ None → delivery (later ++ t) n ≡ None
 
--- Each delivery is of a message that was bound under its number.
+-- Each delivery is of a message that was bound under its number, and has the name that it got then.
 pub record IsOfMessage (u : Trace) (n : ℕ) (d : Delivery) : Type 0 where
   pub later : Trace
   pub binding : Binding
   pub before : Trace
   pub trace : u ≡ later ++ Bound binding ∷ before
   pub number : bindings before + 1 ≡ n
+  pub name : d.name ≡ name_in before binding
   pub is : IsOf binding d
 
 abbrev pub OfMessages : Type 0

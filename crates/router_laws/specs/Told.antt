@@ -1,5 +1,5 @@
 -- Reports to producers (AMQP 1.0 part 2, sections 2.6.12 and 2.7.6): dispositions of the router as a receiver, each for one of their deliveries.
-use Rattle.std.specs.Prelude.{◌≡◌, ◌≤◌, ◌⊎◌, ℕ, ◌+◌, Bool, true, false, ◌&&◌, if◌then◌else◌, List, [], ◌∷◌, ◌++◌, Option, Some, None}
+use Rattle.std.specs.Prelude.{◌≡◌, ◌≤◌, ◌⊎◌, ℕ, ◌+◌, Bool, true, false, not, if◌then◌else◌, List, [], ◌∷◌, ◌++◌, Option, Some, None}
 use Rattle.amqp_perf.specs.declared.perf.Disposition.{Disposition}
 use Rattle.amqp_perf.specs.declared.perf.Perf.{Perf}
 use Rattle.amqp_perf.specs.declared.perf.Perf.TheVariants as perf
@@ -12,7 +12,7 @@ use Rattle.amqp_frames.specs.declared.item.Item.TheVariants as item
 use Rattle.amqp_link.specs.declared.part.Delivery.{Delivery as Told}
 use Rattle.router_trace.specs.declared.binding.Origin.{Origin}
 use Rattle.router_trace.specs.Trace.{Trace, Did, Out, Took, Bound, Booked, Began}
-use Rattle.router_trace.specs.Deliveries.{Delivery, bindings, delivery, is_meant, origin_id}
+use Rattle.router_trace.specs.Deliveries.{Delivery, has_row, bindings, delivery, is_meant, origin_id}
 use Rattle.router_trace.specs.DeliveryFrames.{kept_outcome}
 use Rattle.router_trace.specs.Links.{link}
 use Rattle.router_trace.specs.Settling.{is_claimed_on}
@@ -21,10 +21,10 @@ use Rattle.router_laws.specs.OneConsumer.{WhileThere}
 use Rattle.router_laws.specs.Decided.{DecidedByConsumer}
 use Rattle.router_laws.specs.Came.{CameWhole}
 
--- A disposition of the router as a receiver reports the outcome of a delivery if it settles and its range has the id that the delivery's
--- producer gave it, on the session of the producer's link.
+-- A disposition of the router as a receiver reports the outcome of a delivery if its range has the id that the delivery's producer gave it, on
+-- the session of the producer's link.
 abbrev pub tells_as : Role → Disposition → ℕ → ℕ → Option Origin → Bool
-tells_as Receiver x c own origin = x.settled && is_meant x (origin_id origin c own)
+tells_as Receiver x c own origin = is_meant x (origin_id origin c own)
 tells_as Sender x c own origin = false
 
 abbrev pub tells_in : Perf → ℕ → ℕ → Option Origin → Bool
@@ -49,17 +49,17 @@ tellings (Began g ∷ t) n = tellings t n
 abbrev pub ToldAtMostOnce : Type 0
 ToldAtMostOnce = (u : Trace) (n : ℕ) → tellings u n ≤ 1
 
--- After a disposition of the router as a receiver that settles one id, no delivery that was bound before it still has an outcome to report with
+-- After a disposition of the router as a receiver for one id, no delivery that was bound before it still has an outcome to report with
 -- that id, on that session: another outcome with the id belongs to a message that was bound later.
 abbrev pub IsUnder : ℕ → ℕ → ℕ → Delivery → Type 0
 IsUnder c own id d = origin_id d.origin c own ≡ Some id
 
 abbrev pub ToldAnew : Type 0
-ToldAnew = (t later : Trace) (c own : ℕ) (sasl : Bool) (x : Disposition) (payload : List ℕ) (n : ℕ) → x.role ≡ Receiver → x.settled ≡ true → x.last ≡ None → n ≤ bindings t
+ToldAnew = (t later : Trace) (c own : ℕ) (sasl : Bool) (x : Disposition) (payload : List ℕ) (n : ℕ) → x.role ≡ Receiver → x.last ≡ None → n ≤ bindings t
     → WhileThere (λ d. IsUnder c own x.first d → ⊥) (delivery (later ++ Out c (item.Frame sasl own (perf.Disposition x) payload) ∷ t) n)
 
 -- The outcome of a delivery is reported: its producer has not been sent it, and gets it with its own delivery-id, on its link's session. It is
--- the outcome that the consumer gave before, as the router keeps it, and none was reported before.
+-- the outcome that the consumer gave before, as the router keeps it, and none was reported before. A durable delivery isn't settled by that.
 pub record TellsOutcome (t : Trace) (c own : ℕ) (x : Disposition) : Type 0 where
   pub number : ℕ
   pub of : Delivery
@@ -73,6 +73,7 @@ pub record TellsOutcome (t : Trace) (c own : ℕ) (x : Disposition) : Type 0 whe
   pub was_decided : of.outcome ≡ Some outcome
   pub given : DecidedByConsumer t number outcome
   pub told : x.state ≡ Some (kept_outcome outcome)
+  pub settled : x.settled ≡ not (has_row of.name)
   pub first_time : tellings t number ≡ 0
 
 -- Or a message that is just complete is released, as no consumer is chosen for it: it is bound to none.
@@ -86,10 +87,10 @@ pub record ReleasesMessage (t : Trace) (c own : ℕ) (x : Disposition) : Type 0 
   pub unsettled : is_claimed_on t c own handle x.first ≡ true
   pub nobody : consumer_of t (link t c own handle) ≡ None
   pub told : x.state ≡ Some state.Released
+  pub settled : x.settled ≡ true
 
--- A disposition of the router as a receiver settles one delivery: it reports an outcome, or releases a message.
+-- A disposition of the router as a receiver is for one delivery: it reports an outcome, or releases a message.
 pub record TellsProducer (t : Trace) (c own : ℕ) (x : Disposition) : Type 0 where
-  pub settles : x.settled ≡ true
   pub one : x.last ≡ None
   pub of : TellsOutcome t c own x ⊎ ReleasesMessage t c own x
 

@@ -41,7 +41,7 @@ pub fn outcomes_are_as_given()
 {}
 
 /// The producer of each delivery is sent its outcome at most once; another outcome with the same delivery-id belongs to a message that was
-/// bound later. In every trace of the router each disposition as a receiver settles one delivery: it
+/// bound later. In every trace of the router each disposition as a receiver is for one delivery: it
 /// reports the outcome that was given, for the first time, or releases a message that is just complete and for which no consumer is chosen (AMQP
 /// 1.0 part 2, sections 2.6.12 and 2.7.6). Lists of events have such traces.
 pub fn outcomes_are_told_once()

@@ -89,10 +89,10 @@ channel_of (item.Frame sasl channel body payload) = channel
 channel_of _ = 0
 
 -- what is on a handle of the router
-abbrev pub found_end : ℕ → LinkEnd → LinkAt
-found_end h (ends.Sends e) = found.Sends h e
-found_end h (ends.Receives e) = found.Receives h e.count (unused_at e)
+abbrev pub found_end : ℕ → Bool → LinkEnd → LinkAt
+found_end h durable (ends.Sends e) = found.Sends h e
+found_end h durable (ends.Receives e) = found.Receives h e.count (unused_at e) durable
 
 abbrev pub found_at : ℕ → Option Link → LinkAt
 found_at h None = found.Nowhere
-found_at h (Some l) = found_end h l.end
+found_at h (Some l) = found_end h l.durable l.end

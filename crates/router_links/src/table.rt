@@ -82,6 +82,7 @@ impl LinkTable {
                     handle,
                     count: end.count(),
                     unused: end.unused(),
+                    durable: link.durable,
                 },
             },
         }

@@ -1,14 +1,16 @@
 -- A session is busy exactly if one of the deliveries being sent on its handles goes on.
 use Rattle.std.proofs.Common.{◌≡◌, ◌∙◌, ◌<◌, ◌+◌, ◌||◌, ◌&&◌, ℕ, Bool, true, false, refl, sym, ap, arith, List, [], ◌∷◌, Option, Some, None}
-use Rattle.std.specs.Prelude.{◌==◌, nat_le}
+use Rattle.std.specs.Prelude.{◌==◌, nat_le, is_some}
 use Rattle.std.proofs.lemmas.Bool.{eqb-true}
 use Rattle.std.proofs.lemmas.Bool.Decides.{nat_tests}
 use Rattle.amqp_session.specs.Ranges.{has}
 use Rattle.router_trace.specs.Trace.{Trace}
-use Rattle.router_trace.specs.Deliveries.{Delivery, bindings, delivery, sending, is_number}
+use Rattle.router_trace.specs.Deliveries.{Delivery, bindings, delivery, sending, is_number, stands_on}
 use Rattle.router_trace.specs.Links.{Link}
 use Rattle.router_trace.specs.Following.{goes_on_at, is_busy, is_going_on, link_of}
-use Rattle.router_deliveries.specs.Finding.{IsListed}
+use Rattle.router_deliveries.specs.Calling.{Knows}
+use Rattle.router_deliveries.specs.Fits.{AreSending}
+use Rattle.router_deliveries.proofs.Known.{known_there, same_number}
 use Rattle.router_deliveries.proofs.Listed.{listed_has}
 use Rattle.router_deliveries.proofs.Numbers.{none_beyond}
 use Rattle.router_deliveries.proofs.Unsent.{first_there, there_first}
@@ -67,6 +69,16 @@ bound_there t c o n e = by_test (nat_le n (bindings t)) refl
         nothing None is e = cc
         nothing (Some d) is e = cc
 
+-- what a table has for the handle serves as well
+pub goes_same : (t : Trace) (c o n : ℕ) (d : Delivery) (sent : Option ℕ) → delivery t n ≡ Some d → Knows (delivery t) sent (sending t d.link.conn.0 d.link.channel d.link.handle)
+    → (stands_on d.link c o && ((is_some d.id && d.going_on) && goes_on_at (link_of t d.link) d.link.number sent n)) ≡ is_going_on t c o n (Some d)
+goes_same t c o n d sent is knows =
+    ap (λ b. stands_on d.link c o && ((is_some d.id && d.going_on) && b)) (by_link (link_of t d.link))
+  where
+    by_link : (l : Option Link) → goes_on_at l d.link.number sent n ≡ goes_on_at l d.link.number (sending t d.link.conn.0 d.link.channel d.link.handle) n
+    by_link None = refl
+    by_link (Some l) = ap (λ b. (l.number == d.link.number) && (l.going_on && b)) (same_number (delivery t) sent (sending t d.link.conn.0 d.link.channel d.link.handle) n d knows is)
+
 -- those of a list
 pub either_left : (a b : Bool) → a ≡ true → (a || b) ≡ true
 either_left true b e = refl
@@ -93,8 +105,12 @@ one_of t c o (m ∷ ms) e = by_test (is_going_on t c o m (delivery t m)) refl (o
     by_test true q rest = (m, q)
     by_test false q rest = rest (ap (λ b. b || some_go_on t c o ms) (sym q) ∙ e)
 
-pub busy_is : (t : Trace) (c o : ℕ) (numbers : List ℕ) → IsListed (sending t c o) numbers → some_go_on t c o numbers ≡ is_busy t c o
-busy_is t c o numbers listed = same_tests _ _ forth back
+there : (t : Trace) (c o n : ℕ) (v : Option Delivery) → is_going_on t c o n v ≡ true → (d : Delivery) × (v ≡ Some d)
+there t c o n None e = absurd cc
+there t c o n (Some d) e = (d, refl)
+
+pub busy_is : (t : Trace) (c o : ℕ) (numbers : List ℕ) → AreSending t c o numbers → some_go_on t c o numbers ≡ is_busy t c o
+busy_is t c o numbers all = same_tests _ _ forth back
   where
     passes : ℕ → Bool
     passes n = is_going_on t c o n (delivery t n)
@@ -106,4 +122,6 @@ busy_is t c o numbers listed = same_tests _ _ forth back
     back e =
         let one = there_first (bindings t + 1) passes e in
         let sent = sent_on t c o one.0 (delivery t one.0) one.1 in
-        some_of t c o numbers one.0 (listed_has (sending t c o) numbers listed sent.handle one.0 sent.is) one.1
+        let d = there t c o one.0 (delivery t one.0) one.1 in
+        let known = known_there (delivery t) (all.known sent.handle) (sending t c o sent.handle) one.0 d.0 (all.knows sent.handle) d.1 sent.is in
+        some_of t c o numbers one.0 (listed_has all.known numbers all.listed sent.handle one.0 known) one.1

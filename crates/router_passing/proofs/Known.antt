@@ -171,14 +171,11 @@ links_bound s b t fit = record {
     remembers None w e = sym (attached_same w) ∙ e
     remembers (Some a) w e = e
 
-pub claims_bound : (s : Claims) (b : Binding) (t : Trace) → ClaimsFit s t → ClaimsFit s (Bound b ∷ t)
-claims_bound s b t fit = record { ids = fit.ids; small = fit.small; marked = fit.marked }
-
-pub bound_fits : (s u : Passing) (b : Binding) (t : Trace) → u.pools ≡ s.pools → u.links ≡ s.links → u.claims ≡ s.claims → DeliveriesFit u.deliveries (Bound b ∷ t)
+pub bound_fits : (s u : Passing) (b : Binding) (t : Trace) → u.pools ≡ s.pools → u.links ≡ s.links → ClaimsFit u.claims (Bound b ∷ t) → DeliveriesFit u.deliveries (Bound b ∷ t)
     → deliveries.Touches s.deliveries u.deliveries → NotedFit s t (last_behind t (Some b.consumer)) → PassingFit u (Bound b ∷ t)
 bound_fits s u b t pools same claimed stand other old =
     moved s u t (Bound b ∷ t) (last_behind t (Some b.consumer)) (last_chosen (Bound b ∷ t)) pools
-    (subst (λ l. LinksFit l (Bound b ∷ t)) (sym same) (links_bound s.links b t old.links)) stand (subst (λ l. ClaimsFit l (Bound b ∷ t)) (sym claimed) (claims_bound s.claims b t old.claims))
+    (subst (λ l. LinksFit l (Bound b ∷ t)) (sym same) (links_bound s.links b t old.links)) stand claimed
     (subst (λ l. links.Touches s.links l) (sym same) (record { before = λ k e. e; links = λ k e c o h. refl; numbers = λ k e. refl }))
     other (bound_counts b t) (λ a. refl) (λ a. refl) old
 

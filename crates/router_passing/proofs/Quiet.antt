@@ -13,13 +13,14 @@ use Rattle.book_core.specs.declared.act.Act.{Act}
 use Rattle.router_trace.specs.Trace.{Trace, Took, Booked, did}
 use Rattle.router_trace.specs.Configuration.{distribution}
 use Rattle.router_trace.specs.Links.{asked, told_handle_max, highest_handle, answered_handle, their_handle, link, attachments, last_of_key, numbered, holder, place_of, if_attached, has_number}
-use Rattle.router_trace.specs.Deliveries.{bindings, delivery, sending, named, next_id}
+use Rattle.router_trace.specs.Deliveries.{bindings, counters, delivery, sending, named, next_id}
 use Rattle.router_trace.specs.Claims.{claims}
 use Rattle.router_trace.specs.Numbers.{count_below}
 use Rattle.router_deliveries.specs.declared.deliveries.Deliveries.{Deliveries}
 use Rattle.router_deliveries.specs.Fits.{DeliveriesFit}
 use Rattle.router_deliveries.specs.Naming as naming
-use Rattle.router_deliveries.specs.Places.{at_id}
+use Rattle.router_deliveries.specs.Calling.{IsGone, Knows}
+use Rattle.router_deliveries.specs.Places.{at, at_id}
 use Rattle.router_deliveries.proofs.Puts.{kept}
 use Rattle.router_links.specs.declared.links.Links.{Links}
 use Rattle.router_links.specs.Ends.{link_of}
@@ -43,6 +44,7 @@ pub record IsQuiet (t u : Trace) : Type 0 where
   pub keys : (k : LinkKey) → last_of_key u k ≡ last_of_key t k
   pub numbers : (n : ℕ) → numbered u n ≡ numbered t n
   pub bound : bindings u ≡ bindings t
+  pub counted : counters u ≡ counters t
   pub deliveries : (n : ℕ) → delivery u n ≡ delivery t n
   pub handles : (c o h : ℕ) → sending u c o h ≡ sending t c o h
   pub names : (c o id : ℕ) → named u c o id ≡ named t c o id
@@ -83,17 +85,26 @@ links_quiet s t u q fit = record {
 
 forgotten : (t u : Trace) → IsQuiet t u → (w : Option ℕ) → naming.MayBeForgotten t w → naming.MayBeForgotten u w
 forgotten t u q None f = f
-forgotten t u q (Some n) f = (subst (λ b. n ≤ b) (sym q.bound) f.0, ap naming.is_open (q.deliveries n) ∙ f.1)
+forgotten t u q (Some n) f = ap naming.is_open (q.deliveries n) ∙ f
 
 named_quiet : (t u : Trace) → IsQuiet t u → (found now other : Option ℕ) → other ≡ now → naming.Remembers t found now → naming.Remembers u found other
 named_quiet t u q None now other e r = subst (λ w. naming.MayBeForgotten u w) (sym e) (forgotten t u q now r)
 named_quiet t u q (Some n) now other e r = e ∙ r
 
+gone_quiet : (t u : Trace) → IsQuiet t u → (w : Option ℕ) → IsGone (delivery t) w → IsGone (delivery u) w
+gone_quiet t u q None f = f
+gone_quiet t u q (Some n) f = q.deliveries n ∙ f
+
+known_quiet : (t u : Trace) → IsQuiet t u → (found now other : Option ℕ) → other ≡ now → Knows (delivery t) found now → Knows (delivery u) found other
+known_quiet t u q None now other e r = subst (λ w. IsGone (delivery u) w) (sym e) (gone_quiet t u q now r)
+known_quiet t u q (Some n) now other e r = e ∙ r
+
 deliveries_quiet : (s : Deliveries) (t u : Trace) → IsQuiet t u → DeliveriesFit s t → DeliveriesFit s u
 deliveries_quiet s t u q fit = record {
   bindings = fit.bindings ∙ sym q.bound;
+  counters = fit.counters ∙ sym q.counted;
   store = record { deliveries = λ n. fit.store.deliveries n ∙ sym (q.deliveries n); indexed = fit.store.indexed };
-  sending = record { numbers = λ c o h. fit.sending.numbers c o h ∙ sym (q.handles c o h) };
+  sending = record { numbers = λ c o h. known_quiet t u q (at s.sending.numbers c o h) (sending t c o h) (sending u c o h) (q.handles c o h) (fit.sending.numbers c o h) };
   names = record {
     names = λ c o id. named_quiet t u q (at_id s.names.ids c o id) (named t c o id) (named u c o id) (q.names c o id) (fit.names.names c o id);
     small = fit.names.small;
@@ -130,6 +141,7 @@ taken_fits s d k t old = quiet_fits s t (Took d k ∷ t) quiet old
       keys = λ q. refl;
       numbers = λ n. refl;
       bound = refl;
+      counted = refl;
       deliveries = λ n. refl;
       handles = λ c o h. refl;
       names = λ c o id. refl;
@@ -154,6 +166,7 @@ booked_fits s acts t old = quiet_fits s t (Booked acts ∷ t) quiet old
       keys = λ q. refl;
       numbers = λ n. refl;
       bound = refl;
+      counted = refl;
       deliveries = λ n. refl;
       handles = λ c o h. refl;
       names = λ c o id. refl;
@@ -178,6 +191,7 @@ risen_fits s d p t old = quiet_fits s t (did (event.Up d p) ∷ t) quiet old
       keys = λ q. refl;
       numbers = λ n. refl;
       bound = refl;
+      counted = refl;
       deliveries = λ n. kept t n;
       handles = λ c o h. refl;
       names = λ c o id. refl;
@@ -202,6 +216,7 @@ ticked_fits s moment t old = quiet_fits s t (did (event.Tick moment) ∷ t) quie
       keys = λ q. refl;
       numbers = λ n. refl;
       bound = refl;
+      counted = refl;
       deliveries = λ n. kept t n;
       handles = λ c o h. refl;
       names = λ c o id. refl;
@@ -226,6 +241,7 @@ started_fits s t old = quiet_fits s t (did event.Start ∷ t) quiet old
       keys = λ q. refl;
       numbers = λ n. refl;
       bound = refl;
+      counted = refl;
       deliveries = λ n. kept t n;
       handles = λ c o h. refl;
       names = λ c o id. refl;

@@ -56,7 +56,7 @@ consumer_of t (Some l) = option_and_then (numbered t) (choice_of t l.address)
 
 -- a message of a producer's link, bound to the chosen consumer, if there is one
 abbrev pub binding_to : Option Origin → ℕ → List ℕ → Attachment → Binding
-binding_to origin format payload at = record { consumer = at; origin = origin; format = format; payload = payload }
+binding_to origin format payload at = record { consumer = at; origin = origin; row = None; lasting = false; format = format; payload = payload }
 
 abbrev pub passing : Trace → Attachment → Option Origin → ℕ → List ℕ → Option Binding
 passing t from origin format payload = option_map (binding_to origin format payload) (consumer_of t (link_of t from))

@@ -84,9 +84,12 @@ impl Passing {
                 self.deliveries.bind(Binding {
                     consumer,
                     origin,
+                    row: None,
+                    lasting: false,
                     format,
                     payload,
                 })?;
+                self.claims.bind(origin)?;
                 Ok(true)
             }
         }

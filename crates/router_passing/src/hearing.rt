@@ -52,10 +52,7 @@ fn receiving_at(links: &Links, conn: u64, own: u16, handle: u32) -> Option<Recei
     };
     let middle = match links.middle(conn, own, handle) {
         None => None,
-        Some(told) => Some(Middle {
-            id: told.id,
-            resume: told.resume,
-        }),
+        Some(told) => Some(Middle { id: told.id }),
     };
     Some(Receiving {
         handle: at,

@@ -25,7 +25,7 @@ use Rattle.router_trace.specs.declared.binding.Origin.{Origin}
 use Rattle.router_trace.specs.declared.handle.Attachment.{Attachment}
 use Rattle.router_trace.specs.Deliveries.{terminal, last_of}
 use Rattle.router_trace.specs.DeliveryFrames.{outcome_item}
-use Rattle.router_trace.specs.Settling.{open_ids, is_claimed_on, ignored, part_of}
+use Rattle.router_trace.specs.Settling.{open_ids, is_claimed_on, unbound, part_of}
 use Rattle.router_trace.specs.Durable.{is_durable}
 use Rattle.router_trace.specs.LinkFrames.{attach_item, detach_item, answer_to, refusal_of, fits}
 use Rattle.router_trace.specs.Links.{Link, link, link_place, free_handle, holder, key_at}
@@ -81,7 +81,7 @@ refused largest own handle x a =
 -- The deliveries that a disposition decides without settling are answered, each settled, with the outcome as the router keeps it.
 abbrev pub settled_answers : ℕ → Option DeliveryState → List ℕ → List Item
 settled_answers own None ids = []
-settled_answers own (Some s) ids = map (λ id. outcome_item own Sender id s) ids
+settled_answers own (Some s) ids = map (λ id. outcome_item own Sender id true s) ids
 
 abbrev pub put_for_disposition : Trace → ℕ → ADisposition → Answer → List Put
 put_for_disposition t c x (Settle own) = each_to c (settled_answers own (terminal x.state) (open_ids t c own x.first (last_of x)))
@@ -120,11 +120,11 @@ message_bound after c own from d payload =
 abbrev pub ignored_put : Trace → ℕ → ℕ → ℕ → Option ℕ → List Item
 ignored_put after c own handle None = []
 ignored_put after c own handle (Some id) =
-    if nat_lt 1024 (ignored after c own handle) then detach_item own handle true (Some ResourceLimitExceeded) ∷ [] else []
+    if nat_lt 1024 (unbound after c own handle) then detach_item own handle true (Some ResourceLimitExceeded) ∷ [] else []
 
 abbrev pub released : ℕ → Option ℕ → List Item
 released own None = []
-released own (Some id) = outcome_item own Receiver id state.Released ∷ []
+released own (Some id) = outcome_item own Receiver id true state.Released ∷ []
 
 abbrev pub unbound_put : ℕ → Option ℕ → Option Attachment → List Item
 unbound_put own id None = released own id

@@ -8,5 +8,5 @@ mod passing;
 mod planning;
 
 pub use events::reply;
-pub use passing::IGNORED;
+pub use passing::UNBOUND;
 pub use planning::{Plan, make_plan};

@@ -20,8 +20,8 @@ use router_state::State;
 use router_trace::{Attachment, Condition, Origin, RouterId};
 use std::alloc::AllocError;
 
-/// The most unsettled deliveries of a link that the router ignores.
-pub const IGNORED: usize = 1024;
+/// The most unsettled deliveries of a link that came whole and are bound to no consumer.
+pub const UNBOUND: usize = 1024;
 
 /// The delivery's id, if its producer hasn't settled it.
 fn claimed_id(state: &State, conn: u64, own: u16, handle: u32, id: Option<u32>) -> Option<u32>
@@ -55,9 +55,9 @@ fn put_outcome(
     delivery: u32,
     outcome: &DeliveryState,
 ) -> Result<(), AllocError>
-    ensures { OnOk result ((t : List Entry) → TablesFit state.old t → TablesFit state.new (puts conn (outcome_item own role delivery outcome.now ∷ []) t)) }
+    ensures { OnOk result ((t : List Entry) → TablesFit state.old t → TablesFit state.new (puts conn (outcome_item own role delivery true outcome.now ∷ []) t)) }
 {
-    let item = outcome_item(id.alloc(), own, role, delivery, outcome)?;
+    let item = outcome_item(id.alloc(), own, role, delivery, true, outcome)?;
     state.put(conn, item)?;
     Ok(())
 }
@@ -93,7 +93,7 @@ fn ignore(
     if claimed.is_none() {
         return Ok(());
     }
-    if state.ignored(conn, own, handle) <= IGNORED {
+    if state.unbound(conn, own, handle) <= UNBOUND {
         return Ok(());
     }
     write_detach(
@@ -254,7 +254,7 @@ fn settle_each(
     ids: &[u32],
     outcome: &DeliveryState,
 ) -> Result<(), AllocError>
-    ensures { OnOk result ((t : List Entry) → TablesFit state.old t → TablesFit state.new (puts conn (map (λ n. outcome_item own Sender n outcome.now) ids.now) t)) }
+    ensures { OnOk result ((t : List Entry) → TablesFit state.old t → TablesFit state.new (puts conn (map (λ n. outcome_item own Sender n true outcome.now) ids.now) t)) }
 {
     for delivery in ids {
         put_outcome(state, id, conn, own, Role::Sender, *delivery, outcome)?;

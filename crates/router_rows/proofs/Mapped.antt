@@ -121,9 +121,9 @@ flow_here here nowhere links f = tt
 flow_here here ending links f = tt
 flow_here here (on own s) links f = by f.handle
   where
-    of_link : (k : ℕ) (w : Happened) → IsHere here (link_flow_on own (TheirFlow (flow_state f) ∷ s) k w f)
-    of_link k (sends list) = link_echo_here here f.echo own (TheirFlow (flow_state f) ∷ s) k _ _
-    of_link k (receives list) = by_test (is_reached f.delivery_count (delivery_count list) (unused list))
+    of_link : (k : ℕ) (durable : Bool) (w : Happened) → IsHere here (link_flow_on own (TheirFlow (flow_state f) ∷ s) k durable w f)
+    of_link k durable (sends list) = link_echo_here here f.echo own (TheirFlow (flow_state f) ∷ s) k _ _
+    of_link k durable (receives list) = by_test (is_reached f.delivery_count (delivery_count list) (unused list))
         (λ e. rw e (link_echo_here here f.echo own (TheirFlow (flow_state f) ∷ s) k _ _))
         (λ e. rw e tt)
 
@@ -134,7 +134,7 @@ flow_here here (on own s) links f = by f.handle
     on_handle : (at : LinkPlace) → IsHere here (link_flow_reply own s at f)
     on_handle no_link = tt
     on_handle detaching = tt
-    on_handle (on_link k l) = of_link k l.happened
+    on_handle (on_link k l) = of_link k l.durable l.happened
 
     by : (handle : Option ℕ) → IsHere here (flow_on own s (links own) f handle)
     by None = wanted f.echo
@@ -147,20 +147,20 @@ transfer_here here (on own s) links claimed x place =
     by_test (is_unattached (links own x.handle)) (λ e. rw e tt)
     (λ e. rw e (by_test (nat_eq (allowance s) 0) (λ f. rw f tt) (λ f. rw f (by (links own x.handle)))))
   where
-    within : (k left : ℕ) (first : Option Told) → IsHere here (delivery_by own k left (claimed own) first x)
-    within k left None = by_test (is_anonymous x) (λ e. rw e tt)
+    within : (k : ℕ) (durable : Bool) (left : ℕ) (first : Option Told) → IsHere here (delivery_by own k durable left (claimed own) first x)
+    within k durable left None = by_test (is_anonymous x) (λ e. rw e tt)
         (λ e. rw e (by_test (is_among (claimed own) x.delivery_id) (λ f. rw f tt) (λ f. rw f (by_test (nat_eq left 0) (λ g. rw g tt) (λ g. rw g place)))))
-    within k left (Some first) =
+    within k durable left (Some first) =
         by_test (is_same_id x.delivery_id first.id && is_same_tag (tag_in x) (option_map (λ tag. tag.items) first.tag)) (λ e. rw e place) (λ e. rw e tt)
 
-    carried : (k : ℕ) (w : Happened) → IsHere here (delivery_on own k (claimed own) w x)
-    carried k (sends list) = tt
-    carried k (receives list) = within k (unused list) (middle_by (receives list))
+    carried : (k : ℕ) (durable : Bool) (w : Happened) → IsHere here (delivery_on own k durable (claimed own) w x)
+    carried k durable (sends list) = tt
+    carried k durable (receives list) = within k durable (unused list) (middle_by (receives list))
 
     by : (at : LinkPlace) → IsHere here (link_transfer_reply own (claimed own) at x)
     by no_link = tt
     by detaching = tt
-    by (on_link k l) = carried k l.happened
+    by (on_link k l) = carried k l.durable l.happened
 
 turn_here : (here : ℕ → Bool) (k : Finds) (channel : ℕ) (body : Perf) (r : Result Conn ConnFault) → IsHere here (in_turn k channel body) → IsHere here (turn_by k channel body r)
 turn_here here k channel body (Ok q) it = it

@@ -104,6 +104,10 @@ session_detach_reply own nowhere x = End own (Some UnattachedHandle)
 session_detach_reply own detaching x = Nothing
 session_detach_reply own (on h l) x = Detach own h x.closed None
 
+-- A faulty frame detaches its link, which is closed unless it is durable.
+abbrev pub detach_for : ℕ → ℕ → Bool → Condition → Answer
+detach_for own handle durable x = Detach own handle (not durable) (Some x)
+
 -- A link's flow: if it asks for one, the router's flow with the state of the session and of the link after it. A delivery-count that
 -- is less than the peer's own, or ahead of it by more than the unused credit, isn't allowed.
 abbrev pub link_echo : Bool → ℕ → Session → ℕ → ℕ → ℕ → Answer
@@ -124,17 +128,17 @@ abbrev pub count_behind : Option ℕ → Received → Received
 count_behind None list = list
 count_behind (Some n) list = receiving.TheirCount n ∷ list
 
-abbrev pub flow_on : ℕ → Session → ℕ → Happened → AFlow → Answer
-flow_on own h handle (sends list) f = sender_echo f.echo own h handle (with_grant f f.link_credit list)
-flow_on own h handle (receives list) f =
+abbrev pub flow_on : ℕ → Session → ℕ → Bool → Happened → AFlow → Answer
+flow_on own h handle durable (sends list) f = sender_echo f.echo own h handle (with_grant f f.link_credit list)
+flow_on own h handle durable (receives list) f =
     if is_reached f.delivery_count (receiving.delivery_count list) (receiving.unused list)
     then receiver_echo f.echo own h handle (count_behind f.delivery_count list)
-    else Detach own handle true (Some NotAllowed)
+    else detach_for own handle durable NotAllowed
 
 abbrev pub link_flow_reply : ℕ → Session → LinkPlace → AFlow → Answer
 link_flow_reply own h nowhere f = End own (Some UnattachedHandle)
 link_flow_reply own h detaching f = Nothing
-link_flow_reply own h (on handle l) f = flow_on own (TheirFlow (flow_state f) ∷ h) handle l.happened f
+link_flow_reply own h (on handle l) f = flow_on own (TheirFlow (flow_state f) ∷ h) handle l.durable l.happened f
 
 -- A transfer: on a handle that stands for nothing, beyond the session's window, or on a link on which the router is the sender, it ends the
 -- session. A frame that starts a delivery without id or tag, or beyond the credit, detaches the link; with the id of a delivery that isn't
@@ -146,11 +150,11 @@ abbrev pub is_among : (ℕ → Bool) → Option ℕ → Bool
 is_among claimed None = false
 is_among claimed (Some id) = claimed id
 
-abbrev pub start_on : ℕ → ℕ → ℕ → (ℕ → Bool) → ATransfer → Answer
-start_on own handle unused claimed x =
-    if is_anonymous x then Detach own handle true (Some NotAllowed)
+abbrev pub start_on : ℕ → ℕ → Bool → ℕ → (ℕ → Bool) → ATransfer → Answer
+start_on own handle durable unused claimed x =
+    if is_anonymous x then detach_for own handle durable NotAllowed
     else if is_among claimed x.delivery_id then End own (Some NotAllowed)
-    else if nat_eq unused 0 then Detach own handle true (Some TransferLimitExceeded)
+    else if nat_eq unused 0 then detach_for own handle durable TransferLimitExceeded
     else Taken own handle
 
 abbrev pub is_same_id : Option ℕ → Option ℕ → Bool
@@ -163,23 +167,23 @@ is_same_tag None first = true
 is_same_tag (Some tag) None = false
 is_same_tag (Some tag) (Some first) = bytes_eq tag first
 
-abbrev pub continue_on : ℕ → ℕ → Told → ATransfer → Answer
-continue_on own handle first x =
+abbrev pub continue_on : ℕ → ℕ → Bool → Told → ATransfer → Answer
+continue_on own handle durable first x =
     if is_same_id x.delivery_id first.id && is_same_tag (tag_in x) (option_map (λ tag. tag.items) first.tag) then Taken own handle
-    else Detach own handle true (Some NotAllowed)
+    else detach_for own handle durable NotAllowed
 
-abbrev pub delivery_by : ℕ → ℕ → ℕ → (ℕ → Bool) → Option Told → ATransfer → Answer
-delivery_by own handle unused claimed None x = start_on own handle unused claimed x
-delivery_by own handle unused claimed (Some first) x = continue_on own handle first x
+abbrev pub delivery_by : ℕ → ℕ → Bool → ℕ → (ℕ → Bool) → Option Told → ATransfer → Answer
+delivery_by own handle durable unused claimed None x = start_on own handle durable unused claimed x
+delivery_by own handle durable unused claimed (Some first) x = continue_on own handle durable first x
 
-abbrev pub delivery_on : ℕ → ℕ → (ℕ → Bool) → Happened → ATransfer → Answer
-delivery_on own handle claimed (sends list) x = End own (Some NotAllowed)
-delivery_on own handle claimed (receives list) x = delivery_by own handle (receiving.unused list) claimed (middle_by (receives list)) x
+abbrev pub delivery_on : ℕ → ℕ → Bool → (ℕ → Bool) → Happened → ATransfer → Answer
+delivery_on own handle durable claimed (sends list) x = End own (Some NotAllowed)
+delivery_on own handle durable claimed (receives list) x = delivery_by own handle durable (receiving.unused list) claimed (middle_by (receives list)) x
 
 abbrev pub link_transfer_reply : ℕ → (ℕ → Bool) → LinkPlace → ATransfer → Answer
 link_transfer_reply own claimed nowhere x = End own (Some UnattachedHandle)
 link_transfer_reply own claimed detaching x = Nothing
-link_transfer_reply own claimed (on handle l) x = delivery_on own handle claimed l.happened x
+link_transfer_reply own claimed (on handle l) x = delivery_on own handle l.durable claimed l.happened x
 
 abbrev pub is_unattached : LinkPlace → Bool
 is_unattached nowhere = true

@@ -7,8 +7,8 @@ ghost use Rattle.amqp_link.specs.Figures.{Sends};
 ghost use Rattle.amqp_link.specs.Receiving.{Received, delivery_count, unused as unused_of};
 ghost use Rattle.router_trace.specs.Sessions.{flow_state};
 ghost use Rattle.amqp_session.specs.Figures.{window_of};
-ghost use Rattle.router_trace.specs.Links.{LinkPlace, found_link, sends, receives};
-ghost use Rattle.router_rows.specs.LinkRows.{address_refusal, terminus_refusal, source_refusal, target_refusal, side_refusal, refusal, attach_fresh, session_attach_reply, session_detach_reply, link_echo, flow_on, link_flow_reply, is_among, start_on, is_same_id, is_same_tag, continue_on, delivery_on, session_transfer_reply, session_disposition_reply};
+ghost use Rattle.router_trace.specs.Links.{LinkPlace, found_link, receives, with_grant};
+ghost use Rattle.router_rows.specs.LinkRows.{address_refusal, terminus_refusal, source_refusal, target_refusal, side_refusal, refusal, attach_fresh, session_attach_reply, session_detach_reply, detach_for, link_echo, sender_echo, flow_on, link_flow_reply, is_among, start_on, is_same_id, is_same_tag, continue_on, delivery_on, session_transfer_reply, session_disposition_reply};
 ghost use Rattle.router_rows.specs.declared.answer.Answer.TheVariants as answers;
 ghost use Rattle.router_trace.specs.declared.condition.Condition.TheVariants.{NotAllowed};
 ghost use Rattle.router_trace.specs.Deliveries.{terminal};
@@ -202,7 +202,8 @@ fn link_echo(
 
 /// The answer to a flow on a link on which the router is the sender.
 fn sender_flow(own: u16, window: Window, handle: u32, end: SendEnd, flow: &Flow) -> Answer
-    ensures { (h : Session) (list : SendList) → window ≡ window_of h → Sends end list → result ≡ flow_on own (TheirFlow (flow_state flow.now) ∷ h) handle (sends list) flow.now }
+    ensures { (h : Session) (list : SendList) → window ≡ window_of h → Sends end list
+        → result ≡ sender_echo flow.now.echo own (TheirFlow (flow_state flow.now) ∷ h) handle (with_grant flow.now flow.now.link_credit list) }
 {
     let mut end = end;
     if let Some(credit) = flow.link_credit {
@@ -218,10 +219,11 @@ fn receiver_flow(
     handle: u32,
     count: Serial,
     unused: u32,
+    durable: bool,
     flow: &Flow,
 ) -> Answer
     ensures { (h : Session) (list : Received) → window ≡ window_of h → count ≡ delivery_count list → unused ≡ unused_of list
-        → result ≡ flow_on own (TheirFlow (flow_state flow.now) ∷ h) handle (receives list) flow.now }
+        → result ≡ flow_on own (TheirFlow (flow_state flow.now) ∷ h) handle durable (receives list) flow.now }
 {
     let told = match flow.delivery_count {
         None => count,
@@ -229,12 +231,7 @@ fn receiver_flow(
     };
     let ahead = count.distance_to(told);
     if ahead > unused {
-        return Answer::Detach {
-            own,
-            handle,
-            closed: true,
-            error: Some(Condition::NotAllowed),
-        };
+        return detach_for(own, handle, durable, Condition::NotAllowed);
     }
     link_echo(own, window, flow, handle, told, unused - ahead)
 }
@@ -252,7 +249,8 @@ pub fn link_flow_reply(own: u16, window: Window, at: LinkAt, flow: &Flow) -> Ans
             handle,
             count,
             unused,
-        } => receiver_flow(own, window, handle, count, unused, flow),
+            durable,
+        } => receiver_flow(own, window, handle, count, unused, durable, flow),
     }
 }
 
@@ -281,9 +279,12 @@ pub fn session_transfer_reply(
         },
         LinkAt::Detaching => Answer::Nothing,
         LinkAt::Sends { .. } => end_not_allowed(own),
-        LinkAt::Receives { handle, unused, .. } => {
-            delivery_on(own, handle, unused, claimed, middle, transfer)
-        }
+        LinkAt::Receives {
+            handle,
+            unused,
+            durable,
+            ..
+        } => delivery_on(own, handle, durable, unused, claimed, middle, transfer),
     }
 }
 
@@ -297,14 +298,14 @@ fn end_not_allowed(own: u16) -> Answer
     }
 }
 
-/// A faulty frame detaches its link for good.
-fn detach_for(own: u16, handle: u32, error: Condition) -> Answer
-    ensures { result ≡ answers.Detach own handle true (Some error) }
+/// A faulty frame detaches its link, which is closed unless it is durable.
+fn detach_for(own: u16, handle: u32, durable: bool, error: Condition) -> Answer
+    ensures { result ≡ detach_for own handle durable error }
 {
     Answer::Detach {
         own,
         handle,
-        closed: true,
+        closed: !durable,
         error: Some(error),
     }
 }
@@ -313,32 +314,40 @@ fn detach_for(own: u16, handle: u32, error: Condition) -> Answer
 fn delivery_on(
     own: u16,
     handle: u32,
+    durable: bool,
     unused: u32,
     claimed: bool,
     middle: Option<&Delivery>,
     transfer: &Transfer,
 ) -> Answer
     ensures { (list : Received) (ids : ℕ → Bool) → unused ≡ unused_of list → claimed ≡ is_among ids transfer.now.delivery_id
-        → option_map (λ d. d.now) middle.entry ≡ middle_by (receives list) → result ≡ delivery_on own handle ids (receives list) transfer.now }
+        → option_map (λ d. d.now) middle.entry ≡ middle_by (receives list) → result ≡ delivery_on own handle durable ids (receives list) transfer.now }
 {
     match middle {
-        None => start_on(own, handle, unused, claimed, transfer),
-        Some(first) => continue_on(own, handle, first, transfer),
+        None => start_on(own, handle, durable, unused, claimed, transfer),
+        Some(first) => continue_on(own, handle, durable, first, transfer),
     }
 }
 
 /// The answer to a transfer that starts a delivery.
-fn start_on(own: u16, handle: u32, unused: u32, claimed: bool, transfer: &Transfer) -> Answer
-    ensures { (ids : ℕ → Bool) → claimed ≡ is_among ids transfer.now.delivery_id → result ≡ start_on own handle unused ids transfer.now }
+fn start_on(
+    own: u16,
+    handle: u32,
+    durable: bool,
+    unused: u32,
+    claimed: bool,
+    transfer: &Transfer,
+) -> Answer
+    ensures { (ids : ℕ → Bool) → claimed ≡ is_among ids transfer.now.delivery_id → result ≡ start_on own handle durable unused ids transfer.now }
 {
     if transfer.delivery_id.is_none() || transfer.delivery_tag.is_none() {
-        return detach_for(own, handle, Condition::NotAllowed);
+        return detach_for(own, handle, durable, Condition::NotAllowed);
     }
     if claimed {
         return end_not_allowed(own);
     }
     if unused == 0 {
-        return detach_for(own, handle, Condition::TransferLimitExceeded);
+        return detach_for(own, handle, durable, Condition::TransferLimitExceeded);
     }
     Answer::Taken { own, handle }
 }
@@ -370,15 +379,21 @@ fn is_same_tag(tag: &Option<DeliveryTag>, first: &Option<DeliveryTag>) -> bool
 }
 
 /// The answer to a transfer that continues a delivery.
-fn continue_on(own: u16, handle: u32, first: &Delivery, transfer: &Transfer) -> Answer
-    ensures { result ≡ continue_on own handle first.now transfer.now }
+fn continue_on(
+    own: u16,
+    handle: u32,
+    durable: bool,
+    first: &Delivery,
+    transfer: &Transfer,
+) -> Answer
+    ensures { result ≡ continue_on own handle durable first.now transfer.now }
 {
     if is_same_id(transfer.delivery_id, first.id)
         && is_same_tag(&transfer.delivery_tag, &first.tag)
     {
         return Answer::Taken { own, handle };
     }
-    detach_for(own, handle, Condition::NotAllowed)
+    detach_for(own, handle, durable, Condition::NotAllowed)
 }
 
 /// Whether a state is an outcome.

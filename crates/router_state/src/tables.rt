@@ -8,9 +8,10 @@ ghost use Rattle.router_trace.specs.Configuration.{beginning, distribution, is_m
 ghost use Rattle.router_trace.specs.Sessions.{theirs, maps, session};
 ghost use Rattle.router_trace.specs.Frames.{told_of};
 ghost use Rattle.router_trace.specs.Links.{link, place_of, is_attached, durable_key, holds_durable};
-ghost use Rattle.router_trace.specs.Settling.{part_of, middle_on, is_claimed, is_claimed_on, open_ids, ignored};
+ghost use Rattle.router_trace.specs.Settling.{part_of, middle_on, is_claimed, is_claimed_on, open_ids, unbound};
 ghost use Rattle.router_trace.specs.Deliveries.{delivery, is_to_tell, sending, named, next_id};
 ghost use Rattle.router_trace.specs.Following.{link_of, first_delivery, is_unsent_on, is_wide, is_busy, is_used, takes_more};
+ghost use Rattle.router_deliveries.specs.Calling.{Knows};
 ghost use Rattle.router_deliveries.specs.Finding.{IsFirst, is_above};
 ghost use Rattle.router_passing.specs.Passing.{attachment_at, consumer_of, passing, with_bound, grants_due, grant_flow};
 ghost use Rattle.router_passing.specs.Asking.{has_unsent, goes_on, owes_drain, drained_state};
@@ -386,11 +387,11 @@ impl State {
         self.passing.deliveries().open_ids(conn, own, first, last)
     }
 
-    /// How many unsettled deliveries of a link the router ignored.
-    pub fn ignored(&self, conn: u64, own: u16, handle: u32) -> usize
-        ensures { (t : List Entry) → TablesFit self.now t → result ≡ ignored t conn own handle }
+    /// How many unsettled deliveries of a link came whole and are bound to no consumer.
+    pub fn unbound(&self, conn: u64, own: u16, handle: u32) -> usize
+        ensures { (t : List Entry) → TablesFit self.now t → result ≡ unbound t conn own handle }
     {
-        self.passing.claims().ignored(conn, own, handle)
+        self.passing.claims().unbound(conn, own, handle)
     }
 
     /// The attachment on a handle of the router.
@@ -478,9 +479,9 @@ impl State {
         told_by(self.sessions.window(conn, own))
     }
 
-    /// The number of the delivery of which more frames remain to be sent on a handle of the router.
+    /// The number of the delivery of which more frames remain to be sent on a handle of the router; it may be missing if the delivery is gone.
     pub fn sending(&self, conn: u64, own: u16, handle: u32) -> Option<u64>
-        ensures { (t : List Entry) → TablesFit self.now t → result ≡ sending t conn own handle }
+        ensures { (t : List Entry) → TablesFit self.now t → Knows (delivery t) result (sending t conn own handle) }
     {
         self.passing.deliveries().sending(conn, own, handle)
     }

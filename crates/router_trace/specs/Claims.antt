@@ -1,5 +1,5 @@
 -- A peer's unsettled deliveries in a trace, by the delivery-ids that the peer gave them (AMQP 1.0 part 2, section 2.6.12).
-use Rattle.std.specs.Prelude.{ℕ, Bool, false, not, ◌&&◌, ◌==◌, if◌then◌else◌, List, ◌∷◌, [], Option, Some, None}
+use Rattle.std.specs.Prelude.{ℕ, Bool, false, not, ◌&&◌, ◌==◌, if◌then◌else◌, List, ◌∷◌, [], Option, Some, None, option_map}
 use Rattle.amqp_perf.specs.declared.perf.Disposition.{Disposition}
 use Rattle.amqp_perf.specs.declared.perf.Perf.{Perf}
 use Rattle.amqp_perf.specs.declared.perf.Perf.TheVariants as perf
@@ -19,31 +19,29 @@ use Rattle.router_trace.specs.declared.handle.PeerHandle.TheVariants.{Mapped}
 use Rattle.router_trace.specs.Trace.{Did, Out, Took, Bound, Booked, Began, Trace}
 use Rattle.router_trace.specs.Links.{Link, Happened, sends, receives, link, their_handle, ends_handle_in}
 use Rattle.router_trace.specs.Sessions.{maps, theirs}
-use Rattle.router_trace.specs.Deliveries.{last_of}
+use Rattle.router_trace.specs.declared.binding.Origin.{Origin}
+use Rattle.router_trace.specs.Deliveries.{last_of, stands_on}
 
--- A peer's unsettled delivery: the router's handle of its link, and whether it was ignored (resumed, but unknown to the router).
+-- A peer's unsettled delivery: the router's handle of its link, and whether it came whole and is bound to no consumer.
 pub record Claim : Type 0 where
   pub handle : ℕ
-  pub ignored : Bool
+  pub unbound : Bool
 
 -- A transfer that begins a delivery claims its id, unless it is settled or has no credit. A later transfer frees the id if it settles or
--- aborts the delivery; one that completes a resumed delivery leaves it ignored. Once a delivery is settled its id is free, even
--- while more of its frames come: another link of the session may then claim it, and keeps it.
+-- aborts the delivery. Once a delivery is settled its id is free, even while more of its frames come: another link of the session may then
+-- claim it, and keeps it.
 abbrev pub ends_well : Transfer → Bool
 ends_well x = if x.settled then false else not x.aborted
 
-abbrev pub is_ignored : Bool → Transfer → Bool
-is_ignored resume x = resume && not x.more
-
-abbrev pub claim : ℕ → Bool → Transfer → Option Claim
-claim h resume x = if ends_well x then Some (record { handle = h; ignored = is_ignored resume x }) else None
+abbrev pub claim : ℕ → Transfer → Option Claim
+claim h x = if ends_well x then Some (record { handle = h; unbound = not x.more }) else None
 
 abbrev pub is_named : Option ℕ → ℕ → Bool
 is_named None id = false
 is_named (Some k) id = k == id
 
 abbrev pub claimed_first : ℕ → Transfer → Bool → ℕ → Option Claim → Option Claim
-claimed_first h x beyond id v = if is_named x.delivery_id id && not beyond then claim h x.resume x else v
+claimed_first h x beyond id v = if is_named x.delivery_id id && not beyond then claim h x else v
 
 abbrev pub claimed_later : ℕ → Option Claim → Option Claim → Option Claim
 claimed_later h now None = None
@@ -52,7 +50,7 @@ claimed_later h now (Some v) = if v.handle == h then now else Some v
 abbrev pub claimed_in : ℕ → Transfer → List Frame → Bool → ℕ → Option Claim → Option Claim
 claimed_in h x [] beyond id v = claimed_first h x beyond id v
 claimed_in h x (f ∷ fs) beyond id v =
-    if is_named (delivery f fs).id id then claimed_later h (claim h (delivery f fs).resume x) v else v
+    if is_named (delivery f fs).id id then claimed_later h (claim h x) v else v
 
 abbrev pub claimed_by : ℕ → Transfer → Happened → ℕ → Option Claim → Option Claim
 claimed_by h x (sends list) id v = v
@@ -103,12 +101,20 @@ abbrev pub claim_behind : Item → ℕ → ℕ → Option Claim → Option Claim
 claim_behind (item.Frame sasl own body payload) o id v = claim_behind_in body own o id v
 claim_behind _ o id v = v
 
+-- the delivery's message is bound to a consumer
+abbrev pub bound_claim : Claim → Claim
+bound_claim v = record v { unbound = false }
+
+abbrev pub bind_claim : Option Origin → ℕ → ℕ → ℕ → Option Claim → Option Claim
+bind_claim None c o id v = v
+bind_claim (Some p) c o id v = if stands_on p.link c o && (p.id == id) then option_map bound_claim v else v
+
 -- a peer's claim to a delivery-id, on the session with this router's channel
 abbrev pub claims : Trace → ℕ → ℕ → ℕ → Option Claim
 claims [] c o id = None
 claims (Did s ∷ t) c o id = claim_at s.event c o (theirs t c) (their_handle t c o) (link t c o) id (claims t c o id)
 claims (Out d i ∷ t) c o id = if d == c then claim_behind i o id (claims t c o id) else claims t c o id
 claims (Took d n ∷ t) c o id = claims t c o id
-claims (Bound b ∷ t) c o id = claims t c o id
+claims (Bound b ∷ t) c o id = bind_claim b.origin c o id (claims t c o id)
 claims (Booked acts ∷ t) c o id = claims t c o id
 claims (Began g ∷ t) c o id = claims t c o id

@@ -1,6 +1,6 @@
 -- The deliveries that the router passes on, in a trace (AMQP 1.0 part 2, sections 2.6.12, 2.6.14, 2.7.5 and 2.7.6). Each is a message
--- bound to one consumer link. Bindings are numbered from 1 in their order, and a delivery has its binding's number.
-use Rattle.std.specs.Prelude.{ℕ, ◌+◌, ◌*◌, ◌/◌, ◌%◌, ◌^◌, Bool, true, false, not, ◌&&◌, ◌==◌, if◌then◌else◌, is_none, is_some, List, ◌∷◌, [], length, Option, Some, None, option_map, option_and_then, unwrap_or}
+-- bound to one consumer link. Bindings are numbered from 1 in their order, and a delivery has its binding's number. Its tag is made from its name.
+use Rattle.std.specs.Prelude.{ℕ, ◌+◌, ◌*◌, ◌/◌, ◌%◌, ◌^◌, Bool, true, false, not, ◌&&◌, ◌==◌, if◌then◌else◌, is_none, is_some, List, ◌∷◌, [], length, ◌||◌, Option, Some, None, option_map, option_and_then, unwrap_or}
 use Rattle.amqp_perf.specs.declared.perf.Disposition.{Disposition}
 use Rattle.amqp_perf.specs.declared.perf.Perf.{Perf}
 use Rattle.amqp_perf.specs.declared.perf.Perf.TheVariants as perf
@@ -12,7 +12,10 @@ use Rattle.amqp_perf.specs.declared.state.DeliveryState.TheVariants as state
 use Rattle.amqp_frames.specs.declared.item.Item.{Item}
 use Rattle.amqp_frames.specs.declared.item.Item.TheVariants as item
 use Rattle.amqp_session.specs.Ranges.{in_range}
+use Rattle.book_core.specs.declared.row.RowNumber.{RowNumber}
 use Rattle.router_trace.specs.declared.binding.Binding.{Binding}
+use Rattle.router_trace.specs.declared.binding.DeliveryName.{DeliveryName}
+use Rattle.router_trace.specs.declared.binding.DeliveryName.TheVariants.{Row, Counter}
 use Rattle.router_trace.specs.declared.binding.Origin.{Origin}
 use Rattle.router_trace.specs.declared.event.Event.{Event}
 use Rattle.router_trace.specs.declared.event.Event.TheVariants as event
@@ -32,8 +35,42 @@ bindings (Bound b ∷ t) = bindings t + 1
 bindings (Booked acts ∷ t) = bindings t
 bindings (Began g ∷ t) = bindings t
 
--- A delivery: its consumer's link, the producer's delivery to which its outcome is reported, and its progress.
+-- how many of them are of no row
+abbrev pub counters : Trace → ℕ
+counters [] = 0
+counters (Did s ∷ t) = counters t
+counters (Out d i ∷ t) = counters t
+counters (Took d n ∷ t) = counters t
+counters (Bound b ∷ t) = if is_none b.row then counters t + 1 else counters t
+counters (Booked acts ∷ t) = counters t
+counters (Began g ∷ t) = counters t
+
+-- The name of a delivery: a durable one has its row's number, any other the count of those without a row, with it.
+abbrev pub name_of : Option RowNumber → ℕ → DeliveryName
+name_of None k = Counter k
+name_of (Some r) k = Row r
+
+abbrev pub name_in : Trace → Binding → DeliveryName
+name_in t b = name_of b.row (counters t + 1)
+
+abbrev pub same_name : DeliveryName → DeliveryName → Bool
+same_name (Row q) (Row r) = q.0 == r.0
+same_name (Counter j) (Counter k) = j == k
+same_name _ _ = false
+
+-- the number of the last binding with a name
+abbrev pub number_named : Trace → DeliveryName → Option ℕ
+number_named [] name = None
+number_named (Did s ∷ t) name = number_named t name
+number_named (Out d i ∷ t) name = number_named t name
+number_named (Took d n ∷ t) name = number_named t name
+number_named (Bound b ∷ t) name = if same_name (name_in t b) name then Some (bindings t + 1) else number_named t name
+number_named (Booked acts ∷ t) name = number_named t name
+number_named (Began g ∷ t) name = number_named t name
+
+-- A delivery: its name, its consumer's link, the producer's delivery to which its outcome is reported, and its progress.
 pub record Delivery : Type 0 where
+  pub name : DeliveryName
   pub link : Attachment
   pub origin : Option Origin
   -- its producer had settled it before it was bound
@@ -47,9 +84,27 @@ pub record Delivery : Type 0 where
   pub going_on : Bool
   -- its outcome, once decided
   pub outcome : Option DeliveryState
+  -- the producer's delivery once its outcome was told, as long as the producer has yet to settle it
+  pub told : Option Origin
+  -- it has a row, and its consumer's link is durable; that link was suspended before it was decided
+  pub lasting : Bool
+  pub suspended : Bool
 
-abbrev pub bound : Binding → Delivery
-bound b = record {
+abbrev pub has_row : DeliveryName → Bool
+has_row (Row r) = true
+has_row (Counter k) = false
+
+-- the producer's delivery, told or not
+abbrev pub either_origin : Option Origin → Option Origin → Option Origin
+either_origin (Some p) told = Some p
+either_origin None told = told
+
+abbrev pub source : Delivery → Option Origin
+source d = either_origin d.origin d.told
+
+abbrev pub bound : DeliveryName → Binding → Delivery
+bound name b = record {
+  name = name;
   link = b.consumer;
   origin = b.origin;
   presettled = is_none b.origin;
@@ -59,51 +114,64 @@ bound b = record {
   sent = 0;
   going_on = true;
   outcome = None;
+  told = None;
+  lasting = has_row name && b.lasting;
+  suspended = false;
 }
 
--- A delivery is over once it is decided, its outcome needs no reporting, and no frame of it remains to be sent.
+-- A delivery is over once it is decided or suspended, its producer needs no more of it, and no frame of it remains to be sent.
 abbrev pub is_over : Delivery → Bool
-is_over d = not d.going_on && (is_some d.outcome && is_none d.origin)
+is_over d = not d.going_on && ((is_some d.outcome || d.suspended) && is_none (source d))
 
 abbrev pub unless_over : Delivery → Option Delivery
 unless_over d = if is_over d then None else Some d
 
--- The tag that the router gives a delivery: the byte 76 (hexadecimal) and its number in 8 bytes.
+-- The tag that the router gives a delivery: the row's number in 8 bytes, or the byte 76 (hexadecimal) and the counter in 8 bytes.
 abbrev pub byte_of : ℕ → ℕ → ℕ
 byte_of n place = (n / 256 ^ place) % 256
 
-abbrev pub tag_of : ℕ → List ℕ
-tag_of n = 118 ∷ byte_of n 7 ∷ byte_of n 6 ∷ byte_of n 5 ∷ byte_of n 4 ∷ byte_of n 3 ∷ byte_of n 2 ∷ byte_of n 1 ∷ byte_of n 0 ∷ []
+abbrev pub eight_bytes : ℕ → List ℕ
+eight_bytes n = byte_of n 7 ∷ byte_of n 6 ∷ byte_of n 5 ∷ byte_of n 4 ∷ byte_of n 3 ∷ byte_of n 2 ∷ byte_of n 1 ∷ byte_of n 0 ∷ []
+
+abbrev pub tag_of : DeliveryName → List ℕ
+tag_of (Row r) = eight_bytes r.0
+tag_of (Counter k) = 118 ∷ eight_bytes k
 
 abbrev pub number_in : List ℕ → ℕ → ℕ
 number_in [] n = n
 number_in (b ∷ bs) n = number_in bs (256 * n + b)
 
-abbrev pub tagged : List ℕ → Option ℕ
-tagged [] = None
-tagged (b ∷ bs) = if (b == 118) && (length bs == 8) then Some (number_in bs 0) else None
+abbrev pub row_in : List ℕ → Option DeliveryName
+row_in tag = if length tag == 8 then Some (Row (record { 0 = number_in tag 0 })) else None
 
--- The number of the delivery that a transfer of the router carries. A first frame has its tag; a later frame has none, so its delivery is
--- that of the frame before it on its link, if that has more.
-abbrev pub carried : Option (List ℕ) → Option ℕ → Option ℕ
-carried (Some tag) before = tagged tag
-carried None before = before
+abbrev pub tagged : List ℕ → Option DeliveryName
+tagged [] = None
+tagged (b ∷ bs) = if (length bs == 8) && (b == 118) then Some (Counter (number_in bs 0)) else row_in (b ∷ bs)
+
+-- The number of the delivery that a transfer of the router carries, where `numbers` gives that of the last binding with a name. A first frame has
+-- its tag; a later frame has none, so its delivery is that of the frame before it on its link, if that has more.
+abbrev pub number_tagged : (DeliveryName → Option ℕ) → List ℕ → Option ℕ
+number_tagged numbers tag = option_and_then numbers (tagged tag)
+
+abbrev pub carried : (DeliveryName → Option ℕ) → Option (List ℕ) → Option ℕ → Option ℕ
+carried numbers (Some tag) before = number_tagged numbers tag
+carried numbers None before = before
 
 abbrev pub tag_in : Transfer → Option (List ℕ)
 tag_in x = option_map (λ tag. tag.items) x.delivery_tag
 
-abbrev pub sending_in : Perf → ℕ → ℕ → ℕ → Option ℕ → Option ℕ
-sending_in (perf.Transfer x) own o h v = if (own == o) && (x.handle == h) then (if x.more then carried (tag_in x) v else None) else v
-sending_in body own o h v = if ends_handle_in body own o h then None else v
+abbrev pub sending_in : (DeliveryName → Option ℕ) → Perf → ℕ → ℕ → ℕ → Option ℕ → Option ℕ
+sending_in numbers (perf.Transfer x) own o h v = if (own == o) && (x.handle == h) then (if x.more then carried numbers (tag_in x) v else None) else v
+sending_in numbers body own o h v = if ends_handle_in body own o h then None else v
 
-abbrev pub sending_by : Item → ℕ → ℕ → Option ℕ → Option ℕ
-sending_by (item.Frame sasl own body payload) o h v = sending_in body own o h v
-sending_by _ o h v = v
+abbrev pub sending_by : (DeliveryName → Option ℕ) → Item → ℕ → ℕ → Option ℕ → Option ℕ
+sending_by numbers (item.Frame sasl own body payload) o h v = sending_in numbers body own o h v
+sending_by numbers _ o h v = v
 
 abbrev pub sending : Trace → ℕ → ℕ → ℕ → Option ℕ
 sending [] c o h = None
 sending (Did s ∷ t) c o h = if is_lost s.event c then None else sending t c o h
-sending (Out d i ∷ t) c o h = if d == c then sending_by i o h (sending t c o h) else sending t c o h
+sending (Out d i ∷ t) c o h = if d == c then sending_by (number_named t) i o h (sending t c o h) else sending t c o h
 sending (Took d n ∷ t) c o h = sending t c o h
 sending (Bound b ∷ t) c o h = sending t c o h
 sending (Booked acts ∷ t) c o h = sending t c o h
@@ -114,23 +182,23 @@ is_id None id = false
 is_id (Some k) id = k == id
 
 -- The number of the delivery that an id names on a session, on the router's side: the last one that a transfer began under it (2.6.12).
-abbrev pub begins_under : Transfer → ℕ → Option ℕ → Option ℕ
-begins_under x id v = if is_id x.delivery_id id then option_and_then tagged (tag_in x) else v
+abbrev pub begins_under : (DeliveryName → Option ℕ) → Transfer → ℕ → Option ℕ → Option ℕ
+begins_under numbers x id v = if is_id x.delivery_id id then option_and_then (number_tagged numbers) (tag_in x) else v
 
-abbrev pub named_in : Perf → ℕ → ℕ → ℕ → Option ℕ → Option ℕ
-named_in (perf.Transfer x) own o id v = if own == o then begins_under x id v else v
-named_in (perf.End x) own o id v = if own == o then None else v
-named_in (perf.Close x) own o id v = None
-named_in _ own o id v = v
+abbrev pub named_in : (DeliveryName → Option ℕ) → Perf → ℕ → ℕ → ℕ → Option ℕ → Option ℕ
+named_in numbers (perf.Transfer x) own o id v = if own == o then begins_under numbers x id v else v
+named_in numbers (perf.End x) own o id v = if own == o then None else v
+named_in numbers (perf.Close x) own o id v = None
+named_in numbers _ own o id v = v
 
-abbrev pub named_by : Item → ℕ → ℕ → Option ℕ → Option ℕ
-named_by (item.Frame sasl own body payload) o id v = named_in body own o id v
-named_by _ o id v = v
+abbrev pub named_by : (DeliveryName → Option ℕ) → Item → ℕ → ℕ → Option ℕ → Option ℕ
+named_by numbers (item.Frame sasl own body payload) o id v = named_in numbers body own o id v
+named_by numbers _ o id v = v
 
 abbrev pub named : Trace → ℕ → ℕ → ℕ → Option ℕ
 named [] c o id = None
 named (Did s ∷ t) c o id = if is_lost s.event c then None else named t c o id
-named (Out d i ∷ t) c o id = if d == c then named_by i o id (named t c o id) else named t c o id
+named (Out d i ∷ t) c o id = if d == c then named_by (number_named t) i o id (named t c o id) else named t c o id
 named (Took d n ∷ t) c o id = named t c o id
 named (Bound b ∷ t) c o id = named t c o id
 named (Booked acts ∷ t) c o id = named t c o id
@@ -166,7 +234,7 @@ abbrev pub last_of : Disposition → ℕ
 last_of x = unwrap_or x.last x.first
 
 abbrev pub is_undecided : Delivery → Bool
-is_undecided d = is_none d.outcome && not d.presettled
+is_undecided d = is_none d.outcome && not (d.presettled || d.suspended)
 
 abbrev pub is_meant : Disposition → Option ℕ → Bool
 is_meant x None = false
@@ -184,45 +252,60 @@ is_named (Some id) names n = is_number (names id) n
 abbrev pub decided : Disposition → (ℕ → Option ℕ) → ℕ → Delivery → Delivery
 decided x names n d = if is_undecided d && is_meant x d.id && is_named d.id names n then record d { outcome = decision x.settled (terminal x.state) } else d
 
--- The outcome needs no more reporting: a disposition of the router as a receiver reported it, or the producer settled or is gone.
+-- The outcome needs no more reporting: a settled disposition of the router as a receiver reported it, or the producer settled or is gone. An
+-- unsettled one tells it, and its producer settles it later.
 abbrev pub origin_id : Option Origin → ℕ → ℕ → Option ℕ
 origin_id None c o = None
 origin_id (Some p) c o = if stands_on p.link c o then Some p.id else None
 
 abbrev pub untold : Delivery → Delivery
-untold d = record d { origin = None }
+untold d = record d { origin = None; told = None }
+
+abbrev pub unsettled : Delivery → Delivery
+unsettled d = record d { origin = None; told = source d }
 
 abbrev pub told : Role → Disposition → ℕ → ℕ → Delivery → Delivery
-told Receiver x c o d = if x.settled && is_meant x (origin_id d.origin c o) then untold d else d
+told Receiver x c o d = if is_meant x (origin_id (source d) c o) then (if x.settled then untold d else unsettled d) else d
 told Sender x c o d = d
 
--- The end of a link: the consumer's, and the producer's.
-abbrev pub ended : Delivery → Delivery
-ended d = record d { going_on = false; outcome = (if is_none d.outcome then Some failed else d.outcome) }
+-- The end of a link: the consumer's, and the producer's. A durable link that isn't closed for good is suspended.
+abbrev pub decided_at_end : Delivery → Delivery
+decided_at_end d = record d { going_on = false; outcome = (if is_none d.outcome then Some failed else d.outcome) }
+
+abbrev pub suspended_at_end : Delivery → Delivery
+suspended_at_end d = record d { going_on = false; suspended = is_none d.outcome }
+
+abbrev pub ended : Bool → Delivery → Delivery
+ended closed d = if d.suspended then d else (if d.lasting && not closed then suspended_at_end d else decided_at_end d)
 
 abbrev pub is_gone_with : (Attachment → Bool) → Option Origin → Bool
 is_gone_with gone None = false
 is_gone_with gone (Some p) = gone p.link
 
 abbrev pub behind_origin : (Attachment → Bool) → Delivery → Delivery
-behind_origin gone d = if is_gone_with gone d.origin then untold d else d
+behind_origin gone d = if is_gone_with gone (source d) then untold d else d
 
-abbrev pub behind_ends : (Attachment → Bool) → Delivery → Delivery
-behind_ends gone d = behind_origin gone (if gone d.link then ended d else d)
+abbrev pub behind_ends : Bool → (Attachment → Bool) → Delivery → Delivery
+behind_ends closed gone d = behind_origin gone (if gone d.link then ended closed d else d)
 
 -- what an item that the router puts on a connection does to a delivery
 abbrev pub ended_by : Item → ℕ → Attachment → Bool
 ended_by i c a = (a.conn.0 == c) && ends_handle i a.channel a.handle
 
-abbrev pub put_in : Perf → ℕ → ℕ → ℕ → (ℕ → ℕ → Option ℕ) → ℕ → Delivery → Delivery
-put_in (perf.Transfer x) c own n sent count d = if is_number (carried (tag_in x) (sent own x.handle)) n then behind_frame x count d else d
-put_in (perf.Disposition x) c own n sent count d = told x.role x c own d
-put_in _ c own n sent count d = d
+-- a detach that closes its link for good
+abbrev pub closes : Perf → Bool
+closes (perf.Detach x) = x.closed
+closes _ = false
 
-abbrev pub behind_put : Item → ℕ → ℕ → (ℕ → ℕ → Option ℕ) → Delivery → Delivery
-behind_put (item.Frame sasl own body payload) c n sent d =
-    behind_ends (ended_by (item.Frame sasl own body payload) c) (put_in body c own n sent (length payload) d)
-behind_put i c n sent d = d
+abbrev pub put_in : (DeliveryName → Option ℕ) → Perf → ℕ → ℕ → ℕ → (ℕ → ℕ → Option ℕ) → ℕ → Delivery → Delivery
+put_in numbers (perf.Transfer x) c own n sent count d = if is_number (carried numbers (tag_in x) (sent own x.handle)) n then behind_frame x count d else d
+put_in numbers (perf.Disposition x) c own n sent count d = told x.role x c own d
+put_in numbers _ c own n sent count d = d
+
+abbrev pub behind_put : (DeliveryName → Option ℕ) → Item → ℕ → ℕ → (ℕ → ℕ → Option ℕ) → Delivery → Delivery
+behind_put numbers (item.Frame sasl own body payload) c n sent d =
+    behind_ends (closes body) (ended_by (item.Frame sasl own body payload) c) (put_in numbers body c own n sent (length payload) d)
+behind_put numbers i c n sent d = d
 
 -- what an item received on a connection does to a delivery, given what its channel stands for
 abbrev pub is_on : Attachment → ℕ → Option PeerChannel → Bool
@@ -234,7 +317,7 @@ is_settled_at x c v (Some p) = x.settled && is_on p.link c v && in_range x.first
 
 abbrev pub disposed : Role → Disposition → ℕ → Option PeerChannel → (ℕ → Option ℕ) → ℕ → Delivery → Delivery
 disposed Receiver x c v names n d = if is_on d.link c v then decided x names n d else d
-disposed Sender x c v names n d = if is_settled_at x c v d.origin then untold d else d
+disposed Sender x c v names n d = if is_settled_at x c v (source d) then untold d else d
 
 abbrev pub heard_in : Perf → ℕ → Option PeerChannel → (ℕ → ℕ → Option ℕ) → ℕ → Delivery → Delivery
 heard_in (perf.Disposition x) c v names n d = disposed x.role x c v (names d.link.channel) n d
@@ -249,16 +332,20 @@ lost_with c a = a.conn.0 == c
 
 abbrev pub behind_event : Event → (ℕ → ℕ → Option PeerChannel) → (ℕ → ℕ → ℕ → Option ℕ) → ℕ → Delivery → Delivery
 behind_event (event.Item c i) known names n d = heard i c.0 (known c.0) (names c.0) n d
-behind_event (event.Down c) known names n d = behind_ends (lost_with c.0) d
+behind_event (event.Down c) known names n d = behind_ends false (lost_with c.0) d
 behind_event _ known names n d = d
 
--- The delivery with a number; none before it is bound, and once it is over.
+-- The delivery with a number; none before it is bound, once it is over, and once its row is bound again.
+abbrev pub unless_called : DeliveryName → Option Delivery → Option Delivery
+unless_called name None = None
+unless_called name (Some d) = if same_name d.name name then None else Some d
+
 abbrev pub delivery : Trace → ℕ → Option Delivery
 delivery [] n = None
 delivery (Did s ∷ t) n = option_and_then (λ d. unless_over (behind_event s.event (theirs t) (named t) n d)) (delivery t n)
-delivery (Out c i ∷ t) n = option_and_then (λ d. unless_over (behind_put i c n (sending t c) d)) (delivery t n)
+delivery (Out c i ∷ t) n = option_and_then (λ d. unless_over (behind_put (number_named t) i c n (sending t c) d)) (delivery t n)
 delivery (Took c k ∷ t) n = delivery t n
-delivery (Bound b ∷ t) n = if bindings t + 1 == n then Some (bound b) else delivery t n
+delivery (Bound b ∷ t) n = if bindings t + 1 == n then Some (bound (name_in t b) b) else unless_called (name_in t b) (delivery t n)
 delivery (Booked acts ∷ t) n = delivery t n
 delivery (Began g ∷ t) n = delivery t n
 
@@ -269,7 +356,7 @@ waits_on number (Some d) = (d.link.number == number) && is_none d.id && d.going_
 
 abbrev pub undecided_on : ℕ → Option Delivery → Bool
 undecided_on number None = false
-undecided_on number (Some d) = (d.link.number == number) && is_none d.outcome
+undecided_on number (Some d) = (d.link.number == number) && (is_none d.outcome && not d.suspended)
 
 abbrev pub is_of : ℕ → Option Origin → Bool
 is_of number None = false
@@ -277,7 +364,7 @@ is_of number (Some p) = p.link.number == number
 
 abbrev pub held_from : ℕ → Option Delivery → Bool
 held_from number None = false
-held_from number (Some d) = is_of number d.origin && is_none d.outcome
+held_from number (Some d) = is_of number (source d) && (is_none d.outcome || has_row d.name)
 
 abbrev pub is_to_tell : Option Delivery → Bool
 is_to_tell None = false

@@ -1,5 +1,5 @@
 -- The delivery frames that the router writes (AMQP 1.0 part 2, sections 2.7.5 and 2.7.6), and outcomes as it keeps them.
-use Rattle.std.specs.Prelude.{ℕ, true, false, nat_lt, if◌then◌else◌, List, length, take, drop, min, codes, Some, None, option_map}
+use Rattle.std.specs.Prelude.{ℕ, Bool, true, false, nat_lt, if◌then◌else◌, List, length, take, drop, min, codes, Some, None, option_map}
 use Rattle.amqp_perf.specs.Spelling.{state_spelling}
 use Rattle.amqp_perf.specs.declared.perf.Perf.TheVariants as perf
 use Rattle.amqp_perf.specs.declared.perf.Role.{Role}
@@ -40,18 +40,18 @@ unless_long s = if nat_lt 400 (length (state_spelling s)) then bare s else s
 abbrev pub kept_outcome : DeliveryState → DeliveryState
 kept_outcome s = unless_long (undescribed s)
 
--- The router's disposition of one delivery, which settles it.
-abbrev pub outcome_item : ℕ → Role → ℕ → DeliveryState → Item
-outcome_item own role id s =
-    frame_on own (perf.Disposition (record { role = role; first = id; last = None; settled = true; state = Some (kept_outcome s); batchable = false }))
+-- The router's disposition of one delivery, which settles it or not.
+abbrev pub outcome_item : ℕ → Role → ℕ → Bool → DeliveryState → Item
+outcome_item own role id settled s =
+    frame_on own (perf.Disposition (record { role = role; first = id; last = None; settled = settled; state = Some (kept_outcome s); batchable = false }))
 
 -- A transfer of the router: the first of a delivery has its id, tag and format, a later one none of them. Each says whether the
 -- delivery was settled before.
-abbrev pub first_transfer : ℕ → ℕ → ℕ → Delivery → Transfer
-first_transfer handle id n d = record {
+abbrev pub first_transfer : ℕ → ℕ → Delivery → Transfer
+first_transfer handle id d = record {
   handle = handle;
   delivery_id = Some id;
-  delivery_tag = Some (record { items = tag_of n });
+  delivery_tag = Some (record { items = tag_of d.name });
   message_format = Some d.format;
   settled = d.presettled;
   more = false;

@@ -15,7 +15,7 @@ use Rattle.router_trace.specs.LinkFrames.{link_flow_item}
 use Rattle.router_trace.specs.Links.{Link, Happened, sends, receives, link, numbered, attachments, is_attached}
 use Rattle.router_trace.specs.Peers.{largest_frame}
 use Rattle.router_trace.specs.Sessions.{session}
-use Rattle.router_trace.specs.Deliveries.{Delivery, bindings, delivery, sending, named, next_id, stands_on, is_number, is_undecided}
+use Rattle.router_trace.specs.Deliveries.{Delivery, has_row, bindings, delivery, sending, named, next_id, stands_on, is_number, is_undecided}
 use Rattle.router_trace.specs.DeliveryFrames.{outcome_item, first_transfer, later_transfer, next_frame, largest_out, rest_of}
 use Rattle.router_trace.specs.Numbers.{first_below, first_placed, Placed}
 
@@ -48,13 +48,14 @@ abbrev pub is_to_be_told : Trace → Option Delivery → Bool
 is_to_be_told t None = false
 is_to_be_told t (Some d) = is_some d.outcome && is_still_attached t d.origin
 
-abbrev pub outcome_to : Option Origin → Option DeliveryState → List Put
-outcome_to (Some p) (Some s) = record { conn = p.link.conn.0; item = outcome_item p.link.channel Receiver p.id s } ∷ []
-outcome_to _ _ = []
+-- that of a durable delivery isn't settled: its producer does that
+abbrev pub outcome_to : Option Origin → Bool → Option DeliveryState → List Put
+outcome_to (Some p) settled (Some s) = record { conn = p.link.conn.0; item = outcome_item p.link.channel Receiver p.id settled s } ∷ []
+outcome_to _ settled _ = []
 
 abbrev pub tell : Option Delivery → List Put
 tell None = []
-tell (Some d) = outcome_to d.origin d.outcome
+tell (Some d) = outcome_to d.origin (not (has_row d.name)) d.outcome
 
 abbrev pub tells_of : Trace → Option ℕ → List Put
 tells_of t None = []
@@ -121,18 +122,18 @@ place_to_go t n None = None
 place_to_go t n (Some d) = if can_go t n d then Some d.link else None
 
 -- the transfer that is due for a delivery
-abbrev pub transfer_of : Trace → ℕ → Delivery → Transfer
-transfer_of t n d =
-    if is_none d.id then first_transfer d.link.handle (next_id t d.link.conn.0 d.link.channel) n d else later_transfer d.link.handle d
+abbrev pub transfer_of : Trace → Delivery → Transfer
+transfer_of t d =
+    if is_none d.id then first_transfer d.link.handle (next_id t d.link.conn.0 d.link.channel) d else later_transfer d.link.handle d
 
-abbrev pub send : Trace → ℕ → Option Delivery → List Put
-send t n None = []
-send t n (Some d) =
-    record { conn = d.link.conn.0; item = next_frame (largest_out (largest_frame t d.link.conn.0)) d.link.channel (transfer_of t n d) (rest_of d) } ∷ []
+abbrev pub send : Trace → Option Delivery → List Put
+send t None = []
+send t (Some d) =
+    record { conn = d.link.conn.0; item = next_frame (largest_out (largest_frame t d.link.conn.0)) d.link.channel (transfer_of t d) (rest_of d) } ∷ []
 
 abbrev pub send_of : Trace → Option Placed → List Put
 send_of t None = []
-send_of t (Some p) = send t p.number (delivery t p.number)
+send_of t (Some p) = send t (delivery t p.number)
 
 -- ordered by connection, by the router's channel, then by binding
 abbrev pub sends_due : Trace → List Put

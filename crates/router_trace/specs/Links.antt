@@ -414,14 +414,14 @@ abbrev pub link_place : Trace → ℕ → ℕ → ℕ → LinkPlace
 link_place t c o p = link_place_by (their_handle t c o p) (link t c o)
 
 -- the same with the link's credit state alone
-abbrev pub found_on : ℕ → Happened → LinkAt
-found_on h (sends list) = found.Sends h (record { initial = credit.initial list; count = credit.count list; granted = credit.granted list })
-found_on h (receives list) = found.Receives h (receiving.delivery_count list) (receiving.unused list)
+abbrev pub found_on : ℕ → Bool → Happened → LinkAt
+found_on h durable (sends list) = found.Sends h (record { initial = credit.initial list; count = credit.count list; granted = credit.granted list })
+found_on h durable (receives list) = found.Receives h (receiving.delivery_count list) (receiving.unused list) durable
 
 abbrev pub found_link : LinkPlace → LinkAt
 found_link nowhere = found.Nowhere
 found_link detaching = found.Detaching
-found_link (on h l) = found_on h l.happened
+found_link (on h l) = found_on h l.durable l.happened
 
 -- The highest handle that the peer accepts on the session with this router's channel: the handle-max of its begin (2.7.2).
 abbrev pub handle_max_in : Perf → Option ℕ → Option ℕ

@@ -54,13 +54,13 @@ is_of_link h (Some v) = v.handle == h
 abbrev pub is_claimed_on : Trace → ℕ → ℕ → ℕ → ℕ → Bool
 is_claimed_on t c o h id = is_of_link h (claims t c o id)
 
--- how many unsettled deliveries of a link the router ignored
-abbrev pub is_ignored_on : ℕ → Option Claim → Bool
-is_ignored_on h None = false
-is_ignored_on h (Some v) = if v.ignored then nat_eq v.handle h else false
+-- how many unsettled deliveries of a link came whole and are bound to no consumer
+abbrev pub is_unbound_on : ℕ → Option Claim → Bool
+is_unbound_on h None = false
+is_unbound_on h (Some v) = if v.unbound then nat_eq v.handle h else false
 
-abbrev pub ignored : Trace → ℕ → ℕ → ℕ → ℕ
-ignored t c o h = count_below (2 ^ 32) (λ id. is_ignored_on h (claims t c o id))
+abbrev pub unbound : Trace → ℕ → ℕ → ℕ → ℕ
+unbound t c o h = count_below (2 ^ 32) (λ id. is_unbound_on h (claims t c o id))
 
 -- the delivery in the middle of a link, as its first frame describes it
 abbrev pub told_first : List Frame → Option Told

@@ -1,5 +1,9 @@
 //! Messages bound to consumer links.
+ghost use Rattle.std.specs.Prelude.{◌≡◌};
+ghost use Rattle.router_trace.specs.Deliveries.{has_row};
+
 use crate::handle::Attachment;
+use book_core::RowNumber;
 use bytes::Bytes;
 
 /// The producer's delivery, to which the outcome is reported.
@@ -11,6 +15,27 @@ pub struct Origin {
     pub id: u32,
 }
 
+/// The name of a delivery, from which its tag is made.
+#[derive(Clone, Copy, Debug, PartialEq, Eq)]
+pub enum DeliveryName {
+    /// A durable delivery: the number of its row in the book.
+    Row(RowNumber),
+    /// Any other: a counter of these, from 1.
+    Counter(u64),
+}
+
+impl DeliveryName {
+    /// Whether it is that of a durable delivery, which has a row in the book.
+    pub fn has_row(self) -> bool
+        ensures { result ≡ has_row self }
+    {
+        match self {
+            DeliveryName::Row(_) => true,
+            DeliveryName::Counter(_) => false,
+        }
+    }
+}
+
 /// A message bound to a consumer's link.
 #[derive(Debug, Drop)]
 pub struct Binding {
@@ -18,6 +43,10 @@ pub struct Binding {
     pub consumer: Attachment,
     /// The producer's delivery; none if the producer had settled it.
     pub origin: Option<Origin>,
+    /// Its row in the book, if it is durable.
+    pub row: Option<RowNumber>,
+    /// Whether the consumer's link is durable: a row then stays undecided if the link is suspended.
+    pub lasting: bool,
     /// The message format.
     pub format: u32,
     /// The message.

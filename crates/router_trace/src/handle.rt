@@ -47,6 +47,8 @@ pub enum LinkAt {
         count: Serial,
         /// The link credit that was granted to the peer and that it hasn't used.
         unused: u32,
+        /// Whether it is durable.
+        durable: bool,
     },
 }
 

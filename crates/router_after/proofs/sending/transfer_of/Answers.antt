@@ -8,12 +8,12 @@ use Rattle.router_after.proofs.sending.transfer_of.Goals as goal
 pub returns-then-is_some : goal.returns-then-is_some
 returns-then-is_some c = λ t f.
     let d = the_view c.delivery.inside in
-    begun t c.args.number d c.later_transfer.result (sym (c.if-is_some.ensures)) (c.later_transfer.ensures d refl)
-    ∙ ap (transfer_of t c.args.number) c.delivery.view_is
+    begun t d c.later_transfer.result (sym (c.if-is_some.ensures)) (c.later_transfer.ensures d refl)
+    ∙ ap (transfer_of t) c.delivery.view_is
 
 pub returns : goal.returns
 returns c = λ t f.
     let d = the_view c.delivery.inside in
-    not_begun t c.args.number d c.first_transfer.result (sym (c.if-is_some.ensures))
-    (c.first_transfer.ensures d refl refl ∙ ap (λ id. first_transfer d.link.handle id c.args.number d) (c.next_id-id.ensures t f))
-    ∙ ap (transfer_of t c.args.number) c.delivery.view_is
+    not_begun t d c.first_transfer.result (sym (c.if-is_some.ensures))
+    (c.first_transfer.ensures d refl refl refl ∙ ap (λ id. first_transfer d.link.handle id d) (c.next_id-id.ensures t f))
+    ∙ ap (transfer_of t) c.delivery.view_is

@@ -6,7 +6,7 @@ use Rattle.router_frames.proofs.laws.frames_have_room.Goals as goal
 
 pub returns : goal.returns
 returns c = record {
-  first = λ largest own handle id n d rest. frame_carries largest own 42 (first_transfer handle id n d) rest refl (first_frame_len own handle id n d);
+  first = λ largest own handle id d rest. frame_carries largest own 42 (first_transfer handle id d) rest refl (first_frame_len own handle id d);
   later = λ largest own handle d rest. frame_carries largest own 24 (later_transfer handle d) rest refl (later_frame_len own handle d);
   first_size = first_frame_len;
   later_size = later_frame_len;

@@ -1,12 +1,14 @@
 use Rattle.std.proofs.Common.{◌∷◌, ◌∙◌, ap, sym, subst}
 use Rattle.router_trace.specs.Trace.{did}
-use Rattle.router_trace.specs.Deliveries.{named, delivery}
+use Rattle.router_trace.specs.Deliveries.{named, sending, delivery}
 use Rattle.router_trace.specs.declared.event.Event.TheVariants as event
 use Rattle.router_deliveries.specs.Fits.{StoreFit}
 use Rattle.router_deliveries.specs.Hearing.{heard_by}
-use Rattle.router_deliveries.specs.Places.{at_id}
+use Rattle.router_deliveries.specs.Places.{at, at_id}
 use Rattle.router_deliveries.specs.Stepping.{IsKept}
 use Rattle.router_deliveries.proofs.Puts.{kept}
+use Rattle.router_deliveries.proofs.Low.{low_named, low_sending}
+use Rattle.router_deliveries.proofs.Known.{still_known}
 use Rattle.router_deliveries.proofs.Named.{still}
 use Rattle.router_deliveries.proofs.Heard.{heard_follows}
 use Rattle.router_deliveries.proofs.deliveries.Deliveries.hear.Goals as goal
@@ -25,8 +27,9 @@ returns-clause-fits c = λ t channel fit.
     } in
     record {
       bindings = fit.bindings;
+      counters = fit.counters;
       store = store;
-      sending = record { numbers = λ d o h. fit.sending.numbers d o h };
+      sending = record { numbers = λ d o h. still_known hears t (at c.args.self.now.sending.numbers d o h) (sending t d o h) (low_sending t d o h) (fit.sending.numbers d o h) };
       next_ids = record { ids = λ d o. fit.next_ids.ids d o };
-      names = c.in_ok-settle_heard.ensures (hears ∷ t) fit.bindings store.deliveries (record { names = λ d o id. still hears t (known d o id) (named t d o id) (fit.names.names d o id); small = fit.names.small });
+      names = c.in_ok-settle_heard.ensures (hears ∷ t) store.deliveries (record { names = λ d o id. still hears t (known d o id) (named t d o id) (low_named t d o id) (fit.names.names d o id); small = fit.names.small });
     }

@@ -1,15 +1,25 @@
-use Rattle.std.proofs.Common.{◌∷◌, ◌∙◌, ap}
+use Rattle.std.proofs.Common.{◌∷◌, sym, subst}
 use Rattle.router_trace.specs.Trace.{Out}
+use Rattle.router_trace.specs.Deliveries.{delivery, number_named, sending}
+use Rattle.router_deliveries.specs.Calling.{at_name, Knows}
 use Rattle.router_deliveries.specs.Fits.{carried_by}
+use Rattle.router_deliveries.specs.Places.{at}
+use Rattle.router_deliveries.proofs.Asked.{numbers_of}
+use Rattle.router_deliveries.proofs.Known.{known_carried_by}
 use Rattle.router_deliveries.proofs.deliveries.Deliveries.put.Goals as goal
 
 pub returns-clause-fits : goal.returns-clause-fits
 returns-clause-fits c = λ t fit.
-    let store = c.in_ok-put.ensures.fits t (c.carried_by-number.ensures ∙ ap (carried_by c.args.item.now) (λ i o h. fit.sending.numbers c.args.conn o h i)) fit.store in
+    let conn = c.args.conn in
+    let known = delivery t in
+    let names = at_name c.args.self.now.store.by_name in
+    let carries = known_carried_by known names (number_named t) (numbers_of c.args.self.now.store t fit.store) c.args.item.now (at c.args.self.now.sending.numbers conn) (sending t conn) (fit.sending.numbers conn) in
+    let store = c.in_ok-put.ensures.fits t (subst (λ v. Knows known v (carried_by (number_named t) c.args.item.now (sending t conn))) (sym c.carried_by-number.ensures) carries) fit.store in
     record {
       bindings = fit.bindings;
+      counters = fit.counters;
       store = store;
-      sending = c.in_ok-put-3.ensures t fit.sending;
-      names = c.in_ok-settle_put.ensures (Out c.args.conn c.args.item.now ∷ t) fit.bindings store.deliveries (c.in_ok-put-2.ensures t fit.bindings store fit.names);
+      sending = c.in_ok-put-3.ensures t (numbers_of _ (Out conn c.args.item.now ∷ t) store) fit.sending;
+      names = c.in_ok-settle_put.ensures (Out conn c.args.item.now ∷ t) store.deliveries (c.in_ok-put-2.ensures t store fit.names);
       next_ids = c.in_ok-put-4.ensures t fit.next_ids;
     }

@@ -2,9 +2,9 @@ use Rattle.std.proofs.Common.{◌≡◌, ℕ, List}
 use Rattle.std.specs.Ordering.{nat_cmp}
 use Rattle.std.specs.BTreeMap.{get}
 use Rattle.router_trace.specs.Trace.{Entry}
-use Rattle.router_trace.specs.Deliveries.{bindings, delivery}
+use Rattle.router_trace.specs.Deliveries.{delivery}
 use Rattle.router_deliveries.specs.Naming.{NamesFit}
 use Rattle.router_deliveries.proofs.names.Names.settle.Given as goal
 
 abbrev pub invariant-loop-id : goal.invariant-loop-id
-invariant-loop-id l = (t : List Entry) → l.count ≡ bindings t → ((n : ℕ) → get nat_cmp l.store.deliveries n ≡ delivery t n) → NamesFit l.fn.self t → NamesFit l.self t
+invariant-loop-id l = (t : List Entry) → ((n : ℕ) → get nat_cmp l.store.deliveries n ≡ delivery t n) → NamesFit l.fn.self t → NamesFit l.self t

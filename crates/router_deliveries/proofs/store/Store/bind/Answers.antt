@@ -1,24 +1,30 @@
-use Rattle.std.proofs.Common.{◌∙◌, ℕ, ap, sym, subst}
+use Rattle.std.proofs.Common.{◌∙◌, ap, sym}
+use Rattle.std.specs.Prelude.{◌==◌, if◌then◌else◌, Option, Some}
 use Rattle.std.specs.Ordering.{nat_cmp}
 use Rattle.std.specs.BTreeMap.{get}
-use Rattle.router_deliveries.specs.declared.index.Index.{Index}
-use Rattle.router_deliveries.specs.declared.index.Keys.{Keys}
-use Rattle.router_deliveries.specs.Indexing.{Indexes, standing}
-use Rattle.router_deliveries.proofs.Puts.{on_ok_both}
-use Rattle.router_deliveries.proofs.Reindexed.{put_back}
-use Rattle.router_deliveries.proofs.Touching.{touches_one}
+use Rattle.router_trace.specs.Deliveries.{Delivery, bound, unless_called}
+use Rattle.router_deliveries.specs.Calling.{is_called}
+use Rattle.router_deliveries.proofs.Called.{none_called}
+use Rattle.router_deliveries.proofs.Puts.{on_ok}
+use Rattle.router_deliveries.proofs.Touching.{touches_then}
 use Rattle.router_deliveries.proofs.store.Store.bind.Goals as goal
 
-pub returns-clause-indexed : goal.returns-clause-indexed
-returns-clause-indexed c =
-    let old = get nat_cmp c.args.self.now.deliveries in
-    let stood : ℕ → Keys = λ n. standing (old n) in
-    on_ok_both c.keep.result
-    (λ deliveries indexed before. put_back _ c.args.number _ old (get nat_cmp c.take-taken.new.self.deliveries) _ c.take-taken.ensures.gone deliveries
-    (indexed stood (ap standing (sym c.take-taken.ensures.gives) ∙ sym c.standing-before.ensures) (subst (λ (x : Index). Indexes x stood) (sym c.take-taken.ensures.index) before)))
-    c.keep.ensures.deliveries c.keep.ensures.indexed
+pub returns-clause-deliveries : goal.returns-clause-deliveries
+returns-clause-deliveries c = on_ok c.add.result
+    (λ added before n. added n
+    ∙ ap (λ (v : Option Delivery). if c.args.number == n then Some (bound c.args.name c.args.binding) else v) (c.in_ok-remove_called.ensures.deliveries before n))
+    c.add.ensures.deliveries
 
 pub returns-clause-touches : goal.returns-clause-touches
-returns-clause-touches c = on_ok_both c.keep.result
-    (λ deliveries touched. touches_one c.args.self.now c.take-taken.new.self _ c.args.number _ c.standing-before.result (c.standing-before.ensures ∙ ap standing c.take-taken.ensures.gives) c.take-taken.ensures.touched c.take-taken.ensures.gone deliveries touched)
-    c.keep.ensures.deliveries c.keep.ensures.touched
+returns-clause-touches c = on_ok c.add.result
+    (λ touched. touches_then c.args.self.now c.remove_called.new.self c.add.new.self c.in_ok-remove_called.ensures.touches touched)
+    c.add.ensures.touches
+
+pub returns-clause-indexed : goal.returns-clause-indexed
+returns-clause-indexed c = on_ok c.add.result
+    (λ added none before.
+    let removed = c.in_ok-remove_called.ensures.deliveries before in
+    added (removed c.args.number ∙ ap (unless_called c.args.name) none)
+    (λ n. ap (is_called c.args.name) (removed n) ∙ none_called c.args.name (get nat_cmp c.args.self.now.deliveries n))
+    (c.in_ok-remove_called.ensures.indexed before))
+    c.add.ensures.indexed

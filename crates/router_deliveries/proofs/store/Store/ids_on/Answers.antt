@@ -26,4 +26,4 @@ returns c = λ indexed n id concerned is.
     at_end (λ (m : ℕ). is_id (id_of (get nat_cmp c.args.self.now.deliveries m)) id) (drop c.loop-number.number-index numbers) (has id c.loop-number.ids.items) _
     (drop_all c.loop-number.number-index numbers c.loop-number-test.false) (c.loop-number.invariant id)
     ∙ any_of c.args.self.now id n numbers
-    (ap (has n) c.deref-number-items.ensures.value ∙ c.in_ok-numbers.ensures (λ m. standing (get nat_cmp c.args.self.now.deliveries m)) indexed n concerned) is
+    (ap (has n) c.deref-number-items.ensures.value ∙ c.in_ok-numbers.ensures (λ m. standing (get nat_cmp c.args.self.now.deliveries m)) indexed.indexes n concerned) is

@@ -2,8 +2,11 @@ use Rattle.std.proofs.Common.{◌∙◌, sym, subst, ap, length}
 use Rattle.std.specs.Prelude.{if◌then◌else◌, Option}
 use Rattle.std.specs.Option.{option_and_then}
 use Rattle.amqp_perf.specs.declared.perf.Perf.{Perf}
+use Rattle.amqp_perf.specs.declared.perf.Perf.TheVariants as perf
 use Rattle.amqp_frames.specs.declared.item.Item.TheVariants as item
-use Rattle.router_trace.specs.Deliveries.{Delivery, delivery, sending, unless_over, behind_frame, is_number}
+use Rattle.router_trace.specs.Deliveries.{Delivery, delivery, number_named, sending, unless_over, behind_frame, is_number}
+use Rattle.router_deliveries.specs.Calling.{Knows}
+use Rattle.router_deliveries.proofs.Known.{same_number}
 use Rattle.router_deliveries.specs.Fits.{carried_in}
 use Rattle.router_deliveries.specs.Stepping.{behind_any, IsKept}
 use Rattle.router_deliveries.proofs.Puts.{on_ok_both, one_frame, other_frame, put_behind, kept}
@@ -20,8 +23,9 @@ returns-in-Transfer-clause-fits c = on_ok_both c.note_carried.result
       deliveries = λ n.
           noted n
           ∙ ap (λ (v : Option Delivery). if is_number c.args.number n then option_and_then (λ d. unless_over (behind_frame x (length bytes) d)) v else v) (fit.deliveries n)
-          ∙ one_frame conn own n sasl x bytes (sending t conn) c.args.number (number ∙ ap (λ p. carried_in p (sending t conn own)) c.in-Transfer.is) (delivery t n) (kept t n)
-          ∙ ap (λ (p : Perf). put_behind conn (item.Frame sasl own p bytes) n (sending t conn) (delivery t n)) (sym c.in-Transfer.is);
+          ∙ one_frame (number_named t) conn own n sasl x bytes (sending t conn) c.args.number (delivery t n)
+          (λ d there. same_number (delivery t) c.args.number (carried_in (number_named t) (perf.Transfer x) (sending t conn own)) n d (subst (λ (p : Perf). Knows (delivery t) c.args.number (carried_in (number_named t) p (sending t conn own))) c.in-Transfer.is number) there) (kept t n)
+          ∙ ap (λ (p : Perf). put_behind (number_named t) conn (item.Frame sasl own p bytes) n (sending t conn) (delivery t n)) (sym c.in-Transfer.is);
       indexed = indexed fit.indexed;
     })
     c.note_carried.ensures.deliveries c.note_carried.ensures.indexed
@@ -35,7 +39,7 @@ returns-in_default-clause-fits c = on_ok_both c.apply_any.result
           applied (λ m. subst IsKept (sym (fit.deliveries m)) (kept t m)) fit.indexed n
           ∙ ap (behind_any c.behind_put.result) (fit.deliveries n)
           ∙ ap (λ x. behind_any x (delivery t n)) c.behind_put.ensures
-          ∙ other_frame c.args.conn c.args.own n sasl body c.args.payload.now (sending t c.args.conn) c.in_default.not-Transfer (delivery t n) (kept t n);
+          ∙ other_frame (number_named t) c.args.conn c.args.own n sasl body c.args.payload.now (sending t c.args.conn) c.in_default.not-Transfer (delivery t n) (kept t n);
       indexed = indexed fit.indexed;
     })
     c.apply_any.ensures.deliveries c.apply_any.ensures.indexed

@@ -1,4 +1,4 @@
-//! The delivery-ids of ignored claims, by link.
+//! The delivery-ids of unbound claims, by link.
 ghost use Rattle.std.specs.Prelude.{◌≡◌, ◌==◌, ℕ, Bool, true, false, if◌then◌else◌, OnOk};
 ghost use Rattle.std.specs.Ordering.{nat_cmp};
 ghost use Rattle.std.specs.BTreeMap.{get};
@@ -13,19 +13,19 @@ use crate::by_handle::{ByHandle, InConnection, InSession};
 use std::alloc::{AllocError, Global};
 use std::collections::BTreeSet;
 
-/// The delivery-ids of ignored claims, by the router's handles; a link without any takes no room.
+/// The delivery-ids of unbound claims, by the router's handles; a link without any takes no room.
 #[derive(Debug, Drop)]
-pub(crate) struct Ignored {
+pub(crate) struct Unbound {
     alloc: Global,
     sets: ByHandle<BTreeSet<u32>>,
 }
 
-impl Ignored {
+impl Unbound {
     /// An empty table.
-    pub(crate) fn new(alloc: Global) -> Ignored
+    pub(crate) fn new(alloc: Global) -> Unbound
         ensures { (c o h id : ℕ) → is_marked result c o h id ≡ false }
     {
-        Ignored {
+        Unbound {
             alloc,
             sets: ByHandle::new(alloc),
         }

@@ -1,0 +1,60 @@
+//! Opens the router over its journal.
+ghost use Rattle.std.specs.Prelude.{◌≡◌, ⊤, IfOk, IfErr};
+ghost use Rattle.router_core.specs.Handling.{counts_of};
+ghost use Rattle.router_core.specs.Counting.{uncounted};
+ghost use Rattle.router_shared.specs.History.{IsOpened};
+ghost use Rattle.amqr_files.specs.Journals.{IsNotListed};
+
+use amqr_files::{JournalDisk, Refusal, journal_disk};
+use disk_core::{Disk, DiskFault, MemDisk};
+use gate_journal::format;
+use route_table::Config;
+use router_core::Core;
+use std::alloc::Global;
+use std::fs::File;
+use std::rt::Files;
+
+/// A router over the journal in the file that is named, or over a new one in memory.
+///
+/// # Errors
+///
+/// `File` where the file can't be opened for reading and writing; else as `opened`.
+pub fn open_router<R: Files<File = File>>(
+    rt: &R,
+    alloc: Global,
+    journal: Option<&str>,
+    config: &Config,
+) -> Result<Core<JournalDisk>, Refusal>
+    ensures opened { IfOk result IsOpened }
+    ensures counts { IfOk result (λ core. counts_of core ≡ uncounted) }
+{
+    let disk = match journal {
+        Some(path) => JournalDisk::File(journal_disk(rt, alloc, path)?),
+        None => JournalDisk::Memory(new_journal(alloc)?),
+    };
+    opened(alloc, disk, config)
+}
+
+/// A new journal in memory.
+fn new_journal(alloc: Global) -> Result<MemDisk, DiskFault> {
+    let mut disk = MemDisk::new(alloc);
+    format(&mut disk)?;
+    Ok(disk)
+}
+
+/// A router over the journal on a disk.
+///
+/// # Errors
+///
+/// `NoJournal` where the disk has none; `Damaged` where an open gate has no batch after it; `Disk` where it failed; `Memory` where
+/// memory was refused.
+fn opened(alloc: Global, disk: JournalDisk, config: &Config) -> Result<Core<JournalDisk>, Refusal>
+    ensures opened { IfOk result IsOpened }
+    ensures counts { IfOk result (λ core. counts_of core ≡ uncounted) }
+    ensures refusal { IfErr result (IsNotListed (⟦<JournalDisk as Disk>⟧.seen disk) ⊤) }
+{
+    match Core::open(alloc, disk, config) {
+        Ok(core) => Ok(core),
+        Err(fault) => Err(Refusal::from(fault)),
+    }
+}
