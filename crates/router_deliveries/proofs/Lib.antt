@@ -25,3 +25,4 @@ mod Marked
 pub mod Placed
 pub mod Detached
 mod Decided
+mod Tagged
