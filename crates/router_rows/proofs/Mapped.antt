@@ -1,6 +1,6 @@
 -- A transfer is taken on the session that its channel stands for.
 use Rattle.std.proofs.Common.{◌≡◌, refl, ℕ, Bool, true, false, List, ◌∷◌}
-use Rattle.std.specs.Prelude.{nat_lt, nat_eq, length, ◌&&◌, Option, Some, None, Result, Ok, Err, option_map}
+use Rattle.std.specs.Prelude.{nat_lt, nat_eq, length, is_none, ◌&&◌, Option, Some, None, Result, Ok, Err, option_map}
 use Rattle.std.proofs.lemmas.Bool.{eq-eqb}
 use Rattle.amqp_perf.specs.declared.perf.Attach.{Attach as AnAttach}
 use Rattle.amqp_perf.specs.declared.perf.Begin.{Begin as ABegin}
@@ -36,7 +36,7 @@ use Rattle.router_rows.specs.Rows.{Finds, Links, header_by, open_by, begin_by, b
 use Rattle.router_rows.specs.LinkRows.{is_multicast_link, refusal, attach_or, attach_at, session_detach_reply, link_echo, is_reached, link_flow_reply, is_anonymous, is_among, is_same_id, is_same_tag, is_unattached, asks, delivery_by, delivery_on, link_transfer_reply}
 use Rattle.router_rows.specs.LinkRows.{flow_on as link_flow_on}
 use Rattle.router_rows.specs.Finding.{finds}
-use Rattle.router_rows.specs.Booking.{attach_unless, booked_attach, starts_anew, repeats_row, booked_transfer, booked_perf, booked, book_refusal, answer_at}
+use Rattle.router_rows.specs.Booking.{attach_unless, booked_attach, repeats, booked_transfer, booked_perf, booked, book_refusal, answer_at}
 use Rattle.book_core.specs.Book.{BookView}
 
 -- if a transfer is taken, this stands for its session
@@ -208,7 +208,7 @@ attach_here_or here free refusal _ is = is
 
 transfer_here_or : (here : ℕ → Bool) (b : BookView) (t : List Entry) (c : ℕ) (x : ATransfer) (a : Answer) → IsHere here a → IsHere here (booked_transfer b t c x a)
 transfer_here_or here b t c x (Taken own handle) is =
-    by_test (starts_anew (middle_on (link_place t c own x.handle)) x && repeats_row b (durable_key (link t c own handle)) (tag_in x)) (λ e. rw e tt) (λ e. rw e is)
+    by_test (is_none (middle_on (link_place t c own x.handle)) && repeats b t c own handle x.resume (durable_key (link t c own handle)) (tag_in x)) (λ e. rw e tt) (λ e. rw e is)
 transfer_here_or here b t c x _ is = is
 
 perf_here_or : (here : ℕ → Bool) (full : Bool) (b : BookView) (t : List Entry) (c : ℕ) (body : Perf) (a : Answer) → IsHere here a → IsHere here (booked_perf full b t c body a)

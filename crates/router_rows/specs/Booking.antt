@@ -1,5 +1,5 @@
 -- Durable links and the book of durable deliveries: why a link, or a delivery on one, that its row would take is refused after all.
-use Rattle.std.specs.Prelude.{ℕ, Bool, false, not, ◌&&◌, nat_lt, if◌then◌else◌, List, [], length, Option, Some, None, is_none, is_some, unwrap_or}
+use Rattle.std.specs.Prelude.{ℕ, Bool, false, not, ◌&&◌, ◌||◌, nat_lt, if◌then◌else◌, List, [], length, Option, Some, None, is_none, is_some, unwrap_or}
 use Rattle.amqp_perf.specs.declared.perf.Attach.{Attach as AnAttach}
 use Rattle.amqp_perf.specs.declared.perf.Perf.{Perf}
 use Rattle.amqp_perf.specs.declared.perf.Perf.TheVariants as perf
@@ -7,7 +7,6 @@ use Rattle.amqp_perf.specs.declared.perf.Transfer.{Transfer as ATransfer}
 use Rattle.amqp_frames.specs.declared.item.Item.{Item}
 use Rattle.amqp_frames.specs.declared.item.Item.TheVariants as item
 use Rattle.amqp_conn.specs.declared.conn.Conn.{Conn}
-use Rattle.amqp_link.specs.declared.part.Delivery.{Delivery as Told}
 use Rattle.book_core.specs.Book.{BookView, same_bytes, terminus_of, has_short_texts, row_named}
 use Rattle.book_core.specs.declared.row.Row.{Row}
 use Rattle.book_core.specs.declared.terminus.LinkKey.{LinkKey}
@@ -17,7 +16,7 @@ use Rattle.router_trace.specs.Durable.{is_durable}
 use Rattle.router_trace.specs.LinkFrames.{other, plain_answer}
 use Rattle.router_trace.specs.Deliveries.{tag_in}
 use Rattle.router_trace.specs.Links.{address_by, key_at, link, link_place, free_handle, durable_key, holds_durable}
-use Rattle.router_trace.specs.Settling.{middle_on}
+use Rattle.router_trace.specs.Settling.{middle_on, uses_tag}
 use Rattle.router_trace.specs.declared.condition.Condition.{Condition}
 use Rattle.router_trace.specs.declared.condition.Condition.TheVariants.{NotAllowed, NotImplemented, ResourceLimitExceeded}
 use Rattle.router_rows.specs.Finding.{finds}
@@ -74,22 +73,22 @@ abbrev pub booked_attach : (ℕ → Option ℕ) → Option Condition → Answer 
 booked_attach free refusal (Attach own) = attach_unless own (free own) refusal
 booked_attach free refusal answer = answer
 
--- A transfer that starts a delivery on a durable link, with the tag of a row that the link's producer has yet to settle: the link is detached,
--- unless the delivery is resumed.
-abbrev pub stands_from : Option Terminus → Option (List ℕ) → List Row → Bool
-stands_from (Some x) (Some tag) rows = is_some (row_named x.number.0 tag rows)
-stands_from _ _ rows = false
+-- A transfer that starts a delivery on a durable link, with the tag of a delivery that the link's producer has yet to settle, or, unless it resumes one,
+-- of a row that it has yet to settle: the link is detached.
+abbrev pub stands_from : Option Terminus → List ℕ → List Row → Bool
+stands_from None tag rows = false
+stands_from (Some x) tag rows = is_some (row_named x.number.0 tag rows)
 
-abbrev pub repeats_row : BookView → Option LinkKey → Option (List ℕ) → Bool
-repeats_row b None tag = false
-repeats_row b (Some key) tag = stands_from (terminus_of key b.termini) tag b.rows
+abbrev pub repeats_tag : BookView → Trace → ℕ → ℕ → ℕ → Bool → LinkKey → List ℕ → Bool
+repeats_tag b t c own handle resume key tag = uses_tag t c own handle tag || (not resume && stands_from (terminus_of key b.termini) tag b.rows)
 
-abbrev pub starts_anew : Option Told → ATransfer → Bool
-starts_anew middle x = is_none middle && not x.resume
+abbrev pub repeats : BookView → Trace → ℕ → ℕ → ℕ → Bool → Option LinkKey → Option (List ℕ) → Bool
+repeats b t c own handle resume (Some key) (Some tag) = repeats_tag b t c own handle resume key tag
+repeats b t c own handle resume _ _ = false
 
 abbrev pub booked_transfer : BookView → Trace → ℕ → ATransfer → Answer → Answer
 booked_transfer b t c x (Taken own handle) =
-    if starts_anew (middle_on (link_place t c own x.handle)) x && repeats_row b (durable_key (link t c own handle)) (tag_in x)
+    if is_none (middle_on (link_place t c own x.handle)) && repeats b t c own handle x.resume (durable_key (link t c own handle)) (tag_in x)
     then Detach own handle false (Some NotAllowed) else Taken own handle
 booked_transfer b t c x answer = answer
 

@@ -3,6 +3,7 @@ ghost use Rattle.std.specs.Prelude.{◌≡◌, List, OnOk, IfOk, is_some};
 ghost use Rattle.router_trace.specs.Trace.{Entry};
 ghost use Rattle.router_trace.specs.Sessions.{session_on};
 ghost use Rattle.router_trace.specs.Links.{durable_key, link};
+ghost use Rattle.router_trace.specs.Settling.{uses_tag};
 ghost use Rattle.router_deliveries.specs.Deciding.{decided_rows, rows_from};
 ghost use Rattle.router_passing.specs.Passing.{consumer_of};
 ghost use Rattle.router_state.specs.Tables.{TablesFit, TablesFind};
@@ -42,6 +43,13 @@ impl State {
     {
         let consumer = self.passing.consumer_for(conn, own, handle)?;
         Ok(consumer)
+    }
+
+    /// Whether the producer's link on a handle of the router has an unsettled delivery with this tag.
+    pub fn uses_tag(&self, conn: u64, own: u16, handle: u32, tag: &[u8]) -> bool
+        ensures { (t : List Entry) → TablesFind self.now t → result ≡ uses_tag t conn own handle tag.now }
+    {
+        self.passing.claims().uses_tag(conn, own, handle, tag)
     }
 
     /// The rows that these changes of deliveries would decide, one after another, each with its outcome, in order of the deliveries' numbers.
