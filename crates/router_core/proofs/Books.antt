@@ -167,17 +167,17 @@ answer_is core t e f =
     ∙ answer_found t e
 
 -- the journal after an event's acts are written
-pub journals_behind : {D : Type 0} (old new : Core D) (t : List Entry) (e : Event) (acts : List Act) → Fits old t → acts ≡ acts_of t e
+pub journals_behind : {D : Type 0} (old new : Core D) (t : List Entry) (e : Event) (acts : List Act) → Journals old t → acts ≡ acts_of t e
     → kept_book new ≡ effects (kept_book old) acts → count_of new.store ≡ batches_behind (count_of old.store) acts → used_of new.store ≡ used_behind (used_of old.store) acts
     → (kept_of old.store ≡ reserve (kept_book old) → kept_of new.store ≡ reserve (kept_book new)) → Journals new (booked t e)
-journals_behind old new t e acts f are book count used kept =
+journals_behind old new t e acts j are book count used kept =
     let now : kept_book new ≡ book_behind t e
-    = book ∙ ap (λ (x : BookView). effects x acts) f.journal.book ∙ ap (effects (book_in t)) are
+    = book ∙ ap (λ (x : BookView). effects x acts) j.book ∙ ap (effects (book_in t)) are
     in record {
       book = now;
-      batches = count ∙ ap (λ (n : ℕ). batches_behind n acts) f.journal.batches ∙ ap (batches_behind (journaled t).batches) are;
-      used = used ∙ ap (λ (u : ℕ). used_behind u acts) f.journal.used ∙ ap (used_behind (journaled t).used) are;
-      kept = kept (f.journal.kept ∙ ap reserve (sym f.journal.book)) ∙ ap reserve now;
+      batches = count ∙ ap (λ (n : ℕ). batches_behind n acts) j.batches ∙ ap (batches_behind (journaled t).batches) are;
+      used = used ∙ ap (λ (u : ℕ). used_behind u acts) j.used ∙ ap (used_behind (journaled t).used) are;
+      kept = kept (j.kept ∙ ap reserve (sym j.book)) ∙ ap reserve now;
     }
 
 -- a file opens to the book before the event or after it

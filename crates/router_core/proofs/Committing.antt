@@ -1,6 +1,6 @@
 -- The acts of an event, as they are planned and written.
-use Rattle.std.proofs.Common.{◌≡◌, ◌∙◌, ap, refl, sym, subst, ℕ, List, [], ◌∷◌, Bool, true, false}
-use Rattle.std.specs.Prelude.{Option, Some, None, ◌⊎◌, inl, inr}
+use Rattle.std.proofs.Common.{◌≡◌, ◌∙◌, ap, refl, sym, subst, ℕ, List, [], ◌∷◌, Bool, true, false, ◌⊎◌, inl, inr}
+use Rattle.std.specs.Prelude.{Option, Some, None, IfSome}
 use Rattle.amqp_perf.specs.declared.perf.Perf.{Perf}
 use Rattle.amqp_perf.specs.declared.perf.Perf.TheVariants as perf
 use Rattle.amqp_frames.specs.declared.item.Item.{Item}
@@ -24,6 +24,11 @@ use Rattle.router_rows.specs.Rows.{item_reply}
 use Rattle.router_reply.specs.Acts.{event_answer, live_answer, answer_acts, planned_acts, admitted_acts, or_admits, event_acts}
 use Rattle.router_reply.specs.Admitting.{taken_admission, unless_ends, event_admission, admits}
 use Rattle.router_core.specs.Handling.{within, or_within, with_admission}
+
+-- what holds of what is there, if it is
+pub some_weaker : {X : Type 0} (P Q : X → Type 0) (o : Option X) → ((x : X) → P x → Q x) → IfSome o P → IfSome o Q
+some_weaker P Q None wider is = tt
+some_weaker P Q (Some x) wider is = wider x is
 
 -- an answer that takes no transfer admits nothing
 abbrev NotTaken : Answer → Type 0
@@ -87,13 +92,13 @@ nothing_admitted (act ∷ acts) = refl
 
 -- An event's answer and acts, as they are chosen: by what is planned, and what would be admitted if nothing is.
 module _ (used kept : ℕ) (b : BookView) (t : List Entry) (e : Event) where
-  early : Bool
+  abbrev pub early : Bool
   early = exceeds used kept (planned_acts false b t e)
 
-  whole : Bool
+  abbrev pub whole : Bool
   whole = exceeds used kept (event_acts false b t e)
 
-  admitted : Bool → List Act
+  abbrev pub admitted : Bool → List Act
   admitted full = admits b (event_admission b t e (event_answer full b t e))
 
   pub record Chosen : Type 0 where

@@ -9,6 +9,11 @@ use Rattle.router_core.specs.declared.router.Core.{Core}
 use Rattle.router_core.specs.declared.router.Batch.{Batch}
 use Rattle.router_core.specs.declared.counts.Counts.{Counts}
 use Rattle.router_trace.specs.declared.event.Event.{Event}
+use Rattle.router_trace.specs.declared.event.Event.TheVariants as event
+use Rattle.router_trace.specs.Sessions.{theirs, maps}
+use Rattle.router_links.specs.Fits.{channel_of}
+use Rattle.router_rows.specs.declared.answer.Answer.{Answer}
+use Rattle.router_rows.specs.declared.answer.Answer.TheVariants.{Taken}
 use Rattle.router_trace.specs.Trace.{Trace, did}
 use Rattle.router_trace.specs.Connection.{Connection, Batched, due}
 use Rattle.router_state.specs.declared.tables.State.{State}
@@ -37,6 +42,15 @@ pub record IsReady (s : State) (t : Trace) (e : Event) (r : Ready) : Type 0 wher
   pub ends : r.ends.items ≡ due t e
   pub answer : r.answer ≡ answer_to_event t e
   pub heard : IsHeard t e r.answer r.heard
+
+-- a transfer that is taken is one on the session for which its channel stands
+abbrev pub TakenHere : (ℕ → Bool) → Answer → Type 0
+TakenHere here (Taken own handle) = here own ≡ true
+TakenHere here _ = Unit {0}
+
+abbrev pub TakenIn : Trace → Event → Answer → Type 0
+TakenIn t (event.Item d i) answer = TakenHere (maps (theirs t d.0 (channel_of i))) answer
+TakenIn t _ answer = Unit {0}
 
 -- The acts of an event: those that were planned; if there are none, those of an admission, if the journal has room.
 abbrev pub within : Bool → List Act → List Act

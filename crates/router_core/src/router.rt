@@ -19,7 +19,7 @@ ghost use Rattle.router_core.specs.Turns.{declines};
 ghost use Rattle.router_core.specs.Replies.{Replies, answered, handled};
 ghost use Rattle.router_state.specs.Tables.{TablesFit, TablesAt};
 ghost use Rattle.router_state.specs.Waiting.{NothingWaits};
-ghost use Rattle.router_core.specs.Handling.{Fits, IsReady, with_admission, is_failed, id_of, store_of, kept_book, state_of, counts_of, IsBatchOf, BeforeOrBehind};
+ghost use Rattle.router_core.specs.Handling.{Fits, IsReady, TakenIn, with_admission, is_failed, id_of, store_of, kept_book, state_of, counts_of, IsBatchOf, BeforeOrBehind};
 ghost use Rattle.router_core.specs.Counting.{uncounted, with_event, with_batch};
 ghost use Rattle.router_core.specs.declared.fault.CoreFault.TheVariants.{Disk as DiskFailed, Memory, Failed, NoConnection};
 
@@ -297,11 +297,11 @@ impl<D: Disk> Core<D> {
         ensures works { is_failed self.new ≡ is_failed self.old }
         ensures named { id_of self.new ≡ id_of self.old }
         ensures stands { OnOk result (Stands D.seen D.may_leave (store_of self.old) → Stands D.seen D.may_leave (store_of self.new)) }
-        ensures book { OnOk result ((t : List Entry) → Fits self.old t → kept_book self.new ≡ book_behind t event) }
-        ensures written { IfOk result (λ journal. (t : List Entry) → Fits self.old t → IfSome journal (λ batch.
+        ensures book { OnOk result ((t : List Entry) → Fits self.old t → declines t event ≡ false → kept_book self.new ≡ book_behind t event) }
+        ensures written { IfOk result (λ journal. (t : List Entry) → Fits self.old t → declines t event ≡ false → IfSome journal (λ batch.
             (batch.0 ≡ batch_count (journal_of (store_of self.old)) + 1) × (batch.1.items ≡ acts_of t event))) }
-        ensures silent { IfOk result (λ journal. (t : List Entry) → Fits self.old t → IfNone journal (acts_of t event ≡ [])) }
-        ensures any_moment { (t : List Entry) → Fits self.old t → Stands D.seen D.may_leave (store_of self.old)
+        ensures silent { IfOk result (λ journal. (t : List Entry) → Fits self.old t → declines t event ≡ false → IfNone journal (acts_of t event ≡ [])) }
+        ensures any_moment { (t : List Entry) → Fits self.old t → declines t event ≡ false → Stands D.seen D.may_leave (store_of self.old)
             → LeavesOnly D.moment D.left_since (disk_of (store_of self.old)) (disk_of (store_of self.new)) (BeforeOrBehind t event) }
         ensures counted { OnOk result (counts_of self.new ≡ with_event event (counts_of self.old)) }
         ensures uncounted { OnErr result (counts_of self.new ≡ counts_of self.old) }
@@ -409,7 +409,7 @@ impl<D: Disk> Core<D> {
         ensures rest { self.new ≡ record self.old { state = state_of self.new } }
         ensures tables { OnOk result ((t : List Entry) → TablesFit (state_of self.old) t → TablesFit (state_of self.new) t) }
         ensures acts { IfOk result (λ r. (t : List Entry) → TablesFit (state_of self.old) (did event.now ∷ t) → ends.now ≡ due t event.now → IsHeard t event.now answer.now heard.now
-            → r.items ≡ with_admission full (used_of (store_of self.old)) (kept_of (store_of self.old)) acts.items (admits (kept_book self.old) (event_admission (kept_book self.old) t event.now answer.now))) }
+            → TakenIn t event.now answer.now → r.items ≡ with_admission full (used_of (store_of self.old)) (kept_of (store_of self.old)) acts.items (admits (kept_book self.old) (event_admission (kept_book self.old) t event.now answer.now))) }
         ensures writable { IfOk result (λ r. Writable (kept_book self.old) r.items) }
     {
         if full || !acts.is_empty() {
@@ -447,7 +447,7 @@ impl<D: Disk> Core<D> {
         ensures rest { self.new ≡ record self.old { state = state_of self.new } }
         ensures tables { OnOk result ((t : List Entry) → TablesFit (state_of self.old) t → TablesFit (state_of self.new) t) }
         ensures acts { IfOk result (λ r. (t : List Entry) → TablesFit (state_of self.old) (did event.now ∷ t) → ends.now ≡ due t event.now → IsHeard t event.now answer.now heard.now
-            → r.items ≡ admits (kept_book self.old) (event_admission (kept_book self.old) t event.now answer.now)) }
+            → TakenIn t event.now answer.now → r.items ≡ admits (kept_book self.old) (event_admission (kept_book self.old) t event.now answer.now)) }
         ensures writable { IfOk result (λ r. Writable (kept_book self.old) r.items) }
     {
         let Event::Item(conn, _) = event else {

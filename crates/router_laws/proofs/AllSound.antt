@@ -31,7 +31,7 @@ use Rattle.router_rows.specs.declared.answer.Answer.{Answer}
 use Rattle.router_rows.specs.declared.answer.Answer.TheVariants.{Attach, Refuse, Taken, Settle}
 use Rattle.router_rows.specs.Rows.{said}
 use Rattle.router_reply.specs.Replies.{closing_of, ends, heard, refused, bound_for, item_put, behind_answer, item_bound, item_row, replied_behind, replied}
-use Rattle.router_reply.specs.Acts.{answer_of, booked}
+use Rattle.router_reply.specs.Acts.{found_journal, full_at, answer_of, booked}
 use Rattle.router_core.specs.Replies.{answered, handled}
 use Rattle.router_core.specs.Runs.{took_one}
 use Rattle.router_core.specs.Moves.{Move, handles, takes, Goes, IsTrace}
@@ -54,7 +54,7 @@ use Rattle.router_laws.proofs.Tells.{tells_lawful}
 passed_sound : Steps Sound
 passed_sound = record {
   telling = λ t sound. goes_sound (tells t) t (tells_lawful t) sound;
-  sending = λ t sound. goes_sound (sends_due t) t (sends_lawful t sound.unstarted (names_told t sound.binds)) sound;
+  sending = λ t sound. goes_sound (sends_due t) t (sends_lawful t sound.unstarted (names_told t)) sound;
   draining = λ t sound. quiet_sound (drains_due t) t (drains_quiet t) sound;
   granting = λ t sound. quiet_sound (grants_due t) t (grants_quiet t) sound;
 }
@@ -126,7 +126,7 @@ item_sound id t after s from p i sound came just = by i came
         → Behind id t after from.0 p (item.Frame sasl channel body payload) (answer_of t from.0 p (item.Frame sasl channel body payload))
     by_perf sasl channel payload (perf.Transfer x) came =
         by_transfer sasl channel payload x came (answer_of t from.0 p (item.Frame sasl channel (perf.Transfer x) payload))
-        (transfer_taken p t from.0 sasl channel x payload)
+        (transfer_taken (full_at t (event.Item (record { 0 = from.0 }) (item.Frame sasl channel (perf.Transfer x) payload))) (found_journal t).book p t from.0 sasl channel x payload)
     by_perf sasl channel payload (perf.Attach x) came =
         other (item.Frame sasl channel (perf.Attach x) payload) (λ own. no_part sasl) _ (attach_put sasl channel payload x _)
     by_perf sasl channel payload (perf.Disposition x) came =

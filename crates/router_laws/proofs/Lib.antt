@@ -13,4 +13,8 @@ pub mod Quiet
 pub mod Transfers
 pub mod Arriving
 pub mod AllSound
+pub mod Made
 pub mod Keeping
+pub mod Admitted
+pub mod Rows
+pub mod Numbered

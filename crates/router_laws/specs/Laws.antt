@@ -14,6 +14,7 @@ use Rattle.router_laws.specs.Carried.{CarriesWhatWasBound, CompletesMessage, Goe
 use Rattle.router_laws.specs.Came.{BindsMessage}
 use Rattle.router_laws.specs.Told.{TellsAsGiven}
 use Rattle.router_laws.specs.Keeping.{IsKeptFirst}
+use Rattle.router_laws.specs.Admitted.{RowIsAdmitted, IsBoundOnce, AreBoundSince}
 
 -- in every trace of the router
 abbrev pub InTraces : (Trace → Type 0) → Type 0
@@ -22,6 +23,13 @@ InTraces P = (id : List ℕ) (g : Beginning) (u : Trace) → IsTrace id g u → 
 -- in the trace of every list of events, the outboxes emptied after each
 abbrev pub InRuns : (Trace → Type 0) → Type 0
 InRuns P = (id : List ℕ) (g : Beginning) (events : List Event) (xs : List Sent) (u : Trace) → Run id 0 (beginning g) events xs u → P u
+
+-- the same of what holds by what the router was opened with
+abbrev pub InTracesFrom : (Beginning → Trace → Type 0) → Type 0
+InTracesFrom P = (id : List ℕ) (g : Beginning) (u : Trace) → IsTrace id g u → P g u
+
+abbrev pub InRunsFrom : (Beginning → Trace → Type 0) → Type 0
+InRunsFrom P = (id : List ℕ) (g : Beginning) (events : List Event) (xs : List Sent) (u : Trace) → Run id 0 (beginning g) events xs u → P g u
 
 -- each transfer carries the next bytes of a message that was bound, on its consumer's link
 abbrev pub AllCarry : Trace → Type 0
@@ -43,10 +51,21 @@ pub record CameAndWasBound (u : Trace) (n : ℕ) (d : Delivery) : Type 0 where
 abbrev pub AllCame : Trace → Type 0
 AllCame u = (n : ℕ) (d : Delivery) → delivery u n ≡ Some d → CameAndWasBound u n d
 
--- each disposition to a producer reports the outcome that was given, for the first time, or releases a message that no consumer takes
+-- each disposition to a producer reports the outcome that was given, for the first time, or releases a message that isn't bound
 abbrev pub AllTell : Trace → Type 0
 AllTell u = EachOut TellsAsGiven u
 
 -- each durable link that is taken has its terminus in the book by then
 abbrev pub AllKeptFirst : Trace → Type 0
 AllKeptFirst u = EachOut IsKeptFirst u
+
+-- each message with a row is in the book before it is bound, and each row is bound at most once
+abbrev pub AllAdmitted : Trace → Type 0
+AllAdmitted u = EachBound RowIsAdmitted u
+
+abbrev pub AllRowsOnce : Trace → Type 0
+AllRowsOnce u = (n : ℕ) → IsBoundOnce u n
+
+-- and each that the book gave since the opening is bound
+abbrev pub AllRowsBound : Beginning → Trace → Type 0
+AllRowsBound g u = AreBoundSince g.book.next_row u

@@ -5,4 +5,5 @@ pub mod Carried
 pub mod Came
 pub mod Told
 pub mod Keeping
+pub mod Admitted
 pub mod Laws

@@ -9,11 +9,12 @@ use Rattle.router_trace.specs.declared.handle.Attachment.{Attachment}
 use Rattle.router_trace.specs.Trace.{Trace, puts}
 use Rattle.router_trace.specs.Links.{Link, link}
 use Rattle.router_trace.specs.Following.{link_of}
-use Rattle.router_passing.specs.Passing.{consumer_of, passing, standing_at, with_bound}
+use Rattle.router_trace.specs.declared.binding.Origin.{Origin}
+use Rattle.router_passing.specs.Passing.{consumer_of, binding_to, passing, standing_at, with_bound}
 use Rattle.router_state.specs.declared.tables.State.{State}
 use Rattle.router_state.specs.Tables.{TablesFit}
 use Rattle.router_reply.specs.Admitting.{claimed_id}
-use Rattle.router_reply.specs.Replies.{from_link, fresh_bound, ignored_put, lasts_on, may_pass, origin_of, unbound_put, consumer_for, whole_bound, whole_put}
+use Rattle.router_reply.specs.Replies.{from_link, fresh_bound, ignored_put, lasts_on, may_pass, origin_of, released, unbound_put, consumer_for, whole_bound, whole_put}
 
 -- what is put and bound for a delivery that isn't resumed, by whether it may be bound
 abbrev fresh_put : Trace → ℕ → ℕ → ℕ → Told → Bool → List Item
@@ -102,3 +103,17 @@ anew_given s t c own handle d row payload anew fit =
     subst (λ (b : Bool). TablesFit s (puts c (if b then ignored_put t c own handle (claimed_id t c own handle d.id)
     else unbound_put t c own handle (claimed_id t c own handle d.id) (consumer_for t c own handle d row))
     (with_bound (if b then None else fresh_bound t c own handle d row payload (link t c own handle)) t))) (sym anew) fit
+
+-- one for which no consumer is chosen is released
+pub released_given : (found left : State) (t : Trace) (from : Attachment) (claimed : Option ℕ) (row : Option RowNumber) (format : ℕ) (payload : List ℕ) (origin : Option Origin)
+    → is_some (consumer_of t (link_of t from)) ≡ false → TablesFit found (with_bound (passing t from origin row format payload) t)
+    → ((u : Trace) → TablesFit found u → TablesFit left (puts from.conn.0 (released u from.conn.0 from.channel from.handle claimed) u))
+    → TablesFit left (puts from.conn.0 (unbound_put t from.conn.0 from.channel from.handle claimed (consumer_of t (link_of t from)))
+    (with_bound (passing t from (option_map (origin_of from) claimed) row format payload) t))
+released_given found left t from claimed row format payload origin none fit release = by (consumer_of t (link_of t from)) none fit
+  where
+    by : (at : Option Attachment) → is_some at ≡ false → TablesFit found (with_bound (option_map (binding_to t origin row format payload) at) t)
+        → TablesFit left (puts from.conn.0 (unbound_put t from.conn.0 from.channel from.handle claimed at)
+        (with_bound (option_map (binding_to t (option_map (origin_of from) claimed) row format payload) at) t))
+    by None is same = release t same
+    by (Some at) is same = absurd cc

@@ -3,4 +3,5 @@ pub mod Unlinked
 pub mod Behind
 mod Given
 mod Answering
+mod Planned
 mod Refused

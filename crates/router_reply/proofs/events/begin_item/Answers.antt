@@ -1,4 +1,4 @@
-use Rattle.std.proofs.Common.{◌≡◌, ◌∙◌, sym, ap, subst, true, List}
+use Rattle.std.proofs.Common.{◌≡◌, ◌∙◌, sym, ap, subst, ℕ, true, List}
 use Rattle.std.specs.Prelude.{Option}
 use Rattle.amqp_link.specs.declared.part.Part.{Part}
 use Rattle.book_core.specs.declared.row.RowNumber.{RowNumber}
@@ -14,7 +14,7 @@ use Rattle.router_rows.specs.declared.answer.Answer.TheVariants.{Taken, Settle}
 use Rattle.router_rows.specs.Rows.{said}
 use Rattle.router_rows.proofs.Mapped.{IsHere, answer_here}
 use Rattle.router_reply.specs.Acts.{found_journal, full_at}
-use Rattle.router_reply.specs.Heard.{ids_found}
+use Rattle.router_reply.specs.Heard.{ids_named, ids_found}
 use Rattle.router_reply.specs.Replies.{attach_put, given_behind, behind_answer, settled_put, disposition_in, row_found}
 use Rattle.router_reply.proofs.Behind.{taken_is, settled_is, other_is, taken_left, settled_left}
 use Rattle.router_reply.proofs.events.begin_item.Goals as goal
@@ -49,7 +49,7 @@ returns-in_ok-on_settle-in-Settle c = λ t after fit heard answer row.
     let same : goes (attach_put u conn item (Settle own)) u ≡ behind_answer id t after conn phase item (Settle own) =
     ap (λ (ps : List Put). goes ps u) (settled_left u conn item own) ∙ sym (settled_is id t after conn phase item own) in (
       u,
-      c.in_ok-on_settle-in-Settle.ensures t after fit (subst (λ (a : Answer). ids_found t conn item a c.args.heard.ids.items) c.in-Settle.is heard.ids),
+      c.in_ok-on_settle-in-Settle.ensures t after fit (subst (λ (l : List ℕ). ids_named t conn own (disposition_in item) l) (sym c.deref.ensures.value) (subst (λ (a : Answer). ids_found t conn item a c.args.heard.ids.items) c.in-Settle.is heard.ids)),
       subst (λ (a : Answer). goes (attach_put u conn item a) u ≡ behind_answer id t after conn phase item a) (sym c.in-Settle.is) same,
     )
 
