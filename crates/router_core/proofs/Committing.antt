@@ -142,7 +142,7 @@ module _ (used kept : ℕ) (b : BookView) (t : List Entry) (e : Event) where
       over is (inl same) = (
         sym same,
         ap (λ (f : Bool). within f (admitted false)) (sym (ap (exceeds used kept) only) ∙ is)
-        ∙ sym (nothing_admitted (planned_acts true b t e) ∙ planned_alike b t e same ∙ none),
+            ∙ sym (nothing_admitted (planned_acts true b t e) ∙ planned_alike b t e same ∙ none),
       )
       over is (inr gone) =
           let nothing : admitted false ≡ [] = ap (admits b) gone in

@@ -41,11 +41,7 @@ fn add_lost(changes: &mut Vec<Change>, ends: &[u64]) -> Result<(), AllocError>
 }
 
 /// The link that an attach which is taken ends: the older one with its key.
-fn stolen(
-    state: &State,
-    conn: u64,
-    item: &Item,
-) -> Result<Option<Attachment>, AllocError>
+fn stolen(state: &State, conn: u64, item: &Item) -> Result<Option<Attachment>, AllocError>
     ensures { IfOk result (λ older. (t : List Entry) → TablesFind state.now t → stolen_from older ≡ stolen_for t conn item.now) }
 {
     match item {
@@ -246,11 +242,7 @@ fn settled_on(
 }
 
 /// The rows that came on the link of a terminus.
-fn sent_by(
-    alloc: Global,
-    book: &Book,
-    number: TerminusNumber,
-) -> Result<Vec<RowNumber>, AllocError>
+fn sent_by(alloc: Global, book: &Book, number: TerminusNumber) -> Result<Vec<RowNumber>, AllocError>
     ensures { IfOk result (λ rows. rows.items ≡ map (λ r. r.number) (filter (is_from number.0) book.now.rows)) }
 {
     let mut numbers = Vec::new(alloc);

@@ -59,7 +59,10 @@ fn begin_item(
         × (goes (attach_put u conn.0 item.now answer.now) u ≡ behind_answer id.now t after conn.0 phase item.now answer.now)) }
 {
     let Heard {
-        part, ids, beats, ..
+        part,
+        ids,
+        beats,
+        ..
     } = heard;
     drop(beats);
     match answer {
@@ -114,7 +117,10 @@ fn on_tick(state: &mut State, heard: Heard) -> Result<(), AllocError>
         → TablesFit state.new (goes (beats t (event.Tick ms) ms) after)) }
 {
     let Heard {
-        part, ids, beats, ..
+        part,
+        ids,
+        beats,
+        ..
     } = heard;
     drop(part);
     drop(ids);

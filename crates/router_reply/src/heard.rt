@@ -41,12 +41,7 @@ impl Heard {
 }
 
 /// The deliveries that an item's disposition decides without settling them, if its answer says that they are answered.
-fn ids_in(
-    state: &State,
-    conn: u64,
-    item: &Item,
-    answer: &Answer,
-) -> Result<Vec<u32>, AllocError>
+fn ids_in(state: &State, conn: u64, item: &Item, answer: &Answer) -> Result<Vec<u32>, AllocError>
     ensures { IfOk result (λ ids. (t : List Entry) → TablesFind state.now t → ids_found t conn item.now answer.now ids.items) }
 {
     let Answer::Settle { own } = answer else {
@@ -54,9 +49,7 @@ fn ids_in(
     };
     match disposition_in(item) {
         None => Ok(Vec::new(state.alloc())),
-        Some(disposition) => {
-            state.open_ids(conn, *own, disposition.first, last_of(disposition))
-        }
+        Some(disposition) => { state.open_ids(conn, *own, disposition.first, last_of(disposition)) }
     }
 }
 

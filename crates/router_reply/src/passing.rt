@@ -212,14 +212,7 @@ fn bind(
     if chosen {
         return Ok(());
     }
-    release(
-        state,
-        id,
-        from.conn.0,
-        from.channel,
-        from.handle,
-        claimed,
-    )?;
+    release(state, id, from.conn.0, from.channel, from.handle, claimed)?;
     Ok(())
 }
 
@@ -296,14 +289,7 @@ pub fn take_part(
             pass_whole(state, id, conn, own, handle, &delivery, row, payload)?;
         }
         Some(Part::TooLarge) => {
-            let_go(
-                state,
-                id,
-                conn,
-                own,
-                handle,
-                Condition::MessageSizeExceeded,
-            )?;
+            let_go(state, id, conn, own, handle, Condition::MessageSizeExceeded)?;
         }
         Some(Part::More) => {}
         Some(Part::Aborted) => {}
@@ -363,16 +349,7 @@ fn settle_each(
     ensures { OnOk result ((t : List Entry) → TablesFit state.old t → TablesFit state.new (puts conn (map (λ n. outcome_item own Sender n true outcome.now) ids.now) t)) }
 {
     for delivery in ids {
-        put_outcome(
-            state,
-            id,
-            conn,
-            own,
-            Role::Sender,
-            *delivery,
-            true,
-            outcome,
-        )?;
+        put_outcome(state, id, conn, own, Role::Sender, *delivery, true, outcome)?;
     }
     Ok(())
 }

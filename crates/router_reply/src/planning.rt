@@ -218,12 +218,7 @@ fn item_answer(
 }
 
 /// The answer to an event's item.
-fn event_answer(
-    state: &State,
-    book: &Book,
-    full: bool,
-    event: &Event,
-) -> Result<Answer, AllocError>
+fn event_answer(state: &State, book: &Book, full: bool, event: &Event) -> Result<Answer, AllocError>
     ensures { IfOk result (λ answer. (t : List Entry) (ends : List ℕ) → TablesAt state.now t event.now ends → answer ≡ event_answer full book.now t event.now) }
 {
     match event {

@@ -177,9 +177,7 @@ fn repeats(
         None => false,
         Some(key) => match &transfer.delivery_tag {
             None => false,
-            Some(tag) => {
-                repeats_tag(state, book, conn, own, handle, transfer.resume, key, tag)
-            }
+            Some(tag) => { repeats_tag(state, book, conn, own, handle, transfer.resume, key, tag) }
         },
     }
 }

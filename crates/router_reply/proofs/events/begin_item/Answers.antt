@@ -34,7 +34,7 @@ returns-in_ok-take_part-in-Taken c = λ t after fit heard answer row.
     ap (λ (ps : List Put). goes ps u) (taken_left u conn item own handle) ∙ sym (taken_is id t after conn phase item own handle) in (
       u,
       subst (λ (p : Option Part). TablesFit c.take_part.new.state (given_behind after conn own handle (row_found t) p)) (heard.part own here)
-      (subst (λ (r : Option RowNumber). TablesFit c.take_part.new.state (given_behind after conn own handle r c.args.heard.part)) row (c.in_ok-take_part-in-Taken.ensures after fit)),
+          (subst (λ (r : Option RowNumber). TablesFit c.take_part.new.state (given_behind after conn own handle r c.args.heard.part)) row (c.in_ok-take_part-in-Taken.ensures after fit)),
       subst (λ (a : Answer). goes (attach_put u conn item a) u ≡ behind_answer id t after conn phase item a) (sym c.in-Taken.is) same,
     )
 
