@@ -1,6 +1,6 @@
 -- Outgoing items that contain no attach: those of rows, heartbeats and flows. They begin no link.
 use Rattle.std.proofs.Common.{◌≡◌, ◌∙◌, sym, ap, refl, true≢false, ℕ, zero, suc, Bool, true, false, List, [], ◌∷◌, ◌++◌, append-nil}
-use Rattle.std.specs.Prelude.{◌==◌, ◌&&◌, nat_lt, if◌then◌else◌, filter, Option, Some, None, is_some}
+use Rattle.std.specs.Prelude.{◌==◌, ◌&&◌, nat_lt, if◌then◌else◌, filter, Option, Some, None, is_some, is_none}
 use Rattle.amqp_perf.specs.declared.perf.Disposition.{Disposition as ADisposition}
 use Rattle.amqp_perf.specs.declared.perf.Perf.{Perf}
 use Rattle.amqp_perf.specs.declared.perf.Perf.TheVariants as perf
@@ -39,7 +39,7 @@ use Rattle.router_rows.specs.declared.answer.Answer.{Answer}
 use Rattle.router_rows.specs.declared.answer.Answer.TheVariants.{Nothing, Header, Open, Close, CloseWith, Begin, End, Flow, Attach, Refuse, Detach, LinkFlow, Taken, Settle}
 use Rattle.router_rows.specs.Rows.{Finds, said, item_reply}
 use Rattle.router_rows.specs.Finding.{finds}
-use Rattle.router_rows.specs.Booking.{repeats_row, starts_anew, booked_transfer}
+use Rattle.router_rows.specs.Booking.{repeats, booked_transfer}
 use Rattle.router_reply.specs.Acts.{answer_of, found_journal}
 use Rattle.router_reply.specs.Admitting.{claimed_id}
 use Rattle.router_reply.specs.Replies.{closing_of, lasts_on, consumer_for, let_go, unless_many, ignored_put, released_by, unbound_put, part_put, row_found, settled_answers, links_put, item_row, own_row}
@@ -212,9 +212,9 @@ no_links t after c _ a unlinked unnamed none = refl
 -- the book stands in the way of attaches, and of transfers on links, alone
 unrepeated : (b : BookView) (t : List Entry) (c : ℕ) (x : Transfer) (a : Answer) → Unlinked c t → booked_transfer b t c x a ≡ a
 unrepeated b t c x (Taken own handle) unlinked =
-    ap (λ (l : Option Link). if starts_anew (middle_on (link_place t c own x.handle)) x && repeats_row b (durable_key l) (tag_in x)
+    ap (λ (l : Option Link). if is_none (middle_on (link_place t c own x.handle)) && repeats b t c own handle x.resume (durable_key l) (tag_in x)
     then Detach own handle false (Some NotAllowed) else Taken own handle) (unlinked own handle)
-    ∙ never (starts_anew (middle_on (link_place t c own x.handle)) x)
+    ∙ never (is_none (middle_on (link_place t c own x.handle)))
   where
     never : (q : Bool) → (if q && false then Detach own handle false (Some NotAllowed) else Taken own handle) ≡ Taken own handle
     never true = refl

@@ -39,7 +39,7 @@ use Rattle.router_rows.specs.Rows.{Finds, Links, said, header_reply, open_by, op
 use Rattle.router_rows.specs.LinkRows.{is_multicast_link, refusal, attach_or, attach_at, session_attach_reply, session_detach_reply, link_echo, is_reached, detach_for, link_flow_reply, is_anonymous, asks, is_among, start_on, delivery_by, delivery_on, link_transfer_reply, is_unattached, session_transfer_reply}
 use Rattle.router_rows.specs.LinkRows.{flow_on as link_flow_on}
 use Rattle.router_rows.specs.Finding.{finds}
-use Rattle.router_rows.specs.Booking.{attach_unless, booked_attach, repeats_row, starts_anew, booked_transfer, booked_perf, booked, book_refusal}
+use Rattle.router_rows.specs.Booking.{attach_unless, booked_attach, repeats, booked_transfer, booked_perf, booked, book_refusal}
 use Rattle.router_reply.specs.Acts.{found_journal, full_at, answer_of}
 use Rattle.amqp_link.specs.Receiving.{delivery_count, unused}
 use Rattle.router_trace.specs.Links.{link, link_place, durable_key, free_handle, LinkPlace, nowhere as no_link, detaching, on as on_link, Happened, sends, receives}
@@ -401,7 +401,7 @@ attach_booked_fits p b asked free refusal _ fits = fits
 transfer_booked_fits : (p : Conn) (b : ℕ → Bool) (asked : Option BeginState) (book : BookView) (t : List Entry) (c : ℕ) (x : ATransfer) (a : Answer) → AnswerFits p b asked a
     → AnswerFits p b asked (booked_transfer book t c x a)
 transfer_booked_fits p b asked book t c x (Taken own handle) fits =
-    by (starts_anew (middle_on (link_place t c own x.handle)) x && repeats_row book (durable_key (link t c own handle)) (tag_in x))
+    by (is_none (middle_on (link_place t c own x.handle)) && repeats book t c own handle x.resume (durable_key (link t c own handle)) (tag_in x))
   where
     by : (q : Bool) → AnswerFits p b asked (if q then Detach own handle false (Some NotAllowed) else Taken own handle)
     by true = fits

@@ -1,7 +1,7 @@
 -- What takes don't change: in a trace without its takes an item has the same answer if the journal is full or not, and an answer puts the same and binds
 -- the same message.
 use Rattle.std.proofs.Common.{◌≡◌, ◌∙◌, ap, refl, ℕ, ◌^◌, Bool, true, false, List, [], ◌∷◌, ◌++◌}
-use Rattle.std.specs.Prelude.{Option, Some, None, ◌&&◌, not, is_some, nat_lt, filter, option_map, option_and_then, unwrap_or, if◌then◌else◌}
+use Rattle.std.specs.Prelude.{Option, Some, None, ◌&&◌, ◌||◌, not, is_some, is_none, nat_lt, filter, option_map, option_and_then, unwrap_or, if◌then◌else◌}
 use Rattle.amqp_perf.specs.declared.perf.Attach.{Attach as AnAttach}
 use Rattle.amqp_perf.specs.declared.perf.Disposition.{Disposition as ADisposition}
 use Rattle.amqp_perf.specs.declared.perf.Perf.{Perf}
@@ -14,6 +14,7 @@ use Rattle.amqp_frames.specs.declared.item.Item.TheVariants as item
 use Rattle.amqp_conn.specs.declared.conn.Conn.{Conn}
 use Rattle.book_core.specs.declared.row.RowNumber.{RowNumber}
 use Rattle.book_core.specs.Book.{BookView, terminus_of}
+use Rattle.book_core.specs.declared.terminus.LinkKey.{LinkKey}
 use Rattle.amqp_link.specs.declared.part.Delivery.{Delivery as Told}
 use Rattle.amqp_link.specs.declared.part.Part.{Part}
 use Rattle.amqp_link.specs.declared.part.Part.TheVariants as part
@@ -28,13 +29,14 @@ use Rattle.router_trace.specs.Links.{Link, link, free_handle, holder, key_at, li
 use Rattle.router_trace.specs.Deliveries.{terminal, last_of, named, tag_in}
 use Rattle.router_trace.specs.DeliveryFrames.{outcome_item}
 use Rattle.router_trace.specs.Numbers.{count_below}
-use Rattle.router_trace.specs.Settling.{ids_between, is_open_as, names_open, is_open_id, is_of_link, is_unbound_on, unbound, middle_on, part_of}
+use Rattle.router_trace.specs.Numbers.{first_below}
+use Rattle.router_trace.specs.Settling.{ids_between, is_open_as, names_open, is_open_id, is_of_link, is_unbound_on, unbound, is_tagged_on, uses_tag, middle_on, part_of}
 use Rattle.router_passing.specs.Passing.{consumer_of, lasts, binding_to, passing}
 use Rattle.router_rows.specs.declared.answer.Answer.{Answer}
 use Rattle.router_rows.specs.declared.answer.Answer.TheVariants.{Attach, Detach, Refuse, Taken, Settle}
 use Rattle.router_rows.specs.Rows.{Finds, said, item_reply}
 use Rattle.router_rows.specs.Finding.{finds}
-use Rattle.router_rows.specs.Booking.{wants_durable, wanted_address, new_terminus, has_room, durable_refusal, volatile_refusal, book_refusal, booked_attach, repeats_row, starts_anew, booked_transfer, booked, answer_at}
+use Rattle.router_rows.specs.Booking.{wants_durable, wanted_address, new_terminus, has_room, durable_refusal, volatile_refusal, book_refusal, booked_attach, stands_from, repeats, booked_transfer, booked, answer_at}
 use Rattle.router_reply.specs.Admitting.{claimed_id}
 use Rattle.router_reply.specs.Replies.{stolen_by, attach_answer, taken_behind, taken, refused, settled_answers, from_link, origin_of, lasts_on, may_pass, consumer_for, fresh_bound, whole_bound, let_go, unless_many, ignored_put, released_by, released, unbound_put, whole_put, part_put, part_bound, row_found, bound_for, links_put, item_put}
 use Rattle.router_core.specs.Laws.{untaken}
@@ -60,10 +62,21 @@ same_refusal full b t c a = λ j.
     durable_refusal (terminus_of (same_key_at t c (plain_answer a 0) j) b.termini) a (has_room full b (new_terminus b (same_key_at t c (plain_answer a 0) j) (wanted_address a)))
     else volatile_refusal (same_holds_durable t c (plain_answer a 0) j)
 
+same_tags : (t : List Entry) (c own handle : ℕ) (tag : List ℕ) → uses_tag t c own handle tag ≡ uses_tag (untaken t) c own handle tag
+same_tags t c own handle tag = λ j. is_some (first_below (2 ^ 32) (λ id. is_tagged_on handle tag (same_claims t c own id j)))
+
+same_repeats : (b : BookView) (t : List Entry) (c own handle : ℕ) (resume : Bool) (key : Option LinkKey) (tag : Option (List ℕ))
+    → repeats b t c own handle resume key tag ≡ repeats b (untaken t) c own handle resume key tag
+same_repeats b t c own handle resume (Some key) (Some tag) = λ j. same_tags t c own handle tag j || (not resume && stands_from (terminus_of key b.termini) tag b.rows)
+same_repeats b t c own handle resume (Some key) None = refl
+same_repeats b t c own handle resume None tag = refl
+
 same_repeated : (b : BookView) (t : List Entry) (c : ℕ) (x : ATransfer) (a : Answer) → booked_transfer b t c x a ≡ booked_transfer b (untaken t) c x a
 same_repeated b t c x (Taken own handle) =
-    λ j. if starts_anew (middle_on (same_link_place t c own x.handle j)) x && repeats_row b (durable_key (same_link t c own handle j)) (tag_in x)
-    then Detach own handle false (Some NotAllowed) else Taken own handle
+    (λ j. if is_none (middle_on (same_link_place t c own x.handle j)) && repeats b t c own handle x.resume (durable_key (same_link t c own handle j)) (tag_in x)
+    then Detach own handle false (Some NotAllowed) else Taken own handle)
+    ∙ ap (λ (q : Bool). if is_none (middle_on (link_place (untaken t) c own x.handle)) && q then Detach own handle false (Some NotAllowed) else Taken own handle)
+    (same_repeats b t c own handle x.resume (durable_key (link (untaken t) c own handle)) (tag_in x))
 same_repeated b t c x _ = refl
 
 same_booked : (full : Bool) (b : BookView) (t : List Entry) (c : ℕ) (i : Item) (a : Answer) → booked full b t c i a ≡ booked full b (untaken t) c i a
