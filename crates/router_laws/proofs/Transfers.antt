@@ -1,6 +1,6 @@
 -- Where a transfer is taken: on the session that its channel stands for, and on the link that its handle stands for, with the peer as the sender.
 use Rattle.std.proofs.Common.{◌≡◌, refl, ℕ, Bool, true, false}
-use Rattle.std.specs.Prelude.{nat_eq, ◌&&◌, List, Option, Some, None, Result, Ok, Err, option_map}
+use Rattle.std.specs.Prelude.{nat_eq, is_none, ◌&&◌, List, Option, Some, None, Result, Ok, Err, option_map}
 use Rattle.amqp_perf.specs.declared.perf.Perf.TheVariants as perf
 use Rattle.amqp_perf.specs.declared.perf.Transfer.{Transfer}
 use Rattle.amqp_frames.specs.declared.item.Item.TheVariants as item
@@ -23,7 +23,7 @@ use Rattle.router_rows.specs.declared.answer.Answer.{Answer}
 use Rattle.router_rows.specs.declared.answer.Answer.TheVariants.{Taken}
 use Rattle.router_rows.specs.Rows.{Finds, Links, transfer_reply, in_turn, out_of_turn, turn_by, item_reply}
 use Rattle.router_rows.specs.LinkRows.{is_anonymous, is_among, is_same_id, is_same_tag, is_unattached, delivery_by, delivery_on, link_transfer_reply, session_transfer_reply}
-use Rattle.router_rows.specs.Booking.{starts_anew, repeats_row, booked_transfer, answer_at}
+use Rattle.router_rows.specs.Booking.{repeats, booked_transfer, answer_at}
 use Rattle.router_rows.specs.Finding.{finds}
 use Rattle.router_conns.proofs.Lists.{by_test}
 
@@ -96,7 +96,7 @@ row_taken p t c false channel x payload =
 booked_taken : (b : BookView) (t : Trace) (c : ℕ) (sasl : Bool) (v : Option PeerChannel) (x : Transfer) (a : Answer)
     → IfTaken sasl v (λ own. link_place t c own x.handle) a → IfTaken sasl v (λ own. link_place t c own x.handle) (booked_transfer b t c x a)
 booked_taken b t c sasl v x (Taken own handle) here =
-    by_test (starts_anew (middle_on (link_place t c own x.handle)) x && repeats_row b (durable_key (link t c own handle)) (tag_in x)) (λ e. rw e tt) (λ e. rw e here)
+    by_test (is_none (middle_on (link_place t c own x.handle)) && repeats b t c own handle x.resume (durable_key (link t c own handle)) (tag_in x)) (λ e. rw e tt) (λ e. rw e here)
 booked_taken b t c sasl v x _ here = here
 
 pub transfer_taken : (full : Bool) (b : BookView) (p : Conn) (t : Trace) (c : ℕ) (sasl : Bool) (channel : ℕ) (x : Transfer) (payload : List ℕ)
