@@ -18,3 +18,16 @@ pub mod Keeping
 pub mod Admitted
 pub mod Rows
 pub mod Numbered
+pub mod Looking
+pub mod Applying
+pub mod Once
+pub mod Undecided
+pub mod Standing
+pub mod Changing
+pub mod Hearing
+pub mod Settling
+pub mod Facts
+pub mod Decisions
+pub mod Booked
+pub mod Consuming
+pub mod Naming
