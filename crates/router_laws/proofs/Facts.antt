@@ -77,7 +77,7 @@ agrees_moved t u b (Some row) e f alike stays was = record {
   from = λ p from. let at = was.from p (alike.comes p from) in record { key = at.key; durable = stays p at.key from at.durable; at = at.at; found = at.found; number = at.number; role = at.role };
 }
 
-fact_moved : (t u : Trace) (b : BookView) (r : RowNumber) (e f : Delivery) → Alike e f
+pub fact_moved : (t u : Trace) (b : BookView) (r : RowNumber) (e f : Delivery) → Alike e f
     → ((p : Origin) (key : LinkKey) → source f ≡ Some p → durable_key (link_of t p.link) ≡ Some key → durable_key (link_of u p.link) ≡ Some key) → RowFact t b r e → RowFact u b r f
 fact_moved t u b r e f alike stays was = record {
   settled = alike.settled ∙ was.settled;

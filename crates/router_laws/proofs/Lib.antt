@@ -31,3 +31,9 @@ pub mod Decisions
 pub mod Booked
 pub mod Consuming
 pub mod Naming
+pub mod Keeps
+pub mod Ending
+pub mod Rowing
+pub mod Attaching
+pub mod Answering
+pub mod KeptFirst

@@ -158,7 +158,7 @@ id_behind x count d false = refl
 
 pub sent_named : (t : List Entry) (m : ℕ) (of : Delivery) (sasl : Bool) (x : Transfer) (payload : List ℕ) → delivery t m ≡ Some of → IsNaming t m of x → AreNamed t
     → AreNamed (Out of.link.conn.0 (item.Frame sasl of.link.channel (perf.Transfer x) payload) ∷ t)
-sent_named t m of sasl x payload is_there is was n id e now undecided has = by x.delivery_id refl
+sent_named t m of sasl x payload here is was n id e now undecided has = by x.delivery_id refl
   where
     c : ℕ
     c = of.link.conn.0
@@ -239,16 +239,16 @@ sent_named t m of sasl x payload is_there is was n id e now undecided has = by x
     now_named : (m == n) ≡ true → x.delivery_id ≡ Some id → Goal
     now_named f gives =
         let number : m ≡ n = eqb-true m n f in
-        let one : of ≡ w.before = some_same (sym is_there ∙ ap (delivery t) number ∙ w.there) in
+        let one : of ≡ w.before = some_same (sym here ∙ ap (delivery t) number ∙ w.there) in
         let link : w.before.link ≡ of.link = ap (λ (d : Delivery). d.link) (sym one) in
         moved (subst (λ (a : Attachment). named (Out c i ∷ t) a.conn.0 a.channel id ≡ Some n) (sym link)
-        (shown (Some id) gives c own ∙ all (c == c) (own == own) (id == id) (eq-eqb c c refl) (eq-eqb own own refl) (eq-eqb id id refl) ∙ is.tells id gives ∙ ap (λ (k : ℕ). Some k) number))
+        (shown (Some id) gives c own ∙ all (option_and_then (number_tagged (number_named t)) (tag_in x)) (named t c own id) (c == c) (own == own) (id == id) (eq-eqb c c refl) (eq-eqb own own refl) (eq-eqb id id refl) ∙ is.tells id gives ∙ ap (λ (k : ℕ). Some k) number))
       where
-        all : {v w : Option ℕ} (a b q : Bool) → a ≡ true → b ≡ true → q ≡ true → (if a then (if b then (if q then v else w) else w) else w) ≡ v
-        all true true true e f g = refl
-        all true true false e f g = absurd (clash (sym g))
-        all true false q e f g = absurd (clash (sym f))
-        all false b q e f g = absurd (clash (sym e))
+        all : (v w : Option ℕ) (a b q : Bool) → a ≡ true → b ≡ true → q ≡ true → (if a then (if b then (if q then v else w) else w) else w) ≡ v
+        all v w true true true e f g = refl
+        all v w true true false e f g = absurd (clash (sym g))
+        all v w true false q e f g = absurd (clash (sym f))
+        all v w false b q e f g = absurd (clash (sym e))
 
     by : (v : Option ℕ) → x.delivery_id ≡ v → Goal
     by v given = by_number (m == n) refl (sym id_of ∙ has)

@@ -524,3 +524,40 @@ one_place t standing a b key first second =
     let there : last_of_key t key ≡ Some (standing_at b.conn.0 b.channel b.handle m.0) = ap (last_of_key t) (sym m.3) ∙ standing.keys b.conn.0 b.channel b.handle m.0 m.1 in
     let same : standing_at a.conn.0 a.channel a.handle l.0 ≡ standing_at b.conn.0 b.channel b.handle m.0 = some_same (sym at ∙ there) in
     (ap (λ (x : Attachment). x.conn.0) same, ap (λ (x : Attachment). x.channel) same, ap (λ (x : Attachment). x.handle) same)
+
+-- a link behind an entry was there before it, unless it is attached now
+
+pub record WasLink (t : List Entry) (c o h : ℕ) (m : Link) : Type 0 where
+  pub before : Link
+  pub there : link t c o h ≡ Some before
+  pub same : SameLink before m
+
+pub did_link : (s : Step) (t : List Entry) (c o h : ℕ) (m : Link) → link (Did s ∷ t) c o h ≡ Some m → WasLink t c o h m
+did_link s t c o h m is =
+    let was = link_was (is_lost s.event c) (link t c o h) (link (Did s ∷ t) c o h) m (event_behaves s.event c o h (theirs t c) (their_handle t c o) (link t c o h)) is in
+    record { before = was.before; there = was.there; same = was.same }
+
+pub out_link : (d : ℕ) (i : Item) (t : List Entry) (c o h : ℕ) (m : Link) → attaches i o h ≡ false → link (Out d i ∷ t) c o h ≡ Some m → WasLink t c o h m
+out_link d i t c o h m apart is =
+    let was = link_was (if d == c then ends_handle i o h else false) (link t c o h) (link (Out d i ∷ t) c o h) m (out_behaves d i t c o h (λ e. apart)) is in
+    record { before = was.before; there = was.there; same = was.same }
+
+pub was_link_on : (t u : List Entry) (c o h : ℕ) (m : Link) → ((l : Link) → link u c o h ≡ Some l → WasLink t c o h l) → WasLink u c o h m → WasLink t c o h m
+was_link_on t u c o h m first rest =
+    let was = first rest.before rest.there in
+    record {
+      before = was.before;
+      there = was.there;
+      same = record {
+        number = rest.same.number ∙ was.same.number;
+        key = rest.same.key ∙ was.same.key;
+        durable = rest.same.durable ∙ was.same.durable;
+        way = rest.same.way ∙ was.same.way;
+      };
+    }
+
+-- a link behind an event that doesn't lose its connection goes the same way
+pub did_way : (s : Step) (t : List Entry) (c o h : ℕ) (l : Link) → link t c o h ≡ Some l → is_lost s.event c ≡ false → (m : Link) × (link (Did s ∷ t) c o h ≡ Some m) × (is_sending m.happened ≡ is_sending l.happened)
+did_way s t c o h l there spared =
+    let now = link_is (is_lost s.event c) (link t c o h) (link (Did s ∷ t) c o h) l (event_behaves s.event c o h (theirs t c) (their_handle t c o) (link t c o h)) spared there in
+    (now.behind, now.there, now.same.way)

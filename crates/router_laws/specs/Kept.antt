@@ -11,7 +11,7 @@ use Rattle.amqp_frames.specs.declared.item.Item.{Item}
 use Rattle.amqp_frames.specs.declared.item.Item.TheVariants as item
 use Rattle.book_core.specs.declared.act.Act.{Act}
 use Rattle.book_core.specs.declared.act.Act.TheVariants.{Make, Admit, Decide, Forget, Drop}
-use Rattle.book_core.specs.declared.row.Row.{Row}
+use Rattle.book_core.specs.declared.row.Row.{Row as ARow}
 use Rattle.book_core.specs.Book.{BookView, row_at, is_undecided}
 use Rattle.router_store.specs.Acting.{journal_outcome}
 use Rattle.router_trace.specs.declared.binding.DeliveryName.{DeliveryName}
@@ -21,7 +21,7 @@ use Rattle.router_reply.specs.Acts.{book_in}
 use Rattle.router_laws.specs.Told.{TellsOutcome}
 
 -- A row of the book that is decided, with this outcome as the journal keeps it (`journal_outcome`: itself, if it is within the limits of its types).
-abbrev pub IsDecidedAs : Option Row → Option DeliveryState → Type 0
+abbrev pub IsDecidedAs : Option ARow → Option DeliveryState → Type 0
 IsDecidedAs None outcome = ⊥
 IsDecidedAs (Some r) outcome = r.outcome ≡ option_map journal_outcome outcome
 
@@ -43,7 +43,7 @@ OutcomeIsKept t c (item.Frame sasl own body payload) = perf_is_decided body t c 
 OutcomeIsKept t c _ = Unit {0}
 
 -- A row may still be decided: it is undecided, or has yet to be admitted.
-abbrev pub is_open_row : Option Row → Bool
+abbrev pub is_open_row : Option ARow → Bool
 is_open_row None = false
 is_open_row (Some r) = is_undecided r
 
