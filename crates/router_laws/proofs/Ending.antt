@@ -63,22 +63,30 @@ closing_kept id p c e w ys was = by p.opened
 
 -- what an answer says, where it takes no link
 
-pub said_kept : (id : List ℕ) (p : Conn) (t : Trace) (c : ℕ) (i : Item) (w : Trace) → stolen_for t c i ≡ [] → (answer : Answer) → Kept w (ended_by t c i answer)
+abbrev pub TakesNone : Trace → ℕ → Item → Answer → Type 0
+TakesNone t c i (Attach own) = stolen_for t c i ≡ []
+TakesNone t c i _ = Unit {0}
+
+pub takes_none : (t : Trace) (c : ℕ) (i : Item) (answer : Answer) → stolen_for t c i ≡ [] → TakesNone t c i answer
+takes_none t c i (Attach own) none = none
+takes_none t c i _ none = tt
+
+pub said_kept : (id : List ℕ) (p : Conn) (t : Trace) (c : ℕ) (i : Item) (w : Trace) (answer : Answer) → TakesNone t c i answer → Kept w (ended_by t c i answer)
     → Kept (goes (each_to c (said id p answer)) w) []
-said_kept id p t c i w none Nothing was = was
-said_kept id p t c i w none Header was = plain_kept c header_item w refl was
-said_kept id p t c i w none Open was = plain_kept c (open_item id) w refl was
-said_kept id p t c i w none Close was = close_kept c None w [] was
-said_kept id p t c i w none (CloseWith x) was = closing_kept id p c x w [] was
-said_kept id p t c i w none (Begin own peers) was = plain_kept c (begin_item own peers) w refl was
-said_kept id p t c i w none (End own x) was = next_kept c (end_item own x) w (change.Ends (gone.Session c own) false) [] tt refl tt (λ n d. refl) was
-said_kept id p t c i w none (Flow own told) was = plain_kept c (flow_item own told) w refl was
-said_kept id p t c i w none (Attach own) was = subst (λ (xs : List Change). Kept w xs) none was
-said_kept id p t c i w none (Refuse own handle x) was = was
-said_kept id p t c i w none (Detach own handle closed x) was = next_kept c (detach_item own handle closed x) w (change.Ends (gone.Link c own handle) closed) [] tt refl tt (λ n d. refl) was
-said_kept id p t c i w none (LinkFlow own told at) was = plain_kept c (link_flow_item own told at) w refl was
-said_kept id p t c i w none (Taken own handle) was = was
-said_kept id p t c i w none (Settle own) was = was
+said_kept id p t c i w Nothing none was = was
+said_kept id p t c i w Header none was = plain_kept c header_item w refl was
+said_kept id p t c i w Open none was = plain_kept c (open_item id) w refl was
+said_kept id p t c i w Close none was = close_kept c None w [] was
+said_kept id p t c i w (CloseWith x) none was = closing_kept id p c x w [] was
+said_kept id p t c i w (Begin own peers) none was = plain_kept c (begin_item own peers) w refl was
+said_kept id p t c i w (End own x) none was = next_kept c (end_item own x) w (change.Ends (gone.Session c own) false) [] tt refl tt (λ n d. refl) was
+said_kept id p t c i w (Flow own told) none was = plain_kept c (flow_item own told) w refl was
+said_kept id p t c i w (Attach own) none was = subst (λ (xs : List Change). Kept w xs) none was
+said_kept id p t c i w (Refuse own handle x) none was = was
+said_kept id p t c i w (Detach own handle closed x) none was = next_kept c (detach_item own handle closed x) w (change.Ends (gone.Link c own handle) closed) [] tt refl tt (λ n d. refl) was
+said_kept id p t c i w (LinkFlow own told at) none was = plain_kept c (link_flow_item own told at) w refl was
+said_kept id p t c i w (Taken own handle) none was = was
+said_kept id p t c i w (Settle own) none was = was
 
 -- the closes for full outboxes, of connections that are known
 

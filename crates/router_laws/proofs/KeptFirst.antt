@@ -1,7 +1,7 @@
 -- In every trace of the router in which no event is declined, the outcome of a delivery with a row stands in the book before it is told, and each row is decided
 -- at most once.
 use Rattle.std.proofs.Common.{◌≡◌, ◌∙◌, sym, ap, refl, subst, ◌⊎◌, inl, inr, ℕ, ◌+◌, ◌≤◌, ◌<◌, ◌^◌, ◌||◌, Bool, true, false, List, [], ◌∷◌, ◌++◌, arith}
-use Rattle.std.specs.Prelude.{Option, Some, None, is_some}
+use Rattle.std.specs.Prelude.{Option, Some, None, is_some, if◌then◌else◌}
 use Rattle.amqp_perf.specs.declared.perf.Attach.{Attach as AnAttach}
 use Rattle.amqp_perf.specs.declared.perf.Perf.{Perf}
 use Rattle.amqp_perf.specs.declared.perf.Perf.TheVariants as perf
@@ -13,8 +13,8 @@ use Rattle.amqp_link.specs.declared.part.Part.{Part}
 use Rattle.book_core.specs.declared.act.Act.{Act}
 use Rattle.book_core.specs.Book.{BookView, effects}
 use Rattle.gate_journal.specs.Ordered.{IsOrdered}
+use Rattle.gate_journal.proofs.Nexts.{made_ordered}
 use Rattle.router_store.specs.Made.{IsMade}
-use Rattle.router_store.proofs.Makes.{made_is_ordered}
 use Rattle.router_trace.specs.Configuration.{beginning}
 use Rattle.router_trace.specs.declared.binding.Binding.{Binding}
 use Rattle.router_trace.specs.declared.condition.Condition.TheVariants.{ResourceLimitExceeded}
@@ -58,7 +58,7 @@ use Rattle.router_laws.proofs.Answering.{IfAttach, attach_answered, attach_finds
 use Rattle.router_laws.proofs.Attaching.{AttachAt, taken_kept, refused_kept}
 use Rattle.router_laws.proofs.Bindings.{of_messages, there_bound}
 use Rattle.router_laws.proofs.Booked.{acts_apply, ordered_acts, answer_for, changes_of, booked_facts}
-use Rattle.router_laws.proofs.Ending.{answer_rest, came_kept, ends_kept}
+use Rattle.router_laws.proofs.Ending.{takes_none, answer_rest, came_kept, ends_kept}
 use Rattle.router_laws.proofs.Keeps.{Kept, PlainPut, plain_both, plain_goes, took_kept, small_before, SmallKept, followed_kept}
 use Rattle.router_laws.proofs.Once.{Decides, decides_once}
 use Rattle.router_laws.proofs.Rowing.{MayBind, Receives, plain_row, disposed_row, taken_row}
@@ -91,11 +91,11 @@ Rowed id at u c p i y = Kept (goes (item_put id at u c p i y) (with_bound (bound
 attach_row : (id : List ℕ) (t at u : Trace) (c : ℕ) (p : Conn) (sasl : Bool) (channel : ℕ) (a : AnAttach) (payload : List ℕ) (y : Answer)
     → IfAttach sasl (free_handle t c) y → (sasl ≡ false → AttachAt t u c a) → Kept u (ended_by t c (item.Frame sasl channel (perf.Attach a) payload) y)
     → Rowed id at u c p (item.Frame sasl channel (perf.Attach a) payload) y
-attach_row id t at u c p sasl channel a payload (Attach own) if finds was = taken_kept t u c own a (finds if) was
-attach_row id t at u c p sasl channel a payload (Refuse own handle x) if finds was = refused_kept t u c own handle (largest_frame u c) x a (finds if.0) if.1 was
-attach_row id t at u c p sasl channel a payload (Taken own handle) if finds was =
+attach_row id t at u c p sasl channel a payload (Attach own) of finds was = taken_kept t u c own a (finds of) was
+attach_row id t at u c p sasl channel a payload (Refuse own handle x) of finds was = refused_kept t u c own handle (largest_frame u c) x a (finds of.0) of.1 was
+attach_row id t at u c p sasl channel a payload (Taken own handle) of finds was =
     subst (λ (b : Option Binding). Kept (with_bound b u) []) (sym (binds_none at u c (item.Frame sasl channel (perf.Attach a) payload) (λ o. no_part sasl) (Taken own handle))) was
-attach_row id t at u c p sasl channel a payload y if finds was = plain_row id t at u c p (item.Frame sasl channel (perf.Attach a) payload) y refl refl refl was
+attach_row id t at u c p sasl channel a payload y of finds was = plain_row id t at u c p (item.Frame sasl channel (perf.Attach a) payload) y tt refl refl was
 
 frame_row : (id : List ℕ) (t at u : Trace) (c : ℕ) (p : Conn) (sasl : Bool) (channel : ℕ) (body : Perf) (payload : List ℕ) (y : Answer)
     → ((a : AnAttach) → body ≡ perf.Attach a → IfAttach sasl (free_handle t c) y × (sasl ≡ false → AttachAt t u c a))
@@ -108,7 +108,7 @@ frame_row id t at u c p sasl channel (perf.Transfer x) payload y attaching takin
 frame_row id t at u c p sasl channel (perf.Disposition x) payload y attaching taking may was =
     disposed_row id t at u c p sasl channel x payload y (binds_none at u c (item.Frame sasl channel (perf.Disposition x) payload) (λ o. no_part sasl) y) was
 frame_row id t at u c p sasl channel body payload y attaching taking may was =
-    plain_row id t at u c p (item.Frame sasl channel body payload) y refl (binds_none at u c (item.Frame sasl channel body payload) (λ o. no_part sasl) y) refl was
+    plain_row id t at u c p (item.Frame sasl channel body payload) y (takes_none t c (item.Frame sasl channel body payload) y refl) (binds_none at u c (item.Frame sasl channel body payload) (λ o. no_part sasl) y) refl was
 
 -- an event's row
 
@@ -160,7 +160,7 @@ item_rows id t s from (item.Frame sasl channel body payload) is p here y answer 
 
         turned : answer_at full (book_in t) t from.0 p (item.Frame sasl channel (perf.Transfer x) payload) ≡ y
         turned = ap (λ (b : Perf). answer_at full (book_in t) t from.0 p (item.Frame sasl channel b payload)) (sym same) ∙ answer
-item_rows id t s from i is p here y answer may was = plain_row id t (booked t (event.Item from i)) (ends id (due t (event.Item from i)) (Did s ∷ booked t (event.Item from i))) from.0 p i y refl (binds_none (booked t (event.Item from i)) (ends id (due t (event.Item from i)) (Did s ∷ booked t (event.Item from i))) from.0 i (λ o. refl) y) refl was
+item_rows id t s from i is p here y answer may was = plain_row id t (booked t (event.Item from i)) (ends id (due t (event.Item from i)) (Did s ∷ booked t (event.Item from i))) from.0 p i y (takes_none t from.0 i y refl) (binds_none (booked t (event.Item from i)) (ends id (due t (event.Item from i)) (Did s ∷ booked t (event.Item from i))) from.0 i (λ o. refl) y) refl was
 
 beat_plain : (b : Bool) (c : ℕ) → PlainPut (beat_if b c)
 beat_plain true c = (refl, tt)
@@ -264,6 +264,9 @@ unstarted t taken = by (is_started t) taken
     by : (b : Bool) → (b || false) ≡ false → b ≡ false
     by true h = absurd (clash h)
     by false h = refl
+
+made_is_ordered : (b : BookView) → IsMade b → IsOrdered b
+made_is_ordered b made = subst IsOrdered (sym made.2) (made_ordered made.0 made.1)
 
 record All (t : Trace) : Type 0 where
   sound : Sound t

@@ -39,7 +39,7 @@ use Rattle.router_reply.specs.Replies.{from_link, lasts_on, let_go, unless_many,
 use Rattle.router_conns.proofs.Lists.{by_test}
 use Rattle.router_laws.specs.Came.{BindsMessage, ComesFrom}
 use Rattle.router_laws.proofs.Consuming.{consumer_sends}
-use Rattle.router_laws.proofs.Ending.{said_kept}
+use Rattle.router_laws.proofs.Ending.{TakesNone, takes_none, said_kept}
 use Rattle.router_laws.proofs.Facts.{RowFact, bound_facts}
 use Rattle.router_laws.proofs.Keeps.{Kept, quiet_kept, plain_kept, Plain, plain_to, PlainPut, plain_goes}
 use Rattle.router_laws.proofs.Naming.{bound_named}
@@ -51,12 +51,12 @@ clash e = cc
 
 -- a row that puts what its answer says
 
-pub plain_row : (id : List ℕ) (t at u : Trace) (c : ℕ) (p : Conn) (i : Item) (y : Answer) → stolen_for t c i ≡ [] → bound_for at u c i y ≡ None → links_put at (puts c (said id p y) u) c i y ≡ []
+pub plain_row : (id : List ℕ) (t at u : Trace) (c : ℕ) (p : Conn) (i : Item) (y : Answer) → TakesNone t c i y → bound_for at u c i y ≡ None → links_put at (puts c (said id p y) u) c i y ≡ []
     → Kept u (ended_by t c i y) → Kept (goes (item_put id at u c p i y) (with_bound (bound_for at u c i y) u)) []
 plain_row id t at u c p i y none unbound nothing was =
     subst (λ (b : Option Binding). Kept (goes (item_put id at u c p i y) (with_bound b u)) []) (sym unbound)
     (subst (λ (ps : List Put). Kept (goes ps u) []) (sym (ap (λ (ps : List Put). each_to c (said id p y) ++ ps) nothing ∙ append-nil (each_to c (said id p y))))
-    (said_kept id p t c i u none y was))
+    (said_kept id p t c i u y none was))
 
 -- the answers to a disposition
 
@@ -71,7 +71,8 @@ pub disposed_row : (id : List ℕ) (t at u : Trace) (c : ℕ) (p : Conn) (sasl :
 disposed_row id t at u c p sasl channel x payload (Settle own) none was =
     plain_goes (each_to c (settled_answers own (terminal x.state) (open_ids at c own x.first (last_of x)))) u
     (plain_to c (settled_answers own (terminal x.state) (open_ids at c own x.first (last_of x))) (answers_plain own (terminal x.state) (open_ids at c own x.first (last_of x)))) was
-disposed_row id t at u c p sasl channel x payload y none was = plain_row id t at u c p (item.Frame sasl channel (perf.Disposition x) payload) y refl none refl was
+disposed_row id t at u c p sasl channel x payload y none was =
+    plain_row id t at u c p (item.Frame sasl channel (perf.Disposition x) payload) y (takes_none t c (item.Frame sasl channel (perf.Disposition x) payload) y refl) none refl was
 
 -- a producer's link, which the router may detach
 
@@ -177,4 +178,5 @@ taken_row id t at u c p sasl channel x payload (Taken own handle) may stands was
     let b : Option Binding = bound_for at u c (item.Frame sasl channel (perf.Transfer x) payload) (Taken own handle) in
     part_kept (with_bound b u) u c own handle (row_found at) (part_of (item.Frame sasl channel (perf.Transfer x) payload) (link_place at c own))
     (receives_still b u c own handle (stands own handle refl)) (with_kept b u may was)
-taken_row id t at u c p sasl channel x payload y may stands was = plain_row id t at u c p (item.Frame sasl channel (perf.Transfer x) payload) y refl refl refl was
+taken_row id t at u c p sasl channel x payload y may stands was =
+    plain_row id t at u c p (item.Frame sasl channel (perf.Transfer x) payload) y (takes_none t c (item.Frame sasl channel (perf.Transfer x) payload) y refl) refl refl was
