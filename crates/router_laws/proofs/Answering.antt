@@ -1,9 +1,8 @@
 -- What the answer to an item is put to, and the message that an event binds.
-use Rattle.std.proofs.Common.{◌≡◌, ◌∙◌, sym, ap, refl, subst, ℕ, ◌+◌, ◌<◌, Bool, true, false, not, ◌&&◌, List, [], ◌∷◌, ◌++◌, arith}
+use Rattle.std.proofs.Common.{◌≡◌, ◌∙◌, sym, ap, refl, subst, ℕ, ◌+◌, ◌<◌, Bool, true, false, List, [], ◌∷◌, ◌++◌, arith}
 use Rattle.std.specs.Prelude.{◌==◌, nat_lt, Option, Some, None, Result, Ok, Err, is_some, is_none, option_map, if◌then◌else◌}
-use Rattle.std.proofs.lemmas.Bool.{eqb-true, eq-eqb}
+use Rattle.std.proofs.lemmas.Bool.{eq-eqb}
 use Rattle.amqp_perf.specs.declared.perf.Attach.{Attach as AnAttach}
-use Rattle.amqp_perf.specs.declared.perf.Perf.{Perf}
 use Rattle.amqp_perf.specs.declared.perf.Perf.TheVariants as perf
 use Rattle.amqp_perf.specs.declared.perf.Transfer.{Transfer}
 use Rattle.amqp_frames.specs.declared.item.Item.{Item}
@@ -12,11 +11,9 @@ use Rattle.amqp_conn.specs.declared.conn.Conn.{Conn}
 use Rattle.amqp_conn.specs.declared.fault.ConnFault.{ConnFault}
 use Rattle.amqp_conn.specs.declared.fault.ConnFault.TheVariants.{ChannelTooHigh}
 use Rattle.amqp_conn.specs.Phase.{after_frame}
-use Rattle.amqp_link.specs.Receiving.{Received}
 use Rattle.book_core.specs.declared.act.Act.{Act}
 use Rattle.book_core.specs.declared.act.Act.TheVariants.{Admit}
 use Rattle.book_core.specs.declared.act.Admission.{Admission}
-use Rattle.book_core.specs.declared.fault.BookFault.{BookFault}
 use Rattle.book_core.specs.declared.fault.BookFault.TheVariants.{NoTerminus}
 use Rattle.book_core.specs.declared.row.Row.{Row as ARow}
 use Rattle.book_core.specs.declared.row.RowNumber.{RowNumber}
@@ -24,13 +21,12 @@ use Rattle.book_core.specs.declared.terminus.LinkKey.{LinkKey}
 use Rattle.book_core.specs.declared.terminus.LinkRole.TheVariants.{Producer}
 use Rattle.book_core.specs.declared.terminus.Terminus.{Terminus}
 use Rattle.book_core.specs.declared.terminus.TerminusNumber.{TerminusNumber}
-use Rattle.book_core.specs.Book.{BookView, row_at, terminus_at, terminus_of, same_role, has_role, admitted, admit_refusal, effect, effects}
+use Rattle.book_core.specs.Book.{BookView, row_at, terminus_at, terminus_of, same_role, has_role, admitted, effect, effects}
 use Rattle.book_core.specs.Rising.{Rises, AllAbove, AllBelow}
 use Rattle.gate_journal.specs.Ordered.{IsOrdered, number_of_row, number_of_terminus}
 use Rattle.router_store.proofs.Few.{holds}
 use Rattle.router_trace.specs.declared.binding.Binding.{Binding}
 use Rattle.router_trace.specs.declared.binding.Origin.{Origin}
-use Rattle.router_trace.specs.declared.channel.PeerChannel.{PeerChannel}
 use Rattle.router_trace.specs.declared.condition.Condition.{Condition}
 use Rattle.router_trace.specs.declared.condition.Condition.TheVariants.{ResourceLimitExceeded}
 use Rattle.router_trace.specs.declared.event.ConnectionId.{ConnectionId}
@@ -39,41 +35,39 @@ use Rattle.router_trace.specs.declared.event.Event.TheVariants as event
 use Rattle.router_trace.specs.declared.handle.Asked.{Asked}
 use Rattle.router_trace.specs.declared.handle.PeerHandle.{PeerHandle}
 use Rattle.router_trace.specs.declared.handle.PeerHandle.TheVariants.{Mapped, Detaching}
-use Rattle.router_trace.specs.Trace.{Trace, Entry, Did, Out, Booked, Step, Put, goes, puts, each_to}
+use Rattle.router_trace.specs.Trace.{Trace, Did, Out, Step, puts}
 use Rattle.router_trace.specs.Connection.{Connection, conn, standing, found, due, has}
 use Rattle.router_trace.specs.Deliveries.{either_origin, bound, name_in}
 use Rattle.router_trace.specs.Following.{link_of, is_sending}
 use Rattle.router_trace.specs.Frames.{open_item, close_item}
-use Rattle.router_trace.specs.Links.{Link, LinkPlace, nowhere, detaching, on, Happened, sends, receives, asked, asked_at, asked_by, asked_in, asked_of, answered_handle, is_lost, link, link_place, link_place_by, on_link, their_handle, last_of_key, free_handle, durable_key}
+use Rattle.router_trace.specs.Links.{Link, LinkPlace, nowhere, detaching, on, asked, asked_at, asked_of, answered_handle, is_lost, link, link_place, link_place_by, on_link, their_handle, last_of_key, free_handle, durable_key}
 use Rattle.router_trace.specs.Sessions.{theirs}
 use Rattle.router_rows.specs.declared.answer.Answer.{Answer}
-use Rattle.router_rows.specs.declared.answer.Answer.TheVariants.{Nothing, Header, Open, Close, CloseWith, Begin, End, Flow, Attach, Refuse, Detach, LinkFlow, Taken, Settle}
-use Rattle.router_rows.specs.Booking.{refuse_on, attach_unless, booked_attach, book_refusal, answer_at}
+use Rattle.router_rows.specs.declared.answer.Answer.TheVariants.{Attach, Refuse}
+use Rattle.router_rows.specs.Booking.{refuse_on, booked_attach, book_refusal, answer_at}
 use Rattle.router_rows.specs.Finding.{finds}
 use Rattle.router_rows.specs.LinkRows.{refusal, attach_or, attach_fresh, attach_at, session_attach_reply, is_multicast_link}
-use Rattle.router_rows.specs.Rows.{Finds, Links, attach_reply, in_turn, out_of_turn, turn_by, item_reply}
+use Rattle.router_rows.specs.Rows.{Finds, Links, attach_reply, out_of_turn, turn_by, item_reply}
 use Rattle.router_trace.specs.Sessions as sessions
-use Rattle.amqp_session.specs.Session.{Session}
 use Rattle.router_reply.specs.Acts.{book_in, booked}
 use Rattle.router_reply.specs.Admitting.{terminus_for}
 use Rattle.router_reply.specs.Replies.{closing_of, ends, heard, bound_by}
 use Rattle.router_conns.proofs.Lists.{by_test}
 use Rattle.router_core.proofs.Replied.{FoundLive, found_live}
-use Rattle.router_laws.specs.Admitted.{IsFromTerminus, IsAdmitted, IsAdmittedUnder, RowIsAdmitted}
-use Rattle.router_laws.specs.Came.{BindsMessage}
+use Rattle.router_laws.specs.Admitted.{IsFromTerminus, IsAdmitted, IsAdmittedUnder}
 use Rattle.router_laws.proofs.Admitted.{bound_row}
 use Rattle.router_laws.proofs.AllSound.{event_binds}
 use Rattle.router_laws.proofs.Attaching.{AttachAt}
-use Rattle.router_laws.proofs.Facts.{kept_form, FromTerminus, IsHeld, Agrees, RowFact}
+use Rattle.router_laws.proofs.Facts.{FromTerminus, Agrees, RowFact}
 use Rattle.router_laws.proofs.Keeping.{Stands, key_there, attach_stands}
 use Rattle.router_laws.proofs.Looking.{found_new}
 use Rattle.router_laws.proofs.Rowing.{Receives, MayBind}
-use Rattle.router_laws.proofs.Rows.{Since, since}
+use Rattle.router_laws.proofs.Rows.{since}
 use Rattle.router_laws.proofs.Settling.{found_at_number}
 use Rattle.router_laws.proofs.Sound.{Sound}
 use Rattle.router_laws.proofs.Standing.{WasLink, did_link, out_link, was_link_on, same_link, did_way}
 use Rattle.router_laws.proofs.Tests.{some_same, none_not_some}
-use Rattle.router_laws.proofs.Transfers.{IsOn, IfTaken, transfer_taken}
+use Rattle.router_laws.proofs.Transfers.{IsOn}
 
 clash : true ≡ false → ⊥
 clash e = cc

@@ -1,13 +1,13 @@
 -- The acts of an event apply to the book, so its numbers go on rising.
-use Rattle.std.proofs.Common.{◌≡◌, ◌∙◌, sym, ap, refl, subst, ℕ, Bool, true, false, List, [], ◌∷◌, ◌++◌}
+use Rattle.std.proofs.Common.{◌≡◌, sym, refl, List, []}
 use Rattle.std.specs.Prelude.{Option, Some, None, is_none}
 use Rattle.book_core.specs.declared.act.Act.{Act}
-use Rattle.book_core.specs.declared.act.Act.TheVariants.{Make, Admit, Decide, Forget, Drop}
+use Rattle.book_core.specs.declared.act.Act.TheVariants.{Make, Admit, Drop}
 use Rattle.book_core.specs.declared.act.Admission.{Admission}
 use Rattle.book_core.specs.declared.act.Decision.{Decision}
 use Rattle.book_core.specs.declared.fault.BookFault.{BookFault}
 use Rattle.book_core.specs.declared.row.RowNumber.{RowNumber}
-use Rattle.book_core.specs.Book.{BookView, refusal, effect, effects, first_fault, make_refusal, drop_refusal, admit_refusal, terminus_at}
+use Rattle.book_core.specs.Book.{BookView, refusal, effects, first_fault, make_refusal, drop_refusal, admit_refusal, terminus_at}
 use Rattle.gate_journal.specs.Ordered.{IsOrdered}
 use Rattle.gate_journal.proofs.Reserves.{acts_follow}
 use Rattle.router_store.specs.declared.acting.TerminusAct.{TerminusAct}

@@ -1,26 +1,22 @@
 -- What an attach puts keeps what holds: the older link with its key is detached, and the new one is attached where nothing was.
-use Rattle.std.proofs.Common.{◌≡◌, ◌∙◌, sym, ap, refl, subst, ℕ, zero, suc, ◌+◌, Bool, true, false, not, ◌&&◌, List, [], ◌∷◌, ◌++◌}
+use Rattle.std.proofs.Common.{◌≡◌, ◌∙◌, sym, ap, refl, subst, ℕ, zero, suc, ◌+◌, Bool, true, false, not, ◌&&◌, List, [], ◌∷◌}
 use Rattle.std.specs.Prelude.{◌==◌, nat_le, Option, Some, None, is_some, is_none, unwrap_or, if◌then◌else◌}
 use Rattle.std.proofs.lemmas.Bool.{eqb-true, eq-eqb}
 use Rattle.amqp_perf.specs.declared.perf.Attach.{Attach as AnAttach}
-use Rattle.amqp_perf.specs.declared.perf.Perf.{Perf}
-use Rattle.amqp_perf.specs.declared.perf.Perf.TheVariants as perf
 use Rattle.amqp_perf.specs.declared.perf.Role.{Role}
 use Rattle.amqp_perf.specs.declared.perf.Role.TheVariants.{Sender, Receiver}
 use Rattle.amqp_perf.specs.declared.terminus.SourceTerminus.{SourceTerminus}
 use Rattle.amqp_perf.specs.declared.terminus.TargetTerminus.{TargetTerminus}
 use Rattle.amqp_frames.specs.declared.item.Item.{Item}
-use Rattle.amqp_frames.specs.declared.item.Item.TheVariants as item
 use Rattle.book_core.specs.declared.row.RowNumber.{RowNumber}
 use Rattle.book_core.specs.declared.terminus.LinkKey.{LinkKey}
-use Rattle.router_trace.specs.declared.binding.DeliveryName.TheVariants.{Row}
 use Rattle.router_trace.specs.declared.binding.Origin.{Origin}
 use Rattle.router_trace.specs.declared.condition.Condition.{Condition}
 use Rattle.router_trace.specs.declared.condition.Condition.TheVariants.{FrameSizeTooSmall, Stolen}
 use Rattle.router_trace.specs.declared.handle.Attachment.{Attachment}
 use Rattle.router_trace.specs.Durable.{is_durable}
-use Rattle.router_trace.specs.Trace.{Trace, Entry, Out, Put, goes, each_to}
-use Rattle.router_trace.specs.Deliveries.{Delivery, delivery, source, is_undecided, untold, is_gone_with, behind_origin, ended, decided_at_end, suspended_at_end, ended_by as put_ends}
+use Rattle.router_trace.specs.Trace.{Trace, Out, goes, each_to}
+use Rattle.router_trace.specs.Deliveries.{Delivery, delivery, source, untold, is_gone_with, behind_origin, ended, decided_at_end, suspended_at_end}
 use Rattle.router_trace.specs.LinkFrames.{other, source_answer, target_answer, plain_answer, lasting_by, answer_to, refused_source, refused_target, refusal_of, attach_item, detach_item, fits}
 use Rattle.router_trace.specs.Links.{Link, answered_handle, asked, address_by, link, has_number, is_attached, if_attached, key_at, last_of_key, holder, is_free_handle, first_free_below, free_handle, highest_handle, attached, attachments}
 use Rattle.router_trace.specs.Peers.{largest_frame}
@@ -34,9 +30,9 @@ use Rattle.router_reply.specs.Deciding.{stolen_from}
 use Rattle.router_reply.specs.Replies.{stolen_by, attach_answer, taken_behind, taken, refused}
 use Rattle.router_conns.proofs.Lists.{by_test}
 use Rattle.router_laws.proofs.Changing.{Alike, leaves_changed, alike_ends}
-use Rattle.router_laws.proofs.Facts.{RowFact, Facts, fact_moved}
+use Rattle.router_laws.proofs.Facts.{RowFact, fact_moved}
 use Rattle.router_laws.proofs.Keeps.{Kept, quiet_kept, next_kept}
-use Rattle.router_laws.proofs.Standing.{Standing, Sends, WasLink}
+use Rattle.router_laws.proofs.Standing.{Standing, WasLink}
 use Rattle.router_laws.proofs.Tests.{some_same, none_not_some}
 
 clash : true ≡ false → ⊥
@@ -141,7 +137,7 @@ drop_kept u c o h none was = record {
     fact n d r there known =
         let settled : d.presettled ≡ false = sym (leaves_changed x d).settled ∙ known.settled in
         let alike : Alike d (changed x d) = alike_ends false (is_gone (gone.Link c o h)) d settled
-            (λ undecided. let at = was.standing.consumers n d there undecided in not_on u c o h d.link at.at none at.there) in
+        (λ undecided. let at = was.standing.consumers n d there undecided in not_on u c o h d.link at.at none at.there) in
         fact_moved u u (book_in u) r (changed x d) d
         (record {
           named = sym alike.named;

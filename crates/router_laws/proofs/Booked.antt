@@ -1,10 +1,8 @@
 -- The acts of an event make of the book what its changes will make of the deliveries.
-use Rattle.std.proofs.Common.{◌≡◌, ◌∙◌, sym, ap, refl, subst, ℕ, ◌+◌, ◌≤◌, ◌<◌, Bool, true, false, not, ◌&&◌, ◌||◌, List, [], ◌∷◌, ◌++◌, arith, append_assoc}
-use Rattle.std.specs.Prelude.{◌==◌, Option, Some, None, map, filter, is_some, is_none, option_map, if◌then◌else◌}
+use Rattle.std.proofs.Common.{◌≡◌, ◌∙◌, sym, ap, refl, subst, ℕ, ◌≤◌, ◌<◌, Bool, true, false, not, ◌&&◌, List, [], ◌∷◌, ◌++◌, arith, append_assoc}
+use Rattle.std.specs.Prelude.{Option, Some, None, map, is_some, is_none, option_map, if◌then◌else◌}
 use Rattle.std.specs.Option.{option_and_then}
 use Rattle.std.proofs.lemmas.Bool.{eqb-true, eq-eqb}
-use Rattle.amqp_perf.specs.declared.perf.Detach.{Detach as ADetach}
-use Rattle.amqp_perf.specs.declared.perf.Perf.{Perf}
 use Rattle.amqp_perf.specs.declared.perf.Perf.TheVariants as perf
 use Rattle.amqp_perf.specs.declared.state.DeliveryState.{DeliveryState}
 use Rattle.amqp_frames.specs.declared.item.Item.{Item}
@@ -22,21 +20,17 @@ use Rattle.book_core.specs.Book.{BookView, row_at, terminus_at, terminus_of, is_
 use Rattle.gate_journal.specs.Ordered.{IsOrdered}
 use Rattle.router_store.specs.declared.acting.TerminusAct.{TerminusAct}
 use Rattle.router_store.specs.Acting.{journal_outcome, outcome_for, is_among, settles, decided_to, decided_by, forgotten_by, rows_behind, terminus_acts, event_acts as settled_acts}
-use Rattle.router_store.specs.Lost.{start_acts}
 use Rattle.router_store.proofs.Makes.{effects_more}
 use Rattle.router_store.proofs.Rowwise.{Leaves as Left}
 use Rattle.router_store.proofs.Settled.{settles_leave}
 use Rattle.router_store.proofs.Started.{start_applies}
-use Rattle.router_trace.specs.declared.binding.DeliveryName.TheVariants.{Row, Counter}
+use Rattle.router_trace.specs.declared.binding.DeliveryName.TheVariants.{Row}
 use Rattle.router_trace.specs.declared.binding.Origin.{Origin}
-use Rattle.router_trace.specs.declared.condition.Condition.{Condition}
-use Rattle.router_trace.specs.declared.event.ConnectionId.{ConnectionId}
 use Rattle.router_trace.specs.declared.event.Event.{Event}
 use Rattle.router_trace.specs.declared.event.Event.TheVariants as event
 use Rattle.router_trace.specs.Connection.{due}
 use Rattle.router_trace.specs.DeliveryFrames.{kept_outcome}
 use Rattle.router_trace.specs.Deliveries.{Delivery, source, delivery, is_undecided}
-use Rattle.router_trace.specs.Following.{link_of}
 use Rattle.router_trace.specs.Links.{link, durable_key}
 use Rattle.router_trace.specs.Sessions.{session_on}
 use Rattle.router_trace.specs.Trace.{Trace, Booked}
@@ -47,15 +41,15 @@ use Rattle.router_deliveries.specs.Deciding.{changed_by}
 use Rattle.router_deliveries.specs.Hearing.{disposed_change}
 use Rattle.router_deliveries.specs.Stepping.{is_gone, changed}
 use Rattle.router_rows.specs.declared.answer.Answer.{Answer}
-use Rattle.router_rows.specs.declared.answer.Answer.TheVariants.{Nothing, Header, Open, Close, CloseWith, Begin, End, Flow, Attach, Refuse, Detach, LinkFlow, Taken, Settle}
+use Rattle.router_rows.specs.declared.answer.Answer.TheVariants.{Detach}
 use Rattle.router_reply.specs.Acts.{event_answer, answer_acts, planned_acts, admitted_acts, or_admits, event_acts, finds_full, journaled, book_in, acts_of}
 use Rattle.router_reply.specs.Admitting.{event_admission, admits}
-use Rattle.router_reply.specs.Deciding.{lost, listed, ended_by, event_changes, decided as decided_in, settled_on, sent_by, sent_from, closed_terminus, forgotten_by as forgotten_on, forgotten_in, forgotten as forgotten_at, terminus_of_event}
+use Rattle.router_reply.specs.Deciding.{lost, listed, ended_by, event_changes, decided as decided_in, sent_by, sent_from, closed_terminus, forgotten as forgotten_at, terminus_of_event}
 use Rattle.router_laws.proofs.Applying.{settled_apply, admission_applies, ordered_behind}
-use Rattle.router_laws.proofs.Changing.{Leaves, leaves_by, leaves_on, undecided_is}
+use Rattle.router_laws.proofs.Changing.{Leaves, leaves_by}
 use Rattle.router_laws.proofs.Decisions.{decided_of, settled_is_done, among_rows}
-use Rattle.router_laws.proofs.Facts.{kept_form, FromTerminus, IsHeld, Agrees, RowFact, Facts}
-use Rattle.router_laws.proofs.Looking.{by_case, found_number}
+use Rattle.router_laws.proofs.Facts.{kept_form, IsHeld, Agrees, RowFact, Facts}
+use Rattle.router_laws.proofs.Looking.{found_number}
 use Rattle.router_laws.proofs.Settling.{settled, settled_row, found_at_number, found_key, Stays, stays_it, terminus_stays, admission_stays}
 use Rattle.router_laws.proofs.Standing.{Standing, one_place}
 use Rattle.router_laws.proofs.Tests.{some_same, none_not_some}
@@ -256,7 +250,7 @@ closed_is_done t b n d r c (Detach own handle true None) first i standing ordere
         let at = held.from p before in
         let same_number : at.at.number.0 ≡ x.number.0 = at.number ∙ eqb-true rows.0.producer.0 x.number.0 rows.2 in
         let one : at.at ≡ x = some_same (sym (found_at_number at.key b.termini at.at ordered.termini_rise at.found)
-            ∙ ap (λ (m : ℕ). terminus_at m b.termini) same_number ∙ found_at_number key b.termini x ordered.termini_rise found) in
+        ∙ ap (λ (m : ℕ). terminus_at m b.termini) same_number ∙ found_at_number key b.termini x ordered.termini_rise found) in
         let keys : at.key ≡ key = sym (found_key at.key b.termini at.at at.found) ∙ ap (λ (y : Terminus). y.key) one ∙ found_key key b.termini x found in
         let place = one_place t standing p.link (record { number = 0; conn = record { 0 = c }; channel = own; handle = handle }) key (at.durable ∙ ap (λ (k : LinkKey). Some k) keys) durable in
         clash (sym spared ∙ ended own handle place.0 place.1 place.2)

@@ -1,8 +1,6 @@
 -- What changes leave of a delivery: its outcome stays, once it has one; and which changes the items are that end links, and what a peer's disposition is.
-use Rattle.std.proofs.Common.{◌≡◌, ◌∙◌, sym, ap, refl, subst, ℕ, ◌+◌, Bool, true, false, not, ◌&&◌, ◌||◌, List, [], ◌∷◌, ◌++◌, length, arith}
+use Rattle.std.proofs.Common.{◌≡◌, ◌∙◌, sym, ap, refl, subst, ℕ, Bool, true, false, not, ◌&&◌, ◌||◌, List, [], ◌∷◌, length}
 use Rattle.std.specs.Prelude.{◌==◌, Option, Some, None, is_none, if◌then◌else◌}
-use Rattle.std.proofs.lemmas.Bool.{eqb-true}
-use Rattle.std.proofs.lemmas.Bool.Decides.{nat_tests}
 use Rattle.amqp_perf.specs.declared.perf.Close.{Close as AClose}
 use Rattle.amqp_perf.specs.declared.perf.Detach.{Detach as ADetach}
 use Rattle.amqp_perf.specs.declared.perf.Disposition.{Disposition}
@@ -13,28 +11,19 @@ use Rattle.amqp_perf.specs.declared.perf.Role.{Role}
 use Rattle.amqp_perf.specs.declared.perf.Role.TheVariants.{Sender, Receiver}
 use Rattle.amqp_perf.specs.declared.perf.Transfer.{Transfer}
 use Rattle.amqp_perf.specs.declared.state.DeliveryState.{DeliveryState}
-use Rattle.amqp_perf.specs.declared.state.DeliveryState.TheVariants as state
 use Rattle.amqp_frames.specs.declared.item.Item.{Item}
 use Rattle.amqp_frames.specs.declared.item.Item.TheVariants as item
-use Rattle.amqp_session.specs.Ranges.{in_range}
 use Rattle.router_trace.specs.declared.binding.DeliveryName.{DeliveryName}
 use Rattle.router_trace.specs.declared.binding.Origin.{Origin}
-use Rattle.router_trace.specs.declared.channel.PeerChannel.{PeerChannel}
-use Rattle.router_trace.specs.declared.channel.PeerChannel.TheVariants.{Mapped, Ending}
-use Rattle.router_trace.specs.declared.event.Event.{Event}
-use Rattle.router_trace.specs.declared.event.Event.TheVariants as event
 use Rattle.router_trace.specs.declared.handle.Attachment.{Attachment}
-use Rattle.router_trace.specs.Sessions.{maps, own_of}
-use Rattle.router_trace.specs.Deliveries.{Delivery, failed, source, either_origin, untold, unsettled, is_undecided, is_gone_with, behind_origin, behind_ends, ended, decided_at_end, suspended_at_end, closes, ended_by, put_in, behind_put, behind_frame, told, is_meant, is_named, origin_id, is_number, carried, tag_in, decided, decision, terminal, last_of, stands_on, is_on, is_settled_at, disposed, heard_in, heard, behind_event, lost_with}
+use Rattle.router_trace.specs.Deliveries.{Delivery, failed, source, untold, unsettled, is_undecided, is_gone_with, behind_ends, ended, decided_at_end, suspended_at_end, closes, ended_by, put_in, behind_put, behind_frame, told, is_meant, origin_id, is_number, carried, tag_in, stands_on}
 use Rattle.router_deliveries.specs.declared.change.Change.{Change}
 use Rattle.router_deliveries.specs.declared.change.Change.TheVariants as change
 use Rattle.router_deliveries.specs.declared.change.Gone.TheVariants as gone
 use Rattle.router_deliveries.specs.Deciding.{changed_by}
-use Rattle.router_deliveries.specs.Hearing.{decided_by, disposed_change, heard_in_change, heard_change}
-use Rattle.router_deliveries.specs.Stepping.{is_gone, comes_with_id, is_in, is_decided_by, changed, untold_by}
-use Rattle.router_deliveries.proofs.Puts.{same_ends, no_ends}
+use Rattle.router_deliveries.specs.Stepping.{is_gone, comes_with_id, is_in, changed}
+use Rattle.router_deliveries.proofs.Puts.{same_ends}
 use Rattle.router_laws.proofs.Tests.{none_not_some}
-use Rattle.router_laws.proofs.Undecided.{ends_spare}
 
 -- what a change leaves
 

@@ -1,5 +1,5 @@
 -- The consumer that is chosen for a message is a link on which the router sends.
-use Rattle.std.proofs.Common.{◌≡◌, ◌∙◌, ℕ, Bool, true, false, refl, sym, ap, subst, List, [], ◌∷◌}
+use Rattle.std.proofs.Common.{◌≡◌, ◌∙◌, ℕ, Bool, true, false, refl, sym, ap, List, [], ◌∷◌}
 use Rattle.std.specs.Prelude.{◌==◌, Option, Some, None, if◌then◌else◌, is_some, option_and_then}
 use Rattle.std.proofs.lemmas.Bool.{eqb-true}
 use Rattle.route_credit.specs.Granting.{choice, is_sooner, least}
@@ -10,7 +10,7 @@ use Rattle.router_pools.specs.Sharing.{offer_at}
 use Rattle.router_pools.proofs.Listed.{listed_at}
 use Rattle.router_trace.specs.declared.handle.Attachment.{Attachment}
 use Rattle.router_trace.specs.Trace.{Trace}
-use Rattle.router_trace.specs.Links.{Link, Happened, sends, receives, link, numbered, attachments}
+use Rattle.router_trace.specs.Links.{Link, Happened, sends, receives, numbered, attachments}
 use Rattle.router_trace.specs.Following.{link_of, is_sending}
 use Rattle.router_passing.specs.Figures.{figure, figure_at, figure_by, figure_on}
 use Rattle.router_passing.specs.Passing.{choice_of, consumer_of, pool_of}

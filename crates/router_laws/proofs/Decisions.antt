@@ -1,7 +1,6 @@
 -- What an event decides and forgets of rows is what its changes make of their deliveries.
-use Rattle.std.proofs.Common.{◌≡◌, ◌∙◌, sym, ap, refl, subst, ℕ, zero, suc, ◌+◌, ◌≤◌, ◌<◌, Bool, true, false, not, ◌&&◌, ◌||◌, List, [], ◌∷◌, ◌++◌, arith}
-use Rattle.std.specs.Prelude.{◌==◌, Option, Some, None, map, filter, is_some, option_map, if◌then◌else◌}
-use Rattle.std.specs.List.{list_any}
+use Rattle.std.proofs.Common.{◌≡◌, ◌∙◌, sym, ap, refl, subst, ℕ, zero, suc, ◌+◌, ◌≤◌, ◌<◌, Bool, true, false, ◌||◌, List, [], ◌∷◌, ◌++◌, arith}
+use Rattle.std.specs.Prelude.{◌==◌, Option, Some, None, map, filter, option_map, if◌then◌else◌}
 use Rattle.std.proofs.lemmas.Bool.{eqb-true}
 use Rattle.std.proofs.lemmas.Bool.Decides.{nat_tests}
 use Rattle.amqp_perf.specs.declared.perf.Disposition.{Disposition as ADisposition}
@@ -11,7 +10,7 @@ use Rattle.amqp_perf.specs.declared.state.DeliveryState.{DeliveryState}
 use Rattle.book_core.specs.declared.act.Decision.{Decision}
 use Rattle.book_core.specs.declared.row.Row.{Row as ARow}
 use Rattle.book_core.specs.declared.row.RowNumber.{RowNumber}
-use Rattle.book_core.specs.Book.{BookView, row_at}
+use Rattle.book_core.specs.Book.{row_at}
 use Rattle.book_core.specs.Rising.{Rises, AllAbove}
 use Rattle.gate_journal.specs.Ordered.{number_of_row}
 use Rattle.router_store.specs.Acting.{outcome_for, is_among}
@@ -23,7 +22,7 @@ use Rattle.router_trace.specs.DeliveryFrames.{kept_outcome}
 use Rattle.router_trace.specs.Deliveries.{Delivery, source, bindings, number_named, delivery, is_undecided, untold, last_of}
 use Rattle.router_deliveries.specs.declared.change.Change.{Change}
 use Rattle.router_deliveries.specs.declared.change.Change.TheVariants as change
-use Rattle.router_deliveries.specs.Deciding.{gathered_below, changed_by, row_of, open_row, outcome_of_row, outcome_of, decision_of, decided_rows, listed_row, row_from, rows_from}
+use Rattle.router_deliveries.specs.Deciding.{gathered_below, changed_by, row_of, outcome_of_row, outcome_of, decision_of, decided_rows, listed_row, row_from, rows_from}
 use Rattle.router_deliveries.specs.Hearing.{disposed_change}
 use Rattle.router_deliveries.specs.Stepping.{comes_with_id, changed}
 use Rattle.router_deliveries.proofs.Called.{there_named}

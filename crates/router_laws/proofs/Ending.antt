@@ -1,18 +1,16 @@
 -- An event's entry, the closes for full outboxes, and what an answer says: each is the next of the event's changes, or none.
-use Rattle.std.proofs.Common.{◌≡◌, ◌∙◌, sym, ap, refl, subst, ℕ, Bool, true, false, not, ◌&&◌, List, [], ◌∷◌, ◌++◌, length, append_assoc, append-nil}
+use Rattle.std.proofs.Common.{◌≡◌, ◌∙◌, sym, ap, refl, subst, ℕ, Bool, true, false, ◌&&◌, List, [], ◌∷◌, ◌++◌, length, append_assoc, append-nil}
 use Rattle.std.specs.Prelude.{◌==◌, Option, Some, None, map, filter, is_some, option_map, if◌then◌else◌}
 use Rattle.amqp_frames.specs.declared.item.Item.{Item}
-use Rattle.amqp_frames.specs.declared.item.Item.TheVariants as item
 use Rattle.amqp_conn.specs.declared.conn.Conn.{Conn}
-use Rattle.router_trace.specs.declared.channel.PeerChannel.{PeerChannel}
 use Rattle.router_trace.specs.declared.condition.Condition.{Condition}
 use Rattle.router_trace.specs.declared.condition.Condition.TheVariants.{ResourceLimitExceeded}
 use Rattle.router_trace.specs.declared.event.ConnectionId.{ConnectionId}
 use Rattle.router_trace.specs.declared.event.Event.{Event}
 use Rattle.router_trace.specs.declared.event.Event.TheVariants as event
-use Rattle.router_trace.specs.Trace.{Trace, Entry, Did, Out, Put, Step, goes, puts, each_to, ups}
+use Rattle.router_trace.specs.Trace.{Trace, Did, Out, Step, goes, puts, each_to, ups}
 use Rattle.router_trace.specs.Connection.{Connection, conn, ended, fresh, has, is_full, is_due, due, due_of, unless_due, live_of, at_event, with_item}
-use Rattle.router_trace.specs.Deliveries.{Delivery, delivery, named, number_named, sending, ended_by as put_ends, behind_event, behind_put}
+use Rattle.router_trace.specs.Deliveries.{Delivery, delivery, named, number_named, sending, ended_by as put_ends, behind_event}
 use Rattle.router_trace.specs.Frames.{error_of, header_item, open_item, close_item, begin_item, end_item, flow_item, closing}
 use Rattle.router_trace.specs.LinkFrames.{detach_item, link_flow_item}
 use Rattle.router_trace.specs.Sessions.{theirs, session_on}

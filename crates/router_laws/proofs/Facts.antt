@@ -1,8 +1,7 @@
 -- What the book has of the deliveries with rows: each row that its producer isn't done with is there, and has the outcome that its delivery has behind the changes
 -- that are still to come.
-use Rattle.std.proofs.Common.{◌≡◌, ◌∙◌, sym, ap, refl, subst, ℕ, ◌+◌, ◌≤◌, ◌<◌, Bool, true, false, not, ◌&&◌, ◌||◌, List, [], ◌∷◌, ◌++◌, arith}
-use Rattle.std.specs.Prelude.{◌==◌, Option, Some, None, option_map, if◌then◌else◌}
-use Rattle.std.proofs.lemmas.Bool.{eqb-true}
+use Rattle.std.proofs.Common.{◌≡◌, ◌∙◌, sym, ap, refl, subst, ℕ, ◌+◌, ◌<◌, true, false, List, [], ◌∷◌}
+use Rattle.std.specs.Prelude.{◌==◌, Option, Some, None, option_map}
 use Rattle.amqp_perf.specs.declared.state.DeliveryState.{DeliveryState}
 use Rattle.amqp_frames.specs.declared.item.Item.{Item}
 use Rattle.book_core.specs.declared.row.Row.{Row as ARow}
@@ -13,13 +12,12 @@ use Rattle.book_core.specs.declared.terminus.Terminus.{Terminus}
 use Rattle.book_core.specs.Book.{BookView, row_at, terminus_of, same_role}
 use Rattle.router_store.specs.Acting.{journal_outcome}
 use Rattle.router_trace.specs.declared.binding.Binding.{Binding}
-use Rattle.router_trace.specs.declared.binding.DeliveryName.{DeliveryName}
-use Rattle.router_trace.specs.declared.binding.DeliveryName.TheVariants.{Row, Counter}
+use Rattle.router_trace.specs.declared.binding.DeliveryName.TheVariants.{Row}
 use Rattle.router_trace.specs.declared.binding.Origin.{Origin}
 use Rattle.router_trace.specs.declared.handle.Attachment.{Attachment}
-use Rattle.router_trace.specs.Trace.{Trace, Entry, Did, Out, Took, Bound, Booked, Step}
+use Rattle.router_trace.specs.Trace.{Trace, Entry, Did, Out, Took, Bound, Step}
 use Rattle.router_trace.specs.DeliveryFrames.{kept_outcome}
-use Rattle.router_trace.specs.Deliveries.{Delivery, source, bindings, bound, name_in, name_of, number_named, delivery, sending, named, behind_put, behind_event, ended_by}
+use Rattle.router_trace.specs.Deliveries.{Delivery, source, bindings, bound, name_in, name_of, number_named, delivery, sending, named, behind_put, behind_event}
 use Rattle.router_trace.specs.Following.{link_of}
 use Rattle.router_trace.specs.Links.{durable_key}
 use Rattle.router_trace.specs.Sessions.{theirs}
@@ -29,10 +27,10 @@ use Rattle.router_deliveries.proofs.Called.{uncalled}
 use Rattle.router_conns.proofs.Lists.{by_test}
 use Rattle.router_reply.specs.Acts.{book_in}
 use Rattle.router_laws.proofs.Bindings.{of_what}
-use Rattle.router_laws.proofs.Changing.{Leaves, leaves_by, Alike}
+use Rattle.router_laws.proofs.Changing.{leaves_by, Alike}
 use Rattle.router_laws.proofs.Standing.{Standing, IsFresh, out_durable, did_durable}
-use Rattle.router_laws.proofs.Tests.{some_same, none_not_some}
-use Rattle.router_laws.proofs.Undecided.{Was, lost_by, was_did, was_out}
+use Rattle.router_laws.proofs.Tests.{some_same}
+use Rattle.router_laws.proofs.Undecided.{was_did, was_out}
 
 -- the outcome that the journal keeps of a delivery's
 abbrev pub kept_form : DeliveryState → DeliveryState

@@ -1,10 +1,9 @@
 -- What a peer's item does to deliveries is a change of them, as long as the ids of undecided ones name them.
-use Rattle.std.proofs.Common.{◌≡◌, ◌∙◌, sym, ap, refl, subst, ℕ, Bool, true, false, not, ◌&&◌, ◌||◌, List, [], ◌∷◌, arith}
-use Rattle.std.specs.Prelude.{◌==◌, Option, Some, None, is_none, if◌then◌else◌}
+use Rattle.std.proofs.Common.{◌≡◌, ◌∙◌, sym, ap, refl, ℕ, Bool, true, false, ◌&&◌, arith}
+use Rattle.std.specs.Prelude.{◌==◌, Option, Some, None, if◌then◌else◌}
 use Rattle.std.proofs.lemmas.Bool.{eqb-true}
 use Rattle.std.proofs.lemmas.Bool.Decides.{nat_tests}
 use Rattle.amqp_perf.specs.declared.perf.Disposition.{Disposition}
-use Rattle.amqp_perf.specs.declared.perf.Perf.{Perf}
 use Rattle.amqp_perf.specs.declared.perf.Perf.TheVariants as perf
 use Rattle.amqp_perf.specs.declared.perf.Role.{Role}
 use Rattle.amqp_perf.specs.declared.perf.Role.TheVariants.{Sender, Receiver}
@@ -16,12 +15,11 @@ use Rattle.router_trace.specs.declared.binding.Origin.{Origin}
 use Rattle.router_trace.specs.declared.channel.PeerChannel.{PeerChannel}
 use Rattle.router_trace.specs.declared.channel.PeerChannel.TheVariants.{Mapped, Ending}
 use Rattle.router_trace.specs.Sessions.{maps, own_of}
-use Rattle.router_trace.specs.Deliveries.{Delivery, source, untold, is_undecided, is_meant, is_named, is_number, decided, decision, terminal, last_of, is_on, is_settled_at, disposed, heard_in, heard}
-use Rattle.router_deliveries.specs.declared.change.Change.{Change}
+use Rattle.router_trace.specs.Deliveries.{Delivery, source, untold, is_undecided, is_meant, is_named, is_number, decided, decision, terminal, last_of, is_settled_at, disposed, heard}
 use Rattle.router_deliveries.specs.declared.change.Change.TheVariants as change
 use Rattle.router_deliveries.specs.Deciding.{changed_by}
-use Rattle.router_deliveries.specs.Hearing.{decided_by, disposed_change, heard_in_change, heard_change}
-use Rattle.router_deliveries.specs.Stepping.{comes_with_id, is_in, changed, untold_by}
+use Rattle.router_deliveries.specs.Hearing.{decided_by, disposed_change, heard_change}
+use Rattle.router_deliveries.specs.Stepping.{comes_with_id, is_in}
 use Rattle.router_links.specs.Fits.{channel_of}
 use Rattle.router_reply.specs.Deciding.{listed}
 use Rattle.router_laws.proofs.Changing.{undecided_is}

@@ -1,7 +1,6 @@
 -- What holds of a trace in which outcomes are kept first, and which items keep it.
-use Rattle.std.proofs.Common.{◌≡◌, ◌∙◌, sym, ap, refl, subst, ℕ, zero, suc, ◌+◌, Bool, true, false, not, ◌&&◌, List, [], ◌∷◌, ◌++◌}
-use Rattle.std.specs.Prelude.{◌==◌, Option, Some, None, is_some, option_map, if◌then◌else◌}
-use Rattle.std.proofs.lemmas.Bool.{eqb-true}
+use Rattle.std.proofs.Common.{◌≡◌, ◌∙◌, sym, ap, refl, ℕ, zero, suc, ◌+◌, Bool, true, false, not, ◌&&◌, List, [], ◌∷◌, ◌++◌}
+use Rattle.std.specs.Prelude.{◌==◌, Option, Some, None, option_map}
 use Rattle.amqp_perf.specs.declared.perf.Disposition.{Disposition}
 use Rattle.amqp_perf.specs.declared.perf.Perf.{Perf}
 use Rattle.amqp_perf.specs.declared.perf.Perf.TheVariants as perf
@@ -13,20 +12,18 @@ use Rattle.amqp_frames.specs.declared.item.Item.{Item}
 use Rattle.amqp_frames.specs.declared.item.Item.TheVariants as item
 use Rattle.amqp_session.specs.Session.{Session}
 use Rattle.book_core.specs.declared.row.Row.{Row as ARow}
-use Rattle.book_core.specs.declared.row.RowNumber.{RowNumber}
 use Rattle.book_core.specs.Book.{row_at}
 use Rattle.gate_journal.specs.Ordered.{IsOrdered}
 use Rattle.router_store.specs.Acting.{journal_outcome}
 use Rattle.router_trace.specs.declared.binding.DeliveryName.{DeliveryName}
 use Rattle.router_trace.specs.declared.binding.DeliveryName.TheVariants.{Row, Counter}
 use Rattle.router_trace.specs.declared.binding.Origin.{Origin}
-use Rattle.router_trace.specs.declared.handle.Attachment.{Attachment}
-use Rattle.router_trace.specs.Trace.{Trace, Entry, Out, Took, Put, goes, each_to}
+use Rattle.router_trace.specs.Trace.{Trace, Out, Took, Put, goes, each_to}
 use Rattle.router_trace.specs.Connection.{live}
 use Rattle.router_trace.specs.DeliveryFrames.{kept_outcome}
 use Rattle.router_trace.specs.Deliveries.{Delivery, either_origin, source, bindings, has_row, number_named, delivery, sending, is_undecided, ended_by, behind_put}
 use Rattle.router_trace.specs.Following.{is_to_be_told, outcome_to, tell, tells_of, tells, sends_due, drains_due}
-use Rattle.router_trace.specs.Links.{ends_handle, ends_handle_in}
+use Rattle.router_trace.specs.Links.{ends_handle_in}
 use Rattle.router_trace.specs.Sessions.{session}
 use Rattle.router_sessions.specs.Windows.{is_narrow, flow_due, flows_below, windows_over, windows}
 use Rattle.router_deliveries.specs.declared.change.Change.{Change}
@@ -35,20 +32,19 @@ use Rattle.router_deliveries.specs.Stepping.{changed}
 use Rattle.router_passing.specs.Passing.{grants_due}
 use Rattle.router_reply.specs.Acts.{book_in}
 use Rattle.router_conns.proofs.Lists.{by_test}
-use Rattle.router_core.proofs.Due.{first_elim, goes_on_link, OnLink, AllOnLinks, drains_on}
+use Rattle.router_core.proofs.Due.{first_elim, goes_on_link, AllOnLinks, drains_on}
 use Rattle.router_core.proofs.Following.{Steps, passed_on, passed_keeps}
 use Rattle.router_core.proofs.Granting.{AllGrants, all_grants}
 use Rattle.router_laws.specs.Each.{EachOut}
 use Rattle.router_laws.specs.Told.{TellsOutcome}
 use Rattle.router_laws.specs.Carried.{HasSmallNumbers}
 use Rattle.router_laws.specs.Kept.{IsDecidedAs, RowIsDecided, role_is_decided, perf_is_decided, OutcomeIsKept}
-use Rattle.router_laws.proofs.Changing.{Alike, alike_it, alike_item}
-use Rattle.router_laws.proofs.Facts.{kept_form, IsHeld, Agrees, RowFact, Facts, out_facts, took_facts}
+use Rattle.router_laws.proofs.Changing.{alike_it, alike_item}
+use Rattle.router_laws.proofs.Facts.{kept_form, Agrees, Facts, out_facts, took_facts}
 use Rattle.router_laws.proofs.Naming.{AreNamed, is_sent_in, is_sent, out_named, IsNaming, sent_named, sends_elim}
 use Rattle.router_laws.proofs.Quiet.{drains_quiet}
 use Rattle.router_laws.proofs.Sound.{is_loud_in, is_loud, QuietPut}
 use Rattle.router_laws.proofs.Standing.{Standing, fresh_in, IsFresh, out_standing, took_standing}
-use Rattle.router_laws.proofs.Tests.{some_same, none_not_some}
 
 clash : true ≡ false → ⊥
 clash e = cc

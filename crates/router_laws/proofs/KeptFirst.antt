@@ -1,7 +1,7 @@
 -- In every trace of the router in which no event is declined, the outcome of a delivery with a row stands in the book before it is told, and each row is decided
 -- at most once.
 use Rattle.std.proofs.Common.{◌≡◌, ◌∙◌, sym, ap, refl, subst, ◌⊎◌, inl, inr, ℕ, ◌+◌, ◌≤◌, ◌<◌, ◌^◌, ◌||◌, Bool, true, false, List, [], ◌∷◌, ◌++◌, arith}
-use Rattle.std.specs.Prelude.{Option, Some, None, is_some, if◌then◌else◌}
+use Rattle.std.specs.Prelude.{Option, Some, None, if◌then◌else◌}
 use Rattle.amqp_perf.specs.declared.perf.Attach.{Attach as AnAttach}
 use Rattle.amqp_perf.specs.declared.perf.Perf.{Perf}
 use Rattle.amqp_perf.specs.declared.perf.Perf.TheVariants as perf
@@ -21,7 +21,7 @@ use Rattle.router_trace.specs.declared.condition.Condition.TheVariants.{Resource
 use Rattle.router_trace.specs.declared.event.ConnectionId.{ConnectionId}
 use Rattle.router_trace.specs.declared.event.Event.{Event}
 use Rattle.router_trace.specs.declared.event.Event.TheVariants as event
-use Rattle.router_trace.specs.Trace.{Beginning, Trace, Entry, Did, Out, Took, Booked, Put, Step, goes, puts, each_to, step_of, ups}
+use Rattle.router_trace.specs.Trace.{Beginning, Trace, Did, Out, Took, Booked, Put, Step, goes, puts, each_to, step_of, ups}
 use Rattle.router_trace.specs.Connection.{conn, due, found, standing, live_of}
 use Rattle.router_trace.specs.Clocks.{terms, written, needs_beat}
 use Rattle.router_trace.specs.Deliveries.{Delivery, bindings, delivery}
@@ -29,42 +29,37 @@ use Rattle.router_trace.specs.Links.{link_place, free_handle}
 use Rattle.router_trace.specs.Peers.{largest_frame}
 use Rattle.router_trace.specs.Sessions.{theirs}
 use Rattle.router_trace.specs.Settling.{part_of}
-use Rattle.router_deliveries.specs.declared.change.Change.{Change}
-use Rattle.router_sessions.specs.Windows.{windows}
 use Rattle.router_passing.specs.Passing.{with_bound}
 use Rattle.router_rows.specs.declared.answer.Answer.{Answer}
-use Rattle.router_rows.specs.declared.answer.Answer.TheVariants.{Nothing, Header, Open, Close, CloseWith, Begin, End, Flow, Attach, Refuse, Detach, LinkFlow, Taken, Settle}
-use Rattle.router_rows.specs.Booking.{wanted_key, answer_at}
-use Rattle.router_rows.specs.Rows.{said}
+use Rattle.router_rows.specs.declared.answer.Answer.TheVariants.{Attach, Refuse, Taken}
+use Rattle.router_rows.specs.Booking.{answer_at}
 use Rattle.router_state.specs.Tables.{beat_if, beats_over}
 use Rattle.router_reply.specs.Acts.{live_answer, finds_full, journaled, book_in, acts_of, booked, answer_of}
 use Rattle.router_reply.specs.Deciding.{ended_by}
-use Rattle.router_reply.specs.Replies.{closing_of, ends, heard, refused, bound_for, links_put, item_put, item_bound, item_row, bound_by, own_row, replied_behind, replied}
+use Rattle.router_reply.specs.Replies.{closing_of, ends, heard, bound_for, item_put, item_bound, item_row, bound_by, own_row, replied_behind, replied}
 use Rattle.router_core.specs.declared.driving.Sent.{Sent}
 use Rattle.router_core.specs.Moves.{Move, handles, takes, Goes, IsTrace}
 use Rattle.router_core.specs.Replies.{handled}
 use Rattle.router_core.specs.Runs.{Taking, took_one, took_all, MayStep, Run}
 use Rattle.router_core.specs.Turns.{is_started, declines}
-use Rattle.router_core.proofs.Books.{not_refused, started_handled}
-use Rattle.router_core.proofs.Following.{all_keep, passed_on}
-use Rattle.router_conns.proofs.Lists.{by_test}
-use Rattle.router_laws.specs.Each.{EachOut, EachBound}
-use Rattle.router_laws.specs.Carried.{HasSmallNumbers, HasSmallRow}
-use Rattle.router_laws.specs.Kept.{OutcomeIsKept, may_be_decided, times_in, times_decided, IsDecidedOnce}
+use Rattle.router_core.proofs.Books.{started_handled}
+use Rattle.router_core.proofs.Following.{all_keep}
+use Rattle.router_laws.specs.Carried.{HasSmallNumbers}
+use Rattle.router_laws.specs.Kept.{may_be_decided, times_in, times_decided, IsDecidedOnce}
 use Rattle.router_laws.specs.Laws.{GoesInTurn, AllOutcomesKept, AllRowsDecidedOnce}
 use Rattle.router_laws.proofs.Admitted.{answer_behind}
 use Rattle.router_laws.proofs.AllSound.{handled_sound}
 use Rattle.router_laws.proofs.Answering.{IfAttach, attach_answered, attach_finds, taken_receives, may_bind}
 use Rattle.router_laws.proofs.Attaching.{AttachAt, taken_kept, refused_kept}
 use Rattle.router_laws.proofs.Bindings.{of_messages, there_bound}
-use Rattle.router_laws.proofs.Booked.{acts_apply, ordered_acts, answer_for, changes_of, booked_facts}
+use Rattle.router_laws.proofs.Booked.{acts_apply, ordered_acts, changes_of, booked_facts}
 use Rattle.router_laws.proofs.Ending.{takes_none, answer_rest, came_kept, ends_kept}
 use Rattle.router_laws.proofs.Keeps.{Kept, PlainPut, plain_both, plain_goes, took_kept, small_before, SmallKept, followed_kept}
 use Rattle.router_laws.proofs.Once.{Decides, decides_once}
 use Rattle.router_laws.proofs.Rowing.{MayBind, Receives, plain_row, disposed_row, taken_row}
 use Rattle.router_laws.proofs.Sound.{Sound, sound_start, took_sound, batch_sound}
 use Rattle.router_laws.proofs.Standing.{began_standing, booked_standing}
-use Rattle.router_laws.proofs.Tests.{some_same, none_not_some}
+use Rattle.router_laws.proofs.Tests.{none_not_some}
 use Rattle.router_laws.proofs.Transfers.{IfTaken, transfer_taken}
 
 clash : true ≡ false → ⊥
@@ -131,13 +126,12 @@ item_rows id t s from (item.Frame sasl channel body payload) is p here y answer 
 
     -- an attach
     attaching : (a : AnAttach) → body ≡ perf.Attach a → IfAttach sasl (free_handle t from.0) y × (sasl ≡ false → AttachAt t u from.0 a)
-    attaching a same =
-        (
-          subst (λ (z : Answer). IfAttach sasl (free_handle t from.0) z) answer
+    attaching a same = (
+      subst (λ (z : Answer). IfAttach sasl (free_handle t from.0) z) answer
           (subst (λ (b : Perf). IfAttach sasl (free_handle t from.0) (answer_at full (book_in t) t from.0 p (item.Frame sasl channel b payload))) (sym same)
           (attach_answered full (book_in t) t from.0 p sasl channel a payload)),
-          λ plain. at_attach plain,
-        )
+      λ plain. at_attach plain,
+    )
       where
         at_attach : sasl ≡ false → AttachAt t u from.0 a
         at_attach plain =

@@ -1,19 +1,16 @@
 -- The row of a number in a book: what acts make of it.
-use Rattle.std.proofs.Common.{◌≡◌, ◌∙◌, sym, ap, refl, subst, ℕ, ◌+◌, ◌≤◌, ◌<◌, Bool, true, false, cond, List, [], ◌∷◌, ◌++◌, arith}
-use Rattle.std.specs.Prelude.{◌==◌, Option, Some, None, find, filter_map, is_some, is_none, not, if◌then◌else◌}
+use Rattle.std.proofs.Common.{◌≡◌, ◌∙◌, sym, ap, refl, subst, ℕ, ◌<◌, Bool, true, false, cond, List, [], ◌∷◌, ◌++◌, arith}
+use Rattle.std.specs.Prelude.{◌==◌, Option, Some, None, filter_map, is_some, if◌then◌else◌}
 use Rattle.std.specs.List.{cons_option}
 use Rattle.std.specs.Option.{ForSome, option_and_then, option_or}
 use Rattle.std.proofs.lemmas.Bool.Decides.{nat_tests}
 use Rattle.std.proofs.lemmas.Bool.{eqb-true}
 use Rattle.std.proofs.lemmas.List.Folds.{find-append}
 use Rattle.amqp_perf.specs.declared.state.DeliveryState.{DeliveryState}
-use Rattle.book_core.specs.declared.act.Act.{Act}
-use Rattle.book_core.specs.declared.act.Act.TheVariants.{Make, Admit, Decide, Forget, Drop}
-use Rattle.book_core.specs.declared.act.Admission.{Admission}
 use Rattle.book_core.specs.declared.row.Row.{Row}
-use Rattle.book_core.specs.Book.{BookView, row_at, with_row, effect, admitted, decided, forgotten}
+use Rattle.book_core.specs.Book.{row_at, with_row, decided, forgotten}
 use Rattle.book_core.specs.Rising.{Rises, AllAbove, AllBelow}
-use Rattle.gate_journal.specs.Ordered.{IsOrdered, number_of_row}
+use Rattle.gate_journal.specs.Ordered.{number_of_row}
 
 pub by_case : {P : Type 0} (b : Bool) → ((b ≡ true) → P) → ((b ≡ false) → P) → P
 by_case true f g = f refl

@@ -2,7 +2,6 @@
 use Rattle.std.proofs.Common.{◌≡◌, ◌∙◌, sym, ap, refl, subst, ℕ, ◌+◌, Bool, true, false, not, ◌&&◌, ◌||◌, List, [], ◌∷◌, length}
 use Rattle.std.specs.Prelude.{◌==◌, Option, Some, None, is_none, is_some, if◌then◌else◌, option_and_then}
 use Rattle.std.proofs.lemmas.Bool.{eqb-true, eq-eqb}
-use Rattle.amqp_perf.specs.declared.perf.Disposition.{Disposition}
 use Rattle.amqp_perf.specs.declared.perf.Perf.{Perf}
 use Rattle.amqp_perf.specs.declared.perf.Perf.TheVariants as perf
 use Rattle.amqp_perf.specs.declared.perf.Role.{Role}
@@ -15,20 +14,20 @@ use Rattle.router_trace.specs.declared.binding.Binding.{Binding}
 use Rattle.router_trace.specs.declared.binding.DeliveryName.{DeliveryName}
 use Rattle.router_trace.specs.declared.handle.Attachment.{Attachment}
 use Rattle.router_trace.specs.Trace.{Entry, Did, Out, Bound, Put, Step}
-use Rattle.router_trace.specs.Links.{Link, is_lost, ends_handle_in, ends_handle, link, numbered}
+use Rattle.router_trace.specs.Links.{Link, is_lost, ends_handle_in, ends_handle, numbered}
 use Rattle.router_trace.specs.LinkFrames.{fits}
 use Rattle.router_trace.specs.Peers.{largest_frame}
 use Rattle.router_trace.specs.Sessions.{theirs, session}
 use Rattle.router_trace.specs.DeliveryFrames.{first_transfer, later_transfer, with_more, part_frame, filled, next_frame, largest_out, rest_of}
 use Rattle.router_trace.specs.Following.{link_of, is_busy, is_open, is_used, is_going, is_there, is_wide, goes_on_at, takes_more, can_start, can_go, place_to_go, transfer_of, send, send_of, sends_due}
-use Rattle.router_trace.specs.Deliveries.{Delivery, bindings, bound, name_in, number_named, number_tagged, delivery, sending, named, named_in, named_by, next_id, begins_under, is_id, carried, tag_in, tag_of, tagged, is_number, is_undecided, behind_frame, behind_ends, put_in, behind_put, behind_event, ended_by, closes, source, told, is_meant, origin_id, untold, unsettled}
+use Rattle.router_trace.specs.Deliveries.{Delivery, bindings, name_in, number_named, number_tagged, delivery, sending, named, named_in, named_by, next_id, is_id, carried, tag_in, tag_of, tagged, is_number, is_undecided, behind_frame, put_in, behind_put, behind_event, ended_by, closes, source, told, is_meant, origin_id, untold, unsettled}
 use Rattle.router_deliveries.proofs.Called.{there_named, uncalled}
 use Rattle.router_deliveries.proofs.Puts.{no_ends}
 use Rattle.router_conns.proofs.Lists.{by_test}
 use Rattle.router_core.proofs.Due.{both_true, placed_elim}
 use Rattle.router_laws.specs.Carried.{HasSmallNumbers}
 use Rattle.router_laws.proofs.Bindings.{of_what}
-use Rattle.router_laws.proofs.Followed.{Left, item_left, event_left, ends_left}
+use Rattle.router_laws.proofs.Followed.{Left, event_left, ends_left}
 use Rattle.router_laws.proofs.Names.{NamesTold, names_told}
 use Rattle.router_laws.proofs.Outcomes.{number_is}
 use Rattle.router_laws.proofs.Tests.{some_same, none_not_some}

@@ -1,18 +1,16 @@
 -- Acts that apply to a book, one after another, decide each row at most once.
-use Rattle.std.proofs.Common.{◌≡◌, ◌∙◌, sym, ap, refl, subst, ◌⊎◌, inl, inr, ℕ, ◌+◌, ◌≤◌, ◌<◌, Bool, true, false, List, [], ◌∷◌, ◌++◌, arith}
-use Rattle.std.specs.Prelude.{◌==◌, ◌||◌, nat_le, Option, Some, None, is_none, is_some, if◌then◌else◌}
+use Rattle.std.proofs.Common.{◌≡◌, ◌∙◌, sym, ap, refl, subst, ◌⊎◌, inl, inr, ℕ, ◌+◌, ◌<◌, Bool, true, false, List, [], ◌∷◌, arith}
+use Rattle.std.specs.Prelude.{◌==◌, ◌||◌, nat_le, Option, Some, None, is_some, if◌then◌else◌}
 use Rattle.std.specs.Option.{option_and_then}
 use Rattle.std.proofs.lemmas.Bool.Decides.{nat_tests}
 use Rattle.std.proofs.lemmas.Bool.{eqb-true}
 use Rattle.amqp_perf.specs.declared.state.DeliveryState.{DeliveryState}
-use Rattle.amqp_perf.specs.Spelling.{state_spelling}
 use Rattle.book_core.specs.declared.act.Act.{Act}
 use Rattle.book_core.specs.declared.act.Act.TheVariants.{Make, Admit, Decide, Forget, Drop}
 use Rattle.book_core.specs.declared.act.Admission.{Admission}
 use Rattle.book_core.specs.declared.act.Decision.{Decision}
-use Rattle.book_core.specs.declared.fault.BookFault.{BookFault}
 use Rattle.book_core.specs.declared.row.Row.{Row}
-use Rattle.book_core.specs.Book.{BookView, row_at, with_row, is_undecided, refusal, decide_refusal, effect, effects, first_fault, admitted, decided, forgotten, unless, or_else}
+use Rattle.book_core.specs.Book.{BookView, row_at, with_row, is_undecided, refusal, decide_refusal, effect, effects, first_fault, admitted, decided, forgotten}
 use Rattle.book_core.proofs.Steps.{admits_next}
 use Rattle.gate_journal.specs.Ordered.{IsOrdered}
 use Rattle.gate_journal.proofs.Ordered.{ordered_step}

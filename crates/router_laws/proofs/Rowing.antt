@@ -1,10 +1,8 @@
 -- What an event's row puts keeps what holds, but for attaches: what the answer says, the answers to a disposition, and what is put for a transfer.
-use Rattle.std.proofs.Common.{◌≡◌, ◌∙◌, sym, ap, refl, subst, ℕ, ◌+◌, ◌<◌, Bool, true, false, not, ◌&&◌, ◌||◌, List, [], ◌∷◌, ◌++◌, append-nil, arith}
-use Rattle.std.specs.Prelude.{◌==◌, nat_lt, Option, Some, None, is_some, option_map, unwrap_or, if◌then◌else◌}
+use Rattle.std.proofs.Common.{◌≡◌, ◌∙◌, sym, ap, refl, subst, ℕ, Bool, true, false, not, ◌&&◌, List, [], ◌∷◌, ◌++◌, append-nil}
+use Rattle.std.specs.Prelude.{◌==◌, nat_lt, Option, Some, None, if◌then◌else◌}
 use Rattle.std.proofs.lemmas.Bool.{eqb-true, eq-eqb}
-use Rattle.amqp_perf.specs.declared.perf.Attach.{Attach as AnAttach}
 use Rattle.amqp_perf.specs.declared.perf.Disposition.{Disposition as ADisposition}
-use Rattle.amqp_perf.specs.declared.perf.Perf.{Perf}
 use Rattle.amqp_perf.specs.declared.perf.Perf.TheVariants as perf
 use Rattle.amqp_perf.specs.declared.perf.Transfer.{Transfer as ATransfer}
 use Rattle.amqp_perf.specs.declared.state.DeliveryState.{DeliveryState}
@@ -20,30 +18,27 @@ use Rattle.router_trace.specs.declared.binding.Origin.{Origin}
 use Rattle.router_trace.specs.declared.condition.Condition.{Condition}
 use Rattle.router_trace.specs.declared.condition.Condition.TheVariants.{ResourceLimitExceeded, MessageSizeExceeded}
 use Rattle.router_trace.specs.declared.handle.Attachment.{Attachment}
-use Rattle.router_trace.specs.Trace.{Trace, Entry, Out, Bound, Put, goes, puts, each_to}
+use Rattle.router_trace.specs.Trace.{Trace, Bound, Put, goes, puts, each_to}
 use Rattle.router_trace.specs.Deliveries.{Delivery, bound, name_in, delivery, is_undecided, terminal, last_of, ended_by as put_ends}
-use Rattle.router_trace.specs.DeliveryFrames.{outcome_item}
 use Rattle.router_trace.specs.Following.{is_sending}
 use Rattle.router_trace.specs.LinkFrames.{detach_item}
 use Rattle.router_trace.specs.Links.{Link, link, link_place, has_number, is_attached}
 use Rattle.router_trace.specs.Settling.{open_ids, part_of, unbound}
-use Rattle.router_deliveries.specs.declared.change.Change.{Change}
-use Rattle.router_passing.specs.Passing.{consumer_of, with_bound}
+use Rattle.router_passing.specs.Passing.{with_bound}
 use Rattle.router_rows.specs.declared.answer.Answer.{Answer}
-use Rattle.router_rows.specs.declared.answer.Answer.TheVariants.{Nothing, Header, Open, Close, CloseWith, Begin, End, Flow, Attach, Refuse, Detach, LinkFlow, Taken, Settle}
+use Rattle.router_rows.specs.declared.answer.Answer.TheVariants.{Taken, Settle}
 use Rattle.router_rows.specs.Rows.{said}
 use Rattle.router_reply.specs.Acts.{book_in}
 use Rattle.router_reply.specs.Admitting.{claimed_id}
-use Rattle.router_reply.specs.Deciding.{stolen_for, ended_by}
-use Rattle.router_reply.specs.Replies.{from_link, lasts_on, let_go, unless_many, ignored_put, released_by, released, unbound_put, consumer_for, whole_put, part_put, part_bound, row_found, put_for_disposition, put_for_transfer, settled_answers, bound_for, links_put, item_put}
-use Rattle.router_conns.proofs.Lists.{by_test}
+use Rattle.router_reply.specs.Deciding.{ended_by}
+use Rattle.router_reply.specs.Replies.{lasts_on, let_go, unless_many, ignored_put, released_by, released, unbound_put, consumer_for, whole_put, part_put, row_found, settled_answers, bound_for, links_put, item_put}
 use Rattle.router_laws.specs.Came.{BindsMessage, ComesFrom}
 use Rattle.router_laws.proofs.Consuming.{consumer_sends}
 use Rattle.router_laws.proofs.Ending.{TakesNone, takes_none, said_kept}
 use Rattle.router_laws.proofs.Facts.{RowFact, bound_facts}
-use Rattle.router_laws.proofs.Keeps.{Kept, quiet_kept, plain_kept, Plain, plain_to, PlainPut, plain_goes}
+use Rattle.router_laws.proofs.Keeps.{Kept, quiet_kept, plain_kept, Plain, plain_to, plain_goes}
 use Rattle.router_laws.proofs.Naming.{bound_named}
-use Rattle.router_laws.proofs.Standing.{Standing, Sends, bound_standing}
+use Rattle.router_laws.proofs.Standing.{Sends, bound_standing}
 use Rattle.router_laws.proofs.Tests.{some_same, none_not_some}
 
 clash : true ≡ false → ⊥

@@ -1,15 +1,15 @@
 -- The book behind the acts of an event: what becomes of a row that it had, and which termini stay.
-use Rattle.std.proofs.Common.{◌≡◌, ◌∙◌, sym, ap, refl, subst, ℕ, ◌+◌, ◌≤◌, ◌<◌, Bool, true, false, not, ◌&&◌, ◌||◌, cond, List, [], ◌∷◌, ◌++◌, arith}
-use Rattle.std.specs.Prelude.{◌==◌, Option, Some, None, find, filter, filter_map, map, is_some, is_none, if◌then◌else◌}
+use Rattle.std.proofs.Common.{◌≡◌, ◌∙◌, sym, ap, refl, subst, ℕ, ◌+◌, ◌≤◌, ◌<◌, Bool, true, false, not, ◌&&◌, ◌||◌, cond, List, [], ◌∷◌, arith}
+use Rattle.std.specs.Prelude.{◌==◌, Option, Some, None, find, filter, filter_map, is_none, if◌then◌else◌}
 use Rattle.std.specs.List.{cons_option, list_any}
-use Rattle.std.specs.Option.{ForSome, option_and_then, option_or}
+use Rattle.std.specs.Option.{option_and_then, option_or}
 use Rattle.std.proofs.lemmas.Bool.Decides.{nat_tests}
-use Rattle.std.proofs.lemmas.Bool.{eqb-true, eq-eqb}
+use Rattle.std.proofs.lemmas.Bool.{eqb-true}
 use Rattle.std.proofs.lemmas.List.Folds.{find-append}
 use Rattle.std.proofs.lemmas.Slice.Eq.{bytes_eq-Decides}
 use Rattle.amqp_perf.specs.declared.state.DeliveryState.{DeliveryState}
 use Rattle.book_core.specs.declared.act.Act.{Act}
-use Rattle.book_core.specs.declared.act.Act.TheVariants.{Make, Admit, Decide, Forget, Drop}
+use Rattle.book_core.specs.declared.act.Act.TheVariants.{Make, Admit, Drop}
 use Rattle.book_core.specs.declared.act.Admission.{Admission}
 use Rattle.book_core.specs.declared.act.Decision.{Decision}
 use Rattle.book_core.specs.declared.fault.BookFault.{BookFault}
@@ -20,14 +20,13 @@ use Rattle.book_core.specs.declared.terminus.LinkKey.{LinkKey}
 use Rattle.book_core.specs.declared.terminus.LinkRole.{LinkRole}
 use Rattle.book_core.specs.declared.terminus.LinkRole.TheVariants.{Producer, Consumer}
 use Rattle.book_core.specs.declared.terminus.Terminus.{Terminus}
-use Rattle.book_core.specs.Book.{BookView, row_at, terminus_at, terminus_of, same_key, same_role, same_bytes, is_from, is_undecided, keeps, effect, effects, admitted, decided, forgotten, make_refusal, admit_refusal, drop_refusal, unless}
-use Rattle.book_core.specs.Rising.{Rises, AllAbove, AllBelow}
+use Rattle.book_core.specs.Book.{BookView, row_at, terminus_at, terminus_of, same_key, same_role, same_bytes, is_undecided, keeps, effect, effects, admitted, forgotten, make_refusal, admit_refusal, drop_refusal}
+use Rattle.book_core.specs.Rising.{Rises, AllAbove}
 use Rattle.book_core.proofs.Steps.{admits_next}
 use Rattle.gate_journal.specs.Ordered.{IsOrdered, number_of_row, number_of_terminus}
 use Rattle.router_store.specs.declared.acting.TerminusAct.{TerminusAct}
 use Rattle.router_store.specs.declared.acting.TerminusAct.TheVariants as terminus
-use Rattle.router_store.specs.Acting.{journal_outcome, outcome_for, is_among, settles, decided_to, decided_by, forgotten_by, rows_behind, unless_refused, terminus_acts, event_acts as settled_acts, admission_acts}
-use Rattle.router_store.proofs.Makes.{effects_more}
+use Rattle.router_store.specs.Acting.{journal_outcome, outcome_for, is_among, settles, decided_to, decided_by, forgotten_by, unless_refused, terminus_acts, admission_acts}
 use Rattle.router_store.proofs.Settled.{settles_leave}
 use Rattle.router_laws.proofs.Looking.{by_case, KeepsNumber, decided_keeps, forgotten_keeps, found_through, found_before}
 

@@ -1,6 +1,6 @@
 -- Which links stand: each holds its key, so no two links have one key; an undecided delivery's consumer still has its link, and so has a producer that isn't done
 -- with its delivery.
-use Rattle.std.proofs.Common.{◌≡◌, ◌∙◌, sym, ap, refl, subst, ℕ, ◌+◌, ◌≤◌, Bool, true, false, not, ◌&&◌, List, [], ◌∷◌, arith}
+use Rattle.std.proofs.Common.{◌≡◌, ◌∙◌, sym, ap, refl, subst, ℕ, ◌+◌, Bool, true, false, ◌&&◌, List, ◌∷◌, arith}
 use Rattle.std.specs.Prelude.{◌==◌, Option, Some, None, is_some, option_map, if◌then◌else◌}
 use Rattle.std.specs.Ordering.{nat_cmp, is_eq, ordering_then}
 use Rattle.std.specs.Cmp.Lexicographic.{slice_cmp}
@@ -21,10 +21,9 @@ use Rattle.book_core.specs.declared.act.Act.{Act}
 use Rattle.book_core.specs.declared.terminus.LinkKey.{LinkKey}
 use Rattle.book_core.specs.declared.terminus.LinkRole.{LinkRole}
 use Rattle.book_core.specs.declared.terminus.LinkRole.TheVariants.{Producer, Consumer}
-use Rattle.book_core.specs.Keys.{rank, key_cmp, keys_total}
+use Rattle.book_core.specs.Keys.{rank, keys_total}
 use Rattle.router_trace.specs.Configuration.{beginning}
 use Rattle.router_trace.specs.declared.binding.Binding.{Binding}
-use Rattle.router_trace.specs.declared.binding.DeliveryName.{DeliveryName}
 use Rattle.router_trace.specs.declared.binding.Origin.{Origin}
 use Rattle.router_trace.specs.declared.channel.PeerChannel.{PeerChannel}
 use Rattle.router_trace.specs.declared.event.Event.{Event}
@@ -32,16 +31,16 @@ use Rattle.router_trace.specs.declared.event.Event.TheVariants as event
 use Rattle.router_trace.specs.declared.handle.Asked.{Asked}
 use Rattle.router_trace.specs.declared.handle.Attachment.{Attachment}
 use Rattle.router_trace.specs.declared.handle.PeerHandle.{PeerHandle}
-use Rattle.router_trace.specs.Trace.{Beginning, Entry, Did, Out, Took, Bound, Booked, Began, Step}
+use Rattle.router_trace.specs.Trace.{Beginning, Entry, Did, Out, Took, Bound, Booked, Step}
 use Rattle.router_trace.specs.Sessions.{maps, theirs}
-use Rattle.router_trace.specs.Links.{Link, Happened, durable_key, flowed_from, flowed_to, started, came_to, sends, receives, is_lost, ends_handle, ends_handle_in, handle_asked, answers_in, answers_by, answered_handle, asked, address_by, attachments, begun_link, attached, behind_our_flow, behind_our_transfer, behind_their_flow, behind_their_transfer, is_handle, link_in, link_behind, heard_link, link_by, link_at, names, names_by, their_handle, key_at, link, has_number, is_attached, if_attached, same_key, newest_in, newest_by, last_of_key, holder}
+use Rattle.router_trace.specs.Links.{Link, Happened, durable_key, flowed_from, flowed_to, started, came_to, sends, receives, is_lost, ends_handle, ends_handle_in, handle_asked, answers_in, answers_by, answered_handle, asked, address_by, attachments, attached, behind_our_flow, behind_our_transfer, behind_their_flow, behind_their_transfer, is_handle, link_in, link_behind, heard_link, link_by, link_at, names, names_by, their_handle, key_at, link, has_number, is_attached, if_attached, same_key, newest_in, last_of_key, holder}
 use Rattle.router_trace.specs.Following.{is_sending, link_of}
-use Rattle.router_trace.specs.Deliveries.{Delivery, either_origin, bindings, bound, name_in, delivery, source, is_undecided, ended_by, unless_called}
+use Rattle.router_trace.specs.Deliveries.{Delivery, either_origin, bindings, name_in, delivery, source, is_undecided, ended_by}
 use Rattle.router_passing.specs.Passing.{standing_at}
 use Rattle.router_deliveries.proofs.Called.{uncalled}
 use Rattle.router_conns.proofs.Lists.{by_test}
 use Rattle.router_laws.proofs.Tests.{some_same, none_not_some}
-use Rattle.router_laws.proofs.Undecided.{Was, lost_by, was_did, was_out}
+use Rattle.router_laws.proofs.Undecided.{lost_by, was_did, was_out}
 
 clash : true ≡ false → ⊥
 clash e = cc
@@ -435,7 +434,7 @@ out_standing d i t fresh was = record {
       let at = attached_link a (link t a.conn.0 a.channel a.handle) (was.producers n w.before p w.there (w.comes p from)) in
       let apart = apart_from d i t a.conn.0 a.channel a.handle at.0 fresh (was.answered a.conn.0 a.channel a.handle at.0 at.1) in
       let now = link_is (if d == a.conn.0 then ends_handle i a.channel a.handle else false) (link t a.conn.0 a.channel a.handle) (link (Out d i ∷ t) a.conn.0 a.channel a.handle) at.0
-          (out_behaves d i t a.conn.0 a.channel a.handle apart) (spared_there d i a (w.keeps p from)) at.1 in
+      (out_behaves d i t a.conn.0 a.channel a.handle apart) (spared_there d i a (w.keeps p from)) at.1 in
       numbered_link a.number (link (Out d i ∷ t) a.conn.0 a.channel a.handle) now.behind now.there (now.same.number ∙ at.2);
 }
   where
@@ -502,7 +501,7 @@ pub did_durable : (s : Step) (t : List Entry) (a : Attachment) (key : LinkKey) �
 did_durable s t a key durable spared =
     let was = durable_is (link_of t a) key durable in
     let now = link_is (is_lost s.event a.conn.0) (link_of t a) (link_of (Did s ∷ t) a) was.0
-        (event_behaves s.event a.conn.0 a.channel a.handle (theirs t a.conn.0) (their_handle t a.conn.0 a.channel) (link_of t a)) spared was.1 in
+    (event_behaves s.event a.conn.0 a.channel a.handle (theirs t a.conn.0) (their_handle t a.conn.0 a.channel) (link_of t a)) spared was.1 in
     durable_where (link_of (Did s ∷ t) a) was.0 now.behind key now.there now.same was.2 was.3
 
 pub out_durable : (d : ℕ) (i : Item) (t : List Entry) → IsFresh t d i → Standing t → (a : Attachment) (key : LinkKey) → durable_key (link_of t a) ≡ Some key → ended_by i d a ≡ false
@@ -511,7 +510,7 @@ out_durable d i t fresh standing a key durable spared =
     let was = durable_is (link_of t a) key durable in
     let apart = apart_from d i t a.conn.0 a.channel a.handle was.0 fresh (standing.answered a.conn.0 a.channel a.handle was.0 was.1) in
     let now = link_is (if d == a.conn.0 then ends_handle i a.channel a.handle else false) (link_of t a) (link_of (Out d i ∷ t) a) was.0
-        (out_behaves d i t a.conn.0 a.channel a.handle apart) (spared_there d i a spared) was.1 in
+    (out_behaves d i t a.conn.0 a.channel a.handle apart) (spared_there d i a spared) was.1 in
     durable_where (link_of (Out d i ∷ t) a) was.0 now.behind key now.there now.same was.2 was.3
 
 -- two durable links with one key are one

@@ -1,7 +1,7 @@
 -- A delivery that is undecided behind an entry was so before it, and the entry doesn't end its link; one whose producer isn't done with it behind an entry
 -- came from that producer before, and the entry doesn't end the producer's link.
-use Rattle.std.proofs.Common.{◌≡◌, ◌∙◌, sym, ap, refl, subst, ℕ, ◌+◌, ◌≤◌, Bool, true, false, not, ◌&&◌, ◌||◌, List, [], ◌∷◌, length, arith}
-use Rattle.std.specs.Prelude.{◌==◌, Option, Some, None, is_none, if◌then◌else◌, option_and_then}
+use Rattle.std.proofs.Common.{◌≡◌, ◌∙◌, sym, ap, refl, subst, ℕ, Bool, true, false, not, ◌&&◌, ◌||◌, List, ◌∷◌, length, arith}
+use Rattle.std.specs.Prelude.{◌==◌, Option, Some, None, is_none, if◌then◌else◌}
 use Rattle.std.proofs.lemmas.Bool.Decides.{nat_tests}
 use Rattle.amqp_perf.specs.declared.perf.Disposition.{Disposition}
 use Rattle.amqp_perf.specs.declared.perf.Perf.{Perf}
@@ -22,8 +22,7 @@ use Rattle.router_trace.specs.declared.handle.Attachment.{Attachment}
 use Rattle.router_trace.specs.Trace.{Entry, Did, Out, Step}
 use Rattle.router_trace.specs.Links.{is_lost}
 use Rattle.router_trace.specs.Sessions.{theirs}
-use Rattle.router_trace.specs.Deliveries.{Delivery, bindings, number_named, delivery, sending, named, source, untold, unsettled, failed, is_undecided, is_gone_with, behind_origin, behind_ends, ended, decided_at_end, suspended_at_end, closes, ended_by, put_in, behind_put, behind_frame, behind_event, told, is_meant, origin_id, is_number, carried, tag_in, decided, is_on, is_settled_at, disposed, heard_in, heard, lost_with}
-use Rattle.router_conns.proofs.Lists.{by_test}
+use Rattle.router_trace.specs.Deliveries.{Delivery, number_named, delivery, sending, named, source, untold, unsettled, failed, is_undecided, is_gone_with, behind_origin, behind_ends, ended, decided_at_end, suspended_at_end, closes, ended_by, put_in, behind_put, behind_frame, behind_event, told, is_meant, origin_id, is_number, carried, tag_in, decided, is_on, is_settled_at, disposed, heard_in, heard, lost_with}
 use Rattle.router_laws.proofs.Followed.{Left, Frames, item_left, event_left, Follows, item_follows, event_follows}
 use Rattle.router_laws.proofs.Bindings.{of_what}
 use Rattle.router_laws.proofs.Tests.{none_not_some}
