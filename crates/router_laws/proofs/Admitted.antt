@@ -228,7 +228,7 @@ consumer_behind acts e t None = refl
 consumer_behind acts e t (Some l) = refl
 
 -- the answer to an item behind the acts of its event
-answer_behind : (acts : List Act) (t : List Entry) (full : Bool) (b : BookView) (c : ℕ) (p : Conn) (i : Item) → answer_at full b (Booked acts ∷ t) c p i ≡ answer_at full b t c p i
+pub answer_behind : (acts : List Act) (t : List Entry) (full : Bool) (b : BookView) (c : ℕ) (p : Conn) (i : Item) → answer_at full b (Booked acts ∷ t) c p i ≡ answer_at full b t c p i
 unfolding free_handle first_free_below free_channel
 answer_behind acts t full b c p (item.Frame sasl channel body payload) = by body
   where

@@ -237,9 +237,9 @@ makes t from sasl channel a payload p own stands answers wants =
 
 -- the names that a connection's links have
 
-record SameNames (t u : List Entry) (c : ℕ) : Type 0 where
-  who : user u c ≡ user t c
-  from : container u c ≡ container t c
+pub record SameNames (t u : List Entry) (c : ℕ) : Type 0 where
+  pub who : user u c ≡ user t c
+  pub from : container u c ≡ container t c
 
 names_self : (t : List Entry) (c : ℕ) → SameNames t t c
 names_self t c = record { who = refl; from = refl }
@@ -301,11 +301,11 @@ bound_book None t = refl
 bound_book (Some b) t = refl
 
 -- a trace in which the attach of an event can be answered: the connection's names are as before the event, and the book is behind its acts
-record Stands (t : List Entry) (e : Event) (c : ℕ) (w : List Entry) : Type 0 where
-  names : SameNames t w c
-  book : book_in w ≡ book_behind t e
+pub record Stands (t : List Entry) (e : Event) (c : ℕ) (w : List Entry) : Type 0 where
+  pub names : SameNames t w c
+  pub book : book_in w ≡ book_behind t e
 
-key_there : (t w : List Entry) (c : ℕ) (a : AnAttach) (h : ℕ) → SameNames t w c → key_at w c (answer_to a h) ≡ wanted_key t c a
+pub key_there : (t w : List Entry) (c : ℕ) (a : AnAttach) (h : ℕ) → SameNames t w c → key_at w c (answer_to a h) ≡ wanted_key t c a
 key_there t w c a h names =
     answer_key w c a h
     ∙ ap (λ (who : Option (List ℕ)). key_of who (container w c) (plain_answer a 0)) names.who
@@ -380,7 +380,7 @@ attach_row id t u w from sasl channel a payload stands was (Some p) here = by (a
     by x answers = goes_kept (each_to from.0 (said id p x) ++ []) w (more_none from.0 (said id p x) (less_said id from.0 p x)) was
 
 -- the trace in which the row of an attach is put
-attach_stands : (id : List ℕ) (t : List Entry) (from : ConnectionId) (sasl : Bool) (channel : ℕ) (a : AnAttach) (payload : List ℕ) (s : Step) (b : Option Binding)
+pub attach_stands : (id : List ℕ) (t : List Entry) (from : ConnectionId) (sasl : Bool) (channel : ℕ) (a : AnAttach) (payload : List ℕ) (s : Step) (b : Option Binding)
     → s.event ≡ event.Item from (item.Frame sasl channel (perf.Attach a) payload) → (p : Conn)
     → standing (found t (event.Item from (item.Frame sasl channel (perf.Attach a) payload)) from.0) ≡ Some p
     → Stands t (event.Item from (item.Frame sasl channel (perf.Attach a) payload)) from.0

@@ -66,11 +66,11 @@ before_acts (Booked x ∷ w) h acts t just is before = absurd (none_not_some jus
 before_acts (Began g ∷ w) h acts t just is before = absurd (none_not_some just)
 
 -- nothing is bound since then, and nothing done to the book
-record Since (u v : List Entry) (n : ℕ) : Type 0 where
-  times : times_bound u n ≡ times_bound v n
-  book : book_in u ≡ book_in v
+pub record Since (u v : List Entry) (n : ℕ) : Type 0 where
+  pub times : times_bound u n ≡ times_bound v n
+  pub book : book_in u ≡ book_in v
 
-since : (u : List Entry) (h : Handled) (n : ℕ) → just_handled u ≡ Some h → Since u h.found n
+pub since : (u : List Entry) (h : Handled) (n : ℕ) → just_handled u ≡ Some h → Since u h.found n
 since [] h n just = absurd (none_not_some just)
 since (Did s ∷ w) h n just =
     let same = ap (λ (k : Handled). k.found) (some_same just) in

@@ -1,20 +1,24 @@
 -- Laws of every trace of the router, and so of every list of events.
-use Rattle.std.specs.Prelude.{◌≡◌, ℕ, List, Some}
+use Rattle.std.specs.Prelude.{◌≡◌, ℕ, false, List, [], ◌∷◌, Some}
 use Rattle.router_trace.specs.Trace.{Beginning}
 use Rattle.router_trace.specs.Configuration.{beginning}
 use Rattle.router_trace.specs.declared.event.Event.{Event}
 use Rattle.router_trace.specs.Trace.{Trace}
 use Rattle.router_trace.specs.Deliveries.{Delivery, delivery}
 use Rattle.router_core.specs.declared.driving.Sent.{Sent}
-use Rattle.router_core.specs.Runs.{Run}
-use Rattle.router_core.specs.Moves.{IsTrace}
+use Rattle.router_store.specs.Made.{IsMade}
+use Rattle.router_core.specs.Replies.{handled}
+use Rattle.router_core.specs.Runs.{Run, took_one}
+use Rattle.router_core.specs.Moves.{Move, handles, takes, IsTrace}
+use Rattle.router_core.specs.Turns.{declines}
 use Rattle.router_laws.specs.Each.{EachOut, EachBound}
 use Rattle.router_laws.specs.OneConsumer.{IsOfMessage}
-use Rattle.router_laws.specs.Carried.{CarriesWhatWasBound, CompletesMessage, GoesInOrder}
+use Rattle.router_laws.specs.Carried.{HasSmallNumbers, CarriesWhatWasBound, CompletesMessage, GoesInOrder}
 use Rattle.router_laws.specs.Came.{BindsMessage}
 use Rattle.router_laws.specs.Told.{TellsAsGiven}
 use Rattle.router_laws.specs.Keeping.{IsKeptFirst}
 use Rattle.router_laws.specs.Admitted.{RowIsAdmitted, IsBoundOnce, AreBoundSince}
+use Rattle.router_laws.specs.Kept.{OutcomeIsKept, IsDecidedOnce}
 
 -- in every trace of the router
 abbrev pub InTraces : (Trace → Type 0) → Type 0
@@ -69,3 +73,25 @@ AllRowsOnce u = (n : ℕ) → IsBoundOnce u n
 -- and each that the book gave since the opening is bound
 abbrev pub AllRowsBound : Beginning → Trace → Type 0
 AllRowsBound g u = AreBoundSince g.book.next_row u
+
+-- u is t after these moves, one after another, and no event of them is declined: none is refused, and Start comes first, and once
+abbrev pub GoesInTurn : List ℕ → List Move → Trace → Trace → Type 0
+GoesInTurn id [] t u = u ≡ t
+GoesInTurn id (handles s ∷ ms) t u = (declines t s.event ≡ false) × GoesInTurn id ms (handled id t s) u
+GoesInTurn id (takes x ∷ ms) t u = GoesInTurn id ms (took_one x t) u
+
+-- in every trace of the router in which no event is declined
+abbrev pub InTracesInTurn : (Beginning → Trace → Type 0) → Type 0
+InTracesInTurn P = (id : List ℕ) (g : Beginning) (u : Trace) (moves : List Move) → GoesInTurn id moves (beginning g) u → P g u
+
+-- where the router was opened on a book that acts made, as the book of a journal is
+abbrev pub OnMade : (Beginning → Trace → Type 0) → Beginning → Trace → Type 0
+OnMade P g u = IsMade g.book → P g u
+
+-- each outcome of a delivery with a row stands in the book before it is told
+abbrev pub AllOutcomesKept : Beginning → Trace → Type 0
+AllOutcomesKept g u = HasSmallNumbers u → EachOut OutcomeIsKept u
+
+-- each row is decided at most once
+abbrev pub AllRowsDecidedOnce : Beginning → Trace → Type 0
+AllRowsDecidedOnce g u = (n : ℕ) → IsDecidedOnce g.book u n

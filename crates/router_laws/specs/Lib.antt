@@ -6,4 +6,5 @@ pub mod Came
 pub mod Told
 pub mod Keeping
 pub mod Admitted
+pub mod Kept
 pub mod Laws

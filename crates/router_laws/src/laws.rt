@@ -3,7 +3,7 @@
 ghost use Rattle.router_laws.specs.OneConsumer.{StaysWithConsumer, NeverComesBack, OfMessages};
 ghost use Rattle.router_laws.specs.Decided.{OutcomesAreGiven, OutcomesAreOfConsumers};
 ghost use Rattle.router_laws.specs.Told.{ToldAtMostOnce, ToldAnew};
-ghost use Rattle.router_laws.specs.Laws.{InTraces, InRuns, InTracesFrom, InRunsFrom, AllCarry, AllJoin, AllBindOnce, AllCame, AllTell, AllKeptFirst, AllAdmitted, AllRowsOnce, AllRowsBound};
+ghost use Rattle.router_laws.specs.Laws.{InTraces, InRuns, InTracesFrom, InRunsFrom, AllCarry, AllJoin, AllBindOnce, AllCame, AllTell, AllKeptFirst, AllAdmitted, AllRowsOnce, AllRowsBound, InTracesInTurn, OnMade, AllOutcomesKept, AllRowsDecidedOnce};
 
 /// In every trace of the router a message is bound when it is complete: the last frame of its delivery has just been received. What is bound
 /// is what its frames carried, and it is bound once, with the row that the acts of that event admit; on a durable link it has one, unless its producer
@@ -73,4 +73,15 @@ pub fn durable_messages_are_kept_first()
     ensures runs_once { InRuns AllRowsOnce }
     ensures bound { InTracesFrom AllRowsBound }
     ensures runs_bound { InRunsFrom AllRowsBound }
+{}
+
+/// In every trace of the router in which no event is declined (Start comes first, and once), opened on a book that acts made: where a producer is told the
+/// outcome of a delivery with a row, the book has that row, decided, with that outcome. `Core::handle` has the book on the disk before it puts anything out, so
+/// no crash loses an outcome that was told. Each row is decided at most once, whatever happens (AMQP 1.0 part 2, section 2.6.12, and part 3, section
+/// 3.4). Lists of events have such traces.
+pub fn durable_outcomes_are_kept_first()
+    ensures traces { InTracesInTurn (OnMade AllOutcomesKept) }
+    ensures runs { InRunsFrom (OnMade AllOutcomesKept) }
+    ensures once { InTracesFrom (OnMade AllRowsDecidedOnce) }
+    ensures runs_once { InRunsFrom (OnMade AllRowsDecidedOnce) }
 {}
