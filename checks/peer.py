@@ -3,7 +3,7 @@ import select
 import time
 
 import proton
-from proton import Connection, Collector, Delivery, Event, Message, Transport
+from proton import Connection, Collector, Delivery, Event, Message, Terminus, Transport
 
 ACTIVE = proton.Endpoint.REMOTE_ACTIVE
 GONE = proton.Endpoint.REMOTE_CLOSED
@@ -36,9 +36,11 @@ class Peer:
         session.open()
         return session
 
-    def receiver(self, address, name="r", credit=0, session=None, rcv=None):
+    def receiver(self, address, name="r", credit=0, session=None, rcv=None, durable=False):
         link = (session or self.first).receiver(name)
         link.source.address = address
+        if durable:
+            asks_durable(link.source)
         if rcv is not None:
             link.rcv_settle_mode = rcv
         link.open()
@@ -47,17 +49,19 @@ class Peer:
             link.flow(credit)
         return link
 
-    def sender(self, address, name="s", session=None, mode=None):
+    def sender(self, address, name="s", session=None, mode=None, durable=False):
         link = (session or self.first).sender(name)
         link.target.address = address
+        if durable:
+            asks_durable(link.target)
         if mode is not None:
             link.snd_settle_mode = mode
         link.open()
         return link
 
-    def send(self, link, body, settled=False):
+    def send(self, link, body, settled=False, tag=None):
         """Sends a message, of bytes as they are or of a body, and gives its delivery."""
-        delivery = link.delivery(link.delivery_tag())
+        delivery = link.delivery(tag or link.delivery_tag())
         link.stream(body if isinstance(body, bytes) else Message(body=body).encode())
         link.advance()
         if settled:
@@ -85,10 +89,13 @@ class Peer:
                 break
             self.transport.push(data)
         while event := self.collector.peek():
-            if event.type is Event.DELIVERY:
-                self.take(event.delivery)
+            self.on(event)
             self.collector.pop()
         self.write()
+
+    def on(self, event):
+        if event.type is Event.DELIVERY:
+            self.take(event.delivery)
 
     def write(self):
         """Writes what the events produced."""
@@ -138,6 +145,16 @@ class Peer:
             self.connection.close()
             until(lambda: self.connection.state & GONE or self.lost, self)
         self.cut()
+
+
+def asks_durable(terminus):
+    """Asks the router to keep what is unsettled at this terminus (part 3, section 3.5.5)."""
+    terminus.durability, terminus.expiry_policy = Terminus.DELIVERIES, Terminus.EXPIRE_NEVER
+
+
+def tag_of(delivery):
+    """A delivery's tag, which Proton gives as a text."""
+    return delivery.tag.encode("utf-8", "surrogateescape")
 
 
 def body_of(data):
