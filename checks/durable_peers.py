@@ -3,8 +3,8 @@ and what they were answered."""
 from functools import partial
 
 from cproton import pn_delivery_clear
-from journals import ACCEPTED, CONSUMER, FAILED, PRODUCER, RELEASED, Fault, modification, rejection
-from peer import ACTIVE, GONE, Peer, asks_durable, tag_of
+from journals import CONSUMER, FAILED, PRODUCER, Fault, modification, rejection
+from peer import ACTIVE, GONE, STATES, Peer, asks_durable, state_of, tag_of
 from proton import Condition, Delivery, Event, Terminus, symbol
 
 # a client's links of each kind, and how many of them wait for an answer at once
@@ -16,18 +16,6 @@ LIVES = (10, 100, 300, 1_000)
 AT_ONCE, MOST_SENT = 6, 400
 # what comes from the router; and how many turns without any a client waits before it goes on
 NEWS, PATIENCE = (Event.DELIVERY, Event.LINK_FLOW, Event.LINK_REMOTE_OPEN, Event.LINK_REMOTE_CLOSE, Event.LINK_REMOTE_DETACH), 50
-NAMES = {Delivery.ACCEPTED: ACCEPTED, Delivery.RELEASED: RELEASED}
-
-
-def state_of(delivery):
-    """The outcome that the peer told of a delivery, as journals.py has outcomes."""
-    state, remote = delivery.remote_state, delivery.remote
-    if state == Delivery.REJECTED:
-        why = remote.condition
-        return rejection(why and why.name, why and why.description, why and why.info)
-    if state == Delivery.MODIFIED:
-        return modification(remote.failed, remote.undeliverable, remote.annotations)
-    return NAMES.get(state) or (str(state),)
 
 
 class Sent:
@@ -187,7 +175,7 @@ class Client(Peer):
         if taken.link.ended:
             return
         state = chance.choice((Delivery.ACCEPTED,) * 6 + (Delivery.REJECTED, Delivery.RELEASED, Delivery.MODIFIED, None))
-        taken.outcome = NAMES.get(state, FAILED)
+        taken.outcome = STATES.get(state, FAILED)
         if state == Delivery.REJECTED:
             info = {symbol("n"): chance.randrange(1 << 30)}
             local.condition = Condition("app:bad", None, info)

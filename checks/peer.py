@@ -3,8 +3,10 @@ import select
 import time
 
 import proton
+from journals import ACCEPTED, RELEASED, modification, rejection
 from proton import Connection, Collector, Delivery, Event, Message, Terminus, Transport
 
+STATES = {Delivery.ACCEPTED: ACCEPTED, Delivery.RELEASED: RELEASED}
 ACTIVE = proton.Endpoint.REMOTE_ACTIVE
 GONE = proton.Endpoint.REMOTE_CLOSED
 
@@ -155,6 +157,17 @@ def asks_durable(terminus):
 def tag_of(delivery):
     """A delivery's tag, which Proton gives as a text."""
     return delivery.tag.encode("utf-8", "surrogateescape")
+
+
+def state_of(delivery):
+    """The outcome that the peer told of a delivery, as journals.py has outcomes."""
+    state, remote = delivery.remote_state, delivery.remote
+    if state == Delivery.REJECTED:
+        why = remote.condition
+        return rejection(why and why.name, why and why.description, why and why.info)
+    if state == Delivery.MODIFIED:
+        return modification(remote.failed, remote.undeliverable, remote.annotations)
+    return STATES.get(state) or (str(state),)
 
 
 def body_of(data):
