@@ -27,14 +27,19 @@ def begin(window=2_048):
     return frame(described(0x11, NULL, number(0), number(window), number(2_048)))
 
 
-def consumer(handle, address, credit, window=2_048):
+def terminus(code, address, durable):
+    """A source or a target; `durable` asks for one that keeps its unsettled deliveries."""
+    return described(code, text(address), *([number(2)] if durable else []))
+
+
+def consumer(handle, address, credit, window=2_048, durable=False):
     """An attach, and a flow that grants this much."""
-    attach = described(0x12, text(f"r{handle}"), number(handle), TRUE, NULL, NULL, described(0x28, text(address)), described(0x29))
+    attach = described(0x12, text(f"r{handle}"), number(handle), TRUE, NULL, NULL, terminus(0x28, address, durable), described(0x29))
     return frame(attach) + frame(described(0x13, number(0), number(window), number(0), number(2_048), number(handle), number(0), number(credit)))
 
 
-def producer(handle, address):
-    return frame(described(0x12, text(f"s{handle}"), number(handle), FALSE, NULL, NULL, described(0x28), described(0x29, text(address))))
+def producer(handle, address, durable=False):
+    return frame(described(0x12, text(f"s{handle}"), number(handle), FALSE, NULL, NULL, described(0x28), terminus(0x29, address, durable)))
 
 
 def detach(handle):
