@@ -198,6 +198,14 @@ def quiet(*peers, seconds=0.3):
         time.sleep(0.005)
 
 
+def heard(peer, *peers):
+    """All that the peer has sent was handled: what it begins behind that is answered."""
+    peer.step()
+    session = peer.session()
+    until(lambda: session.state & ACTIVE, peer, *peers)
+    session.close()
+
+
 def attached(link):
     return lambda: link.state & ACTIVE
 
