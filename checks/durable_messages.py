@@ -5,7 +5,7 @@ import subprocess
 import tempfile
 
 from journals import ACCEPTED, FAILED, RELEASED, Journal, modification, rejection
-from peer import ACTIVE, GONE, Peer, attached, outcome, quiet, state_of, tag_of, until
+from peer import ACTIVE, GONE, Peer, attached, heard, outcome, state_of, tag_of, until
 from proton import Condition, Delivery, Event, Message, Terminus, symbol
 from served import PROGRAM, Served, expect
 
@@ -65,6 +65,7 @@ class Pair:
         until(test, self.c, self.p)
 
     def quiet(self):
+        """All that both said was handled, and what came of it is here."""
         quiet(self.c, self.p)
 
     def came(self, count=1):
@@ -100,6 +101,13 @@ class Pair:
             link.close()
             until(lambda peer=peer, link=link: peer.lost or link.state & GONE or link.name in peer.detached or peer.first.state & GONE, peer)
             peer.close()
+
+
+def quiet(*peers):
+    """What these have said was handled, and what came of it at each of them is here."""
+    peers = [it for it in peers if not it.lost]
+    for it in peers + peers:
+        heard(it, *peers)
 
 
 def decided(scene, served, address, change, state, wanted):
@@ -337,7 +345,7 @@ def producer_lost(scene, served):
         it = Pair(scene, served, f"d.away.{name}")
         _, delivery = it.sent()
         end(it)
-        quiet(it.c, *([] if it.p.lost else [it.p]))
+        quiet(it.c, it.p)
         expect(scene.acts(), "")
         it.c.decide(delivery, Delivery.ACCEPTED, settle=False)
         until(lambda: delivery.settled, it.c)

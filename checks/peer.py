@@ -204,6 +204,7 @@ def heard(peer, *peers):
     session = peer.session()
     until(lambda: session.state & ACTIVE, peer, *peers)
     session.close()
+    until(lambda: session.state & GONE, peer, *peers)
 
 
 def attached(link):
