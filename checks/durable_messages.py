@@ -3,10 +3,13 @@ those of the AMQP standard (part 2, sections 2.6 and 2.7; part 3, sections 3.4 a
 """
 import subprocess
 import tempfile
+import time
 
 from journals import ACCEPTED, FAILED, RELEASED, Journal, modification, rejection
-from peer import ACTIVE, GONE, Peer, attached, heard, outcome, state_of, tag_of, until
+from peer import ACTIVE, GONE, Peer, asks_durable, attached, heard, outcome, state_of, tag_of, until
 from proton import Condition, Delivery, Event, Message, Terminus, symbol
+from proton.handlers import MessagingHandler
+from proton.reactor import Container, DurableSubscription, SenderOption
 from served import PROGRAM, Served, expect
 
 # rows of a producer's link; deliveries of one that are bound to nothing and not settled
@@ -537,6 +540,60 @@ def many(scene, served):
     it.close()
 
 
+class KeepsTarget(SenderOption):
+    """A sender whose target keeps what is unsettled."""
+
+    def apply(self, sender):
+        asks_durable(sender.target)
+
+
+class Handler(MessagingHandler):
+    """What a program of Proton's guide does: it sends once it may, and its messages are accepted as they come. It settles what it is told: by itself Proton
+    settles only what the router settled."""
+
+    def __init__(self, url, count):
+        super().__init__(prefetch=10)
+        self.url, self.count, self.sent, self.bodies, self.accepted, self.settled = url, count, 0, [], 0, 0
+
+    def on_start(self, event):
+        connection = event.container.connect(self.url, sasl_enabled=False)
+        event.container.create_receiver(connection, "d.handler", name="r", options=DurableSubscription())
+        event.container.create_sender(connection, "d.handler", name="s", options=KeepsTarget())
+
+    def on_sendable(self, event):
+        while self.sent < self.count and event.sender.credit > 0:
+            event.sender.send(Message(body=self.sent))
+            self.sent += 1
+
+    def on_message(self, event):
+        self.bodies.append(event.message.body)
+
+    def on_accepted(self, event):
+        self.accepted += 1
+        event.delivery.settle()
+
+    def on_settled(self, event):
+        self.settled += event.link.is_sender
+
+
+def handler(scene, served):
+    """Proton's handlers: a durable subscription, and a sender whose outcomes the router never settles itself."""
+    scene.acts()
+    it = Handler(f"amqp://127.0.0.1:{served.port}", 40)
+    container, end = Container(it), time.monotonic() + 20
+    container.timeout = 0.1
+    container.start()
+    while it.accepted < it.count and time.monotonic() < end:
+        container.process()
+    for _ in range(3):
+        container.process()
+    expect((it.bodies, it.accepted, it.settled), (list(range(40)), 40, 0))
+    container.stop()
+    container.process()
+    acts = scene.acts().split()
+    expect({kind: acts.count(kind) for kind in acts}, {"Make": 2, "Admit": 40, "Decide": 40, "Forget": 40})
+
+
 def opened_again(scene):
     """A program that is killed with rows undecided: the next one decides those of consumers that aren't durable, first of all, and leaves the others."""
     with scene.served() as served:
@@ -571,7 +628,7 @@ ROWS = (
     ("a producer's link is left", producer_lost), ("a tag that is used twice", same_tag), ("a link's key is used again", taken_again),
     ("60,000 bytes", long_messages), ("64 rows", most_rows), ("64 rows that are settled first", most_rows_settled),
     ("1,024 released ones, and one more", most_unbound),
-    (f"{MANY} messages in order", many),
+    (f"{MANY} messages in order", many), ("Proton's handlers", handler),
 )
 
 
