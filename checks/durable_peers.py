@@ -19,12 +19,12 @@ NEWS, PATIENCE = (Event.DELIVERY, Event.LINK_FLOW, Event.LINK_REMOTE_OPEN, Event
 
 
 class Sent:
-    """A message, and what its producer was told of it. `behind`: how much its client had said before it."""
+    """A message, and what its producer was told of it. `behind`: how much its client had said before it; `row` is set by whoever reads the journal."""
 
     def __init__(self, link, tag, body, delivery, presettled, behind):
         self.link, self.tag, self.body, self.delivery = link, tag, body, delivery
         self.presettled, self.behind = presettled, behind
-        self.told, self.settles = None, presettled
+        self.told, self.settles, self.row = None, presettled, None
 
 
 class Taken:
@@ -40,7 +40,7 @@ class Taken:
 
 
 class Link:
-    """A link, and what its client asked for and was answered."""
+    """A link, and what its client asked for and was answered; `number` is its terminus's, set by whoever reads the journal."""
 
     def __init__(self, client, role, number, address, durable, chance):
         self.client, self.role, self.address, self.durable = client, role, address, durable
@@ -50,12 +50,12 @@ class Link:
         # how many turns it has left, and how likely it settles what it is told
         self.turns, self.settles = int(chance.choice(LIVES) * chance.random()), chance.choice((1, 0.9, 0.9, 0.2))
         self.behind, self.ends_behind = client.flushed, None
-        self.sent, self.taken = [], {}
+        self.sent, self.taken, self.number = [], {}, None
         self.link = client.first.sender(self.name) if role == PRODUCER else client.first.receiver(self.name)
-        self.terminus = self.link.target if role == PRODUCER else self.link.source
-        self.terminus.address = address
+        terminus = self.link.target if role == PRODUCER else self.link.source
+        terminus.address = address
         if durable:
-            asks_durable(self.terminus)
+            asks_durable(terminus)
         self.link.open()
 
     @property
