@@ -51,10 +51,29 @@ def transfer(handle, delivery, payload, settled=False):
     return frame(described(0x14, number(handle), number(delivery), tag, number(0), TRUE if settled else FALSE), b"\x00\x53\x77" + payload)
 
 
-def disposition(receiver, first, state=None):
-    """A disposition about one delivery, settled."""
-    fields = [TRUE if receiver else FALSE, number(first), NULL, TRUE] + ([described(state)] if state else [])
+def disposition(receiver, first, state=None, last=None):
+    """A disposition about one delivery, or several, settled."""
+    fields = [TRUE if receiver else FALSE, number(first), NULL if last is None else number(last), TRUE] + ([described(state)] if state else [])
     return frame(described(0x15, *fields))
+
+
+class Frames:
+    """The frames that come on a socket, of which the header was read."""
+
+    def __init__(self, s):
+        self.socket, self.data = s, b""
+
+    def read(self, code, count):
+        """Reads until this many frames of this performative have come, whatever else does."""
+        while count:
+            while len(self.data) < 4 or len(self.data) < int.from_bytes(self.data[:4], "big"):
+                piece = self.socket.recv(65_536)
+                if not piece:
+                    raise AssertionError(f"the stream ended with {count} frames to come")
+                self.data += piece
+            size = int.from_bytes(self.data[:4], "big")
+            count -= self.data[8:11] == bytes([0, 0x53, code])
+            self.data = self.data[size:]
 
 
 def read_transfers(s, count):
