@@ -27,14 +27,19 @@ def begin(window=2_048):
     return frame(described(0x11, NULL, number(0), number(window), number(2_048)))
 
 
-def consumer(handle, address, credit, window=2_048):
+def terminus(code, address, durable):
+    """A source or a target; `durable` asks for one that keeps its unsettled deliveries."""
+    return described(code, text(address), *([number(2)] if durable else []))
+
+
+def consumer(handle, address, credit, window=2_048, durable=False):
     """An attach, and a flow that grants this much."""
-    attach = described(0x12, text(f"r{handle}"), number(handle), TRUE, NULL, NULL, described(0x28, text(address)), described(0x29))
+    attach = described(0x12, text(f"r{handle}"), number(handle), TRUE, NULL, NULL, terminus(0x28, address, durable), described(0x29))
     return frame(attach) + frame(described(0x13, number(0), number(window), number(0), number(2_048), number(handle), number(0), number(credit)))
 
 
-def producer(handle, address):
-    return frame(described(0x12, text(f"s{handle}"), number(handle), FALSE, NULL, NULL, described(0x28), described(0x29, text(address))))
+def producer(handle, address, durable=False):
+    return frame(described(0x12, text(f"s{handle}"), number(handle), FALSE, NULL, NULL, described(0x28), terminus(0x29, address, durable)))
 
 
 def detach(handle):
@@ -46,10 +51,29 @@ def transfer(handle, delivery, payload, settled=False):
     return frame(described(0x14, number(handle), number(delivery), tag, number(0), TRUE if settled else FALSE), b"\x00\x53\x77" + payload)
 
 
-def disposition(receiver, first, state=None):
-    """A disposition about one delivery, settled."""
-    fields = [TRUE if receiver else FALSE, number(first), NULL, TRUE] + ([described(state)] if state else [])
+def disposition(receiver, first, state=None, last=None):
+    """A disposition about one delivery, or several, settled."""
+    fields = [TRUE if receiver else FALSE, number(first), NULL if last is None else number(last), TRUE] + ([described(state)] if state else [])
     return frame(described(0x15, *fields))
+
+
+class Frames:
+    """The frames that come on a socket, of which the header was read."""
+
+    def __init__(self, s):
+        self.socket, self.data = s, b""
+
+    def read(self, code, count):
+        """Reads until this many frames of this performative have come, whatever else does."""
+        while count:
+            while len(self.data) < 4 or len(self.data) < int.from_bytes(self.data[:4], "big"):
+                piece = self.socket.recv(65_536)
+                if not piece:
+                    raise AssertionError(f"the stream ended with {count} frames to come")
+                self.data += piece
+            size = int.from_bytes(self.data[:4], "big")
+            count -= self.data[8:11] == bytes([0, 0x53, code])
+            self.data = self.data[size:]
 
 
 def read_transfers(s, count):

@@ -6,7 +6,7 @@ import time
 from proton import Condition, Delivery, Message, Terminus, symbol
 from proton.reactor import AtMostOnce
 from proton.utils import BlockingConnection
-from peer import ACTIVE, GONE, Peer, attached, outcome, pair, quiet, told, until
+from peer import ACTIVE, GONE, Peer, attached, heard, outcome, pair, quiet, told, until
 from served import Served, expect
 
 MANY = 5_000
@@ -165,7 +165,7 @@ def drain(served):
     # there is no credit, so nothing comes; then as much as is granted again
     receiver.drain_mode = False
     receiver.flow(2)
-    until(lambda: sender.credit > 0, consumer, producer)
+    heard(consumer, producer)
     for it in range(4, 6):
         producer.send(sender, it, settled=True)
     until(lambda: len(consumer.got["r"]) == 6, consumer, producer)
@@ -279,7 +279,7 @@ def killed_consumer(served):
     expect([sent[it].remote.failed for it in (0, 2, 3, 4)], [True] * 4)
     other = Peer(served, "c")
     other.receiver("m.killed", credit=10)
-    until(attached(other.connection.link_head(0)), other)
+    heard(other)
     again = producer.send(sender, "again")
     until(lambda: other.got["r"], other, producer)
     other.decide(other.got["r"][0][0], Delivery.ACCEPTED)
@@ -308,7 +308,7 @@ def stolen_consumer(served):
     expect(receiver.remote_condition.name, "amqp:link:stolen")
     until(told(sent), consumer, producer, thief)
     expect((outcome(sent), sent.remote.failed), ("modified", True))
-    until(attached(theirs), thief)
+    heard(thief)
     sent = producer.send(sender, "second")
     until(lambda: thief.got["r"], consumer, producer, thief)
     expect((thief.bodies(), len(consumer.got["r"])), (["second"], 1))

@@ -3,8 +3,10 @@ import select
 import time
 
 import proton
-from proton import Connection, Collector, Delivery, Event, Message, Transport
+from journals import ACCEPTED, RELEASED, modification, rejection
+from proton import Connection, Collector, Delivery, Event, Message, Terminus, Transport
 
+STATES = {Delivery.ACCEPTED: ACCEPTED, Delivery.RELEASED: RELEASED}
 ACTIVE = proton.Endpoint.REMOTE_ACTIVE
 GONE = proton.Endpoint.REMOTE_CLOSED
 
@@ -36,9 +38,11 @@ class Peer:
         session.open()
         return session
 
-    def receiver(self, address, name="r", credit=0, session=None, rcv=None):
+    def receiver(self, address, name="r", credit=0, session=None, rcv=None, durable=False):
         link = (session or self.first).receiver(name)
         link.source.address = address
+        if durable:
+            asks_durable(link.source)
         if rcv is not None:
             link.rcv_settle_mode = rcv
         link.open()
@@ -47,17 +51,19 @@ class Peer:
             link.flow(credit)
         return link
 
-    def sender(self, address, name="s", session=None, mode=None):
+    def sender(self, address, name="s", session=None, mode=None, durable=False):
         link = (session or self.first).sender(name)
         link.target.address = address
+        if durable:
+            asks_durable(link.target)
         if mode is not None:
             link.snd_settle_mode = mode
         link.open()
         return link
 
-    def send(self, link, body, settled=False):
+    def send(self, link, body, settled=False, tag=None):
         """Sends a message, of bytes as they are or of a body, and gives its delivery."""
-        delivery = link.delivery(link.delivery_tag())
+        delivery = link.delivery(tag or link.delivery_tag())
         link.stream(body if isinstance(body, bytes) else Message(body=body).encode())
         link.advance()
         if settled:
@@ -85,10 +91,13 @@ class Peer:
                 break
             self.transport.push(data)
         while event := self.collector.peek():
-            if event.type is Event.DELIVERY:
-                self.take(event.delivery)
+            self.on(event)
             self.collector.pop()
         self.write()
+
+    def on(self, event):
+        if event.type is Event.DELIVERY:
+            self.take(event.delivery)
 
     def write(self):
         """Writes what the events produced."""
@@ -140,6 +149,27 @@ class Peer:
         self.cut()
 
 
+def asks_durable(terminus):
+    """Asks the router to keep what is unsettled at this terminus (part 3, section 3.5.5)."""
+    terminus.durability, terminus.expiry_policy = Terminus.DELIVERIES, Terminus.EXPIRE_NEVER
+
+
+def tag_of(delivery):
+    """A delivery's tag, which Proton gives as a text."""
+    return delivery.tag.encode("utf-8", "surrogateescape")
+
+
+def state_of(delivery):
+    """The outcome that the peer told of a delivery, as journals.py has outcomes."""
+    state, remote = delivery.remote_state, delivery.remote
+    if state == Delivery.REJECTED:
+        why = remote.condition
+        return rejection(why and why.name, why and why.description, why and why.info)
+    if state == Delivery.MODIFIED:
+        return modification(remote.failed, remote.undeliverable, remote.annotations)
+    return STATES.get(state) or (str(state),)
+
+
 def body_of(data):
     message = Message()
     message.decode(data)
@@ -166,6 +196,15 @@ def quiet(*peers, seconds=0.3):
         for peer in peers:
             peer.step()
         time.sleep(0.005)
+
+
+def heard(peer, *peers):
+    """All that the peer has sent was handled: what it begins behind that is answered."""
+    peer.step()
+    session = peer.session()
+    until(lambda: session.state & ACTIVE, peer, *peers)
+    session.close()
+    until(lambda: session.state & GONE, peer, *peers)
 
 
 def attached(link):

@@ -94,12 +94,16 @@ def sent(tls, address, bodies, **more):
         client.close()
 
 
-def received(tls, address, count, decide, **more):
+def received(tls, address, count, decide, durable=False, **more):
     """Receives this many messages in a thread of its own, once it is attached; its list fills."""
     came, ready = [], threading.Event()
 
     def run():
-        client = uamqp.ReceiveClient(tls.url(address), timeout=10_000, auto_complete=False, **tls.words(), **more)
+        source = uamqp.address.Source(tls.url(address))
+        if durable:
+            # unsettled-state (part 3, section 3.5.5)
+            source.durable = 2
+        client = uamqp.ReceiveClient(source, timeout=10_000, auto_complete=False, **tls.words(), **more)
         try:
             client.open()
             while not client.client_ready():
@@ -176,6 +180,29 @@ def from_proton(served, tls):
     producer.close()
 
 
+def durable(served, tls):
+    """A durable link of uamqp's: what comes on it has the number of its row for a tag, and its outcomes are told unsettled."""
+    producer = Peer(served, "p")
+    sender = producer.sender(tls.address("u.durable"), "d", durable=True)
+    until(attached(sender), producer)
+    tags = []
+
+    def decide(message):
+        tags.append(message.delivery_tag)
+        message.accept()
+
+    thread, came = received(tls, "u.durable", 5, decide, durable=True, prefetch=10)
+    until(lambda: sender.credit > 0, producer)
+    sent = [producer.send(sender, b"\x00\x53\x75\xa0\x02d%d" % it) for it in range(5)]
+    until(lambda: all(it.remote_state for it in sent), producer)
+    thread.join(15)
+    expect((came, [it.remote_state for it in sent], [it.settled for it in sent]), ([b"d%d" % it for it in range(5)], [Delivery.ACCEPTED] * 5, [False] * 5))
+    expect([(len(it), it[:1] == b"\0") for it in tags], [(8, True)] * 5)
+    for it in sent:
+        it.settle()
+    producer.close()
+
+
 def uamqp_messages(rows, served):
     if uamqp is None:
         print("uamqp's rows are left out: it is missing (apt-get install python3-uamqp)", flush=True)
@@ -187,5 +214,6 @@ def uamqp_messages(rows, served):
             rows.row(f"uamqp: {name}", lambda body=body: body(tls))
         rows.row("uamqp to Proton", lambda: to_proton(served, tls))
         rows.row("Proton to uamqp, modified", lambda: from_proton(served, tls))
+        rows.row("Proton to uamqp, durable", lambda: durable(served, tls))
     finally:
         tls.close()

@@ -1,4 +1,6 @@
 //! What the threads of a serving program share.
+ghost use Rattle.std.specs.Prelude.{◌≡◌};
+
 use crate::lines::Lines;
 use crate::streams::Streams;
 use amqr_files::JournalDisk;
@@ -59,6 +61,31 @@ pub struct Hub<G: Ledgers> {
 }
 
 impl<G: Ledgers> Hub<G> {
+    /// What the threads share, before there are any: up to so many connections are accepted, or any number, and the lines are quiet or not.
+    pub fn new(
+        alloc: Global,
+        shared: Shared<JournalDisk, NoLog, G>,
+        config: Config,
+        connections: Option<u64>,
+        quiet: bool,
+    ) -> Hub<G> {
+        Hub {
+            alloc,
+            shared,
+            config,
+            lines: Lines::new(quiet),
+            bench: Mutex::new(Vec::new(alloc)),
+            newest: Mutex::new(0),
+            taking: Mutex::new(Taking {
+                left: connections,
+                running: 0,
+                over: false,
+            }),
+            over: Condvar::new(),
+            streams: Mutex::new(Streams::new(alloc)),
+        }
+    }
+
     /// Starts the router.
     pub fn start<R: Wait + Eprint>(&self, rt: &R) {
         let Some(mut seat) = self.seat(rt) else {
@@ -162,5 +189,32 @@ impl<G: Ledgers> Hub<G> {
             .submit(rt, seat, Event::Up(ConnectionId(number), peer))?;
         *newest = number;
         Ok(ConnectionId(number))
+    }
+
+    /// The seats that no thread uses come back, and all else is let go. It tells whether the router failed.
+    pub fn close(self) -> bool
+        requires cut { (G.Ups.seats ≡ G.Ups.parts) × (G.Items.seats ≡ G.Items.parts) × (G.Downs.seats ≡ G.Downs.parts) × (G.Ticks.seats ≡ G.Ticks.parts) × (G.Starts.seats ≡ G.Starts.parts) × (G.Batches.seats ≡ G.Batches.parts) }
+    {
+        let Hub {
+            alloc,
+            shared,
+            config,
+            lines,
+            bench,
+            newest,
+            taking,
+            over,
+            streams,
+        } = self;
+        drop(config);
+        drop(lines);
+        drop(newest);
+        drop(taking);
+        drop(over);
+        drop(streams);
+        let closed = shared.close(bench.into_inner(), Vec::new(alloc));
+        let failed = closed.core.is_failed();
+        drop(closed);
+        failed
     }
 }

@@ -4,11 +4,9 @@ ghost use Rattle.router_core.specs.Handling.{counts_of};
 ghost use Rattle.router_core.specs.Counting.{uncounted};
 ghost use Rattle.router_shared.specs.History.{IsOpened};
 
-use crate::hub::{Hub, Taking};
-use crate::lines::Lines;
+use crate::hub::Hub;
 use crate::listening::listen;
 use crate::opening::open_router;
-use crate::streams::Streams;
 use amqr_commands::{Refusal, Serving, Status, config_at, refuse};
 use amqr_files::JournalDisk;
 use route_table::{Config, Listener, Role};
@@ -20,8 +18,8 @@ use std::io::{self, Write};
 use std::marker::Brand;
 use std::net::{Net, TcpListener, TcpStream};
 use std::rt::Files;
+use std::sync::Wait;
 use std::sync::ledger::Blank;
-use std::sync::{Condvar, Mutex, Wait};
 use std::thread::Threads;
 use std::time::Clock;
 
@@ -213,37 +211,24 @@ fn counted<
     requires starts { (blanks.starts.name ≡ S.name) × (blanks.starts.parts ≡ S.parts) × (S.seats ≡ S.parts) × (S.seats ≡ 4611686018427387904) }
     requires batches { (blanks.batches.name ≡ B.name) × (blanks.batches.parts ≡ B.parts) × (B.seats ≡ B.parts) × (B.seats ≡ 4611686018427387904) }
 {
-    let shared: Shared<JournalDisk, NoLog, Six<U, I, D, T, S, B>> = Shared::new(
+    let made: Result<Shared<JournalDisk, NoLog, Six<U, I, D, T, S, B>>, AllocError> = Shared::new(
         alloc,
         core,
         NoLog {},
         blanks,
         SEATS,
-    )?;
-    let hub = Hub {
-        alloc,
-        shared,
-        config,
-        lines: Lines::new(serving.quiet),
-        bench: Mutex::new(Vec::new(alloc)),
-        newest: Mutex::new(0),
-        taking: Mutex::new(Taking {
-            left: serving.connections,
-            running: 0,
-            over: false,
-        }),
-        over: Condvar::new(),
-        streams: Mutex::new(Streams::new(alloc)),
+    );
+    let Ok(shared) = made else {
+        drop(config);
+        return Err(AllocError);
     };
+    let hub = Hub::new(alloc, shared, config, serving.connections, serving.quiet);
     if serving.journal.is_none() {
         hub.lines.say(rt, IN_MEMORY);
     }
     hub.start(rt);
     listen(rt, &hub, listeners_of(&hub.config, own), sockets);
-    let Hub { shared, bench, .. } = hub;
-    let closed = shared.close(bench.into_inner(), Vec::new(alloc));
-    let failed = closed.core.is_failed();
-    if failed {
+    if hub.close() {
         return Ok(Status::Failed);
     }
     Ok(Status::Done)

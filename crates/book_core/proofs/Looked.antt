@@ -25,3 +25,6 @@ terminus_missing n xs h = shown.find_lacking (λ (s : TerminusSlot). s.number) (
 pub all_wanted : (rs : List Row) → filter (is_wanted None) rs ≡ rs
 all_wanted [] = refl
 all_wanted (r ∷ rs) = ap (λ ss. r ∷ ss) (all_wanted rs)
+
+pub shown_rise : (xs : List RowSlot) → Rises (λ (s : RowSlot). s.number) xs → Rises (λ (r : Row). r.number.0) (rows_in xs)
+shown_rise xs up = shown.rises_shown (λ (s : RowSlot). s.number) (λ s. s.row) (λ (r : Row). r.number.0) (λ s. s.same) xs up

@@ -1,9 +1,11 @@
 //! The book.
 ghost use Rattle.std.specs.Prelude.{◌≡◌, None, Some, OnOk, OnErr, IfErr, filter, is_none, length};
 ghost use Rattle.std.specs.Option.{option_copied};
-ghost use Rattle.book_core.specs.Book.{empty_book, first_fault, effects, admit_refusal, drop_refusal, is_of, row_at, row_named, terminus_at, terminus_of};
+ghost use Rattle.book_core.specs.Book.{empty_book, first_fault, effects, make_refusal, admit_refusal, drop_refusal, is_of, row_at, row_named, terminus_at, terminus_of};
+ghost use Rattle.book_core.specs.Rising.{Rises};
 ghost use Rattle.book_core.specs.Rows.{rows_left};
 ghost use Rattle.book_core.specs.declared.fault.BookFault.TheVariants as fault;
+ghost use Rattle.book_core.specs.declared.row.Row.{Row as ARow};
 
 use crate::act::{Act, Admission};
 use crate::fault::BookFault;
@@ -64,6 +66,13 @@ impl Book {
         }
     }
 
+    /// Why the book refuses to make a terminus; it is made where nothing does.
+    pub fn make_refusal(&self, terminus: &Terminus) -> Option<BookFault>
+        ensures { result ≡ make_refusal self.now terminus.now }
+    {
+        self.tables.why_not_make(terminus)
+    }
+
     /// Why the book refuses to admit a row; it is admitted where nothing does.
     pub fn admit_refusal(&self, admission: &Admission) -> Option<BookFault>
         ensures { result ≡ admit_refusal self.now admission.now }
@@ -98,6 +107,14 @@ impl Book {
             slots: &self.tables.rows.slots,
             terminus: None,
         }
+    }
+
+    /// The numbers of its rows rise. It does nothing.
+    #[tactic(auto, using(crate::proofs::Looked::shown_rise))]
+    pub fn rows_rise(&self)
+        ensures { Rises (λ (r : ARow). r.number.0) self.now.rows }
+    {
+        let _rows = &self.tables.rows;
     }
 
     /// The row with a number.

@@ -124,7 +124,7 @@ impl Tables {
         }
     }
 
-    fn why_not_make(&self, terminus: &Terminus) -> Option<BookFault>
+    pub(crate) fn why_not_make(&self, terminus: &Terminus) -> Option<BookFault>
         ensures { (b : BookView) → Shows self.now b → result ≡ make_refusal b terminus.now }
     {
         if terminus.number.0 != self.counters.next_terminus {

@@ -3,7 +3,7 @@ use crate::case::{Case, read_cases};
 use crate::fault::CaseFault;
 use crate::scene::{Scene, Subject};
 use std::alloc::Global;
-use std::fs;
+use std::{fs, mem};
 
 /// How many cases were tried, and how many differ.
 #[derive(Clone, Copy, Debug, Default, PartialEq, Eq)]
@@ -72,11 +72,25 @@ fn try_cases(
     tally: &mut Tally,
 ) -> Result<(), CaseFault> {
     let mut scene = Scene::new(rt.alloc(), subject);
+    let done = try_in(rt, path, subject, cases, &mut scene, tally);
+    drop(scene);
+    done
+}
+
+/// Tries cases, beginning in a scene.
+fn try_in(
+    rt: &HostRuntime,
+    path: &str,
+    subject: Subject,
+    cases: &[Case<'_>],
+    scene: &mut Scene,
+    tally: &mut Tally,
+) -> Result<(), CaseFault> {
     for case in cases {
         if case.begins {
-            scene = Scene::new(rt.alloc(), subject);
+            drop(mem::replace(scene, Scene::new(rt.alloc(), subject)));
         }
-        tally.count(is_wrong(rt, path, &mut scene, case)?);
+        tally.count(is_wrong(rt, path, scene, case)?);
     }
     Ok(())
 }

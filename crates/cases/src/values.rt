@@ -2,7 +2,7 @@
 use crate::case::Case;
 use crate::fault::CaseFault;
 use crate::text::{bytes_of, digits_of};
-use amqp_types::{decode, encode, front_of, opening_of, skip};
+use amqp_types::{Value, decode, encode, front_of, opening_of, skip};
 use std::alloc::Global;
 
 /// The most levels of nesting (AMQP 1.0 sets no limit; this one is the router's).
@@ -79,23 +79,42 @@ fn decoded(alloc: Global, bytes: &[u8]) -> Result<String, CaseFault> {
     }
 }
 
-/// The shortest encoding of the value in the bytes, and the value, which is decoded from it again.
+/// The canonical encoding of the value in the bytes, and the value, which is decoded from it again.
 fn rewritten(alloc: Global, bytes: &[u8]) -> Result<String, CaseFault> {
     let Ok((value, length)) = decode(alloc, bytes) else {
         return decoded(alloc, bytes);
     };
+    let answer = written_anew(alloc, &value, length, bytes);
+    drop(value);
+    answer
+}
+
+/// The canonical encoding of a value that was decoded from so many of these bytes, and the value.
+fn written_anew(
+    alloc: Global,
+    value: &Value,
+    length: usize,
+    bytes: &[u8],
+) -> Result<String, CaseFault> {
     let mut written = Vec::new(alloc);
-    encode(alloc, &value, &mut written)?;
+    encode(alloc, value, &mut written)?;
     let digits = digits_of(alloc, written.as_slice())?;
-    let again = decoded(alloc, written.as_slice())?;
-    let wanted_again = format!(in alloc; "{value:?} {}", written.len())?;
-    if again.as_str() != wanted_again.as_str() {
+    let is_same = is_read_again(alloc, value, written.as_slice())?;
+    if !is_same {
+        let again = decoded(alloc, written.as_slice())?;
         return Ok(format!(in alloc; "{digits} read as {again}")?);
     }
     if length != bytes.len() || !is_skipped_alike(alloc, bytes) {
         return Ok(format!(in alloc; "{digits} from {length} bytes")?);
     }
     Ok(format!(in alloc; "{digits} {value:?}")?)
+}
+
+/// Whether a value is decoded from all of these bytes.
+fn is_read_again(alloc: Global, value: &Value, written: &[u8]) -> Result<bool, CaseFault> {
+    let again = decoded(alloc, written)?;
+    let wanted = format!(in alloc; "{value:?} {}", written.len())?;
+    Ok(again.as_str() == wanted.as_str())
 }
 
 /// A line for each value, and one for the fault of bytes that begin none.

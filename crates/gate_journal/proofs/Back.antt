@@ -91,7 +91,7 @@ same_bytes bytes = (bytes_decides bytes bytes).1 refl
 same_length : (n : ℕ) → (n == n) ≡ true
 same_length n = grind (arith, nat_tests)
 
-outcome_back : (s : DeliveryState) → IsOutcome s → outcome_of (state_spelling s) ≡ Ok s
+pub outcome_back : (s : DeliveryState) → IsOutcome s → outcome_of (state_spelling s) ≡ Ok s
 unfolding outcome_of
 outcome_back s h = rw h.reads_back (rw (same_length (length (state_spelling s)), terminal_back s h.terminal, same_bytes (state_spelling s)) refl)
 

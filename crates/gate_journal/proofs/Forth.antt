@@ -226,11 +226,11 @@ both_true : (a b : Bool) → (a && b) ≡ true → (a ≡ true) × (b ≡ true)
 both_true true b e = (refl, e)
 both_true false b e = absurd cc
 
-record IsOutcomeRead (bytes : List ℕ) (s : DeliveryState) : Type 0 where
+pub record IsOutcomeRead (bytes : List ℕ) (s : DeliveryState) : Type 0 where
   pub is : bytes ≡ state_spelling s
   pub outcome : IsOutcome s
 
-outcome_forth : (bytes : List ℕ) (s : DeliveryState) → outcome_of bytes ≡ Ok s → IsOutcomeRead bytes s
+pub outcome_forth : (bytes : List ℕ) (s : DeliveryState) → outcome_of bytes ≡ Ok s → IsOutcomeRead bytes s
 unfolding outcome_of
 outcome_forth bytes s e = by_read (state_at bytes) refl e
   where

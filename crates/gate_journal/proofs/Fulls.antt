@@ -1,6 +1,6 @@
 -- Whether a batch is full, as a test.
-use Rattle.std.proofs.Common.{◌≡◌, ℕ, ◌+◌, ◌<◌, ◌&&◌, Bool, true, false, List, refl, arith}
-use Rattle.std.specs.Prelude.{nat_lt, sum_by}
+use Rattle.std.proofs.Common.{◌≡◌, ℕ, ◌+◌, ◌<◌, ◌&&◌, Bool, true, false, List, refl, sym, arith}
+use Rattle.std.specs.Prelude.{nat_lt, sum_by, IsTrue, ◌↔◌}
 use Rattle.std.proofs.lemmas.Bool.Decides.{nat_tests}
 use Rattle.book_core.specs.declared.act.Act.{Act}
 use Rattle.gate_journal.specs.Reserve.{growth, release, journal_limit, batch_bytes, IsFull, is_full}
@@ -45,3 +45,7 @@ not_full_tested used kept acts fits = by_bool (is_full used kept acts) refl
     by_bool : (b : Bool) → is_full used kept acts ≡ b → b ≡ false
     by_bool true e = absurd (fits (test_full used kept acts e))
     by_bool false e = refl
+
+pub tested_by : (used kept : ℕ) (acts : List Act) (full : Bool) → (IsTrue full ↔ IsFull used kept acts) → full ≡ is_full used kept acts
+tested_by used kept acts true h = sym (full_tested used kept acts (h.0 refl))
+tested_by used kept acts false h = sym (not_full_tested used kept acts (λ full. let no = h.1 full in absurd cc))

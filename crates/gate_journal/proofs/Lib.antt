@@ -19,3 +19,4 @@ pub mod Terminal
 pub mod Judged
 pub mod Decided
 pub mod Moments
+pub mod Kept

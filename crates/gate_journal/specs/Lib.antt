@@ -6,6 +6,7 @@ pub mod Listed
 pub mod Listing
 pub mod Opening
 pub mod Ordered
+pub mod Outcome
 pub mod Reading
 pub mod Reserve
 pub mod Scanning

@@ -6,7 +6,7 @@ ghost use Rattle.book_core.specs.Book.{empty_book, first_fault, effects};
 ghost use Rattle.gate_journal.specs.Format.{acts_bytes, front};
 ghost use Rattle.gate_journal.specs.Batches.{Holds, HaveOutcomes, IsNext, book_after};
 ghost use Rattle.gate_journal.specs.Ordered.{IsOrdered};
-ghost use Rattle.gate_journal.specs.Reserve.{reserve, batch_bytes, growth, release, IsFull};
+ghost use Rattle.gate_journal.specs.Reserve.{reserve, batch_bytes, growth, release, IsFull, is_full};
 ghost use Rattle.gate_journal.specs.Journal.{Keeps, disk_of, batch_count, used_bytes, kept_bytes, has_failed};
 ghost use Rattle.gate_journal.specs.Opening.{Explains};
 ghost use Rattle.gate_journal.specs.Stands.{IsAt};
@@ -14,12 +14,12 @@ ghost use Rattle.gate_journal.specs.Stands.{IsAt};
 use crate::fault::{JournalFault, OpenFault};
 use crate::figures::{Figures, growth_by, release_by, reserve_of, total};
 use crate::scan::{Found, scan};
-use crate::spell::block_of;
+use crate::spell::{acts_len, block_of};
 use crate::store::store;
 use crate::whole::read_all;
 use book_core::{Act, Book};
 use disk_core::{Crash, Disk};
-use std::alloc::Global;
+use std::alloc::{AllocError, Global};
 
 /// The most bytes of a journal, including what it keeps free.
 const JOURNAL_LIMIT: u64 = 67_108_864;
@@ -142,6 +142,28 @@ impl<D: Disk> Journal<D> {
                 self.failed = true;
                 Err(fault)
             }
+        }
+    }
+
+    /// Whether `append` answers `Full` to a batch: it costs more than nothing, and more than the room.
+    ///
+    /// # Errors
+    ///
+    /// `AllocError` where memory was refused, or an act can't be encoded.
+    #[tactic(auto, using(crate::proofs::Fulls::tested_by))]
+    pub fn is_full(&self, acts: &[Act]) -> Result<bool, AllocError>
+        ensures { IfOk result (λ full. full ≡ is_full (used_bytes self.now) (kept_bytes self.now) acts.now) }
+    {
+        let bytes = acts_len(self.alloc, acts)?;
+        let Some(growth) = growth_by(acts) else {
+            return Err(AllocError);
+        };
+        let Some(release) = release_by(acts) else {
+            return Err(AllocError);
+        };
+        match is_full(self.figures, bytes as u64, growth, release) {
+            Some(full) => Ok(full),
+            None => Err(AllocError),
         }
     }
 

@@ -1,11 +1,13 @@
 //! Laws of the journal's definitions. Each is the clause of a function that does nothing.
-ghost use Rattle.std.specs.Prelude.{◌≡◌, ◌≢◌, ◌⊎◌, ◌↔◌, ◌+◌, ◌<◌, [], List, ℕ, true, None, get_or, sum_by};
+ghost use Rattle.std.specs.Prelude.{◌≡◌, ◌≢◌, ◌⊎◌, ◌↔◌, ◌+◌, ◌<◌, ◌≤◌, [], List, ℕ, true, None, Some, get_or, sum_by, length};
 ghost use Rattle.amqp_perf.specs.declared.state.DeliveryState.{DeliveryState};
 ghost use Rattle.amqp_perf.specs.Fitting.{FitsState};
+ghost use Rattle.amqp_perf.specs.Spelling.{state_spelling};
 ghost use Rattle.book_core.specs.declared.act.Act.{Act};
 ghost use Rattle.book_core.specs.Book.{empty_book, first_fault, effects};
 ghost use Rattle.gate_journal.specs.Batches.{AllApply, Holds, IsTerminal, IsOutcome, book_after};
 ghost use Rattle.gate_journal.specs.Opening.{Explains, IsDamagedAt};
+ghost use Rattle.gate_journal.specs.Outcome.{kept_outcome};
 ghost use Rattle.gate_journal.specs.Ordered.{IsOrdered};
 ghost use Rattle.gate_journal.specs.Reserve.{OnlyRelease, Costs, IsFull, is_full, reserve, growth, release};
 ghost use Rattle.gate_journal.specs.declared.fault.OpenFault.TheVariants.{NotAJournal};
@@ -54,4 +56,13 @@ pub fn releases_fit()
 /// it: its canonical encoding gives it back.
 pub fn terminal_states_are_outcomes()
     ensures { (state : DeliveryState) → IsTerminal state → FitsState 32 state → IsOutcome state }
+{}
+
+/// What a batch keeps of a state is an outcome, as `append` and a book need it, with the encoding of that state; and it is the
+/// state itself where that is such an outcome.
+pub fn outcomes_are_kept()
+    ensures outcome { (state kept : DeliveryState) → kept_outcome state ≡ Some kept → IsOutcome kept }
+    ensures short { (state kept : DeliveryState) → kept_outcome state ≡ Some kept → length (state_spelling kept) ≤ 400 }
+    ensures spelling { (state kept : DeliveryState) → kept_outcome state ≡ Some kept → state_spelling kept ≡ state_spelling state }
+    ensures itself { (state : DeliveryState) → IsOutcome state → length (state_spelling state) ≤ 400 → kept_outcome state ≡ Some state }
 {}

@@ -19,4 +19,5 @@ pub use fault::{JournalFault, OpenFault};
 pub use fresh::format;
 pub use journal::Journal;
 pub use listing::{Entry, Listing, list};
+pub use read::kept_outcome;
 pub use spell::acts_len;

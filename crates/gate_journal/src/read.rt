@@ -3,8 +3,10 @@ ghost use Rattle.std.specs.Prelude.{◌≡◌, ◌==◌, IfOk};
 ghost use Rattle.std.specs.Cmp.Lexicographic.{pointwise};
 ghost use Rattle.amqp_perf.specs.Spelling.{state_spelling};
 ghost use Rattle.std.specs.Int.{w16, w32, w64};
+ghost use Rattle.gate_journal.specs.Outcome.{kept_outcome};
 ghost use Rattle.gate_journal.specs.Reading.{Gives, byte_at, number_at, chunk_at, sized_at, text_at, role_at, make_at, tag_at, terminus_or_none, payload_at, admission_at, is_terminal, outcome_of, decision_at, act_behind, act_at, inside_at};
 
+use crate::spell::spelling_of;
 use amqp_perf::{DeliveryState, DeliveryTag, PerfFault, Text, read_state, write_state};
 use book_core::{Act, Admission, Decision, LinkKey, LinkRole, RowNumber, Terminus, TerminusNumber};
 use bytes::Bytes;
@@ -12,6 +14,9 @@ use std::alloc::{AllocError, AllocFailed, Global};
 
 /// The most bytes of a batch's acts.
 const BATCH_LIMIT: u32 = 4_194_304;
+
+/// The most bytes of an encoded outcome.
+const MAX_OUTCOME: usize = 400;
 
 /// Why no act is read.
 #[derive(Clone, Copy, Debug, PartialEq, Eq)]
@@ -235,6 +240,29 @@ fn outcome(alloc: Global, bytes: &[u8]) -> Result<DeliveryState, ReadFault>
                 Err(ReadFault::Misspelt)
             }
         }
+    }
+}
+
+/// What a batch keeps of an outcome: what its canonical encoding gives back, where that has at most 400 bytes and is a
+/// terminal state's. Each outcome that `append` takes, and the book, is kept as it is (`outcomes_are_kept`).
+///
+/// # Errors
+///
+/// `AllocError` where memory was refused.
+pub fn kept_outcome(
+    alloc: Global,
+    state: &DeliveryState,
+) -> Result<Option<DeliveryState>, AllocError>
+    ensures { IfOk result (λ kept. kept ≡ kept_outcome state.now) }
+{
+    let spelling = spelling_of(alloc, state)?;
+    if spelling.len() > MAX_OUTCOME {
+        return Ok(None);
+    }
+    match outcome(alloc, spelling.as_slice()) {
+        Ok(kept) => Ok(Some(kept)),
+        Err(ReadFault::Misspelt) => Ok(None),
+        Err(ReadFault::Memory) => Err(AllocError),
     }
 }
 

@@ -101,7 +101,7 @@ fn put_admit(out: &mut Vec<u8>, admission: &Admission) -> Result<(), AllocError>
 }
 
 /// The canonical encoding of an outcome.
-fn spelling_of(alloc: Global, outcome: &DeliveryState) -> Result<Vec<u8>, AllocError>
+pub(crate) fn spelling_of(alloc: Global, outcome: &DeliveryState) -> Result<Vec<u8>, AllocError>
     ensures { IfOk result (λ v. v.items ≡ state_spelling outcome.now) }
 {
     let mut spelling = Vec::new(alloc);

@@ -116,21 +116,30 @@ impl Pool {
         self.producers.remove(self.distribution, producer.0);
     }
 
+    /// The consumer that [`Pool::choose`] would choose now. Nothing is noted, so asked again it answers the same.
+    #[tactic(auto, using(crate::proofs::Leasts::choice_is))]
+    pub fn peek(&self) -> Option<ConsumerId>
+        ensures choice { IsChoice self.now (option_map (λ c. c.0) result) }
+        ensures chosen { option_map (λ c. c.0) result ≡ choice self.now }
+    {
+        match self.next_consumer() {
+            None => None,
+            Some(id) => Some(ConsumerId(id)),
+        }
+    }
+
     /// Chooses the consumer of the next delivery and notes that it was chosen; none where no consumer has free credit.
     /// A multicast address chooses nobody. It allocates nothing.
-    #[tactic(auto, using(crate::proofs::Leasts::choice_is))]
     pub fn choose(&mut self) -> Option<ConsumerId>
         ensures choice { IsChoice self.old (option_map (λ c. c.0) result) }
         ensures chosen { option_map (λ c. c.0) result ≡ choice self.old }
         ensures noted { self.new ≡ chose self.old (option_map (λ c. c.0) result) }
     {
-        match self.next_consumer() {
-            None => None,
-            Some(id) => {
-                self.last = id;
-                Some(ConsumerId(id))
-            }
+        let chosen = self.peek();
+        if let Some(consumer) = chosen {
+            self.last = consumer.0;
         }
+        chosen
     }
 
     /// Gives credit to producers, one credit after another, while there is a producer that is next, and returns each

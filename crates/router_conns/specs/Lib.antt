@@ -1,4 +1,5 @@
 pub mod Fits
+pub mod Emptied
 pub mod Peering
 pub mod Timing
 pub use Rattle.router_trace.specs.Trace

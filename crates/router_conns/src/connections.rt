@@ -6,6 +6,7 @@ ghost use Rattle.router_trace.specs.Trace.{Beginning};
 ghost use Rattle.router_trace.specs.Configuration.{beginning};
 ghost use Rattle.router_trace.specs.Trace.{Entry, Out, Took, did, newest};
 ghost use Rattle.router_trace.specs.Connection.{conn as known, took, standing, is_live, is_full, is_ready, with_item, is_due, has, ended, unless_due, due, found};
+ghost use Rattle.router_conns.specs.Emptied.{emptied, NoneWaits};
 ghost use Rattle.router_conns.specs.Fits.{IsBatch, count, ConnectionsFit, ConnectionsAt};
 ghost use Rattle.router_trace.specs.Refusing.{refuses, rises, is_loss};
 ghost use Rattle.router_trace.specs.declared.event.Event.TheVariants as event;
@@ -238,6 +239,16 @@ impl Connections {
         self.note(conn, fill.over, fill.full);
         Ok(())
     }
+
+    /// Forgets the items in all outboxes. It takes no memory. The table then agrees with no trace in which one of them waits.
+    pub fn give_up(&mut self)
+        ensures none { NoneWaits self.new }
+        ensures rows { (c : ℕ) → get nat_cmp self.new.rows c ≡ option_map emptied (get nat_cmp self.old.rows c) }
+        ensures live { self.new.live ≡ self.old.live }
+        ensures last { self.new.newest ≡ self.old.newest }
+    {
+        empty_all(&mut self.rows);
+    }
 }
 
 /// Takes items out of a row's outbox, if the row exists; a row that is over is removed with its last item.
@@ -309,6 +320,16 @@ fn remove_row(rows: &mut BTreeMap<u64, Row>, conn: u64)
     ensures { (c : ℕ) → get nat_cmp rows.new c ≡ (if conn == c then None else get nat_cmp rows.old c) }
 {
     let _ = rows.remove(&conn);
+}
+
+/// Forgets the items in the outboxes of all rows.
+fn empty_all(rows: &mut BTreeMap<u64, Row>)
+    ensures { (c : ℕ) → get nat_cmp rows.new c ≡ option_map emptied (get nat_cmp rows.old c) }
+{
+    rows.retain(|_conn, row| {
+        row.empty();
+        true
+    });
 }
 
 /// Appends a number to a list, which has room for 64.

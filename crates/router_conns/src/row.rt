@@ -2,6 +2,7 @@
 ghost use Rattle.std.specs.Prelude.{◌≡◌, ◌≤◌, is_none, length, take, drop, OnOk, IfOk, None, Some, if◌then◌else◌};
 ghost use Rattle.router_trace.specs.Connection.{behind, behind_perf, with_item, ended, fresh, standing, is_full, is_ready, unless_gone, took, Batched};
 ghost use Rattle.std.specs.VecDeque.{deque_len};
+ghost use Rattle.router_conns.specs.Emptied.{emptied};
 
 use amqp_conn::Conn;
 use amqp_frames::Item;
@@ -163,6 +164,13 @@ impl Row {
             items,
             ended,
         })
+    }
+
+    /// Forgets the items in the outbox.
+    pub(crate) fn empty(&mut self)
+        ensures { self.new ≡ emptied self.old }
+    {
+        self.waiting.clear();
     }
 
     /// Whether the connection is over and its outbox is empty.

@@ -2,24 +2,28 @@
 use Rattle.std.proofs.Common.{◌≡◌, ◌∙◌, sym, ap, refl, true≢false, ℕ, Bool, true, false, not, List, [], ◌∷◌}
 use Rattle.std.specs.Prelude.{Option, Some, None, if◌then◌else◌, nat_lt}
 use Rattle.amqp_perf.specs.declared.perf.Attach.{Attach as AnAttach}
+use Rattle.amqp_perf.specs.declared.perf.Role.TheVariants.{Receiver}
 use Rattle.amqp_perf.specs.declared.state.DeliveryState.{DeliveryState}
+use Rattle.amqp_perf.specs.declared.state.DeliveryState.TheVariants as state
 use Rattle.amqp_frames.specs.declared.item.Item.{Item}
 use Rattle.amqp_link.specs.declared.part.Delivery.{Delivery as Told}
 use Rattle.amqp_link.specs.declared.part.Part.{Part}
 use Rattle.amqp_link.specs.declared.part.Part.TheVariants as part
+use Rattle.book_core.specs.declared.row.RowNumber.{RowNumber}
 use Rattle.router_trace.specs.declared.condition.Condition.{Condition}
 use Rattle.router_trace.specs.declared.condition.Condition.TheVariants.{FrameSizeTooSmall, ResourceLimitExceeded, MessageSizeExceeded}
 use Rattle.router_trace.specs.declared.handle.Attachment.{Attachment}
 use Rattle.router_trace.specs.Trace.{Entry, goes, each_to, ups}
 use Rattle.router_trace.specs.Connection.{has}
+use Rattle.router_trace.specs.DeliveryFrames.{outcome_item}
 use Rattle.router_trace.specs.Durable.{is_durable}
 use Rattle.router_trace.specs.LinkFrames.{attach_item, detach_item, answer_to, refusal_of, fits}
-use Rattle.router_trace.specs.Links.{Link, link, if_attached, last_of_key, free_handle, key_at}
+use Rattle.router_trace.specs.Links.{link, if_attached, last_of_key, free_handle, key_at}
 use Rattle.router_trace.specs.Order.{unwritten, of_session, has_turn}
 use Rattle.router_trace.specs.Peers.{largest_frame}
 use Rattle.router_trace.specs.Settling.{unbound}
-use Rattle.router_passing.specs.Passing.{consumer_of}
-use Rattle.router_reply.specs.Replies.{stolen_by, attach_answer, taken, refused, claimed_id, ignored_put, unbound_put, part_put, settled_answers}
+use Rattle.router_reply.specs.Admitting.{claimed_id}
+use Rattle.router_reply.specs.Replies.{stolen_by, attach_answer, taken, refused, lasts_on, consumer_for, let_go, unless_many, ignored_put, released_by, unbound_put, part_put, settled_answers}
 use Rattle.router_conns.proofs.Lists.{by_test}
 use Rattle.router_core.proofs.Flowing.{AllFit, IsQuiet, fit_both}
 use Rattle.router_core.proofs.Linked.{holder_linked}
@@ -76,35 +80,49 @@ refused_fit t largest c own handle e a ord begun = by (fits largest (attach_item
 
 -- what a whole delivery causes, and dispositions that are answered
 
-ignored_fit : (t : List Entry) (after : List Entry) (c own handle : ℕ) (q : Option ℕ) → has c (ups t) ≡ true → of_session (wrote t c) own ≡ true
+gone_fit : (t after : List Entry) (c own handle : ℕ) (x : Condition) → has c (ups t) ≡ true → of_session (wrote t c) own ≡ true
+    → AllFit t (each_to c (let_go after c own handle x))
+gone_fit t after c own handle x known begun = all_fit t c known (detach_item own handle (not (lasts_on (link after c own handle))) (Some x)) begun tt
+
+many_fit : (t after : List Entry) (c own handle : ℕ) (items : List Item) → has c (ups t) ≡ true → of_session (wrote t c) own ≡ true
+    → AllFit t (each_to c items) → AllFit t (each_to c (unless_many after c own handle items))
+many_fit t after c own handle items known begun fit =
+    by_test (nat_lt 1024 (unbound after c own handle))
+    (λ e. rw e (gone_fit t after c own handle ResourceLimitExceeded known begun))
+    (λ e. rw e fit)
+
+ignored_fit : (t after : List Entry) (c own handle : ℕ) (q : Option ℕ) → has c (ups t) ≡ true → of_session (wrote t c) own ≡ true
     → AllFit t (each_to c (ignored_put after c own handle q))
 ignored_fit t after c own handle None known begun = tt
-ignored_fit t after c own handle (Some id) known begun =
-    by_test (nat_lt 1024 (unbound after c own handle))
-    (λ e. rw e (all_fit t c known (detach_item own handle true (Some ResourceLimitExceeded)) begun tt))
-    (λ e. rw e tt)
+ignored_fit t after c own handle (Some id) known begun = many_fit t after c own handle [] known begun tt
 
-unbound_fit : (t : List Entry) (c own : ℕ) (q : Option ℕ) (consumer : Option Attachment) → has c (ups t) ≡ true → of_session (wrote t c) own ≡ true
-    → AllFit t (each_to c (unbound_put own q consumer))
-unbound_fit t c own None None known begun = tt
-unbound_fit t c own (Some id) None known begun = (record { known = known; turn = begun; quiet = tt }, tt)
-unbound_fit t c own q (Some consumer) known begun = tt
+released_fit : (t after : List Entry) (c own handle : ℕ) (durable : Bool) (id : ℕ) → has c (ups t) ≡ true → of_session (wrote t c) own ≡ true
+    → AllFit t (each_to c (released_by after c own handle durable id))
+released_fit t after c own handle false id known begun = (record { known = known; turn = begun; quiet = tt }, tt)
+released_fit t after c own handle true id known begun =
+    many_fit t after c own handle (outcome_item own Receiver id false state.Released ∷ []) known begun (record { known = known; turn = begun; quiet = tt }, tt)
 
-pub part_fit : (t after : List Entry) (c own handle : ℕ) (q : Option Part) → Ordered t → of_session (wrote t c) own ≡ true
-    → AllFit t (each_to c (part_put after c own handle q))
-part_fit t after c own handle q ord begun = by q
+unbound_fit : (t after : List Entry) (c own handle : ℕ) (q : Option ℕ) (consumer : Option Attachment) → has c (ups t) ≡ true → of_session (wrote t c) own ≡ true
+    → AllFit t (each_to c (unbound_put after c own handle q consumer))
+unbound_fit t after c own handle None None known begun = tt
+unbound_fit t after c own handle (Some id) None known begun = released_fit t after c own handle (lasts_on (link after c own handle)) id known begun
+unbound_fit t after c own handle q (Some consumer) known begun = tt
+
+pub part_fit : (t after : List Entry) (c own handle : ℕ) (row : Option RowNumber) (q : Option Part) → Ordered t → of_session (wrote t c) own ≡ true
+    → AllFit t (each_to c (part_put after c own handle row q))
+part_fit t after c own handle row q ord begun = by q
   where
     known : has c (ups t) ≡ true
     known = session_known t c own ord begun
 
-    whole : (b : Bool) (d : Told) (l : Option Link) → AllFit t (each_to c (if b then ignored_put after c own handle (claimed_id after c own handle d.id)
-        else unbound_put own (claimed_id after c own handle d.id) (consumer_of after l)))
-    whole true d l = ignored_fit t after c own handle (claimed_id after c own handle d.id) known begun
-    whole false d l = unbound_fit t c own (claimed_id after c own handle d.id) (consumer_of after l) known begun
+    whole : (b : Bool) (d : Told) → AllFit t (each_to c (if b then ignored_put after c own handle (claimed_id after c own handle d.id)
+        else unbound_put after c own handle (claimed_id after c own handle d.id) (consumer_for after c own handle d row)))
+    whole true d = ignored_fit t after c own handle (claimed_id after c own handle d.id) known begun
+    whole false d = unbound_fit t after c own handle (claimed_id after c own handle d.id) (consumer_for after c own handle d row) known begun
 
-    by : (q : Option Part) → AllFit t (each_to c (part_put after c own handle q))
-    by (Some (part.Whole d payload)) = whole d.resume d (link after c own handle)
-    by (Some part.TooLarge) = all_fit t c known (detach_item own handle true (Some MessageSizeExceeded)) begun tt
+    by : (q : Option Part) → AllFit t (each_to c (part_put after c own handle row q))
+    by (Some (part.Whole d payload)) = whole d.resume d
+    by (Some part.TooLarge) = gone_fit t after c own handle MessageSizeExceeded known begun
     by _ = tt
 
 pub settled_fit : (t : List Entry) (c own : ℕ) (s : Option DeliveryState) (ids : List ℕ) → Ordered t → of_session (wrote t c) own ≡ true

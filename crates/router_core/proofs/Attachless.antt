@@ -1,11 +1,13 @@
 -- Outgoing items that contain no attach: those of rows, heartbeats and flows. They begin no link.
 use Rattle.std.proofs.Common.{◌≡◌, ◌∙◌, sym, ap, refl, true≢false, ℕ, zero, suc, Bool, true, false, List, [], ◌∷◌, ◌++◌, append-nil}
-use Rattle.std.specs.Prelude.{◌==◌, nat_lt, if◌then◌else◌, filter, Option, Some, None, is_some}
+use Rattle.std.specs.Prelude.{◌==◌, ◌&&◌, nat_lt, if◌then◌else◌, filter, Option, Some, None, is_some, is_none}
 use Rattle.amqp_perf.specs.declared.perf.Disposition.{Disposition as ADisposition}
 use Rattle.amqp_perf.specs.declared.perf.Perf.{Perf}
 use Rattle.amqp_perf.specs.declared.perf.Perf.TheVariants as perf
+use Rattle.amqp_perf.specs.declared.perf.Role.TheVariants.{Receiver}
 use Rattle.amqp_perf.specs.declared.perf.Transfer.{Transfer}
 use Rattle.amqp_perf.specs.declared.state.DeliveryState.{DeliveryState}
+use Rattle.amqp_perf.specs.declared.state.DeliveryState.TheVariants as state
 use Rattle.amqp_frames.specs.declared.item.Item.{Item}
 use Rattle.amqp_frames.specs.declared.item.Item.TheVariants as item
 use Rattle.amqp_conn.specs.declared.conn.Conn.{Conn}
@@ -13,7 +15,10 @@ use Rattle.amqp_link.specs.declared.part.Delivery.{Delivery as Told}
 use Rattle.amqp_link.specs.declared.part.Part.{Part}
 use Rattle.amqp_link.specs.declared.part.Part.TheVariants as part
 use Rattle.amqp_session.specs.Session.{Session}
+use Rattle.book_core.specs.declared.row.RowNumber.{RowNumber}
+use Rattle.book_core.specs.Book.{BookView}
 use Rattle.router_trace.specs.declared.condition.Condition.{Condition}
+use Rattle.router_trace.specs.declared.condition.Condition.TheVariants.{NotAllowed, ResourceLimitExceeded, MessageSizeExceeded}
 use Rattle.router_trace.specs.declared.event.Event.{Event}
 use Rattle.router_trace.specs.declared.event.Event.TheVariants as event
 use Rattle.router_trace.specs.Trace.{Entry, Did, Out, Put, Step, goes, puts, each_to, ups}
@@ -23,10 +28,10 @@ use Rattle.router_trace.specs.Frames.{closing}
 use Rattle.router_trace.specs.declared.handle.Attachment.{Attachment}
 use Rattle.router_trace.specs.declared.handle.PeerHandle.{PeerHandle}
 use Rattle.router_trace.specs.declared.handle.PeerHandle.TheVariants.{Mapped, Detaching}
-use Rattle.router_trace.specs.Links.{Link, link, link_place, link_place_by, on_link, their_handle}
-use Rattle.router_trace.specs.Deliveries.{named, terminal, last_of}
-use Rattle.router_trace.specs.Settling.{ids_between, is_open_id, names_open, unbound, part_on, part_in}
-use Rattle.router_passing.specs.Passing.{consumer_of}
+use Rattle.router_trace.specs.Links.{Link, link, link_place, link_place_by, on_link, their_handle, durable_key}
+use Rattle.router_trace.specs.Deliveries.{named, terminal, last_of, tag_in}
+use Rattle.router_trace.specs.DeliveryFrames.{outcome_item}
+use Rattle.router_trace.specs.Settling.{ids_between, is_open_id, names_open, unbound, middle_on, part_on, part_in}
 use Rattle.router_trace.specs.Sessions.{session, theirs}
 use Rattle.router_sessions.specs.Windows.{is_narrow, flow_due, flows_below, windows_over, windows}
 use Rattle.router_state.specs.Tables.{beat_if, beats_over}
@@ -34,8 +39,10 @@ use Rattle.router_rows.specs.declared.answer.Answer.{Answer}
 use Rattle.router_rows.specs.declared.answer.Answer.TheVariants.{Nothing, Header, Open, Close, CloseWith, Begin, End, Flow, Attach, Refuse, Detach, LinkFlow, Taken, Settle}
 use Rattle.router_rows.specs.Rows.{Finds, said, item_reply}
 use Rattle.router_rows.specs.Finding.{finds}
-use Rattle.router_reply.specs.Acts.{answer_of}
-use Rattle.router_reply.specs.Replies.{closing_of, claimed_id, ignored_put, unbound_put, part_put, settled_answers, links_put, item_row, own_row}
+use Rattle.router_rows.specs.Booking.{repeats, booked_transfer}
+use Rattle.router_reply.specs.Acts.{answer_of, found_journal}
+use Rattle.router_reply.specs.Admitting.{claimed_id}
+use Rattle.router_reply.specs.Replies.{closing_of, lasts_on, consumer_for, let_go, unless_many, ignored_put, released_by, unbound_put, part_put, row_found, settled_answers, links_put, item_row, own_row}
 use Rattle.router_core.specs.Laws.{is_attach_in, is_attach, brings_attach}
 use Rattle.router_conns.proofs.Lists.{by_test, filter_none}
 use Rattle.router_core.proofs.Due.{goes_on_link, AllOnLinks}
@@ -76,26 +83,37 @@ less_said id c p (Settle own) = tt
 
 -- what a whole delivery causes, and dispositions that are answered
 
+less_gone : (after : List Entry) (c own handle : ℕ) (x : Condition) → Attachless (each_to c (let_go after c own handle x))
+less_gone after c own handle x = (refl, tt)
+
+less_many : (after : List Entry) (c own handle : ℕ) (items : List Item) → Attachless (each_to c items) → Attachless (each_to c (unless_many after c own handle items))
+less_many after c own handle items less =
+    by_test (nat_lt 1024 (unbound after c own handle)) (λ e. rw e (less_gone after c own handle ResourceLimitExceeded)) (λ e. rw e less)
+
 less_ignored : (after : List Entry) (c own handle : ℕ) (q : Option ℕ) → Attachless (each_to c (ignored_put after c own handle q))
 less_ignored after c own handle None = tt
-less_ignored after c own handle (Some id) = by_test (nat_lt 1024 (unbound after c own handle)) (λ e. rw e (refl, tt)) (λ e. rw e tt)
+less_ignored after c own handle (Some id) = less_many after c own handle [] tt
 
-less_unbound : (c own : ℕ) (q : Option ℕ) (consumer : Option Attachment) → Attachless (each_to c (unbound_put own q consumer))
-less_unbound c own None None = tt
-less_unbound c own (Some id) None = (refl, tt)
-less_unbound c own q (Some consumer) = tt
+less_released : (after : List Entry) (c own handle : ℕ) (durable : Bool) (id : ℕ) → Attachless (each_to c (released_by after c own handle durable id))
+less_released after c own handle false id = (refl, tt)
+less_released after c own handle true id = less_many after c own handle (outcome_item own Receiver id false state.Released ∷ []) (refl, tt)
 
-pub less_part : (after : List Entry) (c own handle : ℕ) (q : Option Part) → Attachless (each_to c (part_put after c own handle q))
-less_part after c own handle q = by q
+less_unbound : (after : List Entry) (c own handle : ℕ) (q : Option ℕ) (consumer : Option Attachment) → Attachless (each_to c (unbound_put after c own handle q consumer))
+less_unbound after c own handle None None = tt
+less_unbound after c own handle (Some id) None = less_released after c own handle (lasts_on (link after c own handle)) id
+less_unbound after c own handle q (Some consumer) = tt
+
+pub less_part : (after : List Entry) (c own handle : ℕ) (row : Option RowNumber) (q : Option Part) → Attachless (each_to c (part_put after c own handle row q))
+less_part after c own handle row q = by q
   where
-    whole : (b : Bool) (d : Told) (l : Option Link) → Attachless (each_to c (if b then ignored_put after c own handle (claimed_id after c own handle d.id)
-        else unbound_put own (claimed_id after c own handle d.id) (consumer_of after l)))
-    whole true d l = less_ignored after c own handle (claimed_id after c own handle d.id)
-    whole false d l = less_unbound c own (claimed_id after c own handle d.id) (consumer_of after l)
+    whole : (b : Bool) (d : Told) → Attachless (each_to c (if b then ignored_put after c own handle (claimed_id after c own handle d.id)
+        else unbound_put after c own handle (claimed_id after c own handle d.id) (consumer_for after c own handle d row)))
+    whole true d = less_ignored after c own handle (claimed_id after c own handle d.id)
+    whole false d = less_unbound after c own handle (claimed_id after c own handle d.id) (consumer_for after c own handle d row)
 
-    by : (q : Option Part) → Attachless (each_to c (part_put after c own handle q))
-    by (Some (part.Whole d payload)) = whole d.resume d (link after c own handle)
-    by (Some part.TooLarge) = (refl, tt)
+    by : (q : Option Part) → Attachless (each_to c (part_put after c own handle row q))
+    by (Some (part.Whole d payload)) = whole d.resume d
+    by (Some part.TooLarge) = less_gone after c own handle MessageSizeExceeded
     by _ = tt
 
 pub less_settled : (c own : ℕ) (s : Option DeliveryState) (ids : List ℕ) → Attachless (each_to c (settled_answers own s ids))
@@ -175,7 +193,7 @@ no_links t after c (item.Frame sasl channel body payload) a unlinked unnamed non
     part_none x own false = no_part x payload (their_handle t c own x.handle) (link t c own) (unlinked own)
 
     transfer : (x : Transfer) (a : Answer) → links_put t after c (item.Frame sasl channel (perf.Transfer x) payload) a ≡ []
-    transfer x (Taken own handle) = ap (λ (q : Option Part). each_to c (part_put after c own handle q)) (part_none x own sasl)
+    transfer x (Taken own handle) = ap (λ (q : Option Part). each_to c (part_put after c own handle (row_found t) q)) (part_none x own sasl)
     transfer x _ = refl
 
     disposition : (x : ADisposition) (a : Answer) → links_put t after c (item.Frame sasl channel (perf.Disposition x) payload) a ≡ []
@@ -191,14 +209,26 @@ no_links t after c (item.Frame sasl channel body payload) a unlinked unnamed non
     by _ none = refl
 no_links t after c _ a unlinked unnamed none = refl
 
--- the book stands in the way of attaches alone
-unbooked : (t : List Entry) (c : ℕ) (p : Conn) (i : Item) → is_attach i ≡ false → answer_of t c p i ≡ item_reply p (finds t c) i
-unbooked t c p (item.Frame sasl channel body payload) none = by body none
+-- the book stands in the way of attaches, and of transfers on links, alone
+unrepeated : (b : BookView) (t : List Entry) (c : ℕ) (x : Transfer) (a : Answer) → Unlinked c t → booked_transfer b t c x a ≡ a
+unrepeated b t c x (Taken own handle) unlinked =
+    ap (λ (l : Option Link). if is_none (middle_on (link_place t c own x.handle)) && repeats b t c own handle x.resume (durable_key l) (tag_in x)
+    then Detach own handle false (Some NotAllowed) else Taken own handle) (unlinked own handle)
+    ∙ never (is_none (middle_on (link_place t c own x.handle)))
+  where
+    never : (q : Bool) → (if q && false then Detach own handle false (Some NotAllowed) else Taken own handle) ≡ Taken own handle
+    never true = refl
+    never false = refl
+unrepeated b t c x _ unlinked = refl
+
+unbooked : (t : List Entry) (c : ℕ) (p : Conn) (i : Item) → Unlinked c t → is_attach i ≡ false → answer_of t c p i ≡ item_reply p (finds t c) i
+unbooked t c p (item.Frame sasl channel body payload) unlinked none = by body none
   where
     by : (body : Perf) → is_attach (item.Frame sasl channel body payload) ≡ false → answer_of t c p (item.Frame sasl channel body payload) ≡ item_reply p (finds t c) (item.Frame sasl channel body payload)
     by (perf.Attach x) none = absurd cc
+    by (perf.Transfer x) none = unrepeated (found_journal t).book t c x (item_reply p (finds t c) (item.Frame sasl channel (perf.Transfer x) payload)) unlinked
     by _ none = refl
-unbooked t c p _ none = refl
+unbooked t c p _ unlinked none = refl
 
 pub row_said : (id : List ℕ) (t u : List Entry) (c : ℕ) (i : Item) (p : Option Conn) → Unlinked c t → Unnamed c t → is_attach i ≡ false
     → item_row id t u c i p ≡ each_to c (said_to id p (finds t c) i)
@@ -207,13 +237,13 @@ row_said id t u c i (Some p) unlinked unnamed none =
     ap (λ (ps : List Put). each_to c (said id p (answer_of t c p i)) ++ ps)
     (no_links t (puts c (said id p (answer_of t c p i)) u) c i (answer_of t c p i) unlinked unnamed none)
     ∙ append-nil (each_to c (said id p (answer_of t c p i)))
-    ∙ ap (λ (a : Answer). each_to c (said id p a)) (unbooked t c p i none)
+    ∙ ap (λ (a : Answer). each_to c (said id p a)) (unbooked t c p i unlinked none)
 
 less_links : (t after : List Entry) (c : ℕ) (i : Item) (a : Answer) → is_attach i ≡ false → Attachless (links_put t after c i a)
 less_links t after c (item.Frame sasl channel body payload) a none = by body none
   where
     transfer : (x : Transfer) (a : Answer) → Attachless (links_put t after c (item.Frame sasl channel (perf.Transfer x) payload) a)
-    transfer x (Taken own handle) = less_part after c own handle _
+    transfer x (Taken own handle) = less_part after c own handle (row_found t) _
     transfer x _ = tt
 
     disposition : (x : ADisposition) (a : Answer) → Attachless (links_put t after c (item.Frame sasl channel (perf.Disposition x) payload) a)

@@ -16,15 +16,18 @@ use Rattle.router_trace.specs.Links.{free_handle, first_free_below}
 use Rattle.router_trace.specs.Sessions.{free_channel}
 use Rattle.router_trace.specs.Refusing.{refuses}
 use Rattle.router_trace.specs.declared.condition.Condition.TheVariants.{ResourceLimitExceeded}
-use Rattle.router_reply.specs.Acts.{Journaled, live_acts, live_answer, event_acts, event_answer, finds_full, journaled, book_in, acts_of, book_behind, booked, answer_with, answer_of, answer_by, answer_to_event}
+use Rattle.router_rows.specs.Booking.{answer_at}
+use Rattle.router_reply.specs.Acts.{Journaled, live_answer, planned_acts, event_answer, finds_full, journaled, book_in, acts_of, book_behind, booked, answer_by, answer_to_event}
+use Rattle.router_reply.specs.Admitting.{admits, event_admission}
 use Rattle.router_reply.specs.Replies.{closing_of, ends, heard, bound_by, own_row, replied}
 use Rattle.router_passing.specs.Passing.{with_bound}
 use Rattle.router_state.specs.Tables.{TablesFit}
 use Rattle.router_core.specs.Replies.{answered, handled}
 use Rattle.router_core.specs.Turns.{is_start, is_started, is_out_of_turn, declines}
-use Rattle.router_core.specs.Handling.{Journals, Fits, BeforeOrBehind, kept_book, state_of}
+use Rattle.router_core.specs.Handling.{Journals, Fits, with_admission, BeforeOrBehind, kept_book, state_of}
 use Rattle.router_core.specs.declared.router.Core.{Core}
 use Rattle.router_core.proofs.Booking.{booked_same}
+use Rattle.router_core.proofs.Committing.{chosen}
 use Rattle.router_core.proofs.Following.{all_keep}
 
 -- what doesn't look at items and bindings is after an event and its replies as it is after the event
@@ -113,24 +116,32 @@ fits_handled new id t e taken tables started journal = record {
   journal = journals_handled new id t e journal;
 }
 
--- whether an event finds the journal full
-pub full_is : {D : Type 0} (core : Core D) (t : List Entry) (e : Event) (b : Bool) → Fits core t
-    → exceeds (used_of core.store) (kept_of core.store) (event_acts false (kept_book core) t e) ≡ b → finds_full (journaled t) t e ≡ b
-full_is core t e b f is =
-    ap (λ (u : ℕ). exceeds u (reserve (book_in t)) (event_acts false (book_in t) t e)) (sym f.journal.used)
-    ∙ ap (λ (k : ℕ). exceeds (used_of core.store) k (event_acts false (book_in t) t e)) (sym f.journal.kept)
-    ∙ ap (λ (x : BookView). exceeds (used_of core.store) (kept_of core.store) (event_acts false x t e)) (sym f.journal.book)
-    ∙ is
+-- What is planned and admitted, by the journal that the router has, is the event's: its acts, and the answer to its item.
+abbrev pub early_of : {D : Type 0} → Core D → List Entry → Event → Bool
+early_of core t e = exceeds (used_of core.store) (kept_of core.store) (planned_acts false (kept_book core) t e)
 
--- the acts of an event, by what it finds
-pub acts_are : {D : Type 0} (core : Core D) (t : List Entry) (e : Event) (b : Bool) → Fits core t → finds_full (journaled t) t e ≡ b → event_acts b (kept_book core) t e ≡ acts_of t e
-acts_are core t e b f is =
-    ap (λ (x : BookView). event_acts b x t e) f.journal.book ∙ ap (λ (y : Bool). event_acts y (book_in t) t e) (sym is)
+abbrev admitted_of : Journaled → List Entry → Event → Bool → List Act
+admitted_of j t e full = admits j.book (event_admission j.book t e (event_answer full j.book t e))
 
--- the answer to its item, by what it finds: it is the same behind its acts
-answer_behind : (t : List Entry) (e : Event) (c : ℕ) (p : Conn) (i : Item) → answer_with (journaled t) t c p i ≡ answer_of (booked t e) c p i
+pub acts_are : {D : Type 0} (core : Core D) (t : List Entry) (e : Event) → Fits core t
+    → with_admission (early_of core t e) (used_of core.store) (kept_of core.store) (planned_acts (early_of core t e) (kept_book core) t e)
+    (admits (kept_book core) (event_admission (kept_book core) t e (event_answer (early_of core t e) (kept_book core) t e))) ≡ acts_of t e
+acts_are core t e f =
+    ap (λ (x : BookView). with_admission (exceeds (used_of core.store) (kept_of core.store) (planned_acts false x t e)) (used_of core.store) (kept_of core.store)
+    (planned_acts (exceeds (used_of core.store) (kept_of core.store) (planned_acts false x t e)) x t e)
+    (admits x (event_admission x t e (event_answer (exceeds (used_of core.store) (kept_of core.store) (planned_acts false x t e)) x t e)))) f.journal.book
+    ∙ ap (λ (u : ℕ). with_admission (exceeds u (kept_of core.store) (planned_acts false (book_in t) t e)) u (kept_of core.store)
+    (planned_acts (exceeds u (kept_of core.store) (planned_acts false (book_in t) t e)) (book_in t) t e)
+    (admitted_of (journaled t) t e (exceeds u (kept_of core.store) (planned_acts false (book_in t) t e)))) f.journal.used
+    ∙ ap (λ (k : ℕ). with_admission (exceeds (journaled t).used k (planned_acts false (book_in t) t e)) (journaled t).used k
+    (planned_acts (exceeds (journaled t).used k (planned_acts false (book_in t) t e)) (book_in t) t e)
+    (admitted_of (journaled t) t e (exceeds (journaled t).used k (planned_acts false (book_in t) t e)))) f.journal.kept
+    ∙ (chosen (journaled t).used (reserve (book_in t)) (book_in t) t e).acts
+
+-- the answer to its item: it is the same behind its acts
+answer_behind : (full : Bool) (b : BookView) (t : List Entry) (e : Event) (c : ℕ) (p : Conn) (i : Item) → answer_at full b t c p i ≡ answer_at full b (booked t e) c p i
 unfolding free_handle first_free_below free_channel
-answer_behind t e c p i = sym (booked_same (λ (u : List Entry). answer_with (journaled t) u c p i) t e (λ acts. refl))
+answer_behind full b t e c p i = sym (booked_same (λ (u : List Entry). answer_at full b u c p i) t e (λ acts. refl))
 
 answer_found : (t : List Entry) (e : Event) → event_answer (finds_full (journaled t) t e) (book_in t) t e ≡ answer_to_event (booked t e) e
 answer_found t (event.Item c i) =
@@ -139,30 +150,34 @@ answer_found t (event.Item c i) =
     e : Event
     e = event.Item c i
 
-    by : (v : Option Conn) → live_answer (exceeds (journaled t).used (reserve (book_in t)) (live_acts false (book_in t) t c.0 i v)) (book_in t) t c.0 i v ≡ answer_by (booked t e) c.0 i v
+    by : (v : Option Conn) → live_answer (finds_full (journaled t) t e) (book_in t) t c.0 i v ≡ answer_by (booked t e) c.0 i v
     by None = refl
-    by (Some p) = answer_behind t e c.0 p i
+    by (Some p) = answer_behind (finds_full (journaled t) t e) (book_in t) t e c.0 p i
 answer_found t (event.Up c p) = refl
 answer_found t (event.Down c) = refl
 answer_found t (event.Tick ms) = refl
 answer_found t event.Start = refl
 
-pub answer_is : {D : Type 0} (core : Core D) (t : List Entry) (e : Event) (b : Bool) → Fits core t → finds_full (journaled t) t e ≡ b → event_answer b (kept_book core) t e ≡ answer_to_event (booked t e) e
-answer_is core t e b f is =
-    ap (λ (x : BookView). event_answer b x t e) f.journal.book ∙ ap (λ (y : Bool). event_answer y (book_in t) t e) (sym is) ∙ answer_found t e
+pub answer_is : {D : Type 0} (core : Core D) (t : List Entry) (e : Event) → Fits core t → event_answer (early_of core t e) (kept_book core) t e ≡ answer_to_event (booked t e) e
+answer_is core t e f =
+    ap (λ (x : BookView). event_answer (exceeds (used_of core.store) (kept_of core.store) (planned_acts false x t e)) x t e) f.journal.book
+    ∙ ap (λ (u : ℕ). event_answer (exceeds u (kept_of core.store) (planned_acts false (book_in t) t e)) (book_in t) t e) f.journal.used
+    ∙ ap (λ (k : ℕ). event_answer (exceeds (journaled t).used k (planned_acts false (book_in t) t e)) (book_in t) t e) f.journal.kept
+    ∙ (chosen (journaled t).used (reserve (book_in t)) (book_in t) t e).answer
+    ∙ answer_found t e
 
 -- the journal after an event's acts are written
-pub journals_behind : {D : Type 0} (old new : Core D) (t : List Entry) (e : Event) (acts : List Act) → Fits old t → acts ≡ acts_of t e
+pub journals_behind : {D : Type 0} (old new : Core D) (t : List Entry) (e : Event) (acts : List Act) → Journals old t → acts ≡ acts_of t e
     → kept_book new ≡ effects (kept_book old) acts → count_of new.store ≡ batches_behind (count_of old.store) acts → used_of new.store ≡ used_behind (used_of old.store) acts
     → (kept_of old.store ≡ reserve (kept_book old) → kept_of new.store ≡ reserve (kept_book new)) → Journals new (booked t e)
-journals_behind old new t e acts f are book count used kept =
+journals_behind old new t e acts j are book count used kept =
     let now : kept_book new ≡ book_behind t e
-    = book ∙ ap (λ (x : BookView). effects x acts) f.journal.book ∙ ap (effects (book_in t)) are
+    = book ∙ ap (λ (x : BookView). effects x acts) j.book ∙ ap (effects (book_in t)) are
     in record {
       book = now;
-      batches = count ∙ ap (λ (n : ℕ). batches_behind n acts) f.journal.batches ∙ ap (batches_behind (journaled t).batches) are;
-      used = used ∙ ap (λ (u : ℕ). used_behind u acts) f.journal.used ∙ ap (used_behind (journaled t).used) are;
-      kept = kept (f.journal.kept ∙ ap reserve (sym f.journal.book)) ∙ ap reserve now;
+      batches = count ∙ ap (λ (n : ℕ). batches_behind n acts) j.batches ∙ ap (batches_behind (journaled t).batches) are;
+      used = used ∙ ap (λ (u : ℕ). used_behind u acts) j.used ∙ ap (used_behind (journaled t).used) are;
+      kept = kept (j.kept ∙ ap reserve (sym j.book)) ∙ ap reserve now;
     }
 
 -- a file opens to the book before the event or after it

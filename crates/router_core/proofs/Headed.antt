@@ -193,7 +193,7 @@ item_without id t u d k i (Some p) none apart =
     (stolen_without u k none (last_of_key u (key_at u d (answer_to x 0))) (holder u (key_at u d (answer_to x 0))) refl)
     (each_without _ d k apart))
     (λ own handle e x. each_without (refused (largest_frame u d) own handle e x) d k apart)
-    (λ own handle q. each_without (part_put u d own handle q) d k apart)
+    (λ own handle row q. each_without (part_put u d own handle row q) d k apart)
     (λ own s ids. each_without (settled_answers own s ids) d k apart)
     i (answer_of t d p i)
 

@@ -12,19 +12,20 @@ use Rattle.amqp_frames.specs.declared.item.Item.{Item}
 use Rattle.amqp_frames.specs.declared.item.Item.TheVariants as item
 use Rattle.amqp_conn.specs.declared.conn.Conn.{Conn}
 use Rattle.amqp_link.specs.declared.part.Part.{Part}
+use Rattle.book_core.specs.declared.row.RowNumber.{RowNumber}
 use Rattle.router_trace.specs.declared.condition.Condition.{Condition}
 use Rattle.router_trace.specs.Trace.{Entry, Put, each_to}
 use Rattle.router_trace.specs.Peers.{largest_frame}
 use Rattle.router_rows.specs.declared.answer.Answer.{Answer}
 use Rattle.router_rows.specs.declared.answer.Answer.TheVariants.{Attach, Refuse, Taken, Settle}
 use Rattle.router_rows.specs.Rows.{said}
-use Rattle.router_reply.specs.Replies.{taken, refused, part_put, settled_answers, item_put}
+use Rattle.router_reply.specs.Replies.{taken, refused, part_put, row_found, settled_answers, item_put}
 
 pub item_cases : (id : List ℕ) (t after : List Entry) (c : ℕ) (p : Conn) (P : Answer → List Put → Type 0)
     → ((a : Answer) → P a (each_to c (said id p a)))
     → ((own : ℕ) (x : AnAttach) → P (Attach own) (taken after c own x))
     → ((own handle : ℕ) (e : Condition) (x : AnAttach) → P (Refuse own handle e) (each_to c (refused (largest_frame after c) own handle e x)))
-    → ((own handle : ℕ) (q : Option Part) → P (Taken own handle) (each_to c (part_put after c own handle q)))
+    → ((own handle : ℕ) (row : Option RowNumber) (q : Option Part) → P (Taken own handle) (each_to c (part_put after c own handle row q)))
     → ((own : ℕ) (s : Option DeliveryState) (ids : List ℕ) → P (Settle own) (each_to c (settled_answers own s ids)))
     → (i : Item) (a : Answer) → P a (item_put id t after c p i a)
 item_cases id t after c p P none takes refuses carries settles i a = by_item i a
@@ -38,7 +39,7 @@ item_cases id t after c p P none takes refuses carries settles i a = by_item i a
     by_attach sasl channel payload x a = nothing_more a
 
     by_transfer : (sasl : Bool) (channel : ℕ) (payload : List ℕ) (x : ATransfer) (a : Answer) → P a (item_put id t after c p (item.Frame sasl channel (perf.Transfer x) payload) a)
-    by_transfer sasl channel payload x (Taken own handle) = carries own handle _
+    by_transfer sasl channel payload x (Taken own handle) = carries own handle (row_found t) _
     by_transfer sasl channel payload x a = nothing_more a
 
     by_disposition : (sasl : Bool) (channel : ℕ) (payload : List ℕ) (x : ADisposition) (a : Answer)

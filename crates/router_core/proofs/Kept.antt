@@ -7,17 +7,20 @@ use Rattle.amqp_perf.specs.declared.perf.Perf.TheVariants as perf
 use Rattle.amqp_frames.specs.declared.item.Item.{Item}
 use Rattle.amqp_frames.specs.declared.item.Item.TheVariants as item
 use Rattle.amqp_conn.specs.declared.conn.Conn.{Conn}
+use Rattle.amqp_perf.specs.declared.perf.Role.TheVariants.{Receiver}
 use Rattle.amqp_perf.specs.declared.state.DeliveryState.{DeliveryState}
+use Rattle.amqp_perf.specs.declared.state.DeliveryState.TheVariants as state
 use Rattle.amqp_link.specs.declared.part.Delivery.{Delivery as Told}
 use Rattle.amqp_link.specs.declared.part.Part.{Part}
 use Rattle.amqp_link.specs.declared.part.Part.TheVariants as part
 use Rattle.amqp_session.specs.Session.{Session, remote_window}
+use Rattle.book_core.specs.declared.row.RowNumber.{RowNumber}
 use Rattle.router_trace.specs.Trace.{Beginning}
 use Rattle.router_trace.specs.Configuration.{beginning}
 use Rattle.router_trace.specs.declared.binding.Binding.{Binding}
 use Rattle.router_trace.specs.declared.binding.Origin.{Origin}
 use Rattle.router_trace.specs.declared.condition.Condition.{Condition}
-use Rattle.router_trace.specs.declared.condition.Condition.TheVariants.{ResourceLimitExceeded, FrameSizeTooSmall}
+use Rattle.router_trace.specs.declared.condition.Condition.TheVariants.{ResourceLimitExceeded, FrameSizeTooSmall, MessageSizeExceeded}
 use Rattle.router_trace.specs.declared.event.Event.{Event}
 use Rattle.router_trace.specs.declared.handle.Attachment.{Attachment}
 use Rattle.router_trace.specs.declared.event.Event.TheVariants as event
@@ -25,6 +28,7 @@ use Rattle.router_trace.specs.Trace.{Entry, Did, Out, Put, Step, goes, puts, eac
 use Rattle.router_trace.specs.Connection.{Connection, conn, standing, found, live, due, live_of}
 use Rattle.router_trace.specs.Frames.{closing, told_of}
 use Rattle.router_trace.specs.Deliveries.{Delivery, has_row, delivery}
+use Rattle.router_trace.specs.DeliveryFrames.{outcome_item}
 use Rattle.router_trace.specs.Settling.{unbound}
 use Rattle.router_trace.specs.Numbers.{Placed, first_placed}
 use Rattle.router_trace.specs.Following.{link_of, first_delivery, is_to_be_told, outcome_to, tell, tells_of, tells, is_wide, sends_due, drain_of, drain_on, drain_by, place_drained, drains_due}
@@ -36,11 +40,12 @@ use Rattle.router_trace.specs.Sessions.{session}
 use Rattle.router_trace.specs.Clocks.{terms, written, needs_beat}
 use Rattle.router_sessions.specs.Windows.{is_narrow, flow_due, flows_below, windows_over, windows}
 use Rattle.router_state.specs.Tables.{beat_if, beats_over}
-use Rattle.router_passing.specs.Passing.{grants_due, consumer_of, with_bound}
+use Rattle.router_passing.specs.Passing.{grants_due, with_bound}
 use Rattle.router_rows.specs.declared.answer.Answer.{Answer}
 use Rattle.router_rows.specs.declared.answer.Answer.TheVariants.{Nothing, Header, Open, Close, CloseWith, Begin, End, Flow, Attach, Refuse, Detach, LinkFlow, Taken, Settle}
 use Rattle.router_rows.specs.Rows.{said}
-use Rattle.router_reply.specs.Replies.{closing_of, ends, heard, stolen_by, attach_answer, refused, claimed_id, ignored_put, unbound_put, whole_put, part_put, settled_answers, bound_by, item_row, own_row, replied}
+use Rattle.router_reply.specs.Admitting.{claimed_id}
+use Rattle.router_reply.specs.Replies.{closing_of, ends, heard, stolen_by, attach_answer, refused, lasts_on, consumer_for, let_go, unless_many, ignored_put, released_by, unbound_put, whole_put, part_put, settled_answers, bound_by, item_row, own_row, replied}
 use Rattle.router_reply.specs.Acts.{answer_of, booked}
 use Rattle.router_core.specs.Replies.{answered, handled}
 use Rattle.router_core.proofs.Booking.{booked_keeps}
@@ -144,27 +149,38 @@ none_refused largest own handle e a = by (fits largest (attach_item own (refusal
 
 -- what a whole delivery causes, and dispositions that are answered
 
+none_gone : (after : List Entry) (c own handle : ℕ) (x : Condition) → NoTransfer (let_go after c own handle x)
+none_gone after c own handle x = (refl, tt)
+
+none_many : (after : List Entry) (c own handle : ℕ) (items : List Item) → NoTransfer items → NoTransfer (unless_many after c own handle items)
+none_many after c own handle items none =
+    by_test (nat_lt 1024 (unbound after c own handle)) (λ e. rw e (none_gone after c own handle ResourceLimitExceeded)) (λ e. rw e none)
+
 none_ignored : (after : List Entry) (c own handle : ℕ) (q : Option ℕ) → NoTransfer (ignored_put after c own handle q)
 none_ignored after c own handle None = tt
-none_ignored after c own handle (Some id) = by_test (nat_lt 1024 (unbound after c own handle)) (λ e. rw e (refl, tt)) (λ e. rw e tt)
+none_ignored after c own handle (Some id) = none_many after c own handle [] tt
 
-none_unbound : (own : ℕ) (q : Option ℕ) (consumer : Option Attachment) → NoTransfer (unbound_put own q consumer)
-none_unbound own None None = tt
-none_unbound own (Some id) None = (refl, tt)
-none_unbound own q (Some consumer) = tt
+none_released : (after : List Entry) (c own handle : ℕ) (durable : Bool) (id : ℕ) → NoTransfer (released_by after c own handle durable id)
+none_released after c own handle false id = (refl, tt)
+none_released after c own handle true id = none_many after c own handle (outcome_item own Receiver id false state.Released ∷ []) (refl, tt)
 
-none_whole : (after : List Entry) (c own handle : ℕ) (d : Told) (l : Option Link) → NoTransfer (whole_put after c own handle d l)
-none_whole after c own handle d l = by d.resume
+none_unbound : (after : List Entry) (c own handle : ℕ) (q : Option ℕ) (consumer : Option Attachment) → NoTransfer (unbound_put after c own handle q consumer)
+none_unbound after c own handle None None = tt
+none_unbound after c own handle (Some id) None = none_released after c own handle (lasts_on (link after c own handle)) id
+none_unbound after c own handle q (Some consumer) = tt
+
+none_whole : (after : List Entry) (c own handle : ℕ) (d : Told) (row : Option RowNumber) → NoTransfer (whole_put after c own handle d row)
+none_whole after c own handle d row = by d.resume
   where
     by : (b : Bool) → NoTransfer (if b then ignored_put after c own handle (claimed_id after c own handle d.id)
-        else unbound_put own (claimed_id after c own handle d.id) (consumer_of after l))
+        else unbound_put after c own handle (claimed_id after c own handle d.id) (consumer_for after c own handle d row))
     by true = none_ignored after c own handle (claimed_id after c own handle d.id)
-    by false = none_unbound own (claimed_id after c own handle d.id) (consumer_of after l)
+    by false = none_unbound after c own handle (claimed_id after c own handle d.id) (consumer_for after c own handle d row)
 
-none_part : (after : List Entry) (c own handle : ℕ) (q : Option Part) → NoTransfer (part_put after c own handle q)
-none_part after c own handle (Some (part.Whole d payload)) = none_whole after c own handle d (link after c own handle)
-none_part after c own handle (Some part.TooLarge) = (refl, tt)
-none_part after c own handle _ = tt
+none_part : (after : List Entry) (c own handle : ℕ) (row : Option RowNumber) (q : Option Part) → NoTransfer (part_put after c own handle row q)
+none_part after c own handle row (Some (part.Whole d payload)) = none_whole after c own handle d row
+none_part after c own handle row (Some part.TooLarge) = none_gone after c own handle MessageSizeExceeded
+none_part after c own handle row _ = tt
 
 none_settled : (own : ℕ) (s : Option DeliveryState) (ids : List ℕ) → NoTransfer (settled_answers own s ids)
 none_settled own None ids = tt
@@ -179,7 +195,7 @@ none_item id t after c i (Some p) =
     (λ own x. none_both (stolen_by (holder after (key_at after c (answer_to x 0)))) _ (none_stolen (holder after (key_at after c (answer_to x 0))))
     (none_to c _ (none_attach (largest_frame after c) own _ x)))
     (λ own handle e x. none_to c _ (none_refused (largest_frame after c) own handle e x))
-    (λ own handle q. none_to c _ (none_part after c own handle q))
+    (λ own handle row q. none_to c _ (none_part after c own handle row q))
     (λ own s ids. none_to c _ (none_settled own s ids))
     i (answer_of t c p i)
 

@@ -33,6 +33,7 @@ pub mod UntakenDeliveries
 pub mod UntakenGrants
 pub mod UntakenPassed
 pub mod UntakenRows
+pub mod UntakenActs
 pub mod Plain
 pub mod Takes
 pub mod Mine
@@ -41,3 +42,4 @@ pub mod Idle
 pub mod Only
 pub mod Settling
 pub mod Apart
+mod Preparing

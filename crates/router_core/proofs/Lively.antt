@@ -203,7 +203,7 @@ item_lively id t d i was =
     (λ a. goes_lively (each_to d.0 (said id here.view.phase a)) v before (less_steady _ v (less_said id d.0 here.view.phase a)))
     (λ own x. goes_lively (taken u d.0 own x) v before (taken_steady u v d.0 own x there))
     (λ own handle f x. goes_lively _ v before (refused_steady v (largest_frame u d.0) d.0 own handle f x there))
-    (λ own handle p. goes_lively _ v before (less_steady _ v (less_part u d.0 own handle p)))
+    (λ own handle row p. goes_lively _ v before (less_steady _ v (less_part u d.0 own handle row p)))
     (λ own s ids. goes_lively _ v before (less_steady _ v (less_settled d.0 own s ids)))
     i (answer_of t d.0 here.view.phase i)))
     (λ q. subst (λ (s : Option Conn). Lively (goes (item_row id t u d.0 i s) v)) (sym (nothing_stands (standing (found t (event.Item d i) d.0)) q)) before)

@@ -125,7 +125,7 @@ row_turns id t d i ord here heard_ord there =
     v_there)
     (λ own x fits. goes_turns (taken u c own x) v v_ord (fit_bound bound u (taken u c own x) (taken_fit u c own x heard_ord (before own fits))))
     (λ own handle f x fits. goes_turns (each_to c (refused (largest_frame u c) own handle f x)) v v_ord (refused_fit v (largest_frame u c) c own handle f x v_ord (on own fits)))
-    (λ own handle q fits. goes_turns (each_to c (part_put u c own handle q)) v v_ord (part_fit v u c own handle q v_ord (on own fits)))
+    (λ own handle row q fits. goes_turns (each_to c (part_put u c own handle row q)) v v_ord (part_fit v u c own handle row q v_ord (on own fits)))
     (λ own s ids fits. goes_turns (each_to c (settled_answers own s ids)) v v_ord (settled_fit v c own s ids v_ord (on own fits)))
     i a all)
   where
@@ -232,7 +232,7 @@ opened_told id t d i opens =
     (λ a says. said_told id here.view.phase v d.0 a says)
     (λ own x says. absurd says)
     (λ own handle f x says. absurd says)
-    (λ own handle q says. absurd says)
+    (λ own handle row q says. absurd says)
     (λ own s ids says. absurd says)
     i (answer_of t d.0 here.view.phase i) (opens t d.0 here.view.phase)))
     (λ h. row_told id t (event.Item d i) d.0 (λ v is live some. absurd (true≢false (sym (lives v live) ∙ sym (ap is_live is) ∙ h))))

@@ -1,6 +1,6 @@
 -- Each row of the reply table keeps the order on a live connection.
 use Rattle.std.proofs.Common.{◌≡◌, ◌∙◌, sym, ap, refl, subst, ℕ, Bool, true, false, List, [], ◌∷◌}
-use Rattle.std.specs.Prelude.{nat_lt, nat_le, nat_eq, if◌then◌else◌, is_some, is_none, length, Option, Some, None, Result, Ok, Err}
+use Rattle.std.specs.Prelude.{◌&&◌, nat_lt, nat_le, nat_eq, if◌then◌else◌, is_some, is_none, length, Option, Some, None, Result, Ok, Err}
 use Rattle.std.specs.List.{find}
 use Rattle.amqp_perf.specs.declared.perf.Attach.{Attach as AnAttach}
 use Rattle.amqp_perf.specs.declared.perf.Begin.{Begin as ABegin}
@@ -17,6 +17,7 @@ use Rattle.amqp_conn.specs.declared.conn.Conn.{Conn}
 use Rattle.amqp_conn.specs.declared.fault.ConnFault.{ConnFault}
 use Rattle.amqp_conn.specs.declared.fault.ConnFault.TheVariants.{ChannelTooHigh}
 use Rattle.amqp_conn.specs.Phase.{after_frame, after_open}
+use Rattle.book_core.specs.Book.{BookView}
 use Rattle.amqp_session.specs.declared.states.BeginState.{BeginState}
 use Rattle.amqp_session.specs.Session.{Session, TheirFlow, allowance}
 use Rattle.router_trace.specs.declared.channel.PeerChannel.{PeerChannel}
@@ -24,8 +25,9 @@ use Rattle.router_trace.specs.declared.channel.PeerChannel.TheVariants.{Mapped, 
 use Rattle.amqp_link.specs.declared.part.Delivery.{Delivery as Told}
 use Rattle.router_trace.specs.declared.condition.Condition.{Condition}
 use Rattle.router_trace.specs.declared.condition.Condition.TheVariants.{NotAllowed, TransferLimitExceeded}
-use Rattle.router_trace.specs.Deliveries.{terminal}
-use Rattle.router_trace.specs.Settling.{middle_by}
+use Rattle.router_trace.specs.declared.event.Event.TheVariants as event
+use Rattle.router_trace.specs.Deliveries.{terminal, tag_in}
+use Rattle.router_trace.specs.Settling.{middle_by, middle_on}
 use Rattle.router_trace.specs.Trace.{Entry}
 use Rattle.router_trace.specs.Frames.{closing}
 use Rattle.router_trace.specs.Order.{Written, have_turns}
@@ -37,10 +39,10 @@ use Rattle.router_rows.specs.Rows.{Finds, Links, said, header_reply, open_by, op
 use Rattle.router_rows.specs.LinkRows.{is_multicast_link, refusal, attach_or, attach_at, session_attach_reply, session_detach_reply, link_echo, is_reached, detach_for, link_flow_reply, is_anonymous, asks, is_among, start_on, delivery_by, delivery_on, link_transfer_reply, is_unattached, session_transfer_reply}
 use Rattle.router_rows.specs.LinkRows.{flow_on as link_flow_on}
 use Rattle.router_rows.specs.Finding.{finds}
-use Rattle.router_rows.specs.Booking.{attach_unless, booked_attach, attach_in, booked, book_refusal}
-use Rattle.router_reply.specs.Acts.{item_finds_full, found_journal, answer_of}
+use Rattle.router_rows.specs.Booking.{attach_unless, booked_attach, repeats, booked_transfer, booked_perf, booked, book_refusal}
+use Rattle.router_reply.specs.Acts.{found_journal, full_at, answer_of}
 use Rattle.amqp_link.specs.Receiving.{delivery_count, unused}
-use Rattle.router_trace.specs.Links.{free_handle, LinkPlace, nowhere as no_link, detaching, on as on_link, Happened, sends, receives}
+use Rattle.router_trace.specs.Links.{link, link_place, durable_key, free_handle, LinkPlace, nowhere as no_link, detaching, on as on_link, Happened, sends, receives}
 
 -- a live phase
 abbrev pub open_phase : Bool → Bool → Conn
@@ -384,27 +386,41 @@ open_opens p x = by (after_open x p)
     by (Ok q) = by_test (nat_lt 1024 (length x.container_id)) (λ e. rw e tt) (λ e. rw e tt)
     by (Err f) = tt
 
--- also if the book stands in the way of a link
+-- also if the book stands in the way of a link, or of a delivery on one
 unless_fits : (p : Conn) (b : ℕ → Bool) (asked : Option BeginState) (own : ℕ) (free : Option ℕ) (refusal : Option Condition) → (p.opened ≡ true) × (b own ≡ true)
     → AnswerFits p b asked (attach_unless own free refusal)
 unless_fits p b asked own free None fits = fits
 unless_fits p b asked own None (Some x) fits = fits
 unless_fits p b asked own (Some handle) (Some x) fits = fits
 
-booked_fits : (p : Conn) (b : ℕ → Bool) (asked : Option BeginState) (free : ℕ → Option ℕ) (refusal : Option Condition) (a : Answer) → AnswerFits p b asked a
+attach_booked_fits : (p : Conn) (b : ℕ → Bool) (asked : Option BeginState) (free : ℕ → Option ℕ) (refusal : Option Condition) (a : Answer) → AnswerFits p b asked a
     → AnswerFits p b asked (booked_attach free refusal a)
-booked_fits p b asked free refusal (Attach own) fits = unless_fits p b asked own (free own) refusal fits
-booked_fits p b asked free refusal _ fits = fits
+attach_booked_fits p b asked free refusal (Attach own) fits = unless_fits p b asked own (free own) refusal fits
+attach_booked_fits p b asked free refusal _ fits = fits
+
+transfer_booked_fits : (p : Conn) (b : ℕ → Bool) (asked : Option BeginState) (book : BookView) (t : List Entry) (c : ℕ) (x : ATransfer) (a : Answer) → AnswerFits p b asked a
+    → AnswerFits p b asked (booked_transfer book t c x a)
+transfer_booked_fits p b asked book t c x (Taken own handle) fits =
+    by (is_none (middle_on (link_place t c own x.handle)) && repeats book t c own handle x.resume (durable_key (link t c own handle)) (tag_in x))
+  where
+    by : (q : Bool) → AnswerFits p b asked (if q then Detach own handle false (Some NotAllowed) else Taken own handle)
+    by true = fits
+    by false = fits
+transfer_booked_fits p b asked book t c x _ fits = fits
+
+perf_booked_fits : (p : Conn) (b : ℕ → Bool) (asked : Option BeginState) (full : Bool) (book : BookView) (t : List Entry) (c : ℕ) (body : Perf) (a : Answer) → AnswerFits p b asked a
+    → AnswerFits p b asked (booked_perf full book t c body a)
+perf_booked_fits p b asked full book t c (perf.Attach x) a fits = attach_booked_fits p b asked (free_handle t c) (book_refusal full book t c x) a fits
+perf_booked_fits p b asked full book t c (perf.Transfer x) a fits = transfer_booked_fits p b asked book t c x a fits
+perf_booked_fits p b asked full book t c _ a fits = fits
+
+booked_fits : (p : Conn) (b : ℕ → Bool) (asked : Option BeginState) (full : Bool) (book : BookView) (t : List Entry) (c : ℕ) (i : Item) (a : Answer) → AnswerFits p b asked a
+    → AnswerFits p b asked (booked full book t c i a)
+booked_fits p b asked full book t c (item.Frame sasl channel body payload) a fits = perf_booked_fits p b asked full book t c body a fits
+booked_fits p b asked full book t c _ a fits = fits
 
 pub answer_fits : (t : List Entry) (c : ℕ) (p : Conn) (b : ℕ → Bool) (asked : Option BeginState) (i : Item) → p.closed ≡ false → FindsFit (finds t c) b
     → AnswerFits p b (offered_by i asked) (answer_of t c p i)
-answer_fits t c p b asked i live found = by (attach_in i)
-  where
-    full : Bool
-    full = item_finds_full (found_journal t) t c p i
-
-    by : (v : Option AnAttach) → AnswerFits p b (offered_by i asked) (booked (free_handle t c) (book_refusal full (found_journal t).book t c) v (item_reply p (finds t c) i))
-    by None = reply_fits p b asked (finds t c) i live found
-    by (Some a) =
-        booked_fits p b (offered_by i asked) (free_handle t c) (book_refusal full (found_journal t).book t c a) (item_reply p (finds t c) i)
-        (reply_fits p b asked (finds t c) i live found)
+answer_fits t c p b asked i live found =
+    booked_fits p b (offered_by i asked) (full_at t (event.Item (record { 0 = c }) i)) (found_journal t).book t c i (item_reply p (finds t c) i)
+    (reply_fits p b asked (finds t c) i live found)

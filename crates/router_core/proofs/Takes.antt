@@ -1,26 +1,23 @@
 -- Takes make no difference: without them, a trace whose outboxes were never full is what its events alone make.
-use Rattle.std.proofs.Common.{◌≡◌, ◌∙◌, sym, ap, refl, subst, ℕ, Bool, false, List, [], ◌∷◌}
+use Rattle.std.proofs.Common.{◌≡◌, ◌∙◌, sym, ap, refl, subst, ℕ, false, List, [], ◌∷◌}
 use Rattle.std.specs.Prelude.{Option, Some, None}
+use Rattle.amqp_frames.specs.declared.item.Item.{Item}
 use Rattle.amqp_conn.specs.declared.conn.Conn.{Conn}
 use Rattle.book_core.specs.declared.act.Act.{Act}
-use Rattle.book_core.specs.Book.{BookView}
-use Rattle.gate_journal.specs.Reserve.{reserve}
-use Rattle.router_store.specs.Lost.{start_acts}
-use Rattle.router_store.specs.Store.{exceeds}
 use Rattle.router_trace.specs.Trace.{Beginning}
 use Rattle.router_trace.specs.Configuration.{beginning}
 use Rattle.router_trace.specs.declared.binding.Binding.{Binding}
 use Rattle.router_trace.specs.declared.event.Event.{Event}
 use Rattle.router_trace.specs.declared.event.Event.TheVariants as event
-use Rattle.router_trace.specs.Trace.{Entry, Did, Out, Took, Bound, Booked, Began, Put, Step, goes, each_to}
+use Rattle.router_trace.specs.Trace.{Entry, Did, Booked, Put, Step, goes, each_to}
 use Rattle.router_trace.specs.Connection.{conn, due, is_full, live}
 use Rattle.router_sessions.specs.Windows.{windows_over}
 use Rattle.router_passing.specs.Passing.{with_bound}
 use Rattle.router_state.specs.Tables.{beats_over}
 use Rattle.router_rows.specs.Rows.{down_reply}
-use Rattle.router_reply.specs.Replies.{ends, item_bound, bound_by, item_row, own_row, replied_behind}
+use Rattle.router_reply.specs.Replies.{ends, row_found, item_put, item_row, own_row, bound_for, item_bound, bound_by, replied_behind}
 use Rattle.router_after.specs.After.{widened, followed}
-use Rattle.router_reply.specs.Acts.{Journaled, live_acts, event_acts, with_acts, journaled, book_in, acts_of, booked, found_journal}
+use Rattle.router_reply.specs.Acts.{journaled, booked, found_journal, full_at}
 use Rattle.router_core.specs.Replies.{answered, handled}
 use Rattle.router_core.specs.Runs.{took_one}
 use Rattle.router_core.specs.Moves.{Move, handles, takes, Goes, outs}
@@ -28,19 +25,34 @@ use Rattle.router_core.specs.Laws.{untaken, events_of, NeverFull}
 use Rattle.router_core.proofs.Booking.{booked_keeps}
 use Rattle.router_core.proofs.Untaken.{untaken_goes, same_outs, same_beats, same_windows}
 use Rattle.router_core.proofs.UntakenPassed.{untaken_bound, same_passed}
-use Rattle.router_core.proofs.UntakenRows.{same_live_acts, same_item_row, same_item_bound}
+use Rattle.router_core.proofs.UntakenRows.{same_put, same_bound_for}
+use Rattle.router_core.proofs.UntakenActs.{plain_acts, plain_full_at, plain_answer_of, same_journaled, same_full, same_acts, same_answer}
 use Rattle.router_core.proofs.Following.{passed_on, each_keeps, all_keep}
 use Rattle.router_core.proofs.Plain.{plain, plain_live, Calm, calm_goes, none_due, same_live, stood_found, live_found}
 
+-- what an event finds behind its acts is the same in a trace without its takes: the journal, the row that its acts admit, and whether the journal is full
+pub record FindsAlike (t : List Entry) (e : Event) : Type 0 where
+  pub journal : found_journal t ≡ found_journal (untaken t)
+  pub row : row_found t ≡ row_found (untaken t)
+  pub full : full_at t e ≡ plain_full_at (untaken t) e
+
 -- an event's own row, what follows its rows, and all of it, by the plain phases
+abbrev pub plain_item_row : List ℕ → List Entry → List Entry → ℕ → Item → Option Conn → List Put
+plain_item_row id x after c i None = []
+plain_item_row id x after c i (Some p) = item_put id x after c p i (plain_answer_of x c p i)
+
+abbrev pub plain_item_bound : List Entry → List Entry → ℕ → Item → Option Conn → Option Binding
+plain_item_bound x after c i None = None
+plain_item_bound x after c i (Some p) = bound_for x after c i (plain_answer_of x c p i)
+
 abbrev pub plain_row : List ℕ → List Entry → List Entry → Event → List Put
-plain_row id x after (event.Item c i) = item_row id x after c.0 i (plain x c.0)
+plain_row id x after (event.Item c i) = plain_item_row id x after c.0 i (plain x c.0)
 plain_row id x after (event.Down c) = each_to c.0 down_reply
 plain_row id x after (event.Tick ms) = beats_over x ms (plain_live x)
 plain_row id x after _ = []
 
 abbrev pub plain_bound : List Entry → List Entry → Event → Option Binding
-plain_bound x after (event.Item c i) = item_bound x after c.0 i (plain x c.0)
+plain_bound x after (event.Item c i) = plain_item_bound x after c.0 i (plain x c.0)
 plain_bound x after _ = None
 
 abbrev pub plain_widened : List Entry → List Entry
@@ -55,15 +67,6 @@ plain_replied id x s = goes (plain_row id x (Did s ∷ x) s.event) (with_bound (
 abbrev pub plain_answered : List ℕ → List Entry → Step → List Entry
 plain_answered id x s = plain_followed (plain_replied id x s)
 
--- the acts of an event, by what events alone leave of its connection
-abbrev pub plain_event_acts : Bool → BookView → List Entry → Event → List Act
-plain_event_acts full b x (event.Item c i) = live_acts full b x c.0 i (plain x c.0)
-plain_event_acts full b x event.Start = start_acts b
-plain_event_acts full b x _ = []
-
-abbrev pub plain_acts : Journaled → List Entry → Event → List Act
-plain_acts j x e = plain_event_acts (exceeds j.used (reserve j.book) (plain_event_acts false j.book x e)) j.book x e
-
 abbrev pub plain_booked : List Entry → Event → List Entry
 plain_booked x e = Booked (plain_acts (journaled x) x e) ∷ x
 
@@ -75,7 +78,19 @@ abbrev plain_all : List ℕ → List Step → List Entry → List Entry
 plain_all id [] x = x
 plain_all id (s ∷ ss) x = plain_all id ss (plain_handled id x s)
 
-same_row : (id : List ℕ) (t u : List Entry) (e : Event) → Calm t → due t e ≡ [] → found_journal t ≡ found_journal (untaken t) → own_row id t u e ≡ plain_row id (untaken t) (untaken u) e
+same_item_row : (id : List ℕ) (t u : List Entry) (c : ℕ) (i : Item) (v : Option Conn) → FindsAlike t (event.Item (record { 0 = c }) i)
+    → item_row id t u c i v ≡ plain_item_row id (untaken t) (untaken u) c i v
+same_item_row id t u c i None same = refl
+same_item_row id t u c i (Some p) same =
+    ap (item_put id t u c p i) (same_answer t c p i same.journal same.full) ∙ same_put id t u c p i (plain_answer_of (untaken t) c p i) same.row
+
+same_item_bound : (t u : List Entry) (c : ℕ) (i : Item) (v : Option Conn) → FindsAlike t (event.Item (record { 0 = c }) i)
+    → item_bound t u c i v ≡ plain_item_bound (untaken t) (untaken u) c i v
+same_item_bound t u c i None same = refl
+same_item_bound t u c i (Some p) same =
+    ap (bound_for t u c i) (same_answer t c p i same.journal same.full) ∙ same_bound_for t u c i (plain_answer_of (untaken t) c p i) same.row
+
+same_row : (id : List ℕ) (t u : List Entry) (e : Event) → Calm t → due t e ≡ [] → FindsAlike t e → own_row id t u e ≡ plain_row id (untaken t) (untaken u) e
 same_row id t u (event.Item c i) calm none same =
     ap (λ (p : Option Conn). item_row id t u c.0 i p) (stood_found t (event.Item c i) calm none c.0) ∙ same_item_row id t u c.0 i (plain (untaken t) c.0) same
 same_row id t u (event.Down c) calm none same = refl
@@ -84,7 +99,7 @@ same_row id t u (event.Tick ms) calm none same =
 same_row id t u (event.Up c p) calm none same = refl
 same_row id t u event.Start calm none same = refl
 
-same_bound : (t u : List Entry) (e : Event) → Calm t → due t e ≡ [] → found_journal t ≡ found_journal (untaken t) → bound_by t u e ≡ plain_bound (untaken t) (untaken u) e
+same_bound : (t u : List Entry) (e : Event) → Calm t → due t e ≡ [] → FindsAlike t e → bound_by t u e ≡ plain_bound (untaken t) (untaken u) e
 same_bound t u (event.Item c i) calm none same =
     ap (λ (p : Option Conn). item_bound t u c.0 i p) (stood_found t (event.Item c i) calm none c.0) ∙ same_item_bound t u c.0 i (plain (untaken t) c.0) same
 same_bound t u (event.Down c) calm none same = refl
@@ -108,7 +123,7 @@ calm_bound None t calm = calm
 calm_bound (Some b) t calm = calm
 
 -- an event with all that it put out
-pub same_answered : (id : List ℕ) (t : List Entry) (s : Step) → Calm t → ((c : ℕ) → is_full (conn t c) ≡ false) → found_journal t ≡ found_journal (untaken t)
+pub same_answered : (id : List ℕ) (t : List Entry) (s : Step) → Calm t → ((c : ℕ) → is_full (conn t c) ≡ false) → FindsAlike t s.event
     → Calm (answered id t s) × (untaken (answered id t s) ≡ plain_answered id (untaken t) s)
 same_answered id t s calm roomy same =
     let none : due t s.event ≡ [] = none_due t s.event roomy
@@ -127,35 +142,14 @@ same_answered id t s calm roomy same =
     (sym (ap (λ (ks : List ℕ). ends id ks (Did s ∷ t)) none)) both
 
 -- an event with its acts
-same_journaled : (t : List Entry) → journaled t ≡ journaled (untaken t)
-same_journaled [] = refl
-same_journaled (Did s ∷ t) = same_journaled t
-same_journaled (Out d i ∷ t) = same_journaled t
-same_journaled (Took d n ∷ t) = same_journaled t
-same_journaled (Bound b ∷ t) = same_journaled t
-same_journaled (Booked acts ∷ t) = ap (λ (j : Journaled). with_acts j acts) (same_journaled t)
-same_journaled (Began g ∷ t) = refl
-
-same_event_acts : (full : Bool) (b : BookView) (t : List Entry) (e : Event) → Calm t → due t e ≡ [] → event_acts full b t e ≡ plain_event_acts full b (untaken t) e
-same_event_acts full b t (event.Item c i) calm none =
-    ap (live_acts full b t c.0 i) (stood_found t (event.Item c i) calm none c.0) ∙ same_live_acts full b t c.0 i (plain (untaken t) c.0)
-same_event_acts full b t (event.Down c) calm none = refl
-same_event_acts full b t (event.Tick ms) calm none = refl
-same_event_acts full b t (event.Up c p) calm none = refl
-same_event_acts full b t event.Start calm none = refl
-
-same_acts : (t : List Entry) (e : Event) → Calm t → due t e ≡ [] → acts_of t e ≡ plain_acts (journaled (untaken t)) (untaken t) e
-same_acts t e calm none =
-    ap (λ (acts : List Act). event_acts (exceeds (journaled t).used (reserve (book_in t)) acts) (book_in t) t e) (same_event_acts false (book_in t) t e calm none)
-    ∙ same_event_acts (exceeds (journaled t).used (reserve (book_in t)) (plain_event_acts false (book_in t) (untaken t) e)) (book_in t) t e calm none
-    ∙ ap (λ (j : Journaled). plain_acts j (untaken t) e) (same_journaled t)
-
 pub same_handled : (id : List ℕ) (t : List Entry) (s : Step) → Calm t → ((c : ℕ) → is_full (conn t c) ≡ false)
     → Calm (handled id t s) × (untaken (handled id t s) ≡ plain_handled id (untaken t) s)
 same_handled id t s calm roomy =
-    let next = same_answered id (booked t s.event) s (booked_keeps Calm t s.event (λ acts c. c) calm)
-    (booked_keeps (λ (v : List Entry). (c : ℕ) → is_full (conn v c) ≡ false) t s.event (λ acts r. r) roomy) (same_journaled t)
-    in (next.0, next.1 ∙ ap (λ (acts : List Act). plain_answered id (Booked acts ∷ untaken t) s) (same_acts t s.event calm (none_due t s.event roomy)))
+    let none : due t s.event ≡ [] = none_due t s.event roomy
+    in let next = same_answered id (booked t s.event) s (booked_keeps Calm t s.event (λ acts c. c) calm)
+    (booked_keeps (λ (v : List Entry). (c : ℕ) → is_full (conn v c) ≡ false) t s.event (λ acts r. r) roomy)
+    (record { journal = same_journaled t; row = refl; full = same_full t s.event calm none })
+    in (next.0, next.1 ∙ ap (λ (acts : List Act). plain_answered id (Booked acts ∷ untaken t) s) (same_acts t s.event calm none))
 
 -- moves
 same_moves : (id : List ℕ) (ms : List Move) (t u : List Entry) → Calm t → NeverFull id ms t → Goes id ms t u → untaken u ≡ plain_all id (events_of ms) (untaken t)

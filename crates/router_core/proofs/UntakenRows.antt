@@ -1,39 +1,44 @@
--- What takes don't change: in a trace without its takes an item's row puts the same, and the same message is bound.
+-- What takes don't change: in a trace without its takes an item has the same answer if the journal is full or not, and an answer puts the same and binds
+-- the same message.
 use Rattle.std.proofs.Common.{◌≡◌, ◌∙◌, ap, refl, ℕ, ◌^◌, Bool, true, false, List, [], ◌∷◌, ◌++◌}
-use Rattle.std.specs.Prelude.{Option, Some, None, is_some, nat_lt, filter, option_map, option_and_then, unwrap_or, if◌then◌else◌}
+use Rattle.std.specs.Prelude.{Option, Some, None, ◌&&◌, ◌||◌, not, is_some, is_none, nat_lt, filter, option_map, option_and_then, unwrap_or, if◌then◌else◌}
 use Rattle.amqp_perf.specs.declared.perf.Attach.{Attach as AnAttach}
 use Rattle.amqp_perf.specs.declared.perf.Disposition.{Disposition as ADisposition}
 use Rattle.amqp_perf.specs.declared.perf.Perf.{Perf}
 use Rattle.amqp_perf.specs.declared.perf.Perf.TheVariants as perf
+use Rattle.amqp_perf.specs.declared.perf.Role.TheVariants.{Receiver}
 use Rattle.amqp_perf.specs.declared.perf.Transfer.{Transfer as ATransfer}
+use Rattle.amqp_perf.specs.declared.state.DeliveryState.TheVariants as state
 use Rattle.amqp_frames.specs.declared.item.Item.{Item}
 use Rattle.amqp_frames.specs.declared.item.Item.TheVariants as item
 use Rattle.amqp_conn.specs.declared.conn.Conn.{Conn}
-use Rattle.book_core.specs.declared.act.Act.{Act}
-use Rattle.book_core.specs.declared.terminus.LinkKey.{LinkKey}
+use Rattle.book_core.specs.declared.row.RowNumber.{RowNumber}
 use Rattle.book_core.specs.Book.{BookView, terminus_of}
-use Rattle.gate_journal.specs.Reserve.{reserve}
-use Rattle.router_store.specs.Store.{exceeds}
+use Rattle.book_core.specs.declared.terminus.LinkKey.{LinkKey}
 use Rattle.amqp_link.specs.declared.part.Delivery.{Delivery as Told}
 use Rattle.amqp_link.specs.declared.part.Part.{Part}
 use Rattle.amqp_link.specs.declared.part.Part.TheVariants as part
-use Rattle.router_trace.specs.declared.condition.Condition.TheVariants.{ResourceLimitExceeded}
+use Rattle.router_trace.specs.declared.binding.Origin.{Origin}
+use Rattle.router_trace.specs.declared.condition.Condition.{Condition}
+use Rattle.router_trace.specs.declared.condition.Condition.TheVariants.{NotAllowed, ResourceLimitExceeded, MessageSizeExceeded}
 use Rattle.router_trace.specs.declared.handle.Attachment.{Attachment}
 use Rattle.router_trace.specs.Trace.{Entry, Put, goes, puts, each_to}
 use Rattle.router_trace.specs.Configuration.{is_multicast}
 use Rattle.router_trace.specs.LinkFrames.{plain_answer, answer_to, detach_item}
 use Rattle.router_trace.specs.Links.{Link, link, free_handle, holder, key_at, link_place, durable_key}
-use Rattle.router_trace.specs.Deliveries.{terminal, last_of, named}
+use Rattle.router_trace.specs.Deliveries.{terminal, last_of, named, tag_in}
+use Rattle.router_trace.specs.DeliveryFrames.{outcome_item}
 use Rattle.router_trace.specs.Numbers.{count_below}
-use Rattle.router_trace.specs.Settling.{ids_between, is_open_as, names_open, is_open_id, is_of_link, is_unbound_on, unbound, part_of}
-use Rattle.router_passing.specs.Passing.{consumer_of, binding_to}
+use Rattle.router_trace.specs.Numbers.{first_below}
+use Rattle.router_trace.specs.Settling.{ids_between, is_open_as, names_open, is_open_id, is_of_link, is_unbound_on, unbound, is_tagged_on, uses_tag, middle_on, part_of}
+use Rattle.router_passing.specs.Passing.{consumer_of, lasts, binding_to, passing}
 use Rattle.router_rows.specs.declared.answer.Answer.{Answer}
 use Rattle.router_rows.specs.declared.answer.Answer.TheVariants.{Attach, Detach, Refuse, Taken, Settle}
 use Rattle.router_rows.specs.Rows.{Finds, said, item_reply}
 use Rattle.router_rows.specs.Finding.{finds}
-use Rattle.router_rows.specs.Booking.{wants_durable, wanted_address, new_terminus, has_room, durable_refusal, volatile_refusal, book_refusal, attach_in, booked, answer_at}
-use Rattle.router_reply.specs.Acts.{Journaled, attach_acts_with, closed_acts, perf_acts, item_acts, live_acts, item_finds_full, found_journal, answer_with, answer_of}
-use Rattle.router_reply.specs.Replies.{stolen_by, attach_answer, taken_behind, taken, refused, settled_answers, claimed_id, from_link, origin_of, message_bound, ignored_put, unbound_put, whole_put, part_put, whole_bound, part_bound, bound_for, item_bound, links_put, item_put, item_row}
+use Rattle.router_rows.specs.Booking.{wants_durable, wanted_address, new_terminus, has_room, durable_refusal, volatile_refusal, book_refusal, booked_attach, stands_from, repeats, booked_transfer, booked, answer_at}
+use Rattle.router_reply.specs.Admitting.{claimed_id}
+use Rattle.router_reply.specs.Replies.{stolen_by, attach_answer, taken_behind, taken, refused, settled_answers, from_link, origin_of, lasts_on, may_pass, consumer_for, fresh_bound, whole_bound, let_go, unless_many, ignored_put, released_by, released, unbound_put, whole_put, part_put, part_bound, row_found, bound_for, links_put, item_put}
 use Rattle.router_core.specs.Laws.{untaken}
 use Rattle.router_core.proofs.Untaken.{untaken_goes, same_place, same_free}
 use Rattle.router_core.proofs.UntakenDeliveries.{same_named, same_delivery, same_claims, same_numbered}
@@ -50,39 +55,39 @@ same_finds t c = λ j. record {
   multicast = λ address. is_multicast (same_distribution t address j);
 }
 
--- the acts of an item, and the answer to it
-same_perf_acts : (full : Bool) (b : BookView) (t : List Entry) (c : ℕ) (body : Perf) (a : Answer) → perf_acts full b t c body a ≡ perf_acts full b (untaken t) c body a
-same_perf_acts full b t c (perf.Attach x) (Attach own) = ap (λ (k : LinkKey). attach_acts_with full b k x) (same_key_at t c (plain_answer x 0))
-same_perf_acts full b t c (perf.Attach x) _ = refl
-same_perf_acts full b t c (perf.Detach x) (Detach own handle closed None) = ap (λ (l : Option Link). if closed then closed_acts b (durable_key l) else []) (same_link t c own handle)
-same_perf_acts full b t c (perf.Detach x) (Detach own handle closed (Some e)) = refl
-same_perf_acts full b t c (perf.Detach x) _ = refl
-same_perf_acts full b t c _ a = refl
-
-same_item_acts : (full : Bool) (b : BookView) (t : List Entry) (c : ℕ) (i : Item) (a : Answer) → item_acts full b t c i a ≡ item_acts full b (untaken t) c i a
-same_item_acts full b t c (item.Frame sasl channel body payload) a = same_perf_acts full b t c body a
-same_item_acts full b t c _ a = refl
-
-pub same_live_acts : (full : Bool) (b : BookView) (t : List Entry) (c : ℕ) (i : Item) (p : Option Conn) → live_acts full b t c i p ≡ live_acts full b (untaken t) c i p
-same_live_acts full b t c i None = refl
-same_live_acts full b t c i (Some p) =
-    ap (λ (k : Finds). item_acts full b t c i (item_reply p k i)) (same_finds t c) ∙ same_item_acts full b t c i (item_reply p (finds (untaken t) c) i)
-
+-- the answer to an item, if the journal is full or not
 same_refusal : (full : Bool) (b : BookView) (t : List Entry) (c : ℕ) (a : AnAttach) → book_refusal full b t c a ≡ book_refusal full b (untaken t) c a
 same_refusal full b t c a = λ j.
     if wants_durable a then
     durable_refusal (terminus_of (same_key_at t c (plain_answer a 0) j) b.termini) a (has_room full b (new_terminus b (same_key_at t c (plain_answer a 0) j) (wanted_address a)))
     else volatile_refusal (same_holds_durable t c (plain_answer a 0) j)
 
-same_answer_at : (full : Bool) (b : BookView) (t : List Entry) (c : ℕ) (p : Conn) (i : Item) → answer_at full b t c p i ≡ answer_at full b (untaken t) c p i
-same_answer_at full b t c p i = λ j. booked (λ o. same_free_handle t c o j) (λ a. same_refusal full b t c a j) (attach_in i) (item_reply p (same_finds t c j) i)
+same_tags : (t : List Entry) (c own handle : ℕ) (tag : List ℕ) → uses_tag t c own handle tag ≡ uses_tag (untaken t) c own handle tag
+same_tags t c own handle tag = λ j. is_some (first_below (2 ^ 32) (λ id. is_tagged_on handle tag (same_claims t c own id j)))
 
-same_answer : (t : List Entry) (c : ℕ) (p : Conn) (i : Item) → found_journal t ≡ found_journal (untaken t) → answer_of t c p i ≡ answer_of (untaken t) c p i
-same_answer t c p i same =
-    ap (λ (j : Journaled). answer_with j t c p i) same
-    ∙ ap (λ (acts : List Act). answer_at (exceeds (found_journal (untaken t)).used (reserve (found_journal (untaken t)).book) acts) (found_journal (untaken t)).book t c p i)
-    (same_live_acts false (found_journal (untaken t)).book t c i (Some p))
-    ∙ same_answer_at (item_finds_full (found_journal (untaken t)) (untaken t) c p i) (found_journal (untaken t)).book t c p i
+same_repeats : (b : BookView) (t : List Entry) (c own handle : ℕ) (resume : Bool) (key : Option LinkKey) (tag : Option (List ℕ))
+    → repeats b t c own handle resume key tag ≡ repeats b (untaken t) c own handle resume key tag
+same_repeats b t c own handle resume (Some key) (Some tag) = λ j. same_tags t c own handle tag j || (not resume && stands_from (terminus_of key b.termini) tag b.rows)
+same_repeats b t c own handle resume (Some key) None = refl
+same_repeats b t c own handle resume None tag = refl
+
+same_repeated : (b : BookView) (t : List Entry) (c : ℕ) (x : ATransfer) (a : Answer) → booked_transfer b t c x a ≡ booked_transfer b (untaken t) c x a
+same_repeated b t c x (Taken own handle) =
+    (λ j. if is_none (middle_on (same_link_place t c own x.handle j)) && repeats b t c own handle x.resume (durable_key (same_link t c own handle j)) (tag_in x)
+    then Detach own handle false (Some NotAllowed) else Taken own handle)
+    ∙ ap (λ (q : Bool). if is_none (middle_on (link_place (untaken t) c own x.handle)) && q then Detach own handle false (Some NotAllowed) else Taken own handle)
+    (same_repeats b t c own handle x.resume (durable_key (link (untaken t) c own handle)) (tag_in x))
+same_repeated b t c x _ = refl
+
+same_booked : (full : Bool) (b : BookView) (t : List Entry) (c : ℕ) (i : Item) (a : Answer) → booked full b t c i a ≡ booked full b (untaken t) c i a
+same_booked full b t c (item.Frame sasl channel (perf.Attach x) payload) a = λ j. booked_attach (λ o. same_free_handle t c o j) (same_refusal full b t c x j) a
+same_booked full b t c (item.Frame sasl channel (perf.Transfer x) payload) a = same_repeated b t c x a
+same_booked full b t c (item.Frame sasl channel _ payload) a = refl
+same_booked full b t c _ a = refl
+
+pub same_answer_at : (full : Bool) (b : BookView) (t : List Entry) (c : ℕ) (p : Conn) (i : Item) → answer_at full b t c p i ≡ answer_at full b (untaken t) c p i
+same_answer_at full b t c p i =
+    ap (λ (k : Finds). booked full b t c i (item_reply p k i)) (same_finds t c) ∙ same_booked full b t c i (item_reply p (finds (untaken t) c) i)
 
 -- an attach
 
@@ -103,44 +108,91 @@ same_consumer : (t : List Entry) (l : Option Link) → consumer_of t l ≡ consu
 same_consumer t None = refl
 same_consumer t (Some l) = λ j. option_and_then (λ n. same_numbered t n j) (same_choice t l.address j)
 
-same_claimed_id : (t : List Entry) (c own handle : ℕ) (q : Option ℕ) → claimed_id t c own handle q ≡ claimed_id (untaken t) c own handle q
+pub same_consumer_at : (t : List Entry) (c own handle : ℕ) → consumer_of t (link t c own handle) ≡ consumer_of (untaken t) (link (untaken t) c own handle)
+same_consumer_at t c own handle = same_consumer t (link t c own handle) ∙ ap (consumer_of (untaken t)) (same_link t c own handle)
+
+pub same_claimed_id : (t : List Entry) (c own handle : ℕ) (q : Option ℕ) → claimed_id t c own handle q ≡ claimed_id (untaken t) c own handle q
 same_claimed_id t c own handle None = refl
 same_claimed_id t c own handle (Some id) = ap (λ v. if is_of_link handle v then Some id else None) (same_claims t c own id)
 
-same_ignored : (t : List Entry) (c own handle : ℕ) → unbound t c own handle ≡ unbound (untaken t) c own handle
-same_ignored t c own handle = λ j. count_below (2 ^ 32) (λ id. is_unbound_on handle (same_claims t c own id j))
+same_unbound : (t : List Entry) (c own handle : ℕ) → unbound t c own handle ≡ unbound (untaken t) c own handle
+same_unbound t c own handle = λ j. count_below (2 ^ 32) (λ id. is_unbound_on handle (same_claims t c own id j))
+
+same_let_go : (t : List Entry) (c own handle : ℕ) (x : Condition) → let_go t c own handle x ≡ let_go (untaken t) c own handle x
+same_let_go t c own handle x = ap (λ (l : Option Link). detach_item own handle (not (lasts_on l)) (Some x) ∷ []) (same_link t c own handle)
+
+same_many : (t : List Entry) (c own handle : ℕ) (items : List Item) → unless_many t c own handle items ≡ unless_many (untaken t) c own handle items
+same_many t c own handle items = λ j. if nat_lt 1024 (same_unbound t c own handle j) then same_let_go t c own handle ResourceLimitExceeded j else items
 
 same_ignored_put : (t : List Entry) (c own handle : ℕ) (q : Option ℕ) → ignored_put t c own handle q ≡ ignored_put (untaken t) c own handle q
 same_ignored_put t c own handle None = refl
-same_ignored_put t c own handle (Some id) =
-    ap (λ (n : ℕ). if nat_lt 1024 n then detach_item own handle true (Some ResourceLimitExceeded) ∷ [] else []) (same_ignored t c own handle)
+same_ignored_put t c own handle (Some id) = same_many t c own handle []
 
-same_whole_put : (t : List Entry) (c own handle : ℕ) (d : Told) → whole_put t c own handle d (link t c own handle) ≡ whole_put (untaken t) c own handle d (link (untaken t) c own handle)
-same_whole_put t c own handle d =
+same_released_by : (t : List Entry) (c own handle : ℕ) (durable : Bool) (id : ℕ) → released_by t c own handle durable id ≡ released_by (untaken t) c own handle durable id
+same_released_by t c own handle false id = refl
+same_released_by t c own handle true id = same_many t c own handle (outcome_item own Receiver id false state.Released ∷ [])
+
+same_released : (t : List Entry) (c own handle : ℕ) (q : Option ℕ) → released t c own handle q ≡ released (untaken t) c own handle q
+same_released t c own handle None = refl
+same_released t c own handle (Some id) =
+    ap (λ (l : Option Link). released_by t c own handle (lasts_on l) id) (same_link t c own handle)
+    ∙ same_released_by t c own handle (lasts_on (link (untaken t) c own handle)) id
+
+same_unbound_put : (t : List Entry) (c own handle : ℕ) (q : Option ℕ) (consumer : Option Attachment)
+    → unbound_put t c own handle q consumer ≡ unbound_put (untaken t) c own handle q consumer
+same_unbound_put t c own handle q None = same_released t c own handle q
+same_unbound_put t c own handle q (Some x) = refl
+
+same_consumer_for : (t : List Entry) (c own handle : ℕ) (d : Told) (row : Option RowNumber) → consumer_for t c own handle d row ≡ consumer_for (untaken t) c own handle d row
+same_consumer_for t c own handle d row =
+    λ j. if may_pass (lasts_on (same_link t c own handle j)) (same_claimed_id t c own handle d.id j) row then same_consumer_at t c own handle j else None
+
+same_whole_put : (t : List Entry) (c own handle : ℕ) (d : Told) (row : Option RowNumber) → whole_put t c own handle d row ≡ whole_put (untaken t) c own handle d row
+same_whole_put t c own handle d row =
     λ j. if d.resume then (same_ignored_put t c own handle (claimed_id t c own handle d.id) ∙ ap (ignored_put (untaken t) c own handle) (same_claimed_id t c own handle d.id)) j
-    else unbound_put own (same_claimed_id t c own handle d.id j) ((same_consumer t (link t c own handle) ∙ ap (consumer_of (untaken t)) (same_link t c own handle)) j)
+    else (same_unbound_put t c own handle (claimed_id t c own handle d.id) (consumer_for t c own handle d row)
+    ∙ (λ i. unbound_put (untaken t) c own handle (same_claimed_id t c own handle d.id i) (same_consumer_for t c own handle d row i))) j
 
-same_part_put : (t : List Entry) (c own handle : ℕ) (q : Option Part) → part_put t c own handle q ≡ part_put (untaken t) c own handle q
-same_part_put t c own handle (Some (part.Whole d payload)) = same_whole_put t c own handle d
-same_part_put t c own handle (Some part.TooLarge) = refl
-same_part_put t c own handle _ = refl
+same_part_put : (t : List Entry) (c own handle : ℕ) (row : Option RowNumber) (q : Option Part) → part_put t c own handle row q ≡ part_put (untaken t) c own handle row q
+same_part_put t c own handle row (Some (part.Whole d payload)) = same_whole_put t c own handle d row
+same_part_put t c own handle row (Some part.TooLarge) = same_let_go t c own handle MessageSizeExceeded
+same_part_put t c own handle row _ = refl
 
-same_message : (t : List Entry) (c own : ℕ) (from : Attachment) (d : Told) (payload : List ℕ) → message_bound t c own from d payload ≡ message_bound (untaken t) c own from d payload
-same_message t c own from d payload =
-    λ j. if d.resume then None
-    else option_map (binding_to (option_map (origin_of from) (same_claimed_id t c own from.handle d.id j)) (unwrap_or d.format 0) payload)
-    ((same_consumer t (link t from.conn.0 from.channel from.handle) ∙ ap (consumer_of (untaken t)) (same_link t from.conn.0 from.channel from.handle)) j)
+same_lasts : (t : List Entry) (at : Attachment) → lasts t at ≡ lasts (untaken t) at
+same_lasts t at = ap (λ (l : Option Link). is_some (durable_key l)) (same_link t at.conn.0 at.channel at.handle)
 
-same_whole_bound : (t : List Entry) (c own handle : ℕ) (d : Told) (payload : List ℕ) (l : Option Link)
-    → whole_bound t c own handle d payload l ≡ whole_bound (untaken t) c own handle d payload l
-same_whole_bound t c own handle d payload None = refl
-same_whole_bound t c own handle d payload (Some l) = same_message t c own (from_link c own handle l) d payload
+same_binding : (t : List Entry) (origin : Option Origin) (row : Option RowNumber) (format : ℕ) (payload : List ℕ) (at : Attachment)
+    → binding_to t origin row format payload at ≡ binding_to (untaken t) origin row format payload at
+same_binding t origin row format payload at =
+    λ j. record { consumer = at; origin = origin; row = row; lasting = same_lasts t at j; format = format; payload = payload }
 
-same_part_bound : (t : List Entry) (c own handle : ℕ) (q : Option Part) → part_bound t c own handle q ≡ part_bound (untaken t) c own handle q
-same_part_bound t c own handle (Some (part.Whole d payload)) =
-    same_whole_bound t c own handle d payload (link t c own handle) ∙ ap (whole_bound (untaken t) c own handle d payload) (same_link t c own handle)
-same_part_bound t c own handle (Some part.TooLarge) = refl
-same_part_bound t c own handle _ = refl
+same_passing : (t : List Entry) (from : Attachment) (origin : Option Origin) (row : Option RowNumber) (format : ℕ) (payload : List ℕ)
+    → passing t from origin row format payload ≡ passing (untaken t) from origin row format payload
+same_passing t from origin row format payload =
+    λ j. option_map (λ at. same_binding t origin row format payload at j) (same_consumer_at t from.conn.0 from.channel from.handle j)
+
+same_fresh : (t : List Entry) (c own handle : ℕ) (d : Told) (row : Option RowNumber) (payload : List ℕ) (l : Option Link)
+    → fresh_bound t c own handle d row payload l ≡ fresh_bound (untaken t) c own handle d row payload l
+same_fresh t c own handle d row payload None = refl
+same_fresh t c own handle d row payload (Some l) =
+    λ j. if may_pass (lasts_on (same_link t c own handle j)) (same_claimed_id t c own handle d.id j) row
+    then (same_passing t from (option_map (origin_of from) (claimed_id t c own handle d.id)) row (unwrap_or d.format 0) payload
+    ∙ ap (λ (q : Option ℕ). passing (untaken t) from (option_map (origin_of from) q) row (unwrap_or d.format 0) payload) (same_claimed_id t c own handle d.id)) j
+    else None
+  where
+    from : Attachment
+    from = from_link c own handle l
+
+same_whole_bound : (t : List Entry) (c own handle : ℕ) (d : Told) (row : Option RowNumber) (payload : List ℕ)
+    → whole_bound t c own handle d row payload ≡ whole_bound (untaken t) c own handle d row payload
+same_whole_bound t c own handle d row payload =
+    λ j. if d.resume then None else (same_fresh t c own handle d row payload (link t c own handle)
+    ∙ ap (fresh_bound (untaken t) c own handle d row payload) (same_link t c own handle)) j
+
+same_part_bound : (t : List Entry) (c own handle : ℕ) (row : Option RowNumber) (q : Option Part) → part_bound t c own handle row q ≡ part_bound (untaken t) c own handle row q
+same_part_bound t c own handle row (Some (part.Whole d payload)) = same_whole_bound t c own handle d row payload
+same_part_bound t c own handle row (Some part.TooLarge) = refl
+same_part_bound t c own handle row _ = refl
 
 -- a disposition
 
@@ -153,8 +205,8 @@ same_open_id t c own id = same_open t c own id (named t c own id) ∙ ap (names_
 
 -- an item's row
 
-same_links : (t u : List Entry) (c : ℕ) (i : Item) (a : Answer) → links_put t u c i a ≡ links_put (untaken t) (untaken u) c i a
-same_links t u c (item.Frame sasl channel body payload) a = by_perf body a
+same_links : (t u : List Entry) (c : ℕ) (i : Item) (a : Answer) → row_found t ≡ row_found (untaken t) → links_put t u c i a ≡ links_put (untaken t) (untaken u) c i a
+same_links t u c (item.Frame sasl channel body payload) a rows = by_perf body a
   where
     by_attach : (x : AnAttach) (a : Answer)
         → links_put t u c (item.Frame sasl channel (perf.Attach x) payload) a ≡ links_put (untaken t) (untaken u) c (item.Frame sasl channel (perf.Attach x) payload) a
@@ -165,8 +217,8 @@ same_links t u c (item.Frame sasl channel body payload) a = by_perf body a
     by_transfer : (x : ATransfer) (a : Answer)
         → links_put t u c (item.Frame sasl channel (perf.Transfer x) payload) a ≡ links_put (untaken t) (untaken u) c (item.Frame sasl channel (perf.Transfer x) payload) a
     by_transfer x (Taken own handle) =
-        (λ j. each_to c (part_put u c own handle (part_of (item.Frame sasl channel (perf.Transfer x) payload) (λ p. same_link_place t c own p j))))
-        ∙ ap (each_to c) (same_part_put u c own handle (part_of (item.Frame sasl channel (perf.Transfer x) payload) (link_place (untaken t) c own)))
+        (λ j. each_to c (part_put u c own handle (rows j) (part_of (item.Frame sasl channel (perf.Transfer x) payload) (λ p. same_link_place t c own p j))))
+        ∙ ap (each_to c) (same_part_put u c own handle (row_found (untaken t)) (part_of (item.Frame sasl channel (perf.Transfer x) payload) (link_place (untaken t) c own)))
     by_transfer x _ = refl
 
     by_disposition : (x : ADisposition) (a : Answer)
@@ -181,27 +233,18 @@ same_links t u c (item.Frame sasl channel body payload) a = by_perf body a
     by_perf (perf.Transfer x) a = by_transfer x a
     by_perf (perf.Disposition x) a = by_disposition x a
     by_perf _ a = refl
-same_links t u c _ a = refl
+same_links t u c _ a rows = refl
 
-same_put : (id : List ℕ) (t u : List Entry) (c : ℕ) (p : Conn) (i : Item) (a : Answer) → item_put id t u c p i a ≡ item_put id (untaken t) (untaken u) c p i a
-same_put id t u c p i a =
+pub same_put : (id : List ℕ) (t u : List Entry) (c : ℕ) (p : Conn) (i : Item) (a : Answer) → row_found t ≡ row_found (untaken t)
+    → item_put id t u c p i a ≡ item_put id (untaken t) (untaken u) c p i a
+same_put id t u c p i a rows =
     ap (λ (ps : List Put). each_to c (said id p a) ++ ps)
-    (same_links t (puts c (said id p a) u) c i a ∙ ap (λ (v : List Entry). links_put (untaken t) v c i a) (untaken_goes (each_to c (said id p a)) u))
-
-pub same_item_row : (id : List ℕ) (t u : List Entry) (c : ℕ) (i : Item) (p : Option Conn) → found_journal t ≡ found_journal (untaken t) → item_row id t u c i p ≡ item_row id (untaken t) (untaken u) c i p
-same_item_row id t u c i None same = refl
-same_item_row id t u c i (Some p) same =
-    ap (item_put id t u c p i) (same_answer t c p i same) ∙ same_put id t u c p i (answer_of (untaken t) c p i)
+    (same_links t (puts c (said id p a) u) c i a rows ∙ ap (λ (v : List Entry). links_put (untaken t) v c i a) (untaken_goes (each_to c (said id p a)) u))
 
 -- the message that it binds
 
-same_bound_for : (t u : List Entry) (c : ℕ) (i : Item) (a : Answer) → bound_for t u c i a ≡ bound_for (untaken t) (untaken u) c i a
-same_bound_for t u c i (Taken own handle) =
-    (λ j. part_bound u c own handle (part_of i (λ p. same_link_place t c own p j)))
-    ∙ same_part_bound u c own handle (part_of i (link_place (untaken t) c own))
-same_bound_for t u c i _ = refl
-
-pub same_item_bound : (t u : List Entry) (c : ℕ) (i : Item) (p : Option Conn) → found_journal t ≡ found_journal (untaken t) → item_bound t u c i p ≡ item_bound (untaken t) (untaken u) c i p
-same_item_bound t u c i None same = refl
-same_item_bound t u c i (Some p) same =
-    ap (bound_for t u c i) (same_answer t c p i same) ∙ same_bound_for t u c i (answer_of (untaken t) c p i)
+pub same_bound_for : (t u : List Entry) (c : ℕ) (i : Item) (a : Answer) → row_found t ≡ row_found (untaken t) → bound_for t u c i a ≡ bound_for (untaken t) (untaken u) c i a
+same_bound_for t u c i (Taken own handle) rows =
+    (λ j. part_bound u c own handle (rows j) (part_of i (λ p. same_link_place t c own p j)))
+    ∙ same_part_bound u c own handle (row_found (untaken t)) (part_of i (link_place (untaken t) c own))
+same_bound_for t u c i _ rows = refl

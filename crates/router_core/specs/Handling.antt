@@ -1,18 +1,26 @@
 -- The router as a whole against a trace.
-use Rattle.std.specs.Prelude.{◌≡◌, ◌⊎◌, ℕ, Bool, true, List, Option, Some, None}
+use Rattle.std.specs.Prelude.{◌≡◌, ◌⊎◌, ℕ, Bool, true, false, if◌then◌else◌, List, [], ◌∷◌, Option, Some, None}
+use Rattle.book_core.specs.declared.act.Act.{Act}
 use Rattle.book_core.specs.Book.{BookView}
 use Rattle.router_store.specs.declared.store.Store.{Store}
 use Rattle.gate_journal.specs.Reserve.{reserve}
-use Rattle.router_store.specs.Store.{OpensTo, Stands, book_of, count_of, used_of, kept_of}
+use Rattle.router_store.specs.Store.{OpensTo, book_of, count_of, used_of, kept_of, exceeds}
 use Rattle.router_core.specs.declared.router.Core.{Core}
 use Rattle.router_core.specs.declared.router.Batch.{Batch}
 use Rattle.router_core.specs.declared.counts.Counts.{Counts}
 use Rattle.router_trace.specs.declared.event.Event.{Event}
-use Rattle.router_trace.specs.Trace.{Trace}
-use Rattle.router_trace.specs.Connection.{Connection, Batched}
+use Rattle.router_trace.specs.declared.event.Event.TheVariants as event
+use Rattle.router_trace.specs.Sessions.{theirs, maps}
+use Rattle.router_links.specs.Fits.{channel_of}
+use Rattle.router_rows.specs.declared.answer.Answer.{Answer}
+use Rattle.router_rows.specs.declared.answer.Answer.TheVariants.{Taken}
+use Rattle.router_trace.specs.Trace.{Trace, did}
+use Rattle.router_trace.specs.Connection.{Connection, Batched, due}
 use Rattle.router_state.specs.declared.tables.State.{State}
 use Rattle.router_state.specs.Tables.{TablesFit}
-use Rattle.router_reply.specs.Acts.{journaled, finds_full, book_in, book_behind}
+use Rattle.router_reply.specs.Acts.{journaled, book_in, book_behind, answer_to_event}
+use Rattle.router_reply.specs.Heard.{IsHeard}
+use Rattle.router_core.specs.declared.router.Ready.{Ready}
 use Rattle.router_core.specs.Turns.{is_started}
 
 -- a router's journal agrees with the trace: its book, how many batches it has, how long it is, and what it keeps free
@@ -28,10 +36,33 @@ pub record Fits {D : Type 0} (core : Core D) (t : Trace) : Type 0 where
   pub started : core.started ≡ is_started t
   pub journal : Journals core t
 
--- it does, and finds the journal full
-pub record FitsFull {D : Type 0} (core : Core D) (t : Trace) (e : Event) : Type 0 where
-  pub fits : Fits core t
-  pub full : finds_full (journaled t) t e ≡ true
+-- An event was handled in tables that agreed with the trace, and nothing was put: what is ready for its answer.
+pub record IsReady (s : State) (t : Trace) (e : Event) (r : Ready) : Type 0 where
+  pub tables : TablesFit s (did e ∷ t)
+  pub ends : r.ends.items ≡ due t e
+  pub answer : r.answer ≡ answer_to_event t e
+  pub heard : IsHeard t e r.answer r.heard
+
+-- a transfer that is taken is one on the session for which its channel stands
+abbrev pub TakenHere : (ℕ → Bool) → Answer → Type 0
+TakenHere here (Taken own handle) = here own ≡ true
+TakenHere here _ = Unit {0}
+
+abbrev pub TakenIn : Trace → Event → Answer → Type 0
+TakenIn t (event.Item d i) answer = TakenHere (maps (theirs t d.0 (channel_of i))) answer
+TakenIn t _ answer = Unit {0}
+
+-- The acts of an event: those that were planned; if there are none, those of an admission, if the journal has room.
+abbrev pub within : Bool → List Act → List Act
+within true acts = []
+within false acts = acts
+
+abbrev pub or_within : ℕ → ℕ → List Act → List Act → List Act
+or_within used kept [] admitted = within (exceeds used kept admitted) admitted
+or_within used kept (act ∷ acts) admitted = act ∷ acts
+
+abbrev pub with_admission : Bool → ℕ → ℕ → List Act → List Act → List Act
+with_admission full used kept acts admitted = if full then acts else or_within used kept acts admitted
 
 -- it failed with a fault of the disk or of memory, and answers nothing else
 abbrev pub is_failed : {D : Type 0} → Core D → Bool
@@ -63,8 +94,3 @@ IsBatchOf (Some v) most b = Batched v most b.first b.items.items b.ended
 -- a file opens to the book before an event, or to the book after it
 abbrev pub BeforeOrBehind : Trace → Event → List ℕ → Type 0
 BeforeOrBehind t e file = OpensTo file (book_in t) ⊎ OpensTo file (book_behind t e)
-
--- the store keeps this book, and a crash leaves just that
-pub record IsToldBehind {D : Type 0} (seen : D → List ℕ) (may_leave : D → List ℕ → Type 0) (core : Core D) (b : BookView) : Type 0 where
-  pub stands : Stands seen may_leave core.store
-  pub kept : book_of core.store ≡ b

@@ -3,32 +3,35 @@ ghost use Rattle.std.specs.Prelude.{◌≡◌, ◌≢◌, ◌⊎◌, ◌+◌, �
 ghost use Rattle.disk_core.specs.Disk.{LeavesOnly, NoMore};
 ghost use Rattle.gate_journal.specs.Journal.{batch_count};
 ghost use Rattle.gate_journal.specs.Opening.{Explains};
-ghost use Rattle.router_store.specs.Store.{OpensTo, Stands, journal_of, disk_of, count_of, used_of, kept_of, used_behind, batches_behind, exceeds};
+ghost use Rattle.router_store.specs.Store.{OpensTo, Stands, Writable, journal_of, disk_of, count_of, used_of, kept_of, used_behind, batches_behind, exceeds};
 ghost use Rattle.route_table.specs.Places.{routing_of};
 ghost use Rattle.router_trace.specs.Configuration.{beginning};
-ghost use Rattle.router_trace.specs.Trace.{Entry, Took, step_of};
-ghost use Rattle.router_trace.specs.Connection.{conn as known, is_ready, is_live};
-ghost use Rattle.router_trace.specs.Refusing.{refuses};
+ghost use Rattle.router_trace.specs.Trace.{Entry, Took, did, step_of};
+ghost use Rattle.router_trace.specs.Connection.{conn as known, is_ready, is_live, due};
 ghost use Rattle.router_conns.specs.Fits.{IsLeast};
 ghost use Rattle.book_core.specs.Book.{effects};
 ghost use Rattle.gate_journal.specs.Reserve.{reserve};
-ghost use Rattle.router_reply.specs.Acts.{event_acts, event_answer, acts_of, book_behind, booked, answer_to_event};
+ghost use Rattle.router_reply.specs.Acts.{planned_acts, event_answer, acts_of, book_behind, booked};
+ghost use Rattle.router_reply.specs.Admitting.{admits, event_admission};
+ghost use Rattle.router_reply.specs.Heard.{IsHeard};
+ghost use Rattle.router_reply.specs.Replies.{row_found};
 ghost use Rattle.router_core.specs.Turns.{declines};
-ghost use Rattle.router_core.specs.Replies.{Replies, answered};
-ghost use Rattle.router_state.specs.Tables.{TablesFit};
-ghost use Rattle.router_core.specs.Handling.{Fits, FitsFull, Journals, is_failed, id_of, store_of, kept_book, state_of, counts_of, IsBatchOf, BeforeOrBehind, IsToldBehind};
+ghost use Rattle.router_core.specs.Replies.{Replies, answered, handled};
+ghost use Rattle.router_state.specs.Tables.{TablesFit, TablesAt};
+ghost use Rattle.router_state.specs.Waiting.{NothingWaits};
+ghost use Rattle.router_core.specs.Handling.{Fits, IsReady, TakenIn, with_admission, is_failed, id_of, store_of, kept_book, state_of, counts_of, IsBatchOf, BeforeOrBehind};
 ghost use Rattle.router_core.specs.Counting.{uncounted, with_event, with_batch};
 ghost use Rattle.router_core.specs.declared.fault.CoreFault.TheVariants.{Disk as DiskFailed, Memory, Failed, NoConnection};
 
 use crate::counts::Counts;
 use crate::fault::CoreFault;
 use amqp_frames::Item;
-use book_core::{Act, Book};
+use book_core::{Act, Book, RowNumber};
 use disk_core::{Crash, Disk};
 use gate_journal::{JournalFault, OpenFault};
 use route_table::{Config, Table};
 use router_after::after;
-use router_reply::{Plan, make_plan, reply};
+use router_reply::{Heard, Plan, admission_for, hear, make_plan, reply, row_in};
 use router_rows::Answer;
 use router_state::State;
 use router_store::Store;
@@ -44,6 +47,32 @@ pub struct Done {
 
 /// The batch that was written, if one was: its number and its acts.
 type Written = Option<(u64, Vec<Act>)>;
+
+/// What is planned for an event: whether it finds the journal full, the answer to its item, and its acts but for an admission.
+#[derive(Drop)]
+struct Planned {
+    full: bool,
+    answer: Answer,
+    acts: Vec<Act>,
+}
+
+/// What the answer to an event that was handled needs.
+#[derive(Drop)]
+struct Ready {
+    /// The connections that it ends because their outboxes are full.
+    ends: Vec<u64>,
+    /// The answer to its item.
+    answer: Answer,
+    /// What was kept of it when it was handled.
+    heard: Heard,
+}
+
+/// An event that was handled, and the acts that are to be written before it is answered.
+#[derive(Drop)]
+struct Prepared {
+    ready: Ready,
+    acts: Vec<Act>,
+}
 
 /// Items that were taken from an outbox. Only `Core::take` makes one.
 #[derive(Debug, Drop)]
@@ -215,11 +244,10 @@ impl<D: Disk> Core<D> {
         ensures silent { IfOk result (λ done. (t : List Entry) → Fits self.old t → IfNone done.journal (acts_of t event ≡ [])) }
 
         // Whatever is answered, a crash at any moment of the call leaves the book before the event or the book after it; and after
-        // a fault either no item was put out, or it leaves the book after it.
+        // a fault of the disk or of memory no item waits in any outbox.
         ensures any_moment { (t : List Entry) → Fits self.old t → Stands D.seen D.may_leave (store_of self.old)
             → LeavesOnly D.moment D.left_since (disk_of (store_of self.old)) (disk_of (store_of self.new)) (BeforeOrBehind t event) }
-        ensures told { OnErr result ((t : List Entry) → Fits self.old t → Stands D.seen D.may_leave (store_of self.old)
-            → (state_of self.new ≡ state_of self.old) ⊎ IsToldBehind D.seen D.may_leave self.new (book_behind t event)) }
+        ensures given_up { OnErr result (is_failed self.old ≡ false → is_failed self.new ≡ true → NothingWaits (state_of self.new)) }
 
         // One more event is counted exactly if the call answers Ok.
         ensures counted { OnOk result (counts_of self.new ≡ with_event event (counts_of self.old)) }
@@ -242,20 +270,14 @@ impl<D: Disk> Core<D> {
             drop(event);
             return Err(CoreFault::NoConnection);
         }
-        let (answer, journal) = match self.write(&event) {
-            Ok(written) => written,
+        match self.carry_out(event) {
+            Ok(journal) => Ok(Done { journal }),
             Err(fault) => {
-                drop(event);
+                self.state.give_up();
                 self.failed = true;
-                return Err(fault);
+                Err(fault)
             }
-        };
-        let Ok(()) = self.answer(event, answer) else {
-            drop(journal);
-            self.failed = true;
-            return Err(CoreFault::Memory);
-        };
-        Ok(Done { journal })
+        }
     }
 
     /// Whether an event comes out of turn, or is refused.
@@ -269,102 +291,216 @@ impl<D: Disk> Core<D> {
         out_of_turn || self.state.refuses(event)
     }
 
-    /// Does an event's acts to the book, and writes them as one batch; where there are none, nothing is written. Gives the answer to
-    /// the event's item with the batch.
-    fn write(&mut self, event: &Event) -> Result<(Answer, Written), CoreFault>
-        ensures rest { self.new ≡ record self.old { store = store_of self.new } }
-        ensures answer { IfOk result (λ w. (t : List Entry) → Fits self.old t → w.0 ≡ answer_to_event (booked t event.now) event.now) }
+    /// Handles an event that is not declined: it is planned and heard, its acts are written as one batch, and only then it is answered.
+    fn carry_out(&mut self, event: Event) -> Result<Written, CoreFault>
+        ensures fits { OnOk result ((t : List Entry) → Fits self.old t → declines t event ≡ false → Fits self.new (handled (id_of self.old) t (step_of event))) }
+        ensures works { is_failed self.new ≡ is_failed self.old }
+        ensures named { id_of self.new ≡ id_of self.old }
         ensures stands { OnOk result (Stands D.seen D.may_leave (store_of self.old) → Stands D.seen D.may_leave (store_of self.new)) }
-        ensures journaled { OnOk result ((t : List Entry) → Fits self.old t → Journals self.new (booked t event.now)) }
-        ensures written { IfOk result (λ w. (t : List Entry) → Fits self.old t → IfSome w.1 (λ batch.
-            (batch.0 ≡ batch_count (journal_of (store_of self.old)) + 1) × (batch.1.items ≡ acts_of t event.now))) }
-        ensures silent { IfOk result (λ w. (t : List Entry) → Fits self.old t → IfNone w.1 (acts_of t event.now ≡ [])) }
-        ensures any_moment { (t : List Entry) → Fits self.old t → Stands D.seen D.may_leave (store_of self.old)
-            → LeavesOnly D.moment D.left_since (disk_of (store_of self.old)) (disk_of (store_of self.new)) (BeforeOrBehind t event.now) }
+        ensures book { OnOk result ((t : List Entry) → Fits self.old t → declines t event ≡ false → kept_book self.new ≡ book_behind t event) }
+        ensures written { IfOk result (λ journal. (t : List Entry) → Fits self.old t → declines t event ≡ false → IfSome journal (λ batch.
+            (batch.0 ≡ batch_count (journal_of (store_of self.old)) + 1) × (batch.1.items ≡ acts_of t event))) }
+        ensures silent { IfOk result (λ journal. (t : List Entry) → Fits self.old t → declines t event ≡ false → IfNone journal (acts_of t event ≡ [])) }
+        ensures any_moment { (t : List Entry) → Fits self.old t → declines t event ≡ false → Stands D.seen D.may_leave (store_of self.old)
+            → LeavesOnly D.moment D.left_since (disk_of (store_of self.old)) (disk_of (store_of self.new)) (BeforeOrBehind t event) }
+        ensures counted { OnOk result (counts_of self.new ≡ with_event event (counts_of self.old)) }
+        ensures uncounted { OnErr result (counts_of self.new ≡ counts_of self.old) }
         ensures not_refused { IfErr result (λ f. f ≢ NoConnection) }
         ensures not_failed { IfErr result (λ f. f ≢ Failed) }
         ensures cause { IfErr result (λ f. f ≡ DiskFailed → D.failures (disk_of (store_of self.old)) < D.failures (disk_of (store_of self.new))) }
     {
-        match self.commit(event, false)? {
-            Some(written) => Ok(written),
-            None => self.write_full(event),
-        }
-    }
-
-    /// The same for an event that finds the journal full.
-    fn write_full(&mut self, event: &Event) -> Result<(Answer, Written), CoreFault>
-        ensures rest { self.new ≡ record self.old { store = store_of self.new } }
-        ensures answer { IfOk result (λ w. (t : List Entry) → FitsFull self.old t event.now → w.0 ≡ answer_to_event (booked t event.now) event.now) }
-        ensures stands { OnOk result (Stands D.seen D.may_leave (store_of self.old) → Stands D.seen D.may_leave (store_of self.new)) }
-        ensures journaled { OnOk result ((t : List Entry) → FitsFull self.old t event.now → Journals self.new (booked t event.now)) }
-        ensures written { IfOk result (λ w. (t : List Entry) → FitsFull self.old t event.now → IfSome w.1 (λ batch.
-            (batch.0 ≡ batch_count (journal_of (store_of self.old)) + 1) × (batch.1.items ≡ acts_of t event.now))) }
-        ensures silent { IfOk result (λ w. (t : List Entry) → FitsFull self.old t event.now → IfNone w.1 (acts_of t event.now ≡ [])) }
-        ensures any_moment { (t : List Entry) → FitsFull self.old t event.now → Stands D.seen D.may_leave (store_of self.old)
-            → LeavesOnly D.moment D.left_since (disk_of (store_of self.old)) (disk_of (store_of self.new)) (BeforeOrBehind t event.now) }
-        ensures not_refused { IfErr result (λ f. f ≢ NoConnection) }
-        ensures not_failed { IfErr result (λ f. f ≢ Failed) }
-        ensures cause { IfErr result (λ f. f ≡ DiskFailed → D.failures (disk_of (store_of self.old)) < D.failures (disk_of (store_of self.new))) }
-    {
-        match self.commit(event, true)? {
-            Some(written) => Ok(written),
-            None => Err(CoreFault::Memory),
-        }
-    }
-
-    /// Writes the acts that an event has if the journal is full or not; none if they cost more than its room, and then nothing is
-    /// changed.
-    fn commit(&mut self, event: &Event, full: bool) -> Result<Option<(Answer, Written)>, CoreFault>
-        ensures rest { self.new ≡ record self.old { store = store_of self.new } }
-        ensures answer { IfOk result (λ r. IfSome r (λ w. (t : List Entry) → TablesFit (state_of self.old) t → w.0 ≡ event_answer full (kept_book self.old) t event.now)) }
-        ensures stands { OnOk result (Stands D.seen D.may_leave (store_of self.old) → Stands D.seen D.may_leave (store_of self.new)) }
-        ensures book { IfOk result (λ r. IfSome r (λ w. (t : List Entry) → TablesFit (state_of self.old) t
-            → kept_book self.new ≡ effects (kept_book self.old) (event_acts full (kept_book self.old) t event.now))) }
-        ensures count { IfOk result (λ r. IfSome r (λ w. (t : List Entry) → TablesFit (state_of self.old) t
-            → count_of (store_of self.new) ≡ batches_behind (count_of (store_of self.old)) (event_acts full (kept_book self.old) t event.now))) }
-        ensures used { IfOk result (λ r. IfSome r (λ w. (t : List Entry) → TablesFit (state_of self.old) t
-            → used_of (store_of self.new) ≡ used_behind (used_of (store_of self.old)) (event_acts full (kept_book self.old) t event.now))) }
-        ensures kept { IfOk result (λ r. IfSome r (λ w. kept_of (store_of self.old) ≡ reserve (kept_book self.old) → kept_of (store_of self.new) ≡ reserve (kept_book self.new))) }
-        ensures written { IfOk result (λ r. IfSome r (λ w. (t : List Entry) → TablesFit (state_of self.old) t → IfSome w.1 (λ batch.
-            (batch.0 ≡ batch_count (journal_of (store_of self.old)) + 1) × (batch.1.items ≡ event_acts full (kept_book self.old) t event.now)))) }
-        ensures silent { IfOk result (λ r. IfSome r (λ w. (t : List Entry) → TablesFit (state_of self.old) t → IfNone w.1 (event_acts full (kept_book self.old) t event.now ≡ []))) }
-        ensures room { IfOk result (λ r. IfSome r (λ w. (t : List Entry) → TablesFit (state_of self.old) t
-            → exceeds (used_of (store_of self.old)) (kept_of (store_of self.old)) (event_acts full (kept_book self.old) t event.now) ≡ false)) }
-        ensures full { IfOk result (λ r. IfNone r ((t : List Entry) → TablesFit (state_of self.old) t
-            → exceeds (used_of (store_of self.old)) (kept_of (store_of self.old)) (event_acts full (kept_book self.old) t event.now) ≡ true)) }
-        ensures unchanged { IfOk result (λ r. IfNone r (self.new ≡ self.old)) }
-        ensures untouched { (t : List Entry) → TablesFit (state_of self.old) t
-            → exceeds (used_of (store_of self.old)) (kept_of (store_of self.old)) (event_acts full (kept_book self.old) t event.now) ≡ true
-            → disk_of (store_of self.new) ≡ disk_of (store_of self.old) }
-        ensures any_moment { (t : List Entry) → TablesFit (state_of self.old) t → Stands D.seen D.may_leave (store_of self.old)
-            → LeavesOnly D.moment D.left_since (disk_of (store_of self.old)) (disk_of (store_of self.new))
-            (λ file. OpensTo file (kept_book self.old) ⊎ OpensTo file (effects (kept_book self.old) (event_acts full (kept_book self.old) t event.now))) }
-        ensures not_refused { IfErr result (λ f. f ≢ NoConnection) }
-        ensures not_failed { IfErr result (λ f. f ≢ Failed) }
-        ensures cause { IfErr result (λ f. f ≡ DiskFailed → D.failures (disk_of (store_of self.old)) < D.failures (disk_of (store_of self.new))) }
-    {
-        if let Event::Start = event {
-            return match self.store.start(self.alloc) {
-                Ok(batch) => Ok(Some((Answer::Nothing, batch))),
-                Err(JournalFault::Disk) => Err(CoreFault::Disk),
-                Err(_) => Err(CoreFault::Memory),
-            };
-        }
-        let Ok(plan) = make_plan(&self.state, self.store.book(), full, event) else {
+        let Ok(prepared) = self.prepare(&event) else {
+            drop(event);
             return Err(CoreFault::Memory);
         };
-        let Plan { answer, acts } = plan;
+        let Prepared { ready, acts } = prepared;
+        let row = row_in(&acts);
+        let journal = match self.write(acts) {
+            Ok(journal) => journal,
+            Err(fault) => {
+                drop(event);
+                drop(ready);
+                return Err(fault);
+            }
+        };
+        let Ok(()) = self.answer(event, ready, row) else {
+            drop(journal);
+            return Err(CoreFault::Memory);
+        };
+        Ok(journal)
+    }
+
+    /// Plans an event that is not declined, and handles it; nothing is put and nothing written. Gives what its answer needs, and the acts that it has.
+    fn prepare(&mut self, event: &Event) -> Result<Prepared, AllocError>
+        ensures rest { self.new ≡ record self.old { state = state_of self.new } }
+        ensures ready { IfOk result (λ p. (t : List Entry) → Fits self.old t → declines t event.now ≡ false → IsReady (state_of self.new) (booked t event.now) event.now p.ready) }
+        ensures acts { IfOk result (λ p. (t : List Entry) → Fits self.old t → declines t event.now ≡ false → p.acts.items ≡ acts_of t event.now) }
+        ensures writable { IfOk result (λ p. Writable (kept_book self.old) p.acts.items) }
+    {
+        let ends = self.state.turn(event)?;
+        let Planned { full, answer, acts } = self.plan(&ends, event)?;
+        let heard = hear(&mut self.state, event, &answer)?;
+        let acts = self.admit(full, &ends, event, &answer, &heard, acts)?;
+        Ok(Prepared {
+            ready: Ready {
+                ends,
+                answer,
+                heard,
+            },
+            acts,
+        })
+    }
+
+    /// Plans an event: the answer to its item, and what it does to the book but for an admission; by what it would do to a journal with room if there
+    /// is room for that, else by what it does to a full one.
+    fn plan(&self, ends: &[u64], event: &Event) -> Result<Planned, AllocError>
+        ensures full { IfOk result (λ p. (t : List Entry) → TablesAt (state_of self.now) t event.now ends.now
+            → p.full ≡ exceeds (used_of (store_of self.now)) (kept_of (store_of self.now)) (planned_acts false (kept_book self.now) t event.now)) }
+        ensures answer { IfOk result (λ p. (t : List Entry) → TablesAt (state_of self.now) t event.now ends.now → p.answer ≡ event_answer p.full (kept_book self.now) t event.now) }
+        ensures acts { IfOk result (λ p. (t : List Entry) → TablesAt (state_of self.now) t event.now ends.now → p.acts.items ≡ planned_acts p.full (kept_book self.now) t event.now) }
+        ensures writable { IfOk result (λ p. Writable (kept_book self.now) p.acts.items) }
+    {
+        let planned = self.plan_as(false, ends, event)?;
+        if !self.store.exceeds(&planned.acts)? {
+            return Ok(planned);
+        }
+        drop(planned);
+        self.plan_as(true, ends, event)
+    }
+
+    /// Plans an event that finds the journal full, or one that finds room.
+    fn plan_as(&self, full: bool, ends: &[u64], event: &Event) -> Result<Planned, AllocError>
+        ensures full { IfOk result (λ p. p.full ≡ full) }
+        ensures answer { IfOk result (λ p. (t : List Entry) → TablesAt (state_of self.now) t event.now ends.now → p.answer ≡ event_answer full (kept_book self.now) t event.now) }
+        ensures acts { IfOk result (λ p. (t : List Entry) → TablesAt (state_of self.now) t event.now ends.now → p.acts.items ≡ planned_acts full (kept_book self.now) t event.now) }
+        ensures writable { IfOk result (λ p. Writable (kept_book self.now) p.acts.items) }
+    {
+        if let Event::Start = event {
+            return Ok(Planned {
+                full,
+                answer: Answer::Nothing,
+                acts: self.store.start_acts(self.alloc)?,
+            });
+        }
+        let Plan {
+            answer,
+            decided,
+            forgotten,
+            terminus,
+        } = make_plan(&self.state, self.store.book(), full, ends, event)?;
+        let acts = self
+            .store
+            .event_acts(self.alloc, decided, forgotten, terminus)?;
+        Ok(Planned { full, answer, acts })
+    }
+
+    /// The acts of an event that was handled: those that were planned; if there are none, and the event finds room and ends no connection, those that
+    /// admit a delivery of it, if there is room for these.
+    fn admit(
+        &mut self,
+        full: bool,
+        ends: &[u64],
+        event: &Event,
+        answer: &Answer,
+        heard: &Heard,
+        acts: Vec<Act>,
+    ) -> Result<Vec<Act>, AllocError>
+        requires writable { Writable (kept_book self.old) acts.items }
+        ensures rest { self.new ≡ record self.old { state = state_of self.new } }
+        ensures tables { OnOk result ((t : List Entry) → TablesFit (state_of self.old) t → TablesFit (state_of self.new) t) }
+        ensures acts { IfOk result (λ r. (t : List Entry) → TablesFit (state_of self.old) (did event.now ∷ t) → ends.now ≡ due t event.now → IsHeard t event.now answer.now heard.now
+            → TakenIn t event.now answer.now → r.items ≡ with_admission full (used_of (store_of self.old)) (kept_of (store_of self.old)) acts.items (admits (kept_book self.old) (event_admission (kept_book self.old) t event.now answer.now))) }
+        ensures writable { IfOk result (λ r. Writable (kept_book self.old) r.items) }
+    {
+        if full || !acts.is_empty() {
+            return Ok(acts);
+        }
+        let Ok(admits) = self.admission(ends, event, answer, heard) else {
+            drop(acts);
+            return Err(AllocError);
+        };
+        match self.store.exceeds(&admits) {
+            Ok(false) => {
+                drop(acts);
+                Ok(admits)
+            }
+            Ok(true) => {
+                drop(admits);
+                Ok(acts)
+            }
+            Err(error) => {
+                drop(acts);
+                drop(admits);
+                Err(error)
+            }
+        }
+    }
+
+    /// The acts that admit a delivery of an event that was handled; none if it ends a connection for its full outbox.
+    fn admission(
+        &mut self,
+        ends: &[u64],
+        event: &Event,
+        answer: &Answer,
+        heard: &Heard,
+    ) -> Result<Vec<Act>, AllocError>
+        ensures rest { self.new ≡ record self.old { state = state_of self.new } }
+        ensures tables { OnOk result ((t : List Entry) → TablesFit (state_of self.old) t → TablesFit (state_of self.new) t) }
+        ensures acts { IfOk result (λ r. (t : List Entry) → TablesFit (state_of self.old) (did event.now ∷ t) → ends.now ≡ due t event.now → IsHeard t event.now answer.now heard.now
+            → TakenIn t event.now answer.now → r.items ≡ admits (kept_book self.old) (event_admission (kept_book self.old) t event.now answer.now)) }
+        ensures writable { IfOk result (λ r. Writable (kept_book self.old) r.items) }
+    {
+        let Event::Item(conn, _) = event else {
+            return Ok(Vec::new(self.alloc));
+        };
+        if !ends.is_empty() {
+            return Ok(Vec::new(self.alloc));
+        }
+        let found = admission_for(
+            &mut self.state,
+            self.store.book(),
+            *conn,
+            answer,
+            &heard.part,
+        )?;
+        match found {
+            None => Ok(Vec::new(self.alloc)),
+            Some(admission) => self.store.admission_acts(self.alloc, admission),
+        }
+    }
+
+    /// Writes the acts of an event as one batch; where there are none, nothing is written.
+    fn write(&mut self, acts: Vec<Act>) -> Result<Written, CoreFault>
+        requires writable { Writable (kept_book self.old) acts.items }
+        ensures rest { self.new ≡ record self.old { store = store_of self.new } }
+        ensures stands { OnOk result (Stands D.seen D.may_leave (store_of self.old) → Stands D.seen D.may_leave (store_of self.new)) }
+        ensures book { OnOk result (kept_book self.new ≡ effects (kept_book self.old) acts.items) }
+        ensures count { OnOk result (count_of (store_of self.new) ≡ batches_behind (count_of (store_of self.old)) acts.items) }
+        ensures used { OnOk result (used_of (store_of self.new) ≡ used_behind (used_of (store_of self.old)) acts.items) }
+        ensures kept { OnOk result (kept_of (store_of self.old) ≡ reserve (kept_book self.old) → kept_of (store_of self.new) ≡ reserve (kept_book self.new)) }
+        ensures written { IfOk result (λ w. IfSome w (λ batch. (batch.0 ≡ batch_count (journal_of (store_of self.old)) + 1) × (batch.1.items ≡ acts.items))) }
+        ensures silent { IfOk result (λ w. IfNone w (acts.items ≡ [])) }
+        ensures any_moment { Stands D.seen D.may_leave (store_of self.old) → LeavesOnly D.moment D.left_since (disk_of (store_of self.old)) (disk_of (store_of self.new))
+            (λ file. OpensTo file (kept_book self.old) ⊎ OpensTo file (effects (kept_book self.old) acts.items)) }
+        ensures not_refused { IfErr result (λ f. f ≢ NoConnection) }
+        ensures not_failed { IfErr result (λ f. f ≢ Failed) }
+        ensures cause { IfErr result (λ f. f ≡ DiskFailed → D.failures (disk_of (store_of self.old)) < D.failures (disk_of (store_of self.new))) }
+    {
         match self.store.commit(acts) {
-            Ok(batch) => Ok(Some((answer, batch))),
-            Err(JournalFault::Full) => Ok(None),
+            Ok(batch) => Ok(batch),
             Err(JournalFault::Disk) => Err(CoreFault::Disk),
             Err(_) => Err(CoreFault::Memory),
         }
     }
 
-    /// Answers an event that is not declined, and counts it.
-    fn answer(&mut self, event: Event, answer: Answer) -> Result<(), AllocError>
-        ensures tables { OnOk result ((t : List Entry) → TablesFit (state_of self.old) t → refuses t event ≡ false → answer ≡ answer_to_event t event → TablesFit (state_of self.new) (answered (id_of self.old) t (step_of event))) }
+    /// Answers an event that was handled, and counts it.
+    fn answer(
+        &mut self,
+        event: Event,
+        ready: Ready,
+        row: Option<RowNumber>,
+    ) -> Result<(), AllocError>
+        ensures tables { OnOk result ((t : List Entry) → IsReady (state_of self.old) t event ready → row ≡ row_found t → TablesFit (state_of self.new) (answered (id_of self.old) t (step_of event))) }
         ensures started { OnOk result (self.new.started ≡ true) }
         ensures counted { OnOk result (counts_of self.new ≡ with_event event (counts_of self.old)) }
         ensures uncounted { OnErr result (counts_of self.new ≡ counts_of self.old) }
@@ -374,9 +510,10 @@ impl<D: Disk> Core<D> {
     {
         let Ok(counts) = self.counts.with_event(&event) else {
             drop(event);
+            drop(ready);
             return Err(AllocError);
         };
-        reply_to(&mut self.state, &self.id, event, answer)?;
+        reply_to(&mut self.state, &self.id, event, ready, row)?;
         self.counts = counts;
         self.started = true;
         Ok(())
@@ -490,22 +627,22 @@ impl<D: Crash> Core<D> {
     }
 }
 
-/// What an event that is not refused does: it ends connections because their outboxes are full, its item is answered, and what
-/// follows is put.
+/// The reply to an event that was handled, and what follows it.
 fn reply_to(
     state: &mut State,
     id: &RouterId,
     event: Event,
-    answer: Answer,
+    ready: Ready,
+    row: Option<RowNumber>,
 ) -> Result<(), AllocError>
-    ensures { OnOk result ((t : List Entry) → TablesFit state.old t → refuses t event ≡ false → answer ≡ answer_to_event t event
-        → TablesFit state.new (answered id.now t (step_of event))) }
+    ensures { OnOk result ((t : List Entry) → IsReady state.old t event ready → row ≡ row_found t → TablesFit state.new (answered id.now t (step_of event))) }
 {
-    let Ok(ends) = state.turn(&event) else {
-        drop(event);
-        return Err(AllocError);
-    };
-    reply(state, id, &ends, event, answer)?;
+    let Ready {
+        ends,
+        answer,
+        heard,
+    } = ready;
+    reply(state, id, &ends, event, answer, row, heard)?;
     after(state)?;
     Ok(())
 }

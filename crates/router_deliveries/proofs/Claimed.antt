@@ -1,11 +1,16 @@
 -- A table's claims keep agreeing with the trace.
-use Rattle.std.proofs.Common.{◌≡◌, ◌∙◌, ◌<◌, ◌^◌, ◌||◌, ◌&&◌, ℕ, Bool, true, false, refl, sym, ap, subst, List, [], ◌∷◌, Option, Some, None}
+use Rattle.std.proofs.Common.{◌≡◌, ◌∙◌, ◌<◌, ◌^◌, ◌||◌, ◌&&◌, ℕ, Bool, true, false, refl, sym, ap, subst, arith, List, [], ◌∷◌, Option, Some, None}
 use Rattle.std.specs.Prelude.{◌==◌, if◌then◌else◌}
 use Rattle.std.specs.Option.{is_some}
 use Rattle.std.proofs.lemmas.Bool.{eqb-true}
+use Rattle.std.proofs.lemmas.Bool.Decides.{nat_tests}
+use Rattle.amqp_perf.specs.declared.perf.Disposition.{Disposition}
+use Rattle.amqp_perf.specs.declared.perf.Role.{Role}
+use Rattle.amqp_perf.specs.declared.perf.Role.TheVariants.{Sender, Receiver}
 use Rattle.amqp_session.specs.Ranges.{in_range, has}
 use Rattle.router_trace.specs.Claims.{Claim}
-use Rattle.router_deliveries.specs.Claiming.{IsSmall, is_on, unless_on, let_go_at}
+use Rattle.router_trace.specs.Deliveries.{last_of}
+use Rattle.router_deliveries.specs.Claiming.{IsSmall, is_on, unless_on, let_go_at, settled_by_role, settled_at}
 use Rattle.router_deliveries.proofs.Again.{equal_back}
 
 -- a freed claim stays free
@@ -83,3 +88,45 @@ nothing_left here own q more link v none = rw none (by_tests here own)
     by_tests true true = refl
     by_tests true false = refl
     by_tests false o = refl
+
+-- both halves of all ids
+halves : (q : ℕ) → q < 2 ^ 32 → (in_range 0 2147483647 q || in_range 2147483648 4294967295 q) ≡ true
+halves q l = grind (arith, nat_tests)
+
+two_gone : (here own a b : Bool) (link : Option ℕ) (v : Option Claim) → (a || b) ≡ true → let_go_at here own b link (let_go_at here own a link v) ≡ let_go_at here own true link v
+two_gone true true true true link v e = unless_twice link v
+two_gone true true true false link v e = refl
+two_gone true true false true link v e = refl
+two_gone true true false false link v e = absurd cc
+two_gone true false a b link v e = refl
+two_gone false own a b link v e = refl
+
+none_gone : (here own a b : Bool) (link : Option ℕ) → let_go_at here own b link (let_go_at here own a link None) ≡ let_go_at here own true link None
+none_gone true true true true link = refl
+none_gone true true true false link = refl
+none_gone true true false true link = refl
+none_gone true true false false link = refl
+none_gone true false a b link = refl
+none_gone false own a b link = refl
+
+pub both_halves : (here own : Bool) (link : Option ℕ) (q : ℕ) (v : Option Claim) → IsSmall q v
+    → let_go_at here own (in_range 2147483648 4294967295 q) link (let_go_at here own (in_range 0 2147483647 q) link v) ≡ let_go_at here own true link v
+both_halves here own link q None small = none_gone here own (in_range 0 2147483647 q) (in_range 2147483648 4294967295 q) link
+both_halves here own link q (Some v) small = two_gone here own (in_range 0 2147483647 q) (in_range 2147483648 4294967295 q) link (Some v) (halves q small)
+
+-- what a disposition settles
+all_go : (v : Option Claim) → unless_on None v ≡ None
+all_go None = refl
+all_go (Some v) = refl
+
+by_role : (r : Role) (x : Disposition) (q : ℕ) (v : Option Claim) → x.settled ≡ true → (if in_range x.first (last_of x) q then None else v) ≡ settled_by_role r r x q v
+by_role Sender x q v e = sym (ap (λ b. if b && in_range x.first (last_of x) q then None else v) e)
+by_role Receiver x q v e = sym (ap (λ b. if b && in_range x.first (last_of x) q then None else v) e)
+
+pub settled_there : (here own : Bool) (r : Role) (x : Disposition) (last q : ℕ) (v : Option Claim) → x.role ≡ r → x.settled ≡ true → last ≡ last_of x
+    → let_go_at here own (in_range x.first last q) None v ≡ (if here then (if own then settled_at r x q v else v) else v)
+settled_there here own r x last q v role settles is =
+    ap (λ (l : ℕ). if here then (if own then (if in_range x.first l q then unless_on None v else v) else v) else v) is
+    ∙ ap (λ (w : Option Claim). if here then (if own then (if in_range x.first (last_of x) q then w else v) else v) else v) (all_go v)
+    ∙ ap (λ (w : Option Claim). if here then (if own then w else v) else v)
+    (by_role r x q v settles ∙ ap (λ (k : Role). settled_by_role r k x q v) (sym role))

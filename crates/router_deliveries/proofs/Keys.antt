@@ -85,7 +85,7 @@ ends_nothing : (closed : Bool) (g : Gone) (d : Delivery) → is_gone_there g (on
     → is_gone_there g (from_spot (source d)) ≡ false → behind_ends closed (is_gone g) d ≡ d
 ends_nothing closed g d e f = ap (behind_origin (is_gone g)) (link_stays closed g d e) ∙ ap (λ b. if b then untold d else d) (origin_stays g (source d) f)
 
-untells_nothing : (p : Option Origin) (c o first last : ℕ) → is_id_there c o first last (id_spot p) ≡ false → comes_with_id p c o first last ≡ false
+pub untells_nothing : (p : Option Origin) (c o first last : ℕ) → is_id_there c o first last (id_spot p) ≡ false → comes_with_id p c o first last ≡ false
 untells_nothing None c o first last e = refl
 untells_nothing (Some p) c o first last e = e
 
@@ -116,7 +116,7 @@ decides_nothing d c o first last e = by_rest d.outcome d.suspended refl refl
         ∙ ap (λ b. b && (stands_on d.link c o && is_in d.id first last)) (not_or d.presettled d.suspended z)
     by_rest (Some s) b y z = ap (λ v. (is_none v && not (d.presettled || d.suspended)) && (stands_on d.link c o && is_in d.id first last)) y
 
-changes_nothing : (x : Change) (d : Delivery) → concerns x (standing (Some d)) ≡ false → changed x d ≡ d
+pub changes_nothing : (x : Change) (d : Delivery) → concerns x (standing (Some d)) ≡ false → changed x d ≡ d
 changes_nothing (change.Ends g closed) d e =
     let on = is_gone_there g (on_spot (spot_of d.link) (can_end d)) in
     let from = is_gone_there g (from_spot (source d)) in

@@ -24,3 +24,5 @@ pub mod Listed
 mod Marked
 pub mod Placed
 pub mod Detached
+mod Decided
+mod Tagged

@@ -1,19 +1,21 @@
 -- The unbound claims stay marked at their links.
-use Rattle.std.proofs.Common.{◌≡◌, ◌∙◌, ◌<◌, ◌^◌, ℕ, Bool, true, false, refl, sym, ap, Option, Some, None}
+use Rattle.std.proofs.Common.{◌≡◌, ◌∙◌, ◌<◌, ◌^◌, ℕ, Bool, true, false, refl, sym, ap, arith, Option, Some, None}
 use Rattle.std.specs.Prelude.{◌==◌, if◌then◌else◌}
 use Rattle.std.proofs.lemmas.Bool.{eqb-true}
-use Rattle.router_trace.specs.Claims.{Claim, claims}
+use Rattle.std.proofs.lemmas.Bool.Decides.{nat_tests}
+use Rattle.amqp_perf.specs.declared.perf.Transfer.{Transfer}
+use Rattle.router_trace.specs.Claims.{Claim, claims, claim, claimed_later}
 use Rattle.router_trace.specs.Deliveries.{is_number}
-use Rattle.router_trace.specs.Settling.{is_unbound_on, unbound}
+use Rattle.router_trace.specs.Settling.{is_unbound_on, is_of_link, unbound}
 use Rattle.router_trace.specs.Trace.{Trace}
 use Rattle.router_deliveries.specs.declared.claims.Claims.{Claims}
-use Rattle.router_deliveries.specs.Claiming.{ClaimsFit, IsSmall, unbound_handle, is_marked}
+use Rattle.router_deliveries.specs.Claiming.{ClaimsFit, IsSmall, claim_handle, unbound_handle, is_marked}
 use Rattle.router_deliveries.specs.Finding.{IsCount}
 use Rattle.router_deliveries.specs.Places.{at_id}
 use Rattle.router_deliveries.proofs.Numbers.{count_is}
 use Rattle.router_deliveries.proofs.Found.{count_same}
 
-unbound_is : (h : ℕ) (v : Option Claim) → is_unbound_on h v ≡ is_number (unbound_handle v) h
+pub unbound_is : (h : ℕ) (v : Option Claim) → is_unbound_on h v ≡ is_number (unbound_handle v) h
 unbound_is h None = refl
 unbound_is h (Some v) = by_test v.unbound
   where
@@ -21,22 +23,37 @@ unbound_is h (Some v) = by_test v.unbound
     by_test true = refl
     by_test false = refl
 
+pub link_is : (h : ℕ) (v : Option Claim) → is_of_link h v ≡ is_number (claim_handle v) h
+link_is h None = refl
+link_is h (Some v) = refl
+
 -- a mark after a change at one place
-abbrev set_mark : Bool → Bool → Bool → Bool → Bool → Bool → Bool
+abbrev pub set_mark : Bool → Bool → Bool → Bool → Bool → Bool → Bool
 set_mark here own on_link same holds old = if here then (if own then (if on_link then (if same then holds else old) else old) else old) else old
 
-abbrev set_claim : Bool → Bool → Bool → Option Claim → Option Claim → Option Claim
+abbrev pub set_claim : Bool → Bool → Bool → Option Claim → Option Claim → Option Claim
 set_claim here own same claim old = if here then (if own then (if same then claim else old) else old) else old
 
+-- claims that are marked at the handles that they give
+abbrev pub Handles : Type 0
+Handles = Option Claim → Option ℕ
+
+abbrev pub Tests : Type 0
+Tests = ℕ → Option Claim → Bool
+
+abbrev pub Agree : Handles → Tests → Type 0
+Agree handle_of test = (h : ℕ) (v : Option Claim) → test h v ≡ is_number (handle_of v) h
+
 -- the claim of an id changes
-row : (here own same : Bool) (h : ℕ) (stood claim old : Option Claim) (first mid last : Bool) → (here ≡ true → own ≡ true → same ≡ true → stood ≡ old)
-    → first ≡ is_unbound_on h old
-    → mid ≡ set_mark here own (is_number (unbound_handle stood) h) same false first
-    → last ≡ set_mark here own (is_number (unbound_handle claim) h) same true mid
-    → last ≡ is_unbound_on h (set_claim here own same claim old)
-row true true true h stood claim old first mid last is marked dropped added =
-    added ∙ ap (λ b. if is_number (unbound_handle claim) h then true else b) (dropped ∙ gone (is_number (unbound_handle stood) h) first (marked ∙ ap (is_unbound_on h) (sym (is refl refl refl)) ∙ unbound_is h stood))
-    ∙ truth (is_number (unbound_handle claim) h) ∙ sym (unbound_is h claim)
+row : (handle_of : Handles) (test : Tests) → Agree handle_of test → (here own same : Bool) (h : ℕ) (stood claim old : Option Claim) (first mid last : Bool)
+    → (here ≡ true → own ≡ true → same ≡ true → stood ≡ old)
+    → first ≡ test h old
+    → mid ≡ set_mark here own (is_number (handle_of stood) h) same false first
+    → last ≡ set_mark here own (is_number (handle_of claim) h) same true mid
+    → last ≡ test h (set_claim here own same claim old)
+row handle_of test agree true true true h stood claim old first mid last is marked dropped added =
+    added ∙ ap (λ b. if is_number (handle_of claim) h then true else b) (dropped ∙ gone (is_number (handle_of stood) h) first (marked ∙ ap (test h) (sym (is refl refl refl)) ∙ agree h stood))
+    ∙ truth (is_number (handle_of claim) h) ∙ sym (agree h claim)
   where
     gone : (b first : Bool) → first ≡ b → (if b then false else first) ≡ false
     gone true first e = refl
@@ -45,61 +62,81 @@ row true true true h stood claim old first mid last is marked dropped added =
     truth : (b : Bool) → (if b then true else false) ≡ b
     truth true = refl
     truth false = refl
-row true true false h stood claim old first mid last is marked dropped added =
-    added ∙ same_either (is_number (unbound_handle claim) h) mid ∙ dropped ∙ same_either (is_number (unbound_handle stood) h) first ∙ marked
+row handle_of test agree true true false h stood claim old first mid last is marked dropped added =
+    added ∙ same_either (is_number (handle_of claim) h) mid ∙ dropped ∙ same_either (is_number (handle_of stood) h) first ∙ marked
   where
     same_either : (b v : Bool) → (if b then v else v) ≡ v
     same_either true v = refl
     same_either false v = refl
-row true false same h stood claim old first mid last is marked dropped added = added ∙ dropped ∙ marked
-row false own same h stood claim old first mid last is marked dropped added = added ∙ dropped ∙ marked
+row handle_of test agree true false same h stood claim old first mid last is marked dropped added = added ∙ dropped ∙ marked
+row handle_of test agree false own same h stood claim old first mid last is marked dropped added = added ∙ dropped ∙ marked
 
 here_same : (known : ℕ → ℕ → ℕ → Option Claim) (conn own id c o q : ℕ) (stood : Option Claim) → stood ≡ known conn own id → (conn == c) ≡ true → (own == o) ≡ true → (id == q) ≡ true → stood ≡ known c o q
 here_same known conn own id c o q stood is e f g =
     is ∙ ap (λ k. known k own id) (eqb-true conn c e) ∙ ap (λ k. known c k id) (eqb-true own o f) ∙ ap (λ k. known c o k) (eqb-true id q g)
 
 -- an id gets this claim, or none
-pub marked_put : (conn own id : ℕ) (claim stood : Option Claim) (handle after : Option ℕ) (known next : ℕ → ℕ → ℕ → Option Claim) (first mid last : ℕ → ℕ → ℕ → ℕ → Bool)
-    → stood ≡ known conn own id → handle ≡ unbound_handle stood → after ≡ unbound_handle claim
-    → ((c o h q : ℕ) → first c o h q ≡ is_unbound_on h (known c o q))
+pub marked_put : (handle_of : Handles) (test : Tests) → Agree handle_of test → (conn own id : ℕ) (claim stood : Option Claim) (handle after : Option ℕ)
+    (known next : ℕ → ℕ → ℕ → Option Claim) (first mid last : ℕ → ℕ → ℕ → ℕ → Bool)
+    → stood ≡ known conn own id → handle ≡ handle_of stood → after ≡ handle_of claim
+    → ((c o h q : ℕ) → first c o h q ≡ test h (known c o q))
     → ((c o h q : ℕ) → mid c o h q ≡ set_mark (conn == c) (own == o) (is_number handle h) (id == q) false (first c o h q))
     → ((c o h q : ℕ) → last c o h q ≡ set_mark (conn == c) (own == o) (is_number after h) (id == q) true (mid c o h q))
     → ((c o q : ℕ) → next c o q ≡ set_claim (conn == c) (own == o) (id == q) claim (known c o q))
-    → (c o h q : ℕ) → last c o h q ≡ is_unbound_on h (next c o q)
-marked_put conn own id claim stood handle after known next first mid last is before behind marked dropped added set c o h q =
-    row (conn == c) (own == o) (id == q) h stood claim (known c o q) (first c o h q) (mid c o h q) (last c o h q)
+    → (c o h q : ℕ) → last c o h q ≡ test h (next c o q)
+marked_put handle_of test agree conn own id claim stood handle after known next first mid last is before behind marked dropped added set c o h q =
+    row handle_of test agree (conn == c) (own == o) (id == q) h stood claim (known c o q) (first c o h q) (mid c o h q) (last c o h q)
     (here_same known conn own id c o q stood is) (marked c o h q)
     (dropped c o h q ∙ ap (λ v. set_mark (conn == c) (own == o) (is_number v h) (id == q) false (first c o h q)) before)
     (added c o h q ∙ ap (λ v. set_mark (conn == c) (own == o) (is_number v h) (id == q) true (mid c o h q)) behind)
-    ∙ ap (is_unbound_on h) (sym (set c o q))
+    ∙ ap (test h) (sym (set c o q))
+
+-- what an id gets, told by the claim that it had
+pub put_there : (known : ℕ → ℕ → ℕ → Option Claim) (f : Option Claim → Option Claim) (conn own id c o q : ℕ) (v : Option Claim) → v ≡ f (known conn own id)
+    → set_claim (conn == c) (own == o) (id == q) v (known c o q) ≡ set_claim (conn == c) (own == o) (id == q) (f (known c o q)) (known c o q)
+put_there known f conn own id c o q v is = by_tests (conn == c) (own == o) (id == q) refl refl refl
+  where
+    by_tests : (x y z : Bool) → (conn == c) ≡ x → (own == o) ≡ y → (id == q) ≡ z → set_claim x y z v (known c o q) ≡ set_claim x y z (f (known c o q)) (known c o q)
+    by_tests true true true e g h = here_same (λ c o q. f (known c o q)) conn own id c o q v is e g h
+    by_tests true true false e g h = refl
+    by_tests true false z e g h = refl
+    by_tests false y z e g h = refl
+
+pub same_handle : (a b : ℕ) → a ≡ b → (a == b) ≡ true
+same_handle a b e = grind (arith, nat_tests, e)
+
+pub later_is : (h : ℕ) (x : Transfer) (w : Claim) (now v : Option Claim) → Some w ≡ now → (w.handle == h) ≡ true → v ≡ claim h w.tag x → v ≡ claimed_later h x now
+later_is h x w now v is same made = made ∙ sym (ap (λ b. if b then claim h w.tag x else Some w) same) ∙ ap (claimed_later h x) is
 
 no_mark : (here own same mid : Bool) → set_mark here own false same true mid ≡ mid
 no_mark true true same mid = refl
 no_mark true false same mid = refl
 no_mark false own same mid = refl
 
-pub marked_clear : (conn own id : ℕ) (stood : Option Claim) (handle : Option ℕ) (known next : ℕ → ℕ → ℕ → Option Claim) (first last : ℕ → ℕ → ℕ → ℕ → Bool)
-    → stood ≡ known conn own id → handle ≡ unbound_handle stood
-    → ((c o h q : ℕ) → first c o h q ≡ is_unbound_on h (known c o q))
+pub marked_clear : (handle_of : Handles) (test : Tests) → Agree handle_of test → None ≡ handle_of None → (conn own id : ℕ) (stood : Option Claim) (handle : Option ℕ)
+    (known next : ℕ → ℕ → ℕ → Option Claim) (first last : ℕ → ℕ → ℕ → ℕ → Bool)
+    → stood ≡ known conn own id → handle ≡ handle_of stood
+    → ((c o h q : ℕ) → first c o h q ≡ test h (known c o q))
     → ((c o h q : ℕ) → last c o h q ≡ set_mark (conn == c) (own == o) (is_number handle h) (id == q) false (first c o h q))
     → ((c o q : ℕ) → next c o q ≡ set_claim (conn == c) (own == o) (id == q) None (known c o q))
-    → (c o h q : ℕ) → last c o h q ≡ is_unbound_on h (next c o q)
-marked_clear conn own id stood handle known next first last is before marked dropped set =
-    marked_put conn own id None stood handle None known next first last last is before refl marked dropped
+    → (c o h q : ℕ) → last c o h q ≡ test h (next c o q)
+marked_clear handle_of test agree none conn own id stood handle known next first last is before marked dropped set =
+    marked_put handle_of test agree conn own id None stood handle None known next first last last is before none marked dropped
     (λ c o h q. sym (no_mark (conn == c) (own == o) (id == q) (last c o h q))) set
 
 -- all claims of a session or of a connection are gone
-pub marked_end : (here own : Bool) (h : ℕ) (old next : Option Claim) (first last : Bool) → first ≡ is_unbound_on h old → last ≡ (if here then (if own then false else first) else first)
-    → next ≡ (if here then (if own then None else old) else old) → last ≡ is_unbound_on h next
-marked_end true true h old next first last marked ended gone = ended ∙ ap (is_unbound_on h) (sym gone)
-marked_end true false h old next first last marked ended gone = ended ∙ marked ∙ ap (is_unbound_on h) (sym gone)
-marked_end false own h old next first last marked ended gone = ended ∙ marked ∙ ap (is_unbound_on h) (sym gone)
+pub marked_end : (test : Tests) → ((h : ℕ) → false ≡ test h None) → (here own : Bool) (h : ℕ) (old next : Option Claim) (first last : Bool) → first ≡ test h old
+    → last ≡ (if here then (if own then false else first) else first)
+    → next ≡ (if here then (if own then None else old) else old) → last ≡ test h next
+marked_end test none true true h old next first last marked ended gone = ended ∙ none h ∙ ap (test h) (sym gone)
+marked_end test none true false h old next first last marked ended gone = ended ∙ marked ∙ ap (test h) (sym gone)
+marked_end test none false own h old next first last marked ended gone = ended ∙ marked ∙ ap (test h) (sym gone)
 
 -- how many there are
 pub unbound_count : (s : Claims) (t : Trace) (c o h k : ℕ) → ClaimsFit s t → IsCount (is_marked s.unbound c o h) k → k ≡ unbound t c o h
 unbound_count s t c o h k fit count =
     count_is (2 ^ 32) (λ id. is_unbound_on h (claims t c o id)) (λ id e. low id (at_id s.ids c o id) (fit.small c o id) (ap (is_unbound_on h) (fit.ids c o id) ∙ e)) k
-    (count_same (is_marked s.unbound c o h) (λ id. is_unbound_on h (claims t c o id)) (λ id. fit.marked c o h id ∙ ap (is_unbound_on h) (fit.ids c o id)) k count)
+    (count_same (is_marked s.unbound c o h) (λ id. is_unbound_on h (claims t c o id)) (λ id. fit.marked.unbound c o h id ∙ ap (is_unbound_on h) (fit.ids c o id)) k count)
   where
     low : (id : ℕ) (v : Option Claim) → IsSmall id v → is_unbound_on h v ≡ true → id < 2 ^ 32
     low id None small e = absurd cc

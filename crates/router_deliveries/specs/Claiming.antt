@@ -16,8 +16,8 @@ use Rattle.router_trace.specs.declared.handle.PeerHandle.TheVariants.{Mapped}
 use Rattle.router_trace.specs.Links.{Link, Happened, sends, receives}
 use Rattle.router_trace.specs.Deliveries.{last_of}
 use Rattle.router_trace.specs.Trace.{Trace}
-use Rattle.router_trace.specs.Claims.{Claim, claims, claim, claimed_first, claimed_later, is_named}
-use Rattle.router_trace.specs.Settling.{is_unbound_on}
+use Rattle.router_trace.specs.Claims.{Claim, claims, claimed_first, claimed_later, is_named}
+use Rattle.router_trace.specs.Settling.{is_unbound_on, is_of_link}
 use Rattle.router_deliveries.specs.declared.claims.Claims.{Claims}
 use Rattle.router_deliveries.specs.declared.claims.Middle.{Middle}
 use Rattle.router_deliveries.specs.declared.claims.Receiving.{Receiving}
@@ -33,7 +33,11 @@ IsSmall id (Some c) = id < 2 ^ 32
 abbrev pub AreSmall : (ℕ → ℕ → ℕ → Option Claim) → Type 0
 AreSmall known = (c o id : ℕ) → IsSmall id (known c o id)
 
--- the ids of unbound claims are kept by link
+-- the ids of all claims and those of unbound ones are kept by link
+abbrev pub claim_handle : Option Claim → Option ℕ
+claim_handle None = None
+claim_handle (Some v) = Some v.handle
+
 abbrev pub unbound_handle : Option Claim → Option ℕ
 unbound_handle None = None
 unbound_handle (Some v) = if v.unbound then Some v.handle else None
@@ -41,8 +45,9 @@ unbound_handle (Some v) = if v.unbound then Some v.handle else None
 abbrev pub is_marked : Unbound → ℕ → ℕ → ℕ → ℕ → Bool
 is_marked s c o h id = in_set (at s.sets c o h) id
 
-abbrev pub AreMarked : Claims → Type 0
-AreMarked s = (c o h id : ℕ) → is_marked s.unbound c o h id ≡ is_unbound_on h (at_id s.ids c o id)
+pub record AreMarked (s : Claims) : Type 0 where
+  pub unbound : (c o h id : ℕ) → is_marked s.unbound c o h id ≡ is_unbound_on h (at_id s.ids c o id)
+  pub by_link : (c o h id : ℕ) → is_marked s.by_link c o h id ≡ is_of_link h (at_id s.ids c o id)
 
 pub record ClaimsFit (s : Claims) (t : Trace) : Type 0 where
   pub ids : (c o id : ℕ) → at_id s.ids c o id ≡ claims t c o id
@@ -52,7 +57,7 @@ pub record ClaimsFit (s : Claims) (t : Trace) : Type 0 where
 -- what a transfer does to the claim of an id, on the link that it names
 abbrev pub claimed_by_middle : ℕ → Transfer → Bool → Option Middle → ℕ → Option Claim → Option Claim
 claimed_by_middle h x beyond None id v = claimed_first h x beyond id v
-claimed_by_middle h x beyond (Some m) id v = if is_named m.id id then claimed_later h (claim h x) v else v
+claimed_by_middle h x beyond (Some m) id v = if is_named m.id id then claimed_later h x v else v
 
 abbrev pub claimed_at : Transfer → Option Receiving → ℕ → Option Claim → Option Claim
 claimed_at x None id v = v

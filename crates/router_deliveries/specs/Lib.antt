@@ -9,5 +9,6 @@ pub mod Claiming
 pub mod Fits
 pub mod Touching
 pub mod Naming
+pub mod Deciding
 pub use Rattle.router_trace.specs.Trace
 pub use Rattle.router_trace.specs.Deliveries

@@ -1,7 +1,9 @@
 //! How ending links and dispositions change deliveries.
-ghost use Rattle.std.specs.Prelude.{◌≡◌, IfOk};
+ghost use Rattle.std.specs.Prelude.{◌≡◌, IfOk, false};
 ghost use Rattle.amqp_session.specs.Ranges.{in_range};
 ghost use Rattle.router_deliveries.specs.Hearing.{heard_change, heard_in_change, disposed_change, decided_by};
+ghost use Rattle.router_deliveries.specs.declared.change.Change.TheVariants as change;
+ghost use Rattle.router_deliveries.specs.declared.change.Gone.TheVariants as gone;
 ghost use Rattle.router_deliveries.specs.Stepping.{is_gone, is_gone_from, comes_with_id, put_change, told_by, untold_by, is_in};
 
 use crate::state::decision;
@@ -80,6 +82,25 @@ pub enum Change {
         /// The outcome.
         outcome: DeliveryState,
     },
+}
+
+impl Change {
+    /// A connection is lost, or closed.
+    pub fn lost(conn: u64) -> Change
+        ensures { result ≡ change.Ends (gone.Connection conn) false }
+    {
+        Change::Ends {
+            gone: Gone::Connection(conn),
+            closed: false,
+        }
+    }
+
+    /// The immediate change to deliveries by an item of the peer, on the session with the router's channel `own`, if there is one.
+    pub fn of_item(conn: u64, own: Option<u16>, item: &Item) -> Result<Option<Change>, AllocError>
+        ensures { IfOk result (λ made. made ≡ heard_change conn own item.now) }
+    {
+        behind_heard(conn, own, item)
+    }
 }
 
 impl Gone {

@@ -1,27 +1,30 @@
 //! The deliveries that peers have not settled, by delivery-id.
-ghost use Rattle.std.specs.Prelude.{◌≡◌, ◌==◌, ◌∷◌, List, ℕ, Some, None, true, if◌then◌else◌, OnOk};
+ghost use Rattle.std.specs.Prelude.{◌≡◌, ◌==◌, ◌∷◌, List, ℕ, Some, None, true, if◌then◌else◌, OnOk, IfOk};
+ghost use Rattle.std.specs.List.{list_any};
 ghost use Rattle.std.specs.Option.{option_map};
 ghost use Rattle.router_trace.specs.Trace.{Beginning};
 ghost use Rattle.router_trace.specs.Configuration.{beginning};
 ghost use Rattle.router_trace.specs.Trace.{Entry, Out, Bound, did};
 ghost use Rattle.router_trace.specs.declared.binding.Binding.{Binding};
-ghost use Rattle.router_trace.specs.Claims.{claims, claim, bound_claim, claim_behind_in};
-ghost use Rattle.router_trace.specs.Settling.{is_claimed, is_claimed_on, unbound};
+ghost use Rattle.router_trace.specs.Claims.{claims, claim, claimed_later, bound_claim, claim_behind_in};
+ghost use Rattle.router_trace.specs.Deliveries.{tag_in};
+ghost use Rattle.router_trace.specs.Settling.{is_claimed, is_claimed_on, unbound, is_tag, is_tagged_on, uses_tag};
 ghost use Rattle.router_trace.specs.Sessions.{theirs, maps, is_channel};
 ghost use Rattle.router_trace.specs.Links.{their_handle, link};
 ghost use Rattle.router_deliveries.specs.Fits.{channel_of};
 ghost use Rattle.router_trace.specs.declared.event.Event.TheVariants as event;
 ghost use Rattle.amqp_session.specs.Ranges.{in_range};
-ghost use Rattle.router_deliveries.specs.Claiming.{ClaimsFit, AreSmall, AreMarked, unbound_handle, claimed_at, heard_claim, settled_at, found_by, let_go_at, is_on};
+ghost use Rattle.router_deliveries.specs.Claiming.{ClaimsFit, AreSmall, AreMarked, claim_handle, unbound_handle, claimed_at, heard_claim, settled_at, found_by, let_go_at, is_on};
 ghost use Rattle.router_deliveries.specs.Places.{at_id};
 
 use crate::by_session::BySession;
 use crate::names::HALF;
 use crate::unbound::Unbound;
 use amqp_frames::Item;
-use amqp_perf::{Disposition, Perf, Role, Transfer};
+use amqp_perf::{DeliveryTag, Disposition, Perf, Role, Transfer};
 use router_trace::{ConnectionId, Origin};
 use std::alloc::{AllocError, Global};
+use std::collections::BTreeSet;
 use std::marker::Model;
 
 /// An unsettled delivery of a peer.
@@ -31,14 +34,17 @@ pub struct Claim {
     pub handle: u32,
     /// Whether it came whole and is bound to no consumer.
     pub unbound: bool,
+    /// The delivery-tag of its first frame.
+    pub tag: Option<DeliveryTag>,
 }
 
 impl Model for Claim {
     ghost use Rattle.router_trace.specs.Claims.{Claim as View};
+    ghost use Rattle.std.specs.Option.{option_map};
 
     ghost Value = { View };
 
-    ghost view = { λ c. record { handle = c.handle; unbound = c.unbound } };
+    ghost view = { λ c. record { handle = c.handle; unbound = c.unbound; tag = option_map (λ tag. tag.items) c.tag } };
 }
 
 /// The delivery in the middle on a link: more frames of it are to come.
@@ -63,7 +69,9 @@ pub struct Receiving {
 #[derive(Debug, Drop)]
 pub struct Claims {
     ids: BySession<Claim>,
+    // the ids of unbound claims, and those of all, by link
     unbound: Unbound,
+    by_link: Unbound,
 }
 
 impl Claims {
@@ -74,6 +82,7 @@ impl Claims {
         Claims {
             ids: BySession::new(alloc),
             unbound: Unbound::new(alloc),
+            by_link: Unbound::new(alloc),
         }
     }
 
@@ -105,6 +114,17 @@ impl Claims {
         self.unbound.count(conn, own, handle)
     }
 
+    /// Whether an unsettled delivery of the peer has this delivery-tag, on the link at a handle of the router. It looks only at the
+    /// unsettled deliveries of that link.
+    pub fn uses_tag(&self, conn: u64, own: u16, handle: u32, tag: &[u8]) -> bool
+        ensures { (t : List Entry) → ClaimsFit self.now t → result ≡ uses_tag t conn own handle tag.now }
+    {
+        match self.by_link.ids(conn, own, handle) {
+            None => false,
+            Some(ids) => any_tagged(&self.ids, ids, conn, own, handle, tag),
+        }
+    }
+
     /// A message of a peer was bound to a consumer; the origin is its delivery, unless the peer settled it.
     pub fn bind(&mut self, origin: Option<Origin>) -> Result<(), AllocError>
         ensures { OnOk result ((t : List Entry) (b : Binding) → b.origin ≡ origin → ClaimsFit self.old t → ClaimsFit self.new (Bound b ∷ t)) }
@@ -125,16 +145,8 @@ impl Claims {
         let Some(claim) = self.ids.get(conn, own, id) else {
             return Ok(());
         };
-        let handle = claim.handle;
-        self.put_claim(
-            conn,
-            own,
-            id,
-            Claim {
-                handle,
-                unbound: false,
-            },
-        )
+        let claim = bound_claim(claim)?;
+        self.put_claim(conn, own, id, claim)
     }
 
     /// A connection is lost.
@@ -278,20 +290,58 @@ impl Claims {
                 None => {}
                 Some(id) => {
                     if !link.beyond {
-                        self.set(conn, own, id, claimed(link.handle, transfer))?;
+                        self.begin(conn, own, id, link.handle, transfer)?;
                     }
                 }
             },
             Some(middle) => match middle.id {
                 None => {}
-                Some(id) => {
-                    if is_on(self.ids.get(conn, own, id), Some(link.handle)) {
-                        self.set(conn, own, id, claimed(link.handle, transfer))?;
-                    }
-                }
+                Some(id) => self.go_on(conn, own, id, link.handle, transfer)?,
             },
         }
         Ok(())
+    }
+
+    /// A transfer begins the delivery with an id on a link.
+    fn begin(
+        &mut self,
+        conn: u64,
+        own: u16,
+        id: u32,
+        handle: u32,
+        transfer: &Transfer,
+    ) -> Result<(), AllocError>
+        ensures claims { OnOk result ((c o q : ℕ) → at_id self.new.ids c o q
+            ≡ (if conn == c then (if own == o then (if id == q then claim handle (tag_in transfer.now) transfer.now else at_id self.old.ids c o q) else at_id self.old.ids c o q) else at_id self.old.ids c o q)) }
+        ensures small { OnOk result (AreSmall (at_id self.old.ids) → AreSmall (at_id self.new.ids)) }
+        ensures marked { OnOk result (AreMarked self.old → AreMarked self.new) }
+    {
+        let tag = copy_of(&transfer.delivery_tag)?;
+        self.set(conn, own, id, claimed(handle, tag, transfer))
+    }
+
+    /// A transfer continues the delivery with an id on a link, if it is claimed there.
+    fn go_on(
+        &mut self,
+        conn: u64,
+        own: u16,
+        id: u32,
+        handle: u32,
+        transfer: &Transfer,
+    ) -> Result<(), AllocError>
+        ensures claims { OnOk result ((c o q : ℕ) → at_id self.new.ids c o q
+            ≡ (if conn == c then (if own == o then (if id == q then claimed_later handle transfer.now (at_id self.old.ids c o q) else at_id self.old.ids c o q) else at_id self.old.ids c o q) else at_id self.old.ids c o q)) }
+        ensures small { OnOk result (AreSmall (at_id self.old.ids) → AreSmall (at_id self.new.ids)) }
+        ensures marked { OnOk result (AreMarked self.old → AreMarked self.new) }
+    {
+        let Some(claim) = self.ids.get(conn, own, id) else {
+            return Ok(());
+        };
+        if claim.handle != handle {
+            return Ok(());
+        }
+        let tag = copy_of(&claim.tag)?;
+        self.set(conn, own, id, claimed(handle, tag, transfer))
     }
 
     /// Frees the ids of a range on a session: those claimed on this link of the router, or all.
@@ -332,6 +382,7 @@ impl Claims {
     {
         self.ids.end(conn, own);
         self.unbound.end(conn, own);
+        self.by_link.end(conn, own);
     }
 
     /// Removes the claims on a connection.
@@ -341,6 +392,7 @@ impl Claims {
     {
         self.ids.forget(conn);
         self.unbound.forget(conn);
+        self.by_link.forget(conn);
     }
 
     /// Removes the claim to an id.
@@ -350,7 +402,9 @@ impl Claims {
         ensures marked { AreMarked self.old → AreMarked self.new }
     {
         let handle = unbound_handle(self.ids.get(conn, own, id));
+        let link = claim_handle(self.ids.get(conn, own, id));
         self.unbound.drop_from(conn, own, handle, id);
+        self.by_link.drop_from(conn, own, link, id);
         self.ids.remove(conn, own, id);
     }
 
@@ -362,8 +416,12 @@ impl Claims {
     {
         let before = unbound_handle(self.ids.get(conn, own, id));
         let after = unbound_handle(Some(&claim));
+        let link = claim_handle(self.ids.get(conn, own, id));
+        let next = claim_handle(Some(&claim));
         self.unbound.drop_from(conn, own, before, id);
         self.unbound.add(conn, own, after, id)?;
+        self.by_link.drop_from(conn, own, link, id);
+        self.by_link.add(conn, own, next, id)?;
         self.ids.insert(conn, own, id, claim)?;
         Ok(())
     }
@@ -383,9 +441,9 @@ impl Claims {
     }
 }
 
-/// The claim by a transfer that begins or continues a delivery.
-fn claimed(handle: u32, transfer: &Transfer) -> Option<Claim>
-    ensures { result ≡ claim handle transfer.now }
+/// The claim by a transfer that begins or continues a delivery with this tag.
+fn claimed(handle: u32, tag: Option<DeliveryTag>, transfer: &Transfer) -> Option<Claim>
+    ensures { result ≡ claim handle (option_map (λ tag. tag.items) tag) transfer.now }
 {
     if transfer.settled || transfer.aborted {
         return None;
@@ -393,7 +451,79 @@ fn claimed(handle: u32, transfer: &Transfer) -> Option<Claim>
     Some(Claim {
         handle,
         unbound: !transfer.more,
+        tag,
     })
+}
+
+/// A claim whose delivery is bound.
+fn bound_claim(claim: &Claim) -> Result<Claim, AllocError>
+    ensures { IfOk result (λ bound. bound ≡ bound_claim claim.now) }
+{
+    Ok(Claim {
+        handle: claim.handle,
+        unbound: false,
+        tag: copy_of(&claim.tag)?,
+    })
+}
+
+/// A copy of a tag.
+fn copy_of(tag: &Option<DeliveryTag>) -> Result<Option<DeliveryTag>, AllocError>
+    ensures same { IfOk result (λ copy. copy ≡ tag.now) }
+    ensures text { IfOk result (λ copy. option_map (λ tag. tag.items) copy ≡ option_map (λ tag. tag.items) tag.now) }
+{
+    match tag {
+        None => Ok(None),
+        Some(tag) => Ok(Some(tag.clone()?)),
+    }
+}
+
+/// The router's handle of a claim.
+fn claim_handle(claim: Option<&Claim>) -> Option<u32>
+    ensures { result ≡ claim_handle (option_map (λ c. c.now) claim.entry) }
+{
+    match claim {
+        None => None,
+        Some(claim) => Some(claim.handle),
+    }
+}
+
+/// Whether the claim of one of these ids has this tag, on a link of the router.
+fn any_tagged(
+    claims: &BySession<Claim>,
+    ids: &BTreeSet<u32>,
+    conn: u64,
+    own: u16,
+    handle: u32,
+    tag: &[u8],
+) -> bool
+    ensures { result ≡ list_any (λ id. is_tagged_on handle tag.now (at_id claims.now conn own id)) ids.now.keys }
+{
+    for id in ids {
+        if is_tagged_on(claims.get(conn, own, *id), handle, tag) {
+            return true;
+        }
+    }
+    false
+}
+
+/// Whether a claim has this tag, on a link of the router.
+fn is_tagged_on(claim: Option<&Claim>, handle: u32, tag: &[u8]) -> bool
+    ensures { result ≡ is_tagged_on handle tag.now (option_map (λ c. c.now) claim.entry) }
+{
+    match claim {
+        None => false,
+        Some(claim) => claim.handle == handle && is_tag(&claim.tag, tag),
+    }
+}
+
+/// Whether a tag is this one.
+fn is_tag(own: &Option<DeliveryTag>, tag: &[u8]) -> bool
+    ensures { result ≡ is_tag (option_map (λ tag. tag.items) own.now) tag.now }
+{
+    match own {
+        None => false,
+        Some(own) => own.as_slice() == tag,
+    }
 }
 
 /// The router's handle of an unbound claim.

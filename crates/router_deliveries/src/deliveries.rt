@@ -12,12 +12,14 @@ ghost use Rattle.router_trace.specs.Sessions.{theirs, maps, is_channel};
 ghost use Rattle.router_trace.specs.Following.{first_delivery, is_unsent_on, is_used};
 ghost use Rattle.router_trace.specs.Settling.{open_ids};
 ghost use Rattle.router_deliveries.specs.Calling.{Knows};
+ghost use Rattle.router_deliveries.specs.Deciding.{decided_rows, rows_from};
 ghost use Rattle.router_deliveries.specs.Finding.{IsFirst, IsCount, count_deliveries, is_above};
 ghost use Rattle.router_deliveries.specs.Naming.{Remembers};
 ghost use Rattle.router_deliveries.specs.Fits.{DeliveriesFit, AreSending, channel_of};
 ghost use Rattle.router_deliveries.specs.Touching.{is_touched, Touches};
 
-use crate::change::behind_heard;
+use crate::change::{Change, behind_heard};
+use crate::deciding::{decided_rows, rows_from};
 use crate::delivery::Delivery;
 use crate::hearing::hear;
 use crate::names::Names;
@@ -25,7 +27,7 @@ use crate::next_ids::NextIds;
 use crate::sending::Sending;
 use crate::store::Store;
 use amqp_frames::Item;
-use book_core::RowNumber;
+use book_core::{Decision, RowNumber};
 use router_trace::{Binding, ConnectionId, DeliveryName};
 use std::alloc::{AllocError, Global};
 
@@ -197,6 +199,26 @@ impl Deliveries {
         ensures { IfOk result (λ numbers. (t : List Entry) → DeliveriesFit self.now t → AreSending t conn own numbers.items) }
     {
         Ok(self.sending.all_on(self.alloc, conn, own)?)
+    }
+
+    /// The rows that these changes would decide, one after another, each with its outcome, in order of the deliveries' numbers.
+    pub fn decided_rows(&self, changes: &[Change]) -> Result<Vec<Decision>, AllocError>
+        ensures { IfOk result (λ rows. (t : List Entry) → DeliveriesFit self.now t → rows.items ≡ decided_rows t changes.now) }
+    {
+        Ok(decided_rows(&self.store, self.alloc, changes)?)
+    }
+
+    /// The rows of the deliveries to which a producer gave an id in this range, on a session, in order of the deliveries' numbers.
+    pub fn rows_from(
+        &self,
+        conn: u64,
+        own: u16,
+        first: u32,
+        last: u32,
+    ) -> Result<Vec<RowNumber>, AllocError>
+        ensures { IfOk result (λ rows. (t : List Entry) → DeliveriesFit self.now t → rows.items ≡ rows_from t conn own first last) }
+    {
+        Ok(rows_from(&self.store, self.alloc, conn, own, first, last)?)
     }
 
     /// Binds a message to a consumer's link. Fails if memory is refused, and if no binding number is left.

@@ -2,6 +2,7 @@
 ghost use Rattle.std.specs.Prelude.{◌≡◌, ◌&&◌, OnOk, Some, if◌then◌else◌};
 ghost use Rattle.router_trace.specs.Settling.{is_open_as};
 ghost use Rattle.router_trace.specs.Deliveries.{bound, source, is_over, is_undecided, behind_frame, untold, unsettled, ended, behind_ends};
+ghost use Rattle.router_deliveries.specs.Deciding.{bare, changed_by};
 ghost use Rattle.router_deliveries.specs.Stepping.{is_gone, is_decided_by, comes_with_id, changed};
 
 use crate::change::{Change, Gone, comes_with_id, is_in};
@@ -214,6 +215,37 @@ impl Delivery {
             }
         }
         Ok(())
+    }
+
+    /// Applies changes to it, one after another.
+    pub(crate) fn change_by(&mut self, changes: &[Change]) -> Result<(), AllocError>
+        ensures { OnOk result (self.new ≡ changed_by changes.now self.old) }
+    {
+        for change in changes {
+            self.change(change)?;
+        }
+        Ok(())
+    }
+
+    /// A copy without the message and the outcome, which costs no memory.
+    pub(crate) fn bare(&self) -> Delivery
+        ensures { result ≡ bare self.now }
+    {
+        Delivery {
+            name: self.name,
+            link: self.link,
+            origin: self.origin,
+            presettled: self.presettled,
+            format: self.format,
+            payload: Bytes::new(),
+            id: self.id,
+            sent: self.sent,
+            going_on: self.going_on,
+            outcome: None,
+            told: self.told,
+            lasting: self.lasting,
+            suspended: self.suspended,
+        }
     }
 
     /// Its outcome needs no report any more, if its producer gave it an id in this range, on a session.

@@ -3,6 +3,7 @@ ghost use Rattle.std.specs.Prelude.{◌≡◌, ◌==◌, ℕ, Bool, None, true, 
 ghost use Rattle.std.specs.Ordering.{nat_cmp};
 ghost use Rattle.std.specs.BTreeSet.{contains};
 ghost use Rattle.router_deliveries.specs.declared.index.Keys.{Keys as TheKeys};
+ghost use Rattle.router_deliveries.specs.Deciding.{concerned_by};
 ghost use Rattle.router_deliveries.specs.Indexing.{Indexes, nowhere, keys, standing, on_link, concerns};
 ghost use Rattle.router_deliveries.specs.Placing.{spot_of, on_spot, from_spot, id_spot, is_gone_there};
 ghost use Rattle.amqp_session.specs.Ranges.{has};
@@ -199,6 +200,36 @@ impl Index {
         Ok(numbers)
     }
 
+    /// The numbers of the deliveries that one of these changes may change.
+    pub(crate) fn concerned_by(
+        &self,
+        alloc: Global,
+        changes: &[Change],
+    ) -> Result<BTreeSet<u64>, AllocError>
+        ensures { IfOk result (λ numbers. (known : ℕ → TheKeys) → Indexes self.now known → (n : ℕ) → concerned_by changes.now (known n) ≡ true → contains nat_cmp numbers n ≡ true) }
+    {
+        let mut numbers = BTreeSet::new(alloc);
+        for change in changes {
+            self.add_concerned(alloc, change, &mut numbers)?;
+        }
+        Ok(numbers)
+    }
+
+    /// Adds the numbers of the deliveries that a change may change.
+    pub(crate) fn add_concerned(
+        &self,
+        alloc: Global,
+        change: &Change,
+        numbers: &mut BTreeSet<u64>,
+    ) -> Result<(), AllocError>
+        ensures more { OnOk result ((n : ℕ) → contains nat_cmp numbers.old n ≡ true → contains nat_cmp numbers.new n ≡ true) }
+        ensures found { OnOk result ((known : ℕ → TheKeys) → Indexes self.now known → (n : ℕ) → concerns change.now (known n) ≡ true → contains nat_cmp numbers.new n ≡ true) }
+    {
+        let found = self.concerned(alloc, change)?;
+        add_all(numbers, found.as_slice())?;
+        Ok(())
+    }
+
     /// Appends these numbers.
     fn append_concerned(&self, change: &Change, numbers: &mut Vec<u64>) -> Result<(), AllocError>
         ensures { OnOk result ((known : ℕ → TheKeys) → Indexes self.now known → (n : ℕ) → concerns change.now (known n) ≡ true → has n numbers.new.items ≡ true) }
@@ -233,6 +264,16 @@ impl Index {
         self.from.append_gone(gone, numbers)?;
         Ok(())
     }
+}
+
+/// Puts numbers into a set.
+fn add_all(numbers: &mut BTreeSet<u64>, more: &[u64]) -> Result<(), AllocError>
+    ensures { OnOk result ((n : ℕ) → contains nat_cmp numbers.new n ≡ (contains nat_cmp numbers.old n || has n more.now)) }
+{
+    for number in more {
+        add(numbers, *number)?;
+    }
+    Ok(())
 }
 
 /// Puts a number into a set, or removes it.

@@ -4,6 +4,9 @@
 //! router put out, `hear` for an item received, with the router's channel of its session, and `down` for a lost connection. Its state
 //! is read by `delivery`, `next_waiting`, `undecided`, `held`, `first_to_tell`, `named`, `sending` and `next_id`.
 //!
+//! Before a change is made, `decided_rows` tells which rows it would decide, so that these decisions can be written down first; `rows_from`
+//! tells the rows of a producer's deliveries.
+//!
 //! A delivery is in the table from its binding until it is over. The end of a link visits only the deliveries that go to it or
 //! come from it, and a disposition only those that its ids name. An id is forgotten once its delivery is decided.
 #![tactic(auto)]
@@ -13,6 +16,7 @@ mod by_name;
 mod by_session;
 mod change;
 mod claims;
+mod deciding;
 mod deliveries;
 mod delivery;
 mod groups;
@@ -28,6 +32,7 @@ mod tag;
 mod touched;
 mod unbound;
 
+pub use change::{Change, Gone};
 pub use claims::{Claim, Claims, Middle, Receiving};
 pub use deliveries::Deliveries;
 pub use delivery::Delivery;

@@ -12,9 +12,11 @@ ghost use Rattle.router_trace.specs.Trace.{Entry, Out, did};
 ghost use Rattle.amqp_frames.specs.declared.item.Item.TheVariants as item;
 ghost use Rattle.router_trace.specs.declared.event.Event.TheVariants as event;
 ghost use Rattle.router_deliveries.specs.Calling.{at_name, is_called, Knows};
+ghost use Rattle.router_deliveries.specs.Deciding.{concerned_by};
 ghost use Rattle.router_deliveries.specs.Fits.{Indexed, StoreFit, carried_in, carried_by};
 ghost use Rattle.router_deliveries.specs.declared.index.Keys.{Keys as TheKeys};
 ghost use Rattle.router_deliveries.specs.Indexing.{Indexes, standing, in_group, concerns};
+ghost use Rattle.router_deliveries.specs.Placing.{is_id_there};
 ghost use Rattle.std.specs.BTreeSet.{contains};
 ghost use Rattle.router_deliveries.specs.Finding.{IsFirst, IsCount, IsFirstLink, is_above};
 ghost use Rattle.router_deliveries.specs.Touching.{is_touched_in, StandsSame, StoreTouches};
@@ -33,7 +35,7 @@ use amqp_perf::{Perf, Transfer};
 use bytes::Bytes;
 use router_trace::{Binding, ConnectionId, DeliveryName};
 use std::alloc::{AllocError, Global};
-use std::collections::BTreeMap;
+use std::collections::{BTreeMap, BTreeSet};
 
 /// Deliveries by number; one that is over is removed. If an operation fails to allocate, the contents are unspecified.
 #[derive(Debug, Drop)]
@@ -428,6 +430,36 @@ impl Store {
             add_id(&mut ids, self.get(*number))?;
         }
         Ok(ids)
+    }
+
+    /// The numbers of the deliveries that one of these changes may change.
+    pub(crate) fn concerned_by(&self, changes: &[Change]) -> Result<BTreeSet<u64>, AllocError>
+        ensures { IfOk result (λ numbers. Indexed self.now → (n : ℕ) → concerned_by changes.now (standing (get nat_cmp self.now.deliveries n)) ≡ true
+            → contains nat_cmp numbers n ≡ true) }
+    {
+        Ok(self.index.concerned_by(self.alloc, changes)?)
+    }
+
+    /// The numbers of the deliveries to which a producer gave an id in this range, on a session.
+    pub(crate) fn with_ids(
+        &self,
+        conn: u64,
+        own: u16,
+        first: u32,
+        last: u32,
+    ) -> Result<BTreeSet<u64>, AllocError>
+        ensures { IfOk result (λ numbers. Indexed self.now → (n : ℕ) → is_id_there conn own first last (standing (get nat_cmp self.now.deliveries n)).by_id ≡ true
+            → contains nat_cmp numbers n ≡ true) }
+    {
+        let mut numbers = BTreeSet::new(self.alloc);
+        let change = Change::Untold {
+            conn,
+            own,
+            first,
+            last,
+        };
+        self.index.add_concerned(self.alloc, &change, &mut numbers)?;
+        Ok(numbers)
     }
 
     /// An item is put into the outbox of a connection; `number` is the delivery that its transfer carries.

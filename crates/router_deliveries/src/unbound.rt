@@ -1,5 +1,6 @@
-//! The delivery-ids of unbound claims, by link.
+//! Delivery-ids by link: those of unbound claims, and those of all.
 ghost use Rattle.std.specs.Prelude.{◌≡◌, ◌==◌, ℕ, Bool, true, false, if◌then◌else◌, OnOk};
+ghost use Rattle.std.specs.Option.{option_map};
 ghost use Rattle.std.specs.Ordering.{nat_cmp};
 ghost use Rattle.std.specs.BTreeMap.{get};
 ghost use Rattle.std.specs.BTreeSet.{contains};
@@ -7,13 +8,13 @@ ghost use Rattle.router_trace.specs.Deliveries.{is_number};
 ghost use Rattle.router_deliveries.specs.Claiming.{is_marked};
 ghost use Rattle.router_deliveries.specs.Finding.{IsCount};
 ghost use Rattle.router_deliveries.specs.Indexing.{in_set};
-ghost use Rattle.router_deliveries.specs.Places.{in_map};
+ghost use Rattle.router_deliveries.specs.Places.{in_map, at};
 
 use crate::by_handle::{ByHandle, InConnection, InSession};
 use std::alloc::{AllocError, Global};
 use std::collections::BTreeSet;
 
-/// The delivery-ids of unbound claims, by the router's handles; a link without any takes no room.
+/// Delivery-ids by the router's handles; a link without any takes no room.
 #[derive(Debug, Drop)]
 pub(crate) struct Unbound {
     alloc: Global,
@@ -40,6 +41,13 @@ impl Unbound {
             None => 0,
             Some(ids) => count(ids),
         }
+    }
+
+    /// The ids of a link.
+    pub(crate) fn ids(&self, conn: u64, own: u16, handle: u32) -> Option<&BTreeSet<u32>>
+        ensures { option_map (λ s. s.now) result ≡ at self.now.sets conn own handle }
+    {
+        self.sets.get(conn, own, handle)
     }
 
     /// Adds an id to a link, if there is one.

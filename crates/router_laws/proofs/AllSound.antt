@@ -17,7 +17,7 @@ use Rattle.router_trace.specs.declared.condition.Condition.TheVariants.{Resource
 use Rattle.router_trace.specs.declared.event.ConnectionId.{ConnectionId}
 use Rattle.router_trace.specs.declared.event.Event.{Event}
 use Rattle.router_trace.specs.declared.event.Event.TheVariants as event
-use Rattle.router_trace.specs.Trace.{Entry, Did, Step, goes, puts, each_to, ups}
+use Rattle.router_trace.specs.Trace.{Entry, Did, Out, Put, Step, goes, puts, each_to, ups}
 use Rattle.router_trace.specs.Connection.{conn, standing, found, due, live_of}
 use Rattle.router_trace.specs.Deliveries.{Delivery, delivery, terminal, last_of}
 use Rattle.router_trace.specs.Settling.{open_ids, part_of}
@@ -30,8 +30,8 @@ use Rattle.router_passing.specs.Passing.{grants_due, with_bound}
 use Rattle.router_rows.specs.declared.answer.Answer.{Answer}
 use Rattle.router_rows.specs.declared.answer.Answer.TheVariants.{Attach, Refuse, Taken, Settle}
 use Rattle.router_rows.specs.Rows.{said}
-use Rattle.router_reply.specs.Replies.{closing_of, ends, heard, refused, bound_for, item_put, behind_answer, item_bound, item_row, replied_behind, replied}
-use Rattle.router_reply.specs.Acts.{answer_of, booked}
+use Rattle.router_reply.specs.Replies.{closing_of, ends, heard, refused, bound_for, item_put, behind_answer, item_bound, item_row, bound_by, own_row, replied_behind, replied}
+use Rattle.router_reply.specs.Acts.{found_journal, full_at, answer_of, booked}
 use Rattle.router_core.specs.Replies.{answered, handled}
 use Rattle.router_core.specs.Runs.{took_one}
 use Rattle.router_core.specs.Moves.{Move, handles, takes, Goes, IsTrace}
@@ -54,7 +54,7 @@ use Rattle.router_laws.proofs.Tells.{tells_lawful}
 passed_sound : Steps Sound
 passed_sound = record {
   telling = λ t sound. goes_sound (tells t) t (tells_lawful t) sound;
-  sending = λ t sound. goes_sound (sends_due t) t (sends_lawful t sound.unstarted (names_told t sound.binds)) sound;
+  sending = λ t sound. goes_sound (sends_due t) t (sends_lawful t sound.unstarted (names_told t)) sound;
   draining = λ t sound. quiet_sound (drains_due t) t (drains_quiet t) sound;
   granting = λ t sound. quiet_sound (grants_due t) t (grants_quiet t) sound;
 }
@@ -126,7 +126,7 @@ item_sound id t after s from p i sound came just = by i came
         → Behind id t after from.0 p (item.Frame sasl channel body payload) (answer_of t from.0 p (item.Frame sasl channel body payload))
     by_perf sasl channel payload (perf.Transfer x) came =
         by_transfer sasl channel payload x came (answer_of t from.0 p (item.Frame sasl channel (perf.Transfer x) payload))
-        (transfer_taken p t from.0 sasl channel x payload)
+        (transfer_taken (full_at t (event.Item (record { 0 = from.0 }) (item.Frame sasl channel (perf.Transfer x) payload))) (found_journal t).book p t from.0 sasl channel x payload)
     by_perf sasl channel payload (perf.Attach x) came =
         other (item.Frame sasl channel (perf.Attach x) payload) (λ own. no_part sasl) _ (attach_put sasl channel payload x _)
     by_perf sasl channel payload (perf.Disposition x) came =
@@ -161,11 +161,28 @@ answered_sound id t s sound =
     in let all : Sound (passed_on (replied id t s)) = passed_keeps Sound passed_sound (replied id t s) rows
     in quiet_sound (windows (passed_on (replied id t s))) (passed_on (replied id t s)) (windows_quiet (passed_on (replied id t s))) all
 
+-- what an event binds is a message that just came
+
+each_goes : (P : List Entry → Binding → Type 0) (ps : List Put) (t : List Entry) → EachBound P (goes ps t) → EachBound P t
+each_goes P [] t each = each
+each_goes P (p ∷ ps) t each = each_goes P ps (Out p.conn p.item ∷ t) each
+
+pub event_binds : (id : List ℕ) (t : List Entry) (s : Step) (b : Binding) → Sound t → bound_by t (heard id t s) s.event ≡ Some b → BindsMessage (heard id t s) b
+event_binds id t s b sound is =
+    let u : List Entry = heard id t s
+    in let behind : Sound u = ends_sound id (due t s.event) (Did s ∷ t) (did_sound s t sound)
+    in let just : just_handled u ≡ Some (record { step = s; found = t }) = ends_handled id (due t s.event) (Did s ∷ t) (Some (record { step = s; found = t })) refl
+    in let rows : Sound (replied id t s) = row_sound id t u s s.event behind refl just
+    in (subst (λ (v : Option Binding). EachBound BindsMessage (with_bound v u)) is (each_goes BindsMessage (own_row id t u s.event) (with_bound (bound_by t u s.event) u) rows.binds)).0
+
 -- moves
+
+pub handled_sound : (id : List ℕ) (t : List Entry) (s : Step) → Sound t → Sound (handled id t s)
+handled_sound id t s sound = answered_sound id (booked t s.event) s (booked_keeps Sound t s.event (λ acts w. batch_sound t acts w) sound)
 
 moves_sound : (id : List ℕ) (ms : List Move) (t u : List Entry) → Sound t → Goes id ms t u → Sound u
 moves_sound id [] t u sound went = subst (λ (w : List Entry). Sound w) (sym went) sound
-moves_sound id (handles s ∷ ms) t u sound went = moves_sound id ms (handled id t s) u (answered_sound id (booked t s.event) s (booked_keeps Sound t s.event (λ acts w. batch_sound t acts w) sound)) went.1
+moves_sound id (handles s ∷ ms) t u sound went = moves_sound id ms (handled id t s) u (handled_sound id t s sound) went.1
 moves_sound id (takes x ∷ ms) t u sound went = moves_sound id ms (took_one x t) u (took_sound _ _ t sound) went
 
 pub trace_sound : (id : List ℕ) (g : Beginning) (u : List Entry) → IsTrace id g u → Sound u

@@ -1,8 +1,9 @@
 -- What a transfer that is taken causes: a complete message is bound, or released.
-use Rattle.std.proofs.Common.{◌≡◌, sym, ap, refl, subst, inr, ℕ, Bool, true, false, List, [], ◌∷◌, ◌++◌, length}
+use Rattle.std.proofs.Common.{◌≡◌, ◌∙◌, sym, ap, refl, subst, inl, inr, ℕ, Bool, true, false, not, List, [], ◌∷◌, ◌++◌, length}
 use Rattle.std.specs.Prelude.{Option, Some, None, option_map, if◌then◌else◌, nat_lt, unwrap_or}
 use Rattle.amqp_perf.specs.Spelling.{state_spelling}
 use Rattle.amqp_perf.specs.declared.perf.Perf.TheVariants as perf
+use Rattle.amqp_perf.specs.declared.perf.Role.TheVariants.{Receiver}
 use Rattle.amqp_perf.specs.declared.perf.Transfer.{Transfer}
 use Rattle.amqp_perf.specs.declared.state.DeliveryState.{DeliveryState}
 use Rattle.amqp_perf.specs.declared.state.DeliveryState.TheVariants as state
@@ -12,21 +13,27 @@ use Rattle.amqp_link.specs.declared.part.Part.{Part}
 use Rattle.amqp_link.specs.declared.part.Part.TheVariants as part
 use Rattle.amqp_link.specs.Deliveries.{Frame, frame, bytes, delivery, is_too_large}
 use Rattle.amqp_link.specs.Receiving.{Received, middle, given, is_beyond}
+use Rattle.book_core.specs.declared.row.RowNumber.{RowNumber}
+use Rattle.router_trace.specs.declared.binding.Binding.{Binding}
+use Rattle.router_trace.specs.declared.binding.Origin.{Origin}
+use Rattle.router_trace.specs.declared.condition.Condition.TheVariants.{MessageSizeExceeded, ResourceLimitExceeded}
 use Rattle.router_trace.specs.declared.event.ConnectionId.{ConnectionId}
 use Rattle.router_trace.specs.declared.event.Event.TheVariants as event
 use Rattle.router_trace.specs.declared.handle.Attachment.{Attachment}
 use Rattle.router_trace.specs.Trace.{Entry, Step, Did, Out, Took, Bound, Booked, Began, goes, each_to}
-use Rattle.router_trace.specs.DeliveryFrames.{kept_outcome}
+use Rattle.router_trace.specs.DeliveryFrames.{kept_outcome, outcome_item}
 use Rattle.router_trace.specs.Sessions.{theirs}
 use Rattle.router_trace.specs.Links.{Link, LinkPlace, Happened, link, link_place}
-use Rattle.router_trace.specs.Settling.{is_claimed_on, part_on, part_by, part_of}
+use Rattle.router_trace.specs.Settling.{is_claimed_on, unbound, part_on, part_by, part_of}
 use Rattle.router_passing.specs.Passing.{consumer_of, binding_to, with_bound}
-use Rattle.router_reply.specs.Replies.{from_link, origin_of, claimed_id, whole_put, whole_bound, part_put, part_bound, released, unbound_put, ignored_put}
-use Rattle.router_laws.specs.Came.{Handled, just_handled, bound_since, CameWhole, ComesFrom}
+use Rattle.router_reply.specs.Admitting.{claimed_id}
+use Rattle.router_reply.specs.Replies.{from_link, origin_of, lasts_on, may_pass, fresh_bound, whole_put, whole_bound, part_put, part_bound, let_go, released_by, released, unbound_put, ignored_put, row_found}
+use Rattle.router_laws.specs.Came.{Handled, just_handled, bound_since, CameWhole, ComesFrom, HasRowOn}
+use Rattle.router_laws.specs.Told.{IsUnbound}
 use Rattle.router_conns.proofs.Lists.{by_test}
 use Rattle.router_laws.proofs.Tests.{some_same, none_not_some}
-use Rattle.router_laws.proofs.Sound.{Sound, AllLawful, goes_sound, bound_sound, quiet_sound, quiet_to}
-use Rattle.router_laws.proofs.Quiet.{ignored_quiet}
+use Rattle.router_laws.proofs.Sound.{Sound, Lawful, AllLawful, quiet_lawful, goes_sound, bound_sound, quiet_sound, quiet_to}
+use Rattle.router_laws.proofs.Quiet.{let_go_quiet, ignored_quiet}
 use Rattle.router_laws.proofs.Transfers.{IsOn}
 
 -- a complete message
@@ -53,11 +60,16 @@ given_whole f list d payload h =
     by false false false true h = absurd cc
     by false false false false h = (refl, refl, cc, cc)
 
-came_whole : (t after : List Entry) (s : Step) (conn : ConnectionId) (sasl : Bool) (channel : ℕ) (x : Transfer) (carried : List ℕ) (own handle : ℕ) (d : Told) (payload : List ℕ)
+-- ... and the trace that its last frame found
+pub record CameAt (t after : List Entry) (c own handle : ℕ) (d : Told) (payload : List ℕ) : Type 0 where
+  pub came : CameWhole after c own handle d payload
+  pub at : came.handled.found ≡ t
+
+pub came_whole : (t after : List Entry) (s : Step) (conn : ConnectionId) (sasl : Bool) (channel : ℕ) (x : Transfer) (carried : List ℕ) (own handle : ℕ) (d : Told) (payload : List ℕ)
     → s.event ≡ event.Item conn (item.Frame sasl channel (perf.Transfer x) carried) → just_handled after ≡ Some (record { step = s; found = t })
     → IsOn sasl (theirs t conn.0 channel) (link_place t conn.0 own x.handle) own handle
     → part_of (item.Frame sasl channel (perf.Transfer x) carried) (link_place t conn.0 own) ≡ Some (part.Whole d payload)
-    → CameWhole after conn.0 own handle d payload
+    → CameAt t after conn.0 own handle d payload
 came_whole t after s conn sasl channel x carried own handle d payload came just here is =
     let plain : part_on x carried (link_place t conn.0 own x.handle) ≡ Some (part.Whole d payload)
     = subst (λ (b : Bool). (if b then None else part_on x carried (link_place t conn.0 own x.handle)) ≡ Some (part.Whole d payload)) here.plain is
@@ -67,23 +79,26 @@ came_whole t after s conn sasl channel x carried own handle d payload came just 
     = subst (λ (w : Happened). part_by x carried w ≡ Some (part.Whole d payload)) here.receiving at
     in let whole = given_whole (frame x carried) here.happened d payload (some_same on_list)
     in record {
-      handled = record { step = s; found = t };
-      conn = conn;
-      channel = channel;
-      transfer = x;
-      carried = carried;
-      place = here.place;
-      happened = here.happened;
-      just = just;
-      came = subst (λ (b : Bool). s.event ≡ event.Item conn (item.Frame b channel (perf.Transfer x) carried)) here.plain came;
-      on_connection = refl;
-      on_session = here.session;
-      on_handle = here.on_handle;
-      receiving = here.receiving;
-      last = whole.more;
-      not_aborted = whole.aborted;
-      message_is = whole.message;
-      payload_is = whole.joined;
+      came = record {
+        handled = record { step = s; found = t };
+        conn = conn;
+        channel = channel;
+        transfer = x;
+        carried = carried;
+        place = here.place;
+        happened = here.happened;
+        just = just;
+        came = subst (λ (b : Bool). s.event ≡ event.Item conn (item.Frame b channel (perf.Transfer x) carried)) here.plain came;
+        on_connection = refl;
+        on_session = here.session;
+        on_handle = here.on_handle;
+        receiving = here.receiving;
+        last = whole.more;
+        not_aborted = whole.aborted;
+        message_is = whole.message;
+        payload_is = whole.joined;
+      };
+      at = refl;
     }
 
 -- its id, if its producer hasn't settled it
@@ -107,32 +122,42 @@ kept_released = by (nat_lt 400 (length (state_spelling state.Released)))
     by true = refl
     by false = refl
 
-released_lawful : (after : List Entry) (c own handle : ℕ) (d : Told) (payload : List ℕ) (v : Option ℕ) → CameWhole after c own handle d payload → d.resume ≡ false
-    → claimed_id after c own handle d.id ≡ v → consumer_of after (link after c own handle) ≡ None → AllLawful after (each_to c (released own v))
-released_lawful after c own handle d payload None came fresh claimed nobody = tt
-released_lawful after c own handle d payload (Some id) came fresh claimed nobody =
+-- a disposition that releases it
+releases : (after : List Entry) (c own handle : ℕ) (d : Told) (payload : List ℕ) (id : ℕ) (durable : Bool) (came : CameWhole after c own handle d payload) → d.resume ≡ false
+    → claimed_id after c own handle d.id ≡ Some id → lasts_on (link after c own handle) ≡ durable → IsUnbound after (link after c own handle) (row_found came.handled.found)
+    → Lawful after c (outcome_item own Receiver id (not durable) state.Released)
+releases after c own handle d payload id durable came fresh claimed lasts none =
     let is = claimed_is after c own handle d.id id claimed
     in (
-      (
-        tt,
-        record {
-          one = refl;
-          of = inr (record {
-            handle = handle;
-            message = d;
-            payload = payload;
-            came = came;
-            not_resumed = fresh;
-            its_id = is.0;
-            unsettled = is.1;
-            nobody = nobody;
-            told = ap (λ (s : DeliveryState). Some s) kept_released;
-            settled = refl;
-          });
-        },
-      ),
       tt,
+      record {
+        one = refl;
+        of = inr (record {
+          handle = handle;
+          message = d;
+          payload = payload;
+          came = came;
+          not_resumed = fresh;
+          its_id = is.0;
+          unsettled = is.1;
+          unbound = none;
+          told = ap (λ (s : DeliveryState). Some s) kept_released;
+          settled = sym (ap not lasts);
+        });
+      },
     )
+
+released_lawful : (after : List Entry) (c own handle : ℕ) (d : Told) (payload : List ℕ) (v : Option ℕ) (came : CameWhole after c own handle d payload) → d.resume ≡ false
+    → claimed_id after c own handle d.id ≡ v → IsUnbound after (link after c own handle) (row_found came.handled.found) → AllLawful after (each_to c (released after c own handle v))
+released_lawful after c own handle d payload None came fresh claimed none = tt
+released_lawful after c own handle d payload (Some id) came fresh claimed none = by (lasts_on (link after c own handle)) refl
+  where
+    by : (durable : Bool) → lasts_on (link after c own handle) ≡ durable → AllLawful after (each_to c (released_by after c own handle durable id))
+    by false lasts = (releases after c own handle d payload id false came fresh claimed lasts none, tt)
+    by true lasts =
+        by_test (nat_lt 1024 (unbound after c own handle))
+        (λ e. rw e (quiet_lawful (each_to c (let_go after c own handle ResourceLimitExceeded)) after (quiet_to c (let_go after c own handle ResourceLimitExceeded) (let_go_quiet after c own handle ResourceLimitExceeded))))
+        (λ e. rw e (releases after c own handle d payload id true came fresh claimed lasts none, tt))
 
 -- bound
 
@@ -151,25 +176,53 @@ none_since (Bound b ∷ t) h just = absurd (none_not_some just)
 none_since (Booked acts ∷ t) h just = absurd (none_not_some just)
 none_since (Began g ∷ t) h just = absurd (none_not_some just)
 
--- a complete message, whether its link is attached or not
+-- whether it may be bound
 
-whole_sound : (after : List Entry) (c own handle : ℕ) (d : Told) (payload : List ℕ) (v : Option Link) → Sound after → CameWhole after c own handle d payload → link after c own handle ≡ v
-    → Sound (goes (each_to c (whole_put after c own handle d v)) (with_bound (whole_bound after c own handle d payload v) after))
-whole_sound after c own handle d payload v sound came e = by v e d.resume refl
+not_passed : (durable : Bool) (v : Option ℕ) (row : Option RowNumber) → may_pass durable v row ≡ false → (durable ≡ true) × (row ≡ None)
+not_passed true (Some id) None e = (refl, refl)
+not_passed true (Some id) (Some r) e = absurd cc
+not_passed false (Some id) row e = absurd cc
+not_passed durable None row e = absurd cc
+
+has_row : (durable : Bool) (f : ℕ → Origin) (v : Option ℕ) (row : Option RowNumber) → may_pass durable v row ≡ true → HasRowOn durable (option_map f v) row
+has_row true f (Some id) row e = e
+has_row false f (Some id) row e = tt
+has_row true f None row e = tt
+has_row false f None row e = tt
+
+-- a complete message, whether its link is attached or not, by whether it may be bound and the consumer chosen for it
+
+abbrev pub bound_on : List Entry → ℕ → ℕ → ℕ → Told → Option RowNumber → List ℕ → Option Link → Bool → Option Attachment → Option Binding
+bound_on after c own handle d row payload None passes x = None
+bound_on after c own handle d row payload (Some l) passes x =
+    if passes then option_map (binding_to after (option_map (origin_of (from_link c own handle l)) (claimed_id after c own handle d.id)) row (unwrap_or d.format 0) payload) x else None
+
+abbrev WholeSound : List Entry → ℕ → ℕ → ℕ → Told → Option RowNumber → List ℕ → Option Link → Bool → Bool → Option Attachment → Type 0
+WholeSound after c own handle d row payload v resumed passes x =
+    Sound (goes (each_to c (if resumed then ignored_put after c own handle (claimed_id after c own handle d.id)
+    else unbound_put after c own handle (claimed_id after c own handle d.id) (if passes then x else None)))
+    (with_bound (if resumed then None else bound_on after c own handle d row payload v passes x) after))
+
+whole_cases : (after : List Entry) (c own handle : ℕ) (d : Told) (row : Option RowNumber) (payload : List ℕ) (v : Option Link) (resumed passes : Bool) (x : Option Attachment)
+    → Sound after → (came : CameWhole after c own handle d payload) → row ≡ row_found came.handled.found → link after c own handle ≡ v → d.resume ≡ resumed
+    → may_pass (lasts_on (link after c own handle)) (claimed_id after c own handle d.id) row ≡ passes → consumer_of after (link after c own handle) ≡ x
+    → WholeSound after c own handle d row payload v resumed passes x
+whole_cases after c own handle d row payload v resumed passes x sound came its at fresh may chosen = by v resumed passes x at fresh may chosen
   where
-    nobody : (w : Option Link) → link after c own handle ≡ w → d.resume ≡ false → consumer_of after w ≡ None
-        → Sound (goes (each_to c (released own (claimed_id after c own handle d.id))) after)
-    nobody w e fresh none =
-        goes_sound (each_to c (released own (claimed_id after c own handle d.id))) after
-        (released_lawful after c own handle d payload (claimed_id after c own handle d.id) came fresh refl
-        (subst (λ (x : Option Link). consumer_of after x ≡ None) (sym e) none)) sound
+    claimed : Option ℕ
+    claimed = claimed_id after c own handle d.id
 
-    passed : (l : Link) → link after c own handle ≡ Some l → d.resume ≡ false → (x : Option Attachment) → consumer_of after (Some l) ≡ x
-        → Sound (goes (each_to c (unbound_put own (claimed_id after c own handle d.id) x))
-        (with_bound (option_map (binding_to (option_map (origin_of (from_link c own handle l)) (claimed_id after c own handle d.id)) (unwrap_or d.format 0) payload) x) after))
-    passed l e fresh None none = nobody (Some l) e fresh none
-    passed l e fresh (Some a) chosen =
-        bound_sound (binding_to (option_map (origin_of (from_link c own handle l)) (claimed_id after c own handle d.id)) (unwrap_or d.format 0) payload a) after
+    let_off : d.resume ≡ false → IsUnbound after (link after c own handle) (row_found came.handled.found) → Sound (goes (each_to c (released after c own handle claimed)) after)
+    let_off fresh none = goes_sound (each_to c (released after c own handle claimed)) after (released_lawful after c own handle d payload claimed came fresh refl none) sound
+
+    no_row : may_pass (lasts_on (link after c own handle)) claimed row ≡ false → IsUnbound after (link after c own handle) (row_found came.handled.found)
+    no_row may = let is = not_passed (lasts_on (link after c own handle)) claimed row may in inr (is.0, sym its ∙ is.1)
+
+    passed : (l : Link) (a : Attachment) → link after c own handle ≡ Some l → d.resume ≡ false → may_pass (lasts_on (link after c own handle)) claimed row ≡ true
+        → consumer_of after (link after c own handle) ≡ Some a
+        → Sound (Bound (binding_to after (option_map (origin_of (from_link c own handle l)) claimed) row (unwrap_or d.format 0) payload a) ∷ after)
+    passed l a at fresh may chosen =
+        bound_sound (binding_to after (option_map (origin_of (from_link c own handle l)) claimed) row (unwrap_or d.format 0) payload a) after
         (record {
           conn = c;
           own = own;
@@ -178,41 +231,58 @@ whole_sound after c own handle d payload v sound came e = by v e d.resume refl
           came = came;
           once = none_since after came.handled came.just;
           not_resumed = fresh;
-          no_row = refl;
+          row = its;
           format = refl;
           producer = l;
-          attached = e;
-          chosen = chosen;
-          from = from_is after c own handle l d (claimed_id after c own handle d.id) refl;
+          attached = at;
+          chosen = ap (consumer_of after) (sym at) ∙ chosen;
+          from = from_is after c own handle l d claimed refl;
+          has_row = has_row (lasts_on (Some l)) (origin_of (from_link c own handle l)) claimed row (ap (λ (w : Option Link). may_pass (lasts_on w) claimed row) (sym at) ∙ may);
+          lasting = refl;
         }) sound
 
-    here : (l : Link) → link after c own handle ≡ Some l → d.resume ≡ false
-        → Sound (goes (each_to c (unbound_put own (claimed_id after c own handle d.id) (consumer_of after (Some l))))
-        (with_bound (option_map (binding_to (option_map (origin_of (from_link c own handle l)) (claimed_id after c own handle d.id)) (unwrap_or d.format 0) payload) (consumer_of after (link after c own handle))) after))
-    here l e fresh =
-        subst (λ (x : Option Link). Sound (goes (each_to c (unbound_put own (claimed_id after c own handle d.id) (consumer_of after (Some l))))
-        (with_bound (option_map (binding_to (option_map (origin_of (from_link c own handle l)) (claimed_id after c own handle d.id)) (unwrap_or d.format 0) payload) (consumer_of after x)) after)))
-        (sym e) (passed l e fresh (consumer_of after (Some l)) refl)
+    by : (v : Option Link) (resumed passes : Bool) (x : Option Attachment) → link after c own handle ≡ v → d.resume ≡ resumed
+        → may_pass (lasts_on (link after c own handle)) claimed row ≡ passes → consumer_of after (link after c own handle) ≡ x
+        → WholeSound after c own handle d row payload v resumed passes x
+    by v true passes x at fresh may chosen = quiet_sound (each_to c (ignored_put after c own handle claimed)) after (quiet_to c (ignored_put after c own handle claimed) (ignored_quiet after c own handle claimed)) sound
+    by None false false x at fresh may chosen = let_off fresh (no_row may)
+    by (Some l) false false x at fresh may chosen = let_off fresh (no_row may)
+    by None false true None at fresh may none = let_off fresh (inl none)
+    by (Some l) false true None at fresh may none = let_off fresh (inl none)
+    by None false true (Some a) at fresh may chosen = absurd (none_not_some (ap (consumer_of after) (sym at) ∙ chosen))
+    by (Some l) false true (Some a) at fresh may chosen = passed l a at fresh may chosen
 
-    by : (v : Option Link) → link after c own handle ≡ v → (b : Bool) → d.resume ≡ b
-        → Sound (goes (each_to c (whole_put after c own handle d v)) (with_bound (whole_bound after c own handle d payload v) after))
-    by None e true f = rw f (quiet_sound (each_to c (ignored_put after c own handle (claimed_id after c own handle d.id))) after (quiet_to c _ (ignored_quiet after c own handle (claimed_id after c own handle d.id))) sound)
-    by None e false f = rw f (nobody None e f refl)
-    by (Some l) e true f = rw f (quiet_sound (each_to c (ignored_put after c own handle (claimed_id after c own handle d.id))) after (quiet_to c _ (ignored_quiet after c own handle (claimed_id after c own handle d.id))) sound)
-    by (Some l) e false f = rw f (here l e f)
+-- what is bound, on the link that stands there
+pub bound_there : (after : List Entry) (c own handle : ℕ) (d : Told) (row : Option RowNumber) (payload : List ℕ) (v : Option Link) → link after c own handle ≡ v
+    → fresh_bound after c own handle d row payload v
+    ≡ bound_on after c own handle d row payload v (may_pass (lasts_on (link after c own handle)) (claimed_id after c own handle d.id) row) (consumer_of after (link after c own handle))
+bound_there after c own handle d row payload None at = refl
+bound_there after c own handle d row payload (Some l) at = refl
 
-pub part_sound : (after : List Entry) (c own handle : ℕ) (q : Option Part) → Sound after
-    → ((d : Told) (payload : List ℕ) → q ≡ Some (part.Whole d payload) → CameWhole after c own handle d payload)
-    → Sound (goes (each_to c (part_put after c own handle q)) (with_bound (part_bound after c own handle q) after))
-part_sound after c own handle (Some (part.Whole d payload)) sound came = whole_sound after c own handle d payload (link after c own handle) sound (came d payload refl) refl
-part_sound after c own handle (Some part.TooLarge) sound came = quiet_sound (each_to c (part_put after c own handle (Some part.TooLarge))) after (refl, tt) sound
-part_sound after c own handle _ sound came = sound
+whole_sound : (after : List Entry) (c own handle : ℕ) (d : Told) (row : Option RowNumber) (payload : List ℕ) → Sound after → (came : CameWhole after c own handle d payload)
+    → row ≡ row_found came.handled.found
+    → Sound (goes (each_to c (whole_put after c own handle d row)) (with_bound (whole_bound after c own handle d row payload) after))
+whole_sound after c own handle d row payload sound came its =
+    subst (λ (b : Option Binding). Sound (goes (each_to c (whole_put after c own handle d row)) (with_bound (if d.resume then None else b) after)))
+    (sym (bound_there after c own handle d row payload (link after c own handle) refl))
+    (whole_cases after c own handle d row payload (link after c own handle) d.resume (may_pass (lasts_on (link after c own handle)) (claimed_id after c own handle d.id) row)
+    (consumer_of after (link after c own handle)) sound came its refl refl refl refl)
+
+part_sound : (t after : List Entry) (c own handle : ℕ) (row : Option RowNumber) (q : Option Part) → Sound after → row ≡ row_found t
+    → ((d : Told) (payload : List ℕ) → q ≡ Some (part.Whole d payload) → CameAt t after c own handle d payload)
+    → Sound (goes (each_to c (part_put after c own handle row q)) (with_bound (part_bound after c own handle row q) after))
+part_sound t after c own handle row (Some (part.Whole d payload)) sound its came =
+    let here = came d payload refl
+    in whole_sound after c own handle d row payload sound here.came (its ∙ sym (ap row_found here.at))
+part_sound t after c own handle row (Some part.TooLarge) sound its came =
+    quiet_sound (each_to c (let_go after c own handle MessageSizeExceeded)) after (quiet_to c (let_go after c own handle MessageSizeExceeded) (let_go_quiet after c own handle MessageSizeExceeded)) sound
+part_sound t after c own handle row _ sound its came = sound
 
 pub transfer_sound : (t after : List Entry) (s : Step) (conn : ConnectionId) (sasl : Bool) (channel : ℕ) (x : Transfer) (carried : List ℕ) (own handle : ℕ) → Sound after
     → s.event ≡ event.Item conn (item.Frame sasl channel (perf.Transfer x) carried) → just_handled after ≡ Some (record { step = s; found = t })
     → IsOn sasl (theirs t conn.0 channel) (link_place t conn.0 own x.handle) own handle
-    → Sound (goes (each_to conn.0 (part_put after conn.0 own handle (part_of (item.Frame sasl channel (perf.Transfer x) carried) (link_place t conn.0 own))))
-    (with_bound (part_bound after conn.0 own handle (part_of (item.Frame sasl channel (perf.Transfer x) carried) (link_place t conn.0 own))) after))
+    → Sound (goes (each_to conn.0 (part_put after conn.0 own handle (row_found t) (part_of (item.Frame sasl channel (perf.Transfer x) carried) (link_place t conn.0 own))))
+    (with_bound (part_bound after conn.0 own handle (row_found t) (part_of (item.Frame sasl channel (perf.Transfer x) carried) (link_place t conn.0 own))) after))
 transfer_sound t after s conn sasl channel x carried own handle sound came just here =
-    part_sound after conn.0 own handle (part_of (item.Frame sasl channel (perf.Transfer x) carried) (link_place t conn.0 own)) sound
+    part_sound t after conn.0 own handle (row_found t) (part_of (item.Frame sasl channel (perf.Transfer x) carried) (link_place t conn.0 own)) sound refl
     (λ d payload is. came_whole t after s conn sasl channel x carried own handle d payload came just here is)

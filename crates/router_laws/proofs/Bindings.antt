@@ -1,13 +1,13 @@
 -- A delivery is of the message that was bound under its number.
 use Rattle.std.proofs.Common.{◌≡◌, ◌∙◌, sym, ap, refl, subst, inl, inr, ℕ, ◌+◌, ◌≤◌, Bool, true, false, List, [], ◌∷◌, ◌++◌, arith}
-use Rattle.std.specs.Prelude.{◌==◌, Option, Some, None, is_none, option_and_then, if◌then◌else◌}
+use Rattle.std.specs.Prelude.{◌==◌, ◌&&◌, Option, Some, None, is_none, option_and_then, if◌then◌else◌}
 use Rattle.std.proofs.lemmas.Bool.{eqb-true, eq-eqb}
 use Rattle.router_trace.specs.declared.binding.Binding.{Binding}
 use Rattle.router_trace.specs.declared.binding.DeliveryName.{DeliveryName}
 use Rattle.router_trace.specs.declared.binding.Origin.{Origin}
 use Rattle.router_trace.specs.Trace.{Entry, Did, Out, Took, Bound, Booked, Began}
 use Rattle.router_trace.specs.Sessions.{theirs}
-use Rattle.router_trace.specs.Deliveries.{Delivery, bound, bindings, name_in, number_named, delivery, sending, named, is_over, unless_over, behind_put, behind_event}
+use Rattle.router_trace.specs.Deliveries.{Delivery, has_row, bound, bindings, name_in, number_named, delivery, sending, named, is_over, unless_over, behind_put, behind_event}
 use Rattle.router_laws.specs.Each.{EachBound}
 use Rattle.router_laws.specs.OneConsumer.{IsOrNone, IsOf, WhileThere, IsOfMessage}
 use Rattle.router_conns.proofs.Lists.{by_test}
@@ -16,7 +16,7 @@ use Rattle.router_laws.proofs.Tests.{some_same}
 use Rattle.router_laws.proofs.Followed.{Follows, AllFollow, same, origin_on, all_bound, item_follows, event_follows, later_follows}
 
 bound_is : (name : DeliveryName) (b : Binding) → IsOf b (bound name b)
-bound_is name b = record { consumer = refl; payload = refl; format = refl; origin = inl refl; presettled = refl }
+bound_is name b = record { consumer = refl; payload = refl; format = refl; origin = inl refl; presettled = refl; lasting = refl }
 
 pub follows_is : (b : Binding) (d e : Delivery) → IsOf b d → Follows d e → IsOf b e
 follows_is b d e is follows = record {
@@ -25,6 +25,7 @@ follows_is b d e is follows = record {
   format = follows.format ∙ is.format;
   origin = origin_on is.origin follows.origin;
   presettled = follows.presettled ∙ is.presettled;
+  lasting = follows.lasting ∙ is.lasting ∙ ap (λ (name : DeliveryName). has_row name && b.lasting) (sym follows.name);
 }
 
 while_is : (b : Binding) (d : Delivery) (v : Option Delivery) → IsOf b d → WhileThere (Follows d) v → WhileThere (IsOf b) v

@@ -16,7 +16,7 @@ use Rattle.router_trace.specs.Sessions.{theirs}
 use Rattle.router_trace.specs.Deliveries.{Delivery, bindings, name_in, number_named, delivery, sending, named, unless_over, behind_frame, closes, ended_by, put_in, behind_put, behind_event, carried, tag_in, is_number}
 use Rattle.router_laws.specs.OneConsumer.{IsOf, WhileThere}
 use Rattle.router_laws.specs.Each.{EachOut}
-use Rattle.router_laws.specs.Carried.{BeginsOrGoesOn, CarriesMessage, CarriesWhatWasBound, bytes_by, bytes_out, IsBeginning, GoesInOrder, CompletesMessage}
+use Rattle.router_laws.specs.Carried.{HasSmallNumbers, BeginsOrGoesOn, CarriesMessage, CarriesWhatWasBound, bytes_by, bytes_out, IsBeginning, GoesInOrder, CompletesMessage}
 use Rattle.router_conns.proofs.Lists.{by_test}
 use Rattle.router_laws.proofs.Tests.{some_same}
 use Rattle.router_laws.proofs.Followed.{Left, ends_left, told_left, event_left}
@@ -112,7 +112,7 @@ bound_unstarted t b was n d there none =
     (λ e. was n d (uncalled (name_in t b) (delivery t n) d (rw e at there)).0 none)
 
 -- the number that a frame of the router carries
-pub carries_number : (t : List Entry) (c own : ℕ) (x : Transfer) (payload : List ℕ) (is : CarriesMessage t c own x payload) → bindings t < 2 ^ 64
+pub carries_number : (t : List Entry) (c own : ℕ) (x : Transfer) (payload : List ℕ) (is : CarriesMessage t c own x payload) → HasSmallNumbers t
     → carried (number_named t) (tag_in x) (sending t c own x.handle) ≡ Some is.number
 carries_number t c own x payload is small = by is.of.id is.begins_or_goes_on
   where
@@ -166,13 +166,20 @@ abbrev AllCarried : List Entry → Type 0
 AllCarried u = EachOut CarriesWhatWasBound u
 
 -- a frame belongs only to the delivery of its entry
-same_number : (t : List Entry) (c own : ℕ) (x : Transfer) (payload : List ℕ) (n : ℕ) (is : CarriesMessage t c own x payload) → bindings t < 2 ^ 64
+same_number : (t : List Entry) (c own : ℕ) (x : Transfer) (payload : List ℕ) (n : ℕ) (is : CarriesMessage t c own x payload) → HasSmallNumbers t
     → carried (number_named t) (tag_in x) (sending t c own x.handle) ≡ Some n → is.number ≡ n
 same_number t c own x payload n is small number =
     some_same (sym (carries_number t c own x payload is small) ∙ number)
 
+-- small numbers were small before
+lower : (t : List Entry) (b : Binding) → HasSmallNumbers (Bound b ∷ t) → HasSmallNumbers t
+lower t b small = (fewer (bindings t) small.0, small.1.1)
+  where
+    fewer : (k : ℕ) → k + 1 < 2 ^ 64 → k < 2 ^ 64
+    fewer k h = omega (arith, h)
+
 -- nothing is sent before it is bound
-none_early : (u : List Entry) (n : ℕ) → AllCarried u → bindings u < 2 ^ 64 → bindings u < n → bytes_out u n ≡ []
+none_early : (u : List Entry) (n : ℕ) → AllCarried u → HasSmallNumbers u → bindings u < n → bytes_out u n ≡ []
 none_early [] n all small early = refl
 none_early (Did s ∷ t) n all small early = none_early t n all small early
 none_early (Out c i ∷ t) n all small early =
@@ -192,11 +199,8 @@ none_early (Out c i ∷ t) n all small early =
 none_early (Began g ∷ t) n all small early = none_early t n all small early
 none_early (Took c k ∷ t) n all small early = none_early t n all small early
 none_early (Booked acts ∷ t) n all small early = none_early t n all small early
-none_early (Bound b ∷ t) n all small early = none_early t n all (lower_by (bindings t) small) (lower_still (bindings t) n early)
+none_early (Bound b ∷ t) n all small early = none_early t n all (lower t b small) (lower_still (bindings t) n early)
   where
-    lower_by : (k : ℕ) → k + 1 < 2 ^ 64 → k < 2 ^ 64
-    lower_by k h = omega (arith, h)
-
     lower_still : (k n : ℕ) → k + 1 < n → k < n
     lower_still k n h = omega (arith, h)
 
@@ -208,18 +212,15 @@ joined d before payload was next =
     ∙ sym (take-add d.sent (length payload) d.payload)
 
 -- the frame of a delivery is the one of its entry
-of_entry : (t : List Entry) (c own : ℕ) (x : Transfer) (payload : List ℕ) (n : ℕ) (d : Delivery) (is : CarriesMessage t c own x payload) → bindings t < 2 ^ 64
+of_entry : (t : List Entry) (c own : ℕ) (x : Transfer) (payload : List ℕ) (n : ℕ) (d : Delivery) (is : CarriesMessage t c own x payload) → HasSmallNumbers t
     → carried (number_named t) (tag_in x) (sending t c own x.handle) ≡ Some n → delivery t n ≡ Some d → is.of ≡ d
 of_entry t c own x payload n d is small number there =
     some_same (sym is.there ∙ ap (λ (k : ℕ). delivery t k) (same_number t c own x payload n is small number) ∙ there)
 
-next_bytes : (t : List Entry) (c own : ℕ) (x : Transfer) (payload : List ℕ) (n : ℕ) (d : Delivery) → CarriesMessage t c own x payload → bindings t < 2 ^ 64
+next_bytes : (t : List Entry) (c own : ℕ) (x : Transfer) (payload : List ℕ) (n : ℕ) (d : Delivery) → CarriesMessage t c own x payload → HasSmallNumbers t
     → carried (number_named t) (tag_in x) (sending t c own x.handle) ≡ Some n → delivery t n ≡ Some d → payload ≡ take (length payload) (drop d.sent d.payload)
 next_bytes t c own x payload n d is small number there =
     subst (λ (e : Delivery). payload ≡ take (length payload) (drop e.sent e.payload)) (of_entry t c own x payload n d is small number there) is.bytes
-
-lower : (k : ℕ) → k + 1 < 2 ^ 64 → k < 2 ^ 64
-lower k h = omega (arith, h)
 
 -- the bytes sent of an existing delivery
 
@@ -232,7 +233,7 @@ AllWent u n = (d : Delivery) → delivery u n ≡ Some d → Went u n d
 unmoved_went : (bytes : List ℕ) (d e : Delivery) → bytes ≡ take d.sent d.payload → Unmoved d e → bytes ≡ take e.sent e.payload
 unmoved_went bytes d e was same = was ∙ ap (λ (k : ℕ). take k d.payload) (sym same.sent) ∙ ap (λ (whole : List ℕ). take e.sent whole) (sym same.payload)
 
-out_went : (t : List Entry) (c n : ℕ) (i : Item) → bindings t < 2 ^ 64 → AllWent t n → CarriesWhatWasBound t c i → AllWent (Out c i ∷ t) n
+out_went : (t : List Entry) (c n : ℕ) (i : Item) → HasSmallNumbers t → AllWent t n → CarriesWhatWasBound t c i → AllWent (Out c i ∷ t) n
 out_went t c n i small was =
     item_elim i (λ i. CarriesWhatWasBound t c i → AllWent (Out c i ∷ t) n) by_transfer
     (λ moves bytes is e there. by_other (behind_put (number_named t) i c n (sending t c)) (bytes_by (number_named t) i n (sending t c) (bytes_out t n)) (moves (number_named t) c n (sending t c)) (bytes (number_named t) n (sending t c) (bytes_out t n)) e there)
@@ -258,7 +259,7 @@ out_went t c n i small was =
         (λ test. let same : Unmoved d.0 e = subst (λ (g : Delivery). Unmoved d.0 g) (sym d.2) (other_frame c sasl own x payload t n d.0 test)
         in rw test (unmoved_went (bytes_out t n) d.0 e (was d.0 d.1) same))
 
-pub went : (u : List Entry) (n : ℕ) → AllCarried u → bindings u < 2 ^ 64 → AllWent u n
+pub went : (u : List Entry) (n : ℕ) → AllCarried u → HasSmallNumbers u → AllWent u n
 went [] n all small d there = absurd cc
 went (Did s ∷ t) n all small d there =
     let was = of_what (behind_event s.event (theirs t) (named t) n) (delivery t n) d there
@@ -270,9 +271,9 @@ went (Took c k ∷ t) n all small d there = went t n all small d there
 went (Booked acts ∷ t) n all small d there = went t n all small d there
 went (Bound b ∷ t) n all small d there =
     by_test (bindings t + 1 == n)
-    (λ e. none_early t n all (lower (bindings t) small) (just_below (bindings t) n (eqb-true (bindings t + 1) n e))
+    (λ e. none_early t n all (lower t b small) (just_below (bindings t) n (eqb-true (bindings t + 1) n e))
     ∙ ap (λ (f : Delivery). take f.sent f.payload) (some_same (rw e at there)))
-    (λ e. went t n all (lower (bindings t) small) d (uncalled (name_in t b) (delivery t n) d (rw e at there)).0)
+    (λ e. went t n all (lower t b small) d (uncalled (name_in t b) (delivery t n) d (rw e at there)).0)
   where
     just_below : (k n : ℕ) → k + 1 ≡ n → k < n
     just_below k n h = omega (arith, h)
@@ -306,7 +307,7 @@ all_complete (Began g ∷ t) all = all_complete t all
 begins : (bytes whole : List ℕ) (n : ℕ) → bytes ≡ take n whole → IsBeginning bytes whole
 begins bytes whole n is = record { rest = drop n whole; joined = ap (λ (xs : List ℕ). xs ++ drop n whole) is ∙ take-append-drop n whole }
 
-out_begins : (u : List Entry) (c n : ℕ) (i : Item) (whole : List ℕ) → bindings u < 2 ^ 64 → AllCarried u → WhileThere (λ d. d.payload ≡ whole) (delivery u n)
+out_begins : (u : List Entry) (c n : ℕ) (i : Item) (whole : List ℕ) → HasSmallNumbers u → AllCarried u → WhileThere (λ d. d.payload ≡ whole) (delivery u n)
     → IsBeginning (bytes_out u n) whole → CarriesWhatWasBound u c i → IsBeginning (bytes_out (Out c i ∷ u) n) whole
 out_begins u c n i whole small all same was =
     item_elim i (λ i. CarriesWhatWasBound u c i → IsBeginning (bytes_out (Out c i ∷ u) n) whole) by_transfer
@@ -329,10 +330,10 @@ payload_of : (b : Binding) (v : Option Delivery) → WhileThere (IsOf b) v → W
 payload_of b None is = tt
 payload_of b (Some d) is = is.payload
 
-begins_later : (later t : List Entry) (b : Binding) → AllCarried (later ++ Bound b ∷ t) → bindings (later ++ Bound b ∷ t) < 2 ^ 64
+begins_later : (later t : List Entry) (b : Binding) → AllCarried (later ++ Bound b ∷ t) → HasSmallNumbers (later ++ Bound b ∷ t)
     → IsBeginning (bytes_out (later ++ Bound b ∷ t) (bindings t + 1)) b.payload
 begins_later [] t b all small =
-    record { rest = b.payload; joined = ap (λ (xs : List ℕ). xs ++ b.payload) (none_early t (bindings t + 1) all (lower (bindings t) small) (above (bindings t))) }
+    record { rest = b.payload; joined = ap (λ (xs : List ℕ). xs ++ b.payload) (none_early t (bindings t + 1) all (lower t b small) (above (bindings t))) }
   where
     above : (k : ℕ) → k < k + 1
     above k = omega arith
@@ -342,11 +343,11 @@ begins_later (Out c i ∷ later) t b all small =
     (payload_of b (delivery (later ++ Bound b ∷ t) (bindings t + 1)) (stays_with_consumer b t later))
     (begins_later later t b all.1 small) all.0
 begins_later (Took c k ∷ later) t b all small = begins_later later t b all small
-begins_later (Bound a ∷ later) t b all small = begins_later later t b all (lower (bindings (later ++ Bound b ∷ t)) small)
+begins_later (Bound a ∷ later) t b all small = begins_later later t b all (lower (later ++ Bound b ∷ t) a small)
 begins_later (Booked acts ∷ later) t b all small = begins_later later t b all small
 begins_later (Began g ∷ later) t b all small = begins_later later t b all small
 
 pub goes_in_order : (u : List Entry) → AllCarried u → GoesInOrder u
 goes_in_order u all small b t later is =
     subst (λ (v : List Entry). IsBeginning (bytes_out v (bindings t + 1)) b.payload) (sym is)
-    (begins_later later t b (subst (λ (v : List Entry). AllCarried v) is all) (subst (λ (v : List Entry). bindings v < 2 ^ 64) is small))
+    (begins_later later t b (subst (λ (v : List Entry). AllCarried v) is all) (subst (λ (v : List Entry). HasSmallNumbers v) is small))

@@ -113,10 +113,11 @@ pub record Follows (d e : Delivery) : Type 0 where
   pub payload : e.payload ≡ d.payload
   pub format : e.format ≡ d.format
   pub presettled : e.presettled ≡ d.presettled
+  pub lasting : e.lasting ≡ d.lasting
   pub origin : IsOrNone e.origin d.origin
 
 pub same : (d : Delivery) → Follows d d
-same d = record { name = refl; link = refl; payload = refl; format = refl; presettled = refl; origin = inl refl }
+same d = record { name = refl; link = refl; payload = refl; format = refl; presettled = refl; lasting = refl; origin = inl refl }
 
 pub origin_on : {a b c : Option Origin} → IsOrNone b a → IsOrNone c b → IsOrNone c a
 origin_on first (inr none) = inr none
@@ -130,6 +131,7 @@ then_follows first next = record {
   payload = next.payload ∙ first.payload;
   format = next.format ∙ first.format;
   presettled = next.presettled ∙ first.presettled;
+  lasting = next.lasting ∙ first.lasting;
   origin = origin_on first.origin next.origin;
 }
 
@@ -137,15 +139,15 @@ follows_left : Left Follows
 follows_left = record {
   same = same;
   next = λ d e f first rest. then_follows first rest;
-  untold = λ d. record { name = refl; link = refl; payload = refl; format = refl; presettled = refl; origin = inr refl };
-  unsettled = λ d. record { name = refl; link = refl; payload = refl; format = refl; presettled = refl; origin = inr refl };
-  suspended = λ d. record { name = refl; link = refl; payload = refl; format = refl; presettled = refl; origin = inl refl };
-  ended = λ d. record { name = refl; link = refl; payload = refl; format = refl; presettled = refl; origin = inl refl };
-  decided = λ d s. record { name = refl; link = refl; payload = refl; format = refl; presettled = refl; origin = inl refl };
+  untold = λ d. record { name = refl; link = refl; payload = refl; format = refl; presettled = refl; lasting = refl; origin = inr refl };
+  unsettled = λ d. record { name = refl; link = refl; payload = refl; format = refl; presettled = refl; lasting = refl; origin = inr refl };
+  suspended = λ d. record { name = refl; link = refl; payload = refl; format = refl; presettled = refl; lasting = refl; origin = inl refl };
+  ended = λ d. record { name = refl; link = refl; payload = refl; format = refl; presettled = refl; lasting = refl; origin = inl refl };
+  decided = λ d s. record { name = refl; link = refl; payload = refl; format = refl; presettled = refl; lasting = refl; origin = inl refl };
 }
 
 frames_follow : Frames Follows
-frames_follow x count d = record { name = refl; link = refl; payload = refl; format = refl; presettled = refl; origin = inl refl }
+frames_follow x count d = record { name = refl; link = refl; payload = refl; format = refl; presettled = refl; lasting = refl; origin = inl refl }
 
 pub item_follows : (numbers : DeliveryName → Option ℕ) (i : Item) (c n : ℕ) (sent : ℕ → ℕ → Option ℕ) (d : Delivery) → Follows d (behind_put numbers i c n sent d)
 item_follows numbers i c n sent d = item_left Follows follows_left frames_follow numbers i c n sent d

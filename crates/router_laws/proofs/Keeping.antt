@@ -1,10 +1,7 @@
 -- In every trace of the router a durable link is taken once its terminus is in the book.
-use Rattle.std.proofs.Common.{◌≡◌, ◌∙◌, sym, ap, refl, subst, ℕ, Bool, true, false, not, cond, List, [], ◌∷◌, ◌++◌, append-nil}
+use Rattle.std.proofs.Common.{◌≡◌, ◌∙◌, sym, ap, refl, subst, ℕ, Bool, true, false, not, List, [], ◌∷◌, ◌++◌, append-nil}
 use Rattle.std.specs.Prelude.{◌==◌, if◌then◌else◌, Option, Some, None, is_some, unwrap_or}
-use Rattle.std.specs.Option.{option_or}
-use Rattle.std.proofs.lemmas.List.Folds.{find-append}
 use Rattle.std.proofs.lemmas.Bool.{eqb-true}
-use Rattle.std.proofs.lemmas.Slice.Eq.{bytes_eq-Decides}
 use Rattle.amqp_perf.specs.declared.perf.Attach.{Attach as AnAttach}
 use Rattle.amqp_perf.specs.declared.perf.Perf.{Perf}
 use Rattle.amqp_perf.specs.declared.perf.Perf.TheVariants as perf
@@ -18,14 +15,11 @@ use Rattle.amqp_frames.specs.declared.item.Item.{Item}
 use Rattle.amqp_frames.specs.declared.item.Item.TheVariants as item
 use Rattle.amqp_conn.specs.declared.conn.Conn.{Conn}
 use Rattle.book_core.specs.declared.act.Act.{Act}
-use Rattle.book_core.specs.declared.act.Act.TheVariants.{Make}
 use Rattle.book_core.specs.declared.terminus.LinkKey.{LinkKey}
-use Rattle.book_core.specs.declared.terminus.LinkRole.{LinkRole}
-use Rattle.book_core.specs.declared.terminus.LinkRole.TheVariants.{Producer, Consumer}
 use Rattle.book_core.specs.declared.terminus.Terminus.{Terminus}
-use Rattle.book_core.specs.Book.{BookView, same_key, same_role, same_bytes, terminus_of, effects}
-use Rattle.gate_journal.specs.Reserve.{reserve}
-use Rattle.router_store.specs.Store.{exceeds}
+use Rattle.book_core.specs.Book.{BookView, same_bytes, terminus_of, effects}
+use Rattle.router_store.specs.Acting.{event_acts as settled_acts}
+use Rattle.router_store.specs.declared.acting.TerminusAct.TheVariants as terminus
 use Rattle.router_trace.specs.Trace.{Beginning, Entry, Did, Out, Booked, Put, Step, goes, puts, each_to}
 use Rattle.router_trace.specs.Configuration.{beginning}
 use Rattle.router_trace.specs.Connection.{conn, due, found, standing, has}
@@ -49,7 +43,8 @@ use Rattle.router_rows.specs.declared.answer.Answer.TheVariants.{Nothing, Header
 use Rattle.router_rows.specs.Booking.{wanted_key, wanted_address, wants_durable, new_terminus, has_room, durable_refusal, volatile_refusal, refuse_on, booked_attach, book_refusal, answer_at}
 use Rattle.router_rows.specs.Finding.{finds}
 use Rattle.router_rows.specs.Rows.{said, item_reply}
-use Rattle.router_reply.specs.Acts.{Journaled, made_unless, taken_acts, live_acts, finds_full, journaled, book_in, acts_of, book_behind, booked, answer_with, answer_of}
+use Rattle.router_reply.specs.Acts.{Journaled, live_answer, event_answer, answer_acts, admitted_acts, or_admits, finds_full, journaled, book_in, acts_of, book_behind, booked, answer_of}
+use Rattle.router_reply.specs.Deciding.{decided, forgotten}
 use Rattle.router_reply.specs.Replies.{closing_of, ends, heard, stolen_by, attach_answer, taken_behind, taken, refused, bound_by, item_put, item_row, own_row, replied}
 use Rattle.router_conns.proofs.Lists.{by_test}
 use Rattle.router_core.specs.Laws.{is_attach_in, is_attach}
@@ -62,6 +57,7 @@ use Rattle.router_core.proofs.Following.{Steps, passed_on, passed_keeps}
 use Rattle.router_core.proofs.Replied.{FoundLive, found_live}
 use Rattle.router_laws.specs.Each.{EachOut}
 use Rattle.router_laws.specs.Keeping.{HasAddress, kept_if, perf_is_kept, IsKeptFirst}
+use Rattle.router_laws.proofs.Made.{makes_terminus}
 
 abbrev Kept : List Entry → Type 0
 Kept t = EachOut IsKeptFirst t
@@ -156,33 +152,13 @@ refused_kept t largest c own handle e a was = by (fits largest (attach_item own 
     by true = (tt, (refusal_kept a.role (source_answer a.source) (target_answer a.target) (plain_answer a handle) _, was))
     by false = (tt, was)
 
--- a terminus that was just made is found
-
-role_itself : (a : LinkRole) → same_role a a ≡ true
-role_itself Producer = refl
-role_itself Consumer = refl
-
-key_itself : (k : LinkKey) → same_key k k ≡ true
-key_itself k =
-    rw (role_itself k.role) (rw ((bytes_eq-Decides k.user k.user).1 refl) (rw ((bytes_eq-Decides k.container k.container).1 refl) ((bytes_eq-Decides k.name k.name).1 refl)))
-
-found_made : (b : BookView) (x : Terminus) → terminus_of x.key b.termini ≡ None → terminus_of x.key (effects b (Make x ∷ [])).termini ≡ Some x
-unfolding effects
-found_made b x none =
-    find-append (λ t. same_key t.key x.key) b.termini (x ∷ [])
-    ∙ ap (λ (o : Option Terminus). option_or o (cond (same_key x.key x.key) (Some x) None)) none
-    ∙ ap (λ (is : Bool). cond is (Some x) None) (key_itself x.key)
-
-made_kept : (b : BookView) (key : LinkKey) (a : AnAttach) → terminus_of key b.termini ≡ None
-    → kept_if true (address_by (other a.role) a) (terminus_of key (effects b (Make (new_terminus b key (wanted_address a)) ∷ [])).termini)
-made_kept b key a none = by (address_by (other a.role) a) refl
+-- a terminus with the attach's address is what it asks for
+made_kept : (b : BookView) (key : LinkKey) (a : AnAttach) (v : Option Terminus) → v ≡ Some (new_terminus b key (wanted_address a)) → kept_if true (address_by (other a.role) a) v
+made_kept b key a v found = by (address_by (other a.role) a) refl
   where
-    x : Terminus
-    x = new_terminus b key (wanted_address a)
-
-    by : (o : Option (List ℕ)) → address_by (other a.role) a ≡ o → kept_if true o (terminus_of key (effects b (Make x ∷ [])).termini)
+    by : (o : Option (List ℕ)) → address_by (other a.role) a ≡ o → kept_if true o v
     by None is = tt
-    by (Some address) is = subst (λ (y : Option Terminus). HasAddress y address) (sym (found_made b x none)) (ap (λ (o : Option (List ℕ)). unwrap_or o []) is)
+    by (Some address) is = subst (λ (y : Option Terminus). HasAddress y address) (sym found) (ap (λ (o : Option (List ℕ)). unwrap_or o []) is)
 
 -- an answer that takes a link: the book doesn't stand in its way, and its terminus is made
 
@@ -216,14 +192,23 @@ none_with (Some x) a room may = absurd (some (same_bytes x.address (wanted_addre
     some true is = absurd cc
     some false is = absurd cc
 
--- an item's answer behind the acts of its event
-answer_behind : (acts : List Act) (t : List Entry) (c : ℕ) (p : Conn) (i : Item) → answer_of (Booked acts ∷ t) c p i ≡ answer_with (journaled t) t c p i
+room_with : (o : Option Terminus) (a : AnAttach) (room : Bool) → durable_refusal o a room ≡ None → room ≡ true
+room_with None a true may = refl
+room_with None a false may = absurd cc
+room_with (Some x) a room may = absurd (none_is (none_with (Some x) a room may))
+  where
+    none_is : {y : Terminus} → Some y ≡ None → ⊥
+    none_is e = cc
+
+-- the answer to an attach behind the acts of its event
+answer_behind : (acts : List Act) (t : List Entry) (c : ℕ) (p : Conn) (sasl : Bool) (channel : ℕ) (a : AnAttach) (payload : List ℕ)
+    → answer_of (Booked acts ∷ t) c p (item.Frame sasl channel (perf.Attach a) payload)
+    ≡ answer_at (finds_full (journaled t) t (event.Item (record { 0 = c }) (item.Frame sasl channel (perf.Attach a) payload))) (book_in t) t c p (item.Frame sasl channel (perf.Attach a) payload)
 unfolding free_handle first_free_below free_channel
-answer_behind acts t c p i = refl
+answer_behind acts t c p sasl channel a payload = refl
 
 record Makes (t : List Entry) (e : Event) (c : ℕ) (a : AnAttach) : Type 0 where
-  new : terminus_of (wanted_key t c a) (book_in t).termini ≡ None
-  acts : acts_of t e ≡ Make (new_terminus (book_in t) (wanted_key t c a) (wanted_address a)) ∷ []
+  made : terminus_of (wanted_key t c a) (book_behind t e).termini ≡ Some (new_terminus (book_in t) (wanted_key t c a) (wanted_address a))
 
 makes : (t : List Entry) (from : ConnectionId) (sasl : Bool) (channel : ℕ) (a : AnAttach) (payload : List ℕ) (p : Conn) (own : ℕ)
     → standing (found t (event.Item from (item.Frame sasl channel (perf.Attach a) payload)) from.0) ≡ Some p
@@ -232,29 +217,29 @@ makes : (t : List Entry) (from : ConnectionId) (sasl : Bool) (channel : ℕ) (a 
 makes t from sasl channel a payload p own stands answers wants =
     let i : Item = item.Frame sasl channel (perf.Attach a) payload in
     let e : Event = event.Item from i in
-    let j : Journaled = journaled t in
+    let b : BookView = book_in t in
     let key : LinkKey = wanted_key t from.0 a in
-    let x : Terminus = new_terminus j.book key (wanted_address a) in
-    let full : Bool = finds_full j t e in
-    let at : answer_at full j.book t from.0 p i ≡ Attach own =
-    ap (λ (v : Option Conn). answer_at (exceeds j.used (reserve j.book) (live_acts false j.book t from.0 i v)) j.book t from.0 p i) stands
-    ∙ sym (answer_behind (acts_of t e) t from.0 p i) ∙ answers in
-    let only = attach_only (free_handle t from.0) (book_refusal full j.book t from.0 a) (item_reply p (finds t from.0) i) own at in
-    let refusal : durable_refusal (terminus_of key j.book.termini) a (has_room full j.book x) ≡ None =
-    ap (λ (d : Bool). if d then durable_refusal (terminus_of key j.book.termini) a (has_room full j.book x) else volatile_refusal (holds_durable t key)) (sym wants) ∙ only.0 in
+    let x : Terminus = new_terminus b key (wanted_address a) in
+    let full : Bool = finds_full (journaled t) t e in
+    let admitted : List Act = admitted_acts full b t e in
+    let at : answer_at full b t from.0 p i ≡ Attach own = sym (answer_behind (acts_of t e) t from.0 p sasl channel a payload) ∙ answers in
+    let answer : event_answer full b t e ≡ Attach own = ap (live_answer full b t from.0 i) stands ∙ at in
+    let only = attach_only (free_handle t from.0) (book_refusal full b t from.0 a) (item_reply p (finds t from.0) i) own at in
+    let refusal : durable_refusal (terminus_of key b.termini) a (has_room full b x) ≡ None =
+    ap (λ (d : Bool). if d then durable_refusal (terminus_of key b.termini) a (has_room full b x) else volatile_refusal (holds_durable t key)) (sym wants) ∙ only.0 in
     record {
-      new = none_with (terminus_of key j.book.termini) a (has_room full j.book x) refusal;
-      acts =
-          ap (live_acts full j.book t from.0 i) stands ∙ ap (taken_acts full j.book t from.0 a) only.1
-          ∙ ap (λ (d : Bool). if d then made_unless (durable_refusal (terminus_of key j.book.termini) a (has_room full j.book x)) x else []) wants
-          ∙ ap (λ (r : Option Condition). made_unless r x) refusal;
+      made =
+          ap (λ (y : Answer). terminus_of key (effects b (or_admits (answer_acts b t e y) admitted)).termini) answer
+          ∙ ap (λ (d : Bool). terminus_of key (effects b (or_admits (settled_acts b (decided t e (Attach own)) (forgotten b t e (Attach own)) (if d then Some (terminus.Make x) else None)) admitted)).termini) wants
+          ∙ makes_terminus full b (decided t e (Attach own)) (forgotten b t e (Attach own)) key (wanted_address a) admitted
+          (none_with (terminus_of key b.termini) a (has_room full b x) refusal) (room_with (terminus_of key b.termini) a (has_room full b x) refusal);
     }
 
 -- the names that a connection's links have
 
-record SameNames (t u : List Entry) (c : ℕ) : Type 0 where
-  who : user u c ≡ user t c
-  from : container u c ≡ container t c
+pub record SameNames (t u : List Entry) (c : ℕ) : Type 0 where
+  pub who : user u c ≡ user t c
+  pub from : container u c ≡ container t c
 
 names_self : (t : List Entry) (c : ℕ) → SameNames t t c
 names_self t c = record { who = refl; from = refl }
@@ -316,11 +301,11 @@ bound_book None t = refl
 bound_book (Some b) t = refl
 
 -- a trace in which the attach of an event can be answered: the connection's names are as before the event, and the book is behind its acts
-record Stands (t : List Entry) (e : Event) (c : ℕ) (w : List Entry) : Type 0 where
-  names : SameNames t w c
-  book : book_in w ≡ book_behind t e
+pub record Stands (t : List Entry) (e : Event) (c : ℕ) (w : List Entry) : Type 0 where
+  pub names : SameNames t w c
+  pub book : book_in w ≡ book_behind t e
 
-key_there : (t w : List Entry) (c : ℕ) (a : AnAttach) (h : ℕ) → SameNames t w c → key_at w c (answer_to a h) ≡ wanted_key t c a
+pub key_there : (t w : List Entry) (c : ℕ) (a : AnAttach) (h : ℕ) → SameNames t w c → key_at w c (answer_to a h) ≡ wanted_key t c a
 key_there t w c a h names =
     answer_key w c a h
     ∙ ap (λ (who : Option (List ℕ)). key_of who (container w c) (plain_answer a 0)) names.who
@@ -344,9 +329,7 @@ asked_kept t w e c a h made stands =
 
     durable : wants_durable a ≡ true → Wanted (wants_durable a)
     durable wants =
-        let m : Makes t e c a = made wants in
-        subst Wanted (sym wants)
-        (subst (λ (acts : List Act). kept_if true (address_by (other a.role) a) (terminus_of key (effects (book_in t) acts).termini)) (sym m.acts) (made_kept (book_in t) key a m.new))
+        subst Wanted (sym wants) (made_kept (book_in t) key a (terminus_of key (book_behind t e).termini) (made wants).made)
 
     other_link : wants_durable a ≡ false → Wanted (wants_durable a)
     other_link wants = subst Wanted (sym wants) tt
@@ -397,7 +380,7 @@ attach_row id t u w from sasl channel a payload stands was (Some p) here = by (a
     by x answers = goes_kept (each_to from.0 (said id p x) ++ []) w (more_none from.0 (said id p x) (less_said id from.0 p x)) was
 
 -- the trace in which the row of an attach is put
-attach_stands : (id : List ℕ) (t : List Entry) (from : ConnectionId) (sasl : Bool) (channel : ℕ) (a : AnAttach) (payload : List ℕ) (s : Step) (b : Option Binding)
+pub attach_stands : (id : List ℕ) (t : List Entry) (from : ConnectionId) (sasl : Bool) (channel : ℕ) (a : AnAttach) (payload : List ℕ) (s : Step) (b : Option Binding)
     → s.event ≡ event.Item from (item.Frame sasl channel (perf.Attach a) payload) → (p : Conn)
     → standing (found t (event.Item from (item.Frame sasl channel (perf.Attach a) payload)) from.0) ≡ Some p
     → Stands t (event.Item from (item.Frame sasl channel (perf.Attach a) payload)) from.0

@@ -1,15 +1,14 @@
 -- The tag of each delivery tells its name.
-use Rattle.std.proofs.Common.{◌≡◌, ◌∙◌, sym, ap, subst, ℕ, ◌+◌, ◌≤◌, ◌<◌, ◌^◌, Bool, true, false, List, [], ◌∷◌, arith}
-use Rattle.std.specs.Prelude.{Option, Some, None, is_none, if◌then◌else◌}
+use Rattle.std.proofs.Common.{◌≡◌, sym, subst, ℕ, ◌+◌, ◌≤◌, ◌<◌, ◌^◌, Bool, true, false, List, [], ◌∷◌, arith}
+use Rattle.std.specs.Prelude.{Option, Some, None, IfSome, is_none, if◌then◌else◌}
 use Rattle.book_core.specs.declared.row.RowNumber.{RowNumber}
 use Rattle.router_trace.specs.declared.binding.DeliveryName.{DeliveryName}
-use Rattle.router_trace.specs.declared.binding.DeliveryName.TheVariants.{Counter}
 use Rattle.router_trace.specs.Trace.{Entry, Did, Out, Took, Bound, Booked, Began}
 use Rattle.router_trace.specs.Deliveries.{Delivery, bindings, counters, name_of, delivery, tag_of, tagged}
 use Rattle.router_laws.specs.Each.{EachBound}
-use Rattle.router_laws.specs.Came.{BindsMessage}
+use Rattle.router_laws.specs.Carried.{HasSmallRow, HasSmallNumbers}
 use Rattle.router_laws.proofs.Bindings.{of_messages, each_bound, there_bound}
-use Rattle.router_laws.proofs.Tags.{tag_tells}
+use Rattle.router_laws.proofs.Tags.{tag_tells, row_tells}
 
 few_counters : (t : List Entry) → counters t ≤ bindings t
 few_counters [] = omega arith
@@ -25,15 +24,22 @@ few_counters (Bound b ∷ t) = by (is_none b.row) (few_counters t)
     by false few = omega (arith, few)
 
 abbrev pub NamesTold : List Entry → Type 0
-NamesTold t = (n : ℕ) (d : Delivery) → delivery t n ≡ Some d → bindings t < 2 ^ 64 → tagged (tag_of d.name) ≡ Some d.name
+NamesTold t = (n : ℕ) (d : Delivery) → delivery t n ≡ Some d → HasSmallNumbers t → tagged (tag_of d.name) ≡ Some d.name
 
-pub names_told : (t : List Entry) → EachBound BindsMessage t → NamesTold t
-names_told t each n d there small =
+-- the tag of a small number tells it, be it a row's or a counter
+name_told : (row : Option RowNumber) (k : ℕ) → IfSome row (λ r. r.0 < 2 ^ 64) → k < 2 ^ 64 → tagged (tag_of (name_of row k)) ≡ Some (name_of row k)
+name_told None k small few = tag_tells k few
+name_told (Some r) k small few = row_tells r small
+
+pub names_told : (t : List Entry) → NamesTold t
+names_told t n d there small =
     let message = of_messages t n d there in
-    let binds = each_bound BindsMessage message.later message.before message.binding (subst (λ (u : List Entry). EachBound BindsMessage u) message.trace each) in
-    let name : d.name ≡ Counter (counters message.before + 1) = message.name ∙ ap (λ (r : Option RowNumber). name_of r (counters message.before + 1)) binds.no_row in
-    subst (λ (x : DeliveryName). tagged (tag_of x) ≡ Some x) (sym name)
-    (tag_tells (counters message.before + 1) (below (counters message.before) (bindings message.before) n (bindings t) (few_counters message.before) message.number (there_bound t n d there) small))
+    let k : ℕ = counters message.before + 1 in
+    let row : HasSmallRow message.before message.binding =
+    each_bound HasSmallRow message.later message.before message.binding (subst (λ (u : List Entry). EachBound HasSmallRow u) message.trace small.1) in
+    subst (λ (x : DeliveryName). tagged (tag_of x) ≡ Some x) (sym message.name)
+    (name_told message.binding.row k row
+    (below (counters message.before) (bindings message.before) n (bindings t) (few_counters message.before) message.number (there_bound t n d there) small.0))
   where
     below : (j k n m : ℕ) → j ≤ k → k + 1 ≡ n → n ≤ m → m < 2 ^ 64 → j + 1 < 2 ^ 64
     below j k n m few is low small = omega (arith, few, is, low, small)

@@ -21,8 +21,8 @@ use Rattle.router_trace.specs.declared.handle.Attachment.{Attachment}
 use Rattle.router_trace.specs.Trace.{Entry, Did, Out, Took, Booked, Bound, Began, Step}
 use Rattle.router_trace.specs.Links.{ends_handle}
 use Rattle.router_trace.specs.Sessions.{maps, theirs}
-use Rattle.router_trace.specs.Deliveries.{Delivery, bindings, name_in, number_named, delivery, sending, named, failed, behind_frame, decided, source, untold, unsettled, told, ended, decided_at_end, suspended_at_end, closes, is_undecided, is_meant, is_named, is_number, last_of, decision, terminal, is_gone_with, behind_origin, behind_ends, ended_by, put_in, behind_put, carried, tag_in, is_on, is_settled_at, disposed, heard_in, heard, lost_with, behind_event, origin_id}
-use Rattle.router_laws.specs.Decided.{GivenByConsumer, Decides, Decided, IsByConsumer, DecidedByConsumer}
+use Rattle.router_trace.specs.Deliveries.{Delivery, bindings, name_in, number_named, delivery, sending, named, failed, behind_frame, decided, source, untold, unsettled, told, ended, decided_at_end, suspended_at_end, is_undecided, is_meant, is_named, is_number, last_of, decision, terminal, is_gone_with, behind_origin, behind_ends, ended_by, put_in, behind_put, carried, tag_in, is_on, is_settled_at, disposed, heard_in, heard, lost_with, behind_event, origin_id}
+use Rattle.router_laws.specs.Decided.{is_for_good, GivenByConsumer, Decides, Decided, IsByConsumer, DecidedByConsumer}
 use Rattle.router_laws.specs.Decided.Decides.{given_by_consumer, link_lost, link_ended, sent_settled}
 use Rattle.router_conns.proofs.Lists.{by_test}
 use Rattle.router_deliveries.proofs.Called.{uncalled}
@@ -58,14 +58,27 @@ decided_from D d gives s h =
     (λ e. inr (gives (none_is d.outcome e) s (sym (some_same (rw e at h)))))
     (λ e. inl (rw e at h))
 
+-- what an end gives: unless the delivery is suspended, before it or by it
+abbrev EndGives : (DeliveryState → Type 0) → Bool → Delivery → Type 0
+EndGives D closed d = d.suspended ≡ false → (d.lasting && not closed) ≡ false → d.outcome ≡ None → (s : DeliveryState) → s ≡ failed → D s
+
+lasts_closed : (lasting closed : Bool) → (lasting && not closed) ≡ false → lasting ≡ true → closed ≡ true
+lasts_closed true true e lasts = refl
+lasts_closed true false e lasts = absurd cc
+lasts_closed false closed e lasts = absurd cc
+
+never_lasts : (lasting : Bool) → (lasting && not false) ≡ false → lasting ≡ false
+never_lasts true e = absurd cc
+never_lasts false e = refl
+
 -- a link that is suspended decides nothing
-ended_from : (D : DeliveryState → Type 0) (closed : Bool) (d : Delivery) → (d.outcome ≡ None → (s : DeliveryState) → s ≡ failed → D s) → From D d (ended closed d)
+ended_from : (D : DeliveryState → Type 0) (closed : Bool) (d : Delivery) → EndGives D closed d → From D d (ended closed d)
 ended_from D closed d gives =
     choice D d.suspended d d (if d.lasting && not closed then suspended_at_end d else decided_at_end d) (λ e. was_there D d)
-    (λ e. choice D (d.lasting && not closed) d (suspended_at_end d) (decided_at_end d) (λ f s h. inl h) (λ f. decided_from D d gives))
+    (λ e. choice D (d.lasting && not closed) d (suspended_at_end d) (decided_at_end d) (λ f s h. inl h) (λ f. decided_from D d (gives e f)))
 
 ends_from : (D : DeliveryState → Type 0) (closed : Bool) (gone : Attachment → Bool) (d : Delivery)
-    → (gone d.link ≡ true → d.outcome ≡ None → (s : DeliveryState) → s ≡ failed → D s) → From D d (behind_ends closed gone d)
+    → (gone d.link ≡ true → EndGives D closed d) → From D d (behind_ends closed gone d)
 ends_from D closed gone d gives s h =
     choice D (gone d.link) d (ended closed d) d (λ e. ended_from D closed d (gives e)) (λ e. was_there D d) s
     (sym (origin_outcome gone (if gone d.link then ended closed d else d)) ∙ h)
@@ -119,11 +132,11 @@ quiet_from D c d e before s h = by (ends_from (λ s. ⊥) false (λ a. (a.conn.0
     by (inr never) = absurd never
 
 -- items that may end one
-ending_from : (closed : Bool) (c : ℕ) (i : Item) (t : List Entry) (n : ℕ) (d : Delivery) → From (Now (Out c i) t n d) d (behind_ends closed (ended_by i c) d)
-ending_from closed c i t n d =
-    ends_from (Now (Out c i) t n d) closed (ended_by i c) d
-    (λ gone none s is. let both = both_true (d.link.conn.0 == c) (ends_handle i d.link.channel d.link.handle) gone
-    in link_ended (record { conn = c; item = i; entry_is = refl; on_connection = eqb-true d.link.conn.0 c both.0; ends = both.1 }) none is)
+ending_from : (c : ℕ) (i : Item) (t : List Entry) (n : ℕ) (d : Delivery) → From (Now (Out c i) t n d) d (behind_ends (is_for_good i) (ended_by i c) d)
+ending_from c i t n d =
+    ends_from (Now (Out c i) t n d) (is_for_good i) (ended_by i c) d
+    (λ gone there stays none s is. let both = both_true (d.link.conn.0 == c) (ends_handle i d.link.channel d.link.handle) gone
+    in link_ended (record { conn = c; item = i; entry_is = refl; on_connection = eqb-true d.link.conn.0 c both.0; ends = both.1; not_suspended = there; for_good = lasts_closed d.lasting (is_for_good i) stays }) none is)
 
 frame_put_from : (body : Perf) (c : ℕ) (sasl : Bool) (own : ℕ) (payload : List ℕ) (t : List Entry) (n : ℕ) (d : Delivery)
     → From (Now (Out c (item.Frame sasl own body payload)) t n d) d (behind_put (number_named t) (item.Frame sasl own body payload) c n (sending t c) d)
@@ -133,7 +146,7 @@ frame_put_from (perf.Transfer x) c sasl own payload t n d =
 frame_put_from (perf.Disposition x) c sasl own payload t n d =
     quiet_from (Now (Out c (item.Frame sasl own (perf.Disposition x) payload)) t n d) c d (told x.role x c own d)
     (λ s h. inl (sym (told_outcome x.role x c own d) ∙ h))
-frame_put_from body c sasl own payload t n d = ending_from (closes body) c (item.Frame sasl own body payload) t n d
+frame_put_from body c sasl own payload t n d = ending_from c (item.Frame sasl own body payload) t n d
 
 put_from : (c : ℕ) (i : Item) (t : List Entry) (n : ℕ) (d : Delivery) → From (Now (Out c i) t n d) d (behind_put (number_named t) i c n (sending t c) d)
 put_from c (item.Frame sasl own body payload) t n d = frame_put_from body c sasl own payload t n d
@@ -215,7 +228,15 @@ event_from : (s : Step) (t : List Entry) (n : ℕ) (d : Delivery) (e : Event) �
 event_from s t n d (event.Item c i) is = heard_from s t n d c i is
 event_from s t n d (event.Down c) is =
     ends_from (Now (Did s) t n d) false (lost_with c.0) d
-    (λ gone none outcome e. link_lost (record { step = s; conn = c; entry_is = refl; lost = is; on_connection = eqb-true d.link.conn.0 c.0 gone }) none e)
+    (λ gone there stays none outcome e. link_lost (record {
+      step = s;
+      conn = c;
+      entry_is = refl;
+      lost = is;
+      on_connection = eqb-true d.link.conn.0 c.0 gone;
+      not_suspended = there;
+      not_lasting = never_lasts d.lasting stays;
+    }) none e)
 event_from s t n d _ is = was_there _ d
 
 -- all entries

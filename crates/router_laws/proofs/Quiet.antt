@@ -27,7 +27,7 @@ use Rattle.router_state.specs.Tables.{beat_if, beats_over}
 use Rattle.router_rows.specs.declared.answer.Answer.{Answer}
 use Rattle.router_rows.specs.declared.answer.Answer.TheVariants.{Nothing, Header, Open, Close, CloseWith, Begin, End, Flow, Attach, Refuse, Detach, LinkFlow, Taken, Settle}
 use Rattle.router_rows.specs.Rows.{said}
-use Rattle.router_reply.specs.Replies.{closing_of, stolen_by, attach_answer, refused, taken, ignored_put, settled_answers}
+use Rattle.router_reply.specs.Replies.{closing_of, stolen_by, attach_answer, refused, taken, let_go, ignored_put, settled_answers}
 use Rattle.router_core.proofs.Granting.{AllGrants, all_grants}
 use Rattle.router_conns.proofs.Lists.{by_test}
 use Rattle.router_laws.proofs.Sound.{is_loud, Quiet, QuietPut, quiet_both, quiet_to}
@@ -83,7 +83,10 @@ refused_quiet largest own handle e a = by (fits largest (attach_item own (refusa
     by true = (refl, (refl, tt))
     by false = (refl, tt)
 
--- a delivery that is ignored, and dispositions that are answered
+-- a link that is let go, a delivery that is ignored, and dispositions that are answered
+
+pub let_go_quiet : (after : List Entry) (c own handle : ℕ) (x : Condition) → Quiet (let_go after c own handle x)
+let_go_quiet after c own handle x = (refl, tt)
 
 pub ignored_quiet : (after : List Entry) (c own handle : ℕ) (q : Option ℕ) → Quiet (ignored_put after c own handle q)
 ignored_quiet after c own handle None = tt

@@ -1,6 +1,6 @@
 -- Where a transfer is taken: on the session that its channel stands for, and on the link that its handle stands for, with the peer as the sender.
 use Rattle.std.proofs.Common.{◌≡◌, refl, ℕ, Bool, true, false}
-use Rattle.std.specs.Prelude.{nat_eq, ◌&&◌, List, Option, Some, None, Result, Ok, Err, option_map}
+use Rattle.std.specs.Prelude.{nat_eq, is_none, ◌&&◌, List, Option, Some, None, Result, Ok, Err, option_map}
 use Rattle.amqp_perf.specs.declared.perf.Perf.TheVariants as perf
 use Rattle.amqp_perf.specs.declared.perf.Transfer.{Transfer}
 use Rattle.amqp_frames.specs.declared.item.Item.TheVariants as item
@@ -11,17 +11,19 @@ use Rattle.amqp_conn.specs.Phase.{after_frame}
 use Rattle.amqp_link.specs.declared.part.Delivery.{Delivery as Told}
 use Rattle.amqp_link.specs.Receiving.{Received, unused}
 use Rattle.amqp_session.specs.Session.{Session, allowance}
+use Rattle.book_core.specs.Book.{BookView}
 use Rattle.router_trace.specs.declared.channel.PeerChannel.{PeerChannel}
 use Rattle.router_trace.specs.declared.channel.PeerChannel.TheVariants.{Mapped, Ending}
 use Rattle.router_trace.specs.Trace.{Trace}
 use Rattle.router_trace.specs.Sessions.{on_session, place_by, session, theirs}
-use Rattle.router_trace.specs.Links.{Link, LinkPlace, nowhere, detaching, on, Happened, sends, receives, link_place}
+use Rattle.router_trace.specs.Links.{Link, LinkPlace, nowhere, detaching, on, Happened, sends, receives, link, link_place, durable_key}
 use Rattle.router_trace.specs.Deliveries.{tag_in}
-use Rattle.router_trace.specs.Settling.{middle_by}
+use Rattle.router_trace.specs.Settling.{middle_by, middle_on}
 use Rattle.router_rows.specs.declared.answer.Answer.{Answer}
 use Rattle.router_rows.specs.declared.answer.Answer.TheVariants.{Taken}
 use Rattle.router_rows.specs.Rows.{Finds, Links, transfer_reply, in_turn, out_of_turn, turn_by, item_reply}
 use Rattle.router_rows.specs.LinkRows.{is_anonymous, is_among, is_same_id, is_same_tag, is_unattached, delivery_by, delivery_on, link_transfer_reply, session_transfer_reply}
+use Rattle.router_rows.specs.Booking.{repeats, booked_transfer, answer_at}
 use Rattle.router_rows.specs.Finding.{finds}
 use Rattle.router_conns.proofs.Lists.{by_test}
 
@@ -83,9 +85,21 @@ by_turn v at k channel x (Err f) it = by f
     by ChannelTooHigh = tt
     by _ = tt
 
-pub transfer_taken : (p : Conn) (t : Trace) (c : ℕ) (sasl : Bool) (channel : ℕ) (x : Transfer) (payload : List ℕ)
+row_taken : (p : Conn) (t : Trace) (c : ℕ) (sasl : Bool) (channel : ℕ) (x : Transfer) (payload : List ℕ)
     → IfTaken sasl (theirs t c channel) (λ own. link_place t c own x.handle) (item_reply p (finds t c) (item.Frame sasl channel (perf.Transfer x) payload))
-transfer_taken p t c true channel x payload = tt
-transfer_taken p t c false channel x payload =
+row_taken p t c true channel x payload = tt
+row_taken p t c false channel x payload =
     by_turn (theirs t c channel) (λ own. link_place t c own x.handle) (finds t c) channel x (after_frame channel p)
     (by_place (theirs t c channel) (session t c) (link_place t c) (finds t c).claimed x)
+
+-- a row that repeats one of the book is not taken; else the answer is as without a book
+booked_taken : (b : BookView) (t : Trace) (c : ℕ) (sasl : Bool) (v : Option PeerChannel) (x : Transfer) (a : Answer)
+    → IfTaken sasl v (λ own. link_place t c own x.handle) a → IfTaken sasl v (λ own. link_place t c own x.handle) (booked_transfer b t c x a)
+booked_taken b t c sasl v x (Taken own handle) here =
+    by_test (is_none (middle_on (link_place t c own x.handle)) && repeats b t c own handle x.resume (durable_key (link t c own handle)) (tag_in x)) (λ e. rw e tt) (λ e. rw e here)
+booked_taken b t c sasl v x _ here = here
+
+pub transfer_taken : (full : Bool) (b : BookView) (p : Conn) (t : Trace) (c : ℕ) (sasl : Bool) (channel : ℕ) (x : Transfer) (payload : List ℕ)
+    → IfTaken sasl (theirs t c channel) (λ own. link_place t c own x.handle) (answer_at full b t c p (item.Frame sasl channel (perf.Transfer x) payload))
+transfer_taken full b p t c sasl channel x payload =
+    booked_taken b t c sasl (theirs t c channel) x (item_reply p (finds t c) (item.Frame sasl channel (perf.Transfer x) payload)) (row_taken p t c sasl channel x payload)

@@ -1,12 +1,13 @@
 -- Messages received (AMQP 1.0 part 2, sections 2.6.14 and 2.7.5): a producer's delivery is complete with the frame that says that no more
 -- are to come.
-use Rattle.std.specs.Prelude.{◌≡◌, ℕ, ◌+◌, true, false, List, [], ◌∷◌, ◌++◌, Option, Some, None, unwrap_or}
+use Rattle.std.specs.Prelude.{◌≡◌, ℕ, ◌+◌, Bool, true, false, is_some, List, [], ◌∷◌, ◌++◌, Option, Some, None, unwrap_or}
 use Rattle.amqp_perf.specs.declared.perf.Perf.TheVariants as perf
 use Rattle.amqp_perf.specs.declared.perf.Transfer.{Transfer}
 use Rattle.amqp_frames.specs.declared.item.Item.TheVariants as item
 use Rattle.amqp_link.specs.declared.part.Delivery.{Delivery as Told}
 use Rattle.amqp_link.specs.Deliveries.{frame, bytes, delivery}
 use Rattle.amqp_link.specs.Receiving.{Received, middle}
+use Rattle.book_core.specs.declared.row.RowNumber.{RowNumber}
 use Rattle.router_trace.specs.declared.binding.Binding.{Binding}
 use Rattle.router_trace.specs.declared.binding.Origin.{Origin}
 use Rattle.router_trace.specs.declared.channel.PeerChannel.TheVariants.{Mapped}
@@ -16,8 +17,9 @@ use Rattle.router_trace.specs.Trace.{Trace, Did, Out, Took, Bound, Booked, Began
 use Rattle.router_trace.specs.Sessions.{theirs}
 use Rattle.router_trace.specs.Links.{Link, receives, link, link_place, on}
 use Rattle.router_trace.specs.Settling.{is_claimed_on}
-use Rattle.router_passing.specs.Passing.{consumer_of}
-use Rattle.router_reply.specs.Replies.{from_link, claimed_id}
+use Rattle.router_passing.specs.Passing.{consumer_of, lasts}
+use Rattle.router_reply.specs.Admitting.{claimed_id}
+use Rattle.router_reply.specs.Replies.{from_link, lasts_on, row_found}
 
 -- an event, and the trace that it found
 pub record Handled : Type 0 where
@@ -71,8 +73,14 @@ ComesFrom None t c own handle l message = claimed_id t c own handle message.id �
 ComesFrom (Some p) t c own handle l message =
     (p.link ≡ from_link c own handle l) × (message.id ≡ Some p.id) × (is_claimed_on t c own handle p.id ≡ true)
 
+-- A message of a durable link has a row in the book, unless its producer has settled it.
+abbrev pub HasRowOn : Bool → Option Origin → Option RowNumber → Type 0
+HasRowOn true (Some p) row = is_some row ≡ true
+HasRowOn _ _ row = Unit {0}
+
 -- A message is bound when it is just complete, as it was received, to the consumer chosen for the address of its producer's link.
--- No message was bound after that event before, so none is bound twice. It has no row: durable deliveries come later.
+-- No message was bound after that event before, so none is bound twice. Its row is the one that the acts of the event admit, and the binding says
+-- whether the consumer's link is durable.
 pub record BindsMessage (t : Trace) (b : Binding) : Type 0 where
   pub conn : ℕ
   pub own : ℕ
@@ -81,9 +89,11 @@ pub record BindsMessage (t : Trace) (b : Binding) : Type 0 where
   pub came : CameWhole t conn own handle message b.payload
   pub once : bound_since t ≡ 0
   pub not_resumed : message.resume ≡ false
-  pub no_row : b.row ≡ None
+  pub row : b.row ≡ row_found came.handled.found
   pub format : b.format ≡ unwrap_or message.format 0
   pub producer : Link
   pub attached : link t conn own handle ≡ Some producer
   pub chosen : consumer_of t (Some producer) ≡ Some b.consumer
   pub from : ComesFrom b.origin t conn own handle producer message
+  pub has_row : HasRowOn (lasts_on (Some producer)) b.origin b.row
+  pub lasting : b.lasting ≡ lasts t b.consumer

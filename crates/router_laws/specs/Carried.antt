@@ -1,6 +1,6 @@
 -- The frames in which messages go to their consumers (AMQP 1.0 part 2, sections 2.6.14 and 2.7.5): transfers, of which the first of a delivery
 -- has its id, its tag and its format, and each says whether more are to come.
-use Rattle.std.specs.Prelude.{◌≡◌, ◌<◌, ℕ, ◌+◌, ◌^◌, true, false, is_some, if◌then◌else◌, List, [], ◌∷◌, ◌++◌, length, take, drop, Option, Some, None}
+use Rattle.std.specs.Prelude.{◌≡◌, ◌<◌, ℕ, ◌+◌, ◌^◌, true, false, is_some, if◌then◌else◌, List, [], ◌∷◌, ◌++◌, length, take, drop, Option, Some, None, IfSome}
 use Rattle.amqp_perf.specs.declared.perf.Perf.{Perf}
 use Rattle.amqp_perf.specs.declared.perf.Perf.TheVariants as perf
 use Rattle.amqp_perf.specs.declared.perf.Transfer.{Transfer}
@@ -10,13 +10,21 @@ use Rattle.router_trace.specs.declared.binding.Binding.{Binding}
 use Rattle.router_trace.specs.declared.binding.DeliveryName.{DeliveryName}
 use Rattle.router_trace.specs.Trace.{Trace, Did, Out, Took, Bound, Booked, Began}
 use Rattle.router_trace.specs.Deliveries.{Delivery, bindings, number_named, delivery, sending, carried, tag_in, tag_of, tagged, is_number}
+use Rattle.router_laws.specs.Each.{EachBound}
+
+-- Numbers are small: fewer than 2^64 messages were bound, and the row of each that has one is below 2^64.
+abbrev pub HasSmallRow : Trace → Binding → Type 0
+HasSmallRow t b = IfSome b.row (λ r. r.0 < 2 ^ 64)
+
+abbrev pub HasSmallNumbers : Trace → Type 0
+HasSmallNumbers t = (bindings t < 2 ^ 64) × EachBound HasSmallRow t
 
 -- The first frame of a delivery: it has an id, the delivery's tag and the message format, and nothing of the delivery was sent before. The tag tells
 -- the delivery's name. (It has 8 bytes of a number.)
 pub record IsFirst (t : Trace) (d : Delivery) (x : Transfer) : Type 0 where
   pub id : is_some x.delivery_id ≡ true
   pub tag : tag_in x ≡ Some (tag_of d.name)
-  pub tells_name : bindings t < 2 ^ 64 → tagged (tag_of d.name) ≡ Some d.name
+  pub tells_name : HasSmallNumbers t → tagged (tag_of d.name) ≡ Some d.name
   pub format : x.message_format ≡ Some d.format
   pub starts : d.sent ≡ 0
 
@@ -79,12 +87,12 @@ pub record IsBeginning (bytes whole : List ℕ) : Type 0 where
   pub joined : bytes ++ rest ≡ whole
 
 abbrev pub GoesInOrder : Trace → Type 0
-GoesInOrder u = bindings u < 2 ^ 64 → (b : Binding) (t later : Trace) → u ≡ later ++ Bound b ∷ t → IsBeginning (bytes_out u (bindings t + 1)) b.payload
+GoesInOrder u = HasSmallNumbers u → (b : Binding) (t later : Trace) → u ≡ later ++ Bound b ∷ t → IsBeginning (bytes_out u (bindings t + 1)) b.payload
 
 abbrev pub perf_completes : Perf → Trace → ℕ → Item → ℕ → Type 0
 perf_completes (perf.Transfer x) t c i own =
-    bindings t < 2 ^ 64 → x.more ≡ false → (n : ℕ) (d : Delivery) → delivery t n ≡ Some d → carried (number_named t) (tag_in x) (sending t c own x.handle) ≡ Some n
-    → bytes_out (Out c i ∷ t) n ≡ d.payload
+    HasSmallNumbers t → x.more ≡ false → (n : ℕ) (d : Delivery) → delivery t n ≡ Some d
+    → carried (number_named t) (tag_in x) (sending t c own x.handle) ≡ Some n → bytes_out (Out c i ∷ t) n ≡ d.payload
 perf_completes _ t c i own = Unit {0}
 
 abbrev pub CompletesMessage : Trace → ℕ → Item → Type 0

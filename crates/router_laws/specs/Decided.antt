@@ -16,7 +16,7 @@ use Rattle.router_trace.specs.declared.channel.PeerChannel.TheVariants.{Mapped}
 use Rattle.router_trace.specs.Trace.{Trace, Entry, Did, Out, Step}
 use Rattle.router_trace.specs.Links.{ends_handle}
 use Rattle.router_trace.specs.Sessions.{theirs}
-use Rattle.router_trace.specs.Deliveries.{Delivery, number_named, delivery, named, terminal, decision, failed, last_of, tag_in, carried, sending}
+use Rattle.router_trace.specs.Deliveries.{Delivery, number_named, delivery, named, terminal, decision, failed, closes, last_of, tag_in, carried, sending}
 
 -- Its consumer gave it: a disposition was received, as a receiver's, on the link's session; the delivery's id is in its range, and
 -- names this delivery; the outcome is its state if that is terminal, and modified with delivery-failed if it settles without one.
@@ -39,13 +39,21 @@ pub record GivenByConsumer (entry : Entry) (t : Trace) (n : ℕ) (d : Delivery) 
   pub undecided : d.outcome ≡ None
 
 -- The consumer's link ended, while it was undecided: the connection was lost, or a detach of the link, an end of its session or a close was
--- put out. The message may have come there, so it is modified with delivery-failed.
+-- put out. The message may have come there, so it is modified with delivery-failed. A delivery that outlives its consumer's connection is decided only by a
+-- detach that closes the link for good; any other end of the link suspends it, and no end decides a suspended one.
 pub record LinkLost (entry : Entry) (d : Delivery) : Type 0 where
   pub step : Step
   pub conn : ConnectionId
   pub entry_is : entry ≡ Did step
   pub lost : step.event ≡ event.Down conn
   pub on_connection : d.link.conn.0 ≡ conn.0
+  pub not_suspended : d.suspended ≡ false
+  pub not_lasting : d.lasting ≡ false
+
+-- a detach that closes its link for good
+abbrev pub is_for_good : Item → Bool
+is_for_good (item.Frame sasl own body payload) = closes body
+is_for_good _ = false
 
 pub record LinkEnded (entry : Entry) (d : Delivery) : Type 0 where
   pub conn : ℕ
@@ -53,6 +61,8 @@ pub record LinkEnded (entry : Entry) (d : Delivery) : Type 0 where
   pub entry_is : entry ≡ Out conn item
   pub on_connection : d.link.conn.0 ≡ conn
   pub ends : ends_handle item d.link.channel d.link.handle ≡ true
+  pub not_suspended : d.suspended ≡ false
+  pub for_good : d.lasting ≡ true → is_for_good item ≡ true
 
 -- Its producer had settled it, so no consumer decides: it is accepted after the last of its frames.
 pub record SentSettled (entry : Entry) (t : Trace) (n : ℕ) (d : Delivery) : Type 0 where

@@ -5,4 +5,6 @@ pub mod Carried
 pub mod Came
 pub mod Told
 pub mod Keeping
+pub mod Admitted
+pub mod Kept
 pub mod Laws

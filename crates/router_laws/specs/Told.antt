@@ -10,13 +10,15 @@ use Rattle.amqp_perf.specs.declared.state.DeliveryState.TheVariants as state
 use Rattle.amqp_frames.specs.declared.item.Item.{Item}
 use Rattle.amqp_frames.specs.declared.item.Item.TheVariants as item
 use Rattle.amqp_link.specs.declared.part.Delivery.{Delivery as Told}
+use Rattle.book_core.specs.declared.row.RowNumber.{RowNumber}
 use Rattle.router_trace.specs.declared.binding.Origin.{Origin}
 use Rattle.router_trace.specs.Trace.{Trace, Did, Out, Took, Bound, Booked, Began}
 use Rattle.router_trace.specs.Deliveries.{Delivery, has_row, bindings, delivery, is_meant, origin_id}
 use Rattle.router_trace.specs.DeliveryFrames.{kept_outcome}
-use Rattle.router_trace.specs.Links.{link}
+use Rattle.router_trace.specs.Links.{Link, link}
 use Rattle.router_trace.specs.Settling.{is_claimed_on}
 use Rattle.router_passing.specs.Passing.{consumer_of}
+use Rattle.router_reply.specs.Replies.{lasts_on, row_found}
 use Rattle.router_laws.specs.OneConsumer.{WhileThere}
 use Rattle.router_laws.specs.Decided.{DecidedByConsumer}
 use Rattle.router_laws.specs.Came.{CameWhole}
@@ -76,7 +78,12 @@ pub record TellsOutcome (t : Trace) (c own : ℕ) (x : Disposition) : Type 0 whe
   pub settled : x.settled ≡ not (has_row of.name)
   pub first_time : tellings t number ≡ 0
 
--- Or a message that is just complete is released, as no consumer is chosen for it: it is bound to none.
+-- why a message of a link isn't bound: no consumer is chosen for it, or its link is durable and it got no row
+abbrev pub IsUnbound : Trace → Option Link → Option RowNumber → Type 0
+IsUnbound t l row = (consumer_of t l ≡ None) ⊎ ((lasts_on l ≡ true) × (row ≡ None))
+
+-- Or a message that is just complete is released: it is bound to none, as no consumer is chosen for it, or its link is durable and it got no row. A
+-- durable link's isn't settled by that: its producer settles it.
 pub record ReleasesMessage (t : Trace) (c own : ℕ) (x : Disposition) : Type 0 where
   pub handle : ℕ
   pub message : Told
@@ -85,9 +92,9 @@ pub record ReleasesMessage (t : Trace) (c own : ℕ) (x : Disposition) : Type 0 
   pub not_resumed : message.resume ≡ false
   pub its_id : message.id ≡ Some x.first
   pub unsettled : is_claimed_on t c own handle x.first ≡ true
-  pub nobody : consumer_of t (link t c own handle) ≡ None
+  pub unbound : IsUnbound t (link t c own handle) (row_found came.handled.found)
   pub told : x.state ≡ Some state.Released
-  pub settled : x.settled ≡ true
+  pub settled : x.settled ≡ not (lasts_on (link t c own handle))
 
 -- A disposition of the router as a receiver is for one delivery: it reports an outcome, or releases a message.
 pub record TellsProducer (t : Trace) (c own : ℕ) (x : Disposition) : Type 0 where

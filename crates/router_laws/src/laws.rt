@@ -3,11 +3,11 @@
 ghost use Rattle.router_laws.specs.OneConsumer.{StaysWithConsumer, NeverComesBack, OfMessages};
 ghost use Rattle.router_laws.specs.Decided.{OutcomesAreGiven, OutcomesAreOfConsumers};
 ghost use Rattle.router_laws.specs.Told.{ToldAtMostOnce, ToldAnew};
-ghost use Rattle.router_laws.specs.Laws.{InTraces, InRuns, AllCarry, AllJoin, AllBindOnce, AllCame, AllTell, AllKeptFirst};
+ghost use Rattle.router_laws.specs.Laws.{InTraces, InRuns, InTracesFrom, InRunsFrom, AllCarry, AllJoin, AllBindOnce, AllCame, AllTell, AllKeptFirst, AllAdmitted, AllRowsOnce, AllRowsBound, InTracesInTurn, OnMade, AllOutcomesKept, AllRowsDecidedOnce};
 
 /// In every trace of the router a message is bound when it is complete: the last frame of its delivery has just been received. What is bound
-/// is what its frames carried, and it is bound once; so each delivery is of such a message (AMQP 1.0 part 2, sections 2.6.14 and 2.7.5).
-/// Lists of events have such traces.
+/// is what its frames carried, and it is bound once, with the row that the acts of that event admit; on a durable link it has one, unless its producer
+/// has settled it. So each delivery is of such a message (AMQP 1.0 part 2, sections 2.6.14 and 2.7.5). Lists of events have such traces.
 pub fn messages_are_bound_once()
     ensures traces { InTraces AllBindOnce }
     ensures runs { InRuns AllBindOnce }
@@ -34,7 +34,8 @@ pub fn frames_carry_what_was_bound()
 {}
 
 /// Each outcome is as it was given: by a disposition of the delivery's consumer, by the end of its link (it is then modified, with
-/// delivery-failed), or, if the message was settled before, by its last frame (AMQP 1.0 part 2, sections 2.6.12 and 2.7.6).
+/// delivery-failed), or, if the message was settled before, by its last frame. The end of a durable link decides a delivery with a row only if it is a
+/// detach that closes the link (AMQP 1.0 part 2, sections 2.6.12 and 2.7.6).
 pub fn outcomes_are_as_given()
     ensures given { OutcomesAreGiven }
     ensures of_consumers { OutcomesAreOfConsumers }
@@ -42,8 +43,9 @@ pub fn outcomes_are_as_given()
 
 /// The producer of each delivery is sent its outcome at most once; another outcome with the same delivery-id belongs to a message that was
 /// bound later. In every trace of the router each disposition as a receiver is for one delivery: it
-/// reports the outcome that was given, for the first time, or releases a message that is just complete and for which no consumer is chosen (AMQP
-/// 1.0 part 2, sections 2.6.12 and 2.7.6). Lists of events have such traces.
+/// reports the outcome that was given, for the first time, or releases a message that is just complete and isn't bound: no consumer is chosen for it, or
+/// its link is durable and it got no row. It settles a delivery unless that is the producer's to do, on a durable link (AMQP 1.0 part 2, sections 2.6.12
+/// and 2.7.6). Lists of events have such traces.
 pub fn outcomes_are_told_once()
     ensures once { ToldAtMostOnce }
     ensures anew { ToldAnew }
@@ -57,4 +59,29 @@ pub fn outcomes_are_told_once()
 pub fn durable_links_are_kept_first()
     ensures traces { InTraces AllKeptFirst }
     ensures runs { InRuns AllKeptFirst }
+{}
+
+/// In every trace of the router a message that has a row is bound once the book has admitted it: before the event that completed it stands one act, the
+/// admission of that message under a new row, from the terminus of its producer's durable link. `Core::handle` has the acts on the disk before it puts
+/// anything out, so no consumer gets a durable message that a crash could lose. Each row is bound at most once, and each that the book gave since the router
+/// was opened is bound (AMQP 1.0 part 2, section 2.6.12, and
+/// part 3, sections 3.5.3 to 3.5.5). Lists of events have such traces.
+pub fn durable_messages_are_kept_first()
+    ensures traces { InTraces AllAdmitted }
+    ensures runs { InRuns AllAdmitted }
+    ensures once { InTraces AllRowsOnce }
+    ensures runs_once { InRuns AllRowsOnce }
+    ensures bound { InTracesFrom AllRowsBound }
+    ensures runs_bound { InRunsFrom AllRowsBound }
+{}
+
+/// In every trace of the router in which no event is declined (Start comes first, and once), opened on a book that acts made: where a producer is told the
+/// outcome of a delivery with a row, the book has that row, decided, with that outcome. `Core::handle` has the book on the disk before it puts anything out, so
+/// no crash loses an outcome that was told. Each row is decided at most once, whatever happens (AMQP 1.0 part 2, section 2.6.12, and part 3, section
+/// 3.4). Lists of events have such traces.
+pub fn durable_outcomes_are_kept_first()
+    ensures traces { InTracesInTurn (OnMade AllOutcomesKept) }
+    ensures runs { InRunsFrom (OnMade AllOutcomesKept) }
+    ensures once { InTracesFrom (OnMade AllRowsDecidedOnce) }
+    ensures runs_once { InRunsFrom (OnMade AllRowsDecidedOnce) }
 {}

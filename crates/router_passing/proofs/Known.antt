@@ -6,6 +6,7 @@ use Rattle.std.specs.BTreeMap.{get}
 use Rattle.std.proofs.lemmas.Bool.{eq-eqb}
 use Rattle.amqp_frames.specs.declared.item.Item.{Item}
 use Rattle.amqp_frames.specs.declared.item.Item.TheVariants as item
+use Rattle.book_core.specs.declared.row.RowNumber.{RowNumber}
 use Rattle.book_core.specs.Keys.{key_cmp}
 use Rattle.router_trace.specs.declared.event.Event.{Event}
 use Rattle.router_trace.specs.declared.handle.Attachment.{Attachment}
@@ -17,7 +18,6 @@ use Rattle.router_trace.specs.declared.binding.Origin.{Origin}
 use Rattle.router_trace.specs.Numbers.{count_below}
 use Rattle.router_trace.specs.Deliveries.{Delivery, bindings, delivery, waits_on, undecided_on, held_from}
 use Rattle.router_deliveries.specs.declared.deliveries.Deliveries.{Deliveries}
-use Rattle.router_deliveries.specs.declared.claims.Claims.{Claims}
 use Rattle.router_deliveries.specs.Claiming.{ClaimsFit}
 use Rattle.router_deliveries.specs.Finding.{count_deliveries}
 use Rattle.router_deliveries.specs.Fits.{DeliveriesFit, channel_of as of_deliveries}
@@ -35,7 +35,7 @@ use Rattle.router_pools.specs.Sharing.{Figure, demand_at, offer_at}
 use Rattle.router_passing.specs.declared.passing.Passing.{Passing}
 use Rattle.router_passing.specs.Figures.{figure}
 use Rattle.router_passing.specs.Fits.{IsTold, NotedFit, PassingFit, PoolsKnow, Untouched}
-use Rattle.router_passing.specs.Passing.{binding_to, last_behind, last_chosen, with_bound}
+use Rattle.router_passing.specs.Passing.{binding_to, last_behind, last_chosen, lasts, with_bound}
 use Rattle.router_passing.proofs.Seen.{by_test, figure_same}
 
 -- Equal functions serve the pools as well.
@@ -185,6 +185,11 @@ channel_same (item.Frame sasl channel body payload) = refl
 channel_same _ = refl
 
 -- a message that is bound to the chosen consumer
-pub passed : (u : Passing) (t : Trace) (a : Attachment) (origin : Option Origin) (format : ℕ) (payload : List ℕ) (chosen : Option Attachment) → Some a ≡ chosen
-    → PassingFit u (Bound (binding_to origin format payload a) ∷ t) → PassingFit u (with_bound (option_map (binding_to origin format payload) chosen) t)
-passed u t a origin format payload chosen is fit = subst (λ v. PassingFit u (with_bound (option_map (binding_to origin format payload) v) t)) is fit
+abbrev pub message_to : Option Origin → Option RowNumber → Bool → ℕ → List ℕ → Attachment → Binding
+message_to origin row lasting format payload a = record { consumer = a; origin = origin; row = row; lasting = lasting; format = format; payload = payload }
+
+pub passed : (u : Passing) (t : Trace) (a : Attachment) (origin : Option Origin) (row : Option RowNumber) (lasting : Bool) (format : ℕ) (payload : List ℕ) (chosen : Option Attachment) → Some a ≡ chosen → lasting ≡ lasts t a
+    → PassingFit u (Bound (message_to origin row lasting format payload a) ∷ t) → PassingFit u (with_bound (option_map (binding_to t origin row format payload) chosen) t)
+passed u t a origin row lasting format payload chosen is durable fit =
+    subst (λ v. PassingFit u (with_bound (option_map (binding_to t origin row format payload) v) t)) is
+    (subst (λ l. PassingFit u (Bound (message_to origin row l format payload a) ∷ t)) durable fit)

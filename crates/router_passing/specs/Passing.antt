@@ -1,10 +1,11 @@
 -- Messages that go from a producer to a consumer of its address, and the credit granted to producers.
-use Rattle.std.specs.Prelude.{ℕ, zero, suc, Bool, false, ◌+◌, ◌==◌, ◌&&◌, if◌then◌else◌, List, [], ◌∷◌, ◌++◌, bytes_eq, Option, Some, None, option_and_then, option_map}
+use Rattle.std.specs.Prelude.{ℕ, zero, suc, Bool, false, ◌+◌, ◌==◌, ◌&&◌, if◌then◌else◌, List, [], ◌∷◌, ◌++◌, bytes_eq, Option, Some, None, is_some, option_and_then, option_map}
 use Rattle.std.specs.Cmp.Lexicographic.{slice_cmp}
 use Rattle.std.specs.Ordering.{nat_cmp}
 use Rattle.std.specs.declared.cmp.Ordering.{Ordering}
 use Rattle.std.specs.declared.cmp.Ordering.TheVariants.{Less}
 use Rattle.amqp_session.specs.Session.{Session}
+use Rattle.book_core.specs.declared.row.RowNumber.{RowNumber}
 use Rattle.amqp_link.specs.Receiving as receiving
 use Rattle.route_credit.specs.Granting.{choice, grants_of}
 use Rattle.route_credit.specs.Pool.{Sharing}
@@ -16,7 +17,7 @@ use Rattle.router_trace.specs.Trace.{Trace, Put, Did, Out, Took, Bound, Booked, 
 use Rattle.router_trace.specs.Configuration.{distribution}
 use Rattle.router_trace.specs.Frames.{told_of}
 use Rattle.router_trace.specs.LinkFrames.{link_flow_item}
-use Rattle.router_trace.specs.Links.{Link, Happened, sends, receives, link, numbered, attachments}
+use Rattle.router_trace.specs.Links.{Link, Happened, sends, receives, link, numbered, attachments, durable_key}
 use Rattle.router_trace.specs.Sessions.{session}
 use Rattle.router_trace.specs.Following.{link_of}
 use Rattle.router_passing.specs.declared.grant.LinkGrant.{LinkGrant}
@@ -54,12 +55,16 @@ abbrev pub consumer_of : Trace → Option Link → Option Attachment
 consumer_of t None = None
 consumer_of t (Some l) = option_and_then (numbered t) (choice_of t l.address)
 
--- a message of a producer's link, bound to the chosen consumer, if there is one
-abbrev pub binding_to : Option Origin → ℕ → List ℕ → Attachment → Binding
-binding_to origin format payload at = record { consumer = at; origin = origin; row = None; lasting = false; format = format; payload = payload }
+-- an attachment's link is durable
+abbrev pub lasts : Trace → Attachment → Bool
+lasts t at = is_some (durable_key (link_of t at))
 
-abbrev pub passing : Trace → Attachment → Option Origin → ℕ → List ℕ → Option Binding
-passing t from origin format payload = option_map (binding_to origin format payload) (consumer_of t (link_of t from))
+-- a message of a producer's link, bound to the chosen consumer, if there is one; a durable message comes with the number of its row
+abbrev pub binding_to : Trace → Option Origin → Option RowNumber → ℕ → List ℕ → Attachment → Binding
+binding_to t origin row format payload at = record { consumer = at; origin = origin; row = row; lasting = lasts t at; format = format; payload = payload }
+
+abbrev pub passing : Trace → Attachment → Option Origin → Option RowNumber → ℕ → List ℕ → Option Binding
+passing t from origin row format payload = option_map (binding_to t origin row format payload) (consumer_of t (link_of t from))
 
 -- the trace with a binding, if there is one
 abbrev pub with_bound : Option Binding → Trace → Trace

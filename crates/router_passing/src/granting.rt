@@ -4,7 +4,7 @@ ghost use Rattle.router_trace.specs.Trace.{Entry};
 ghost use Rattle.route_table.specs.declared.sections.Distribution.{Distribution};
 ghost use Rattle.router_trace.specs.Configuration.{distribution};
 ghost use Rattle.router_trace.specs.Following.{link_of};
-ghost use Rattle.router_trace.specs.Links.{Link as View, numbered};
+ghost use Rattle.router_trace.specs.Links.{Link as View, link, numbered};
 ghost use Rattle.router_links.specs.Ends.{link_of as link_of_view};
 ghost use Rattle.router_links.specs.Fits.{LinksFit};
 ghost use Rattle.router_pools.specs.Fits.{NoneTouched, PoolsFit};
@@ -14,14 +14,16 @@ ghost use Rattle.router_passing.specs.Figures.{figure};
 ghost use Rattle.router_passing.specs.Fits.{NotedFit, PassingFit, Untouched};
 ghost use Rattle.router_passing.specs.Passing.{choice_of, consumer_of, grant_at, grant_by, grants, grants_on, last_behind, last_chosen, passing, with_bound};
 
+use crate::durable::lasts;
 use crate::figures::tell;
 use crate::grant::LinkGrant;
 use crate::passing::Passing;
+use book_core::RowNumber;
 use bytes::Bytes;
 use route_credit::ProducerId;
 use router_links::{Link, Links};
 use router_pools::Pools;
-use router_trace::{Attachment, Binding, LinkState, Origin};
+use router_trace::{Attachment, Binding, ConnectionId, LinkState, Origin};
 use std::alloc::{AllocError, Global};
 
 impl Passing {
@@ -62,17 +64,18 @@ impl Passing {
         Err(AllocError)
     }
 
-    /// Binds a message of a producer's link to the chosen consumer of its address; returns whether there is one. Fails if memory is refused, and
-    /// if no binding number is left.
+    /// Binds a message of a producer's link to the chosen consumer of its address; returns whether there is one. A durable message comes with the
+    /// number of its row. Fails if memory is refused, and if no binding number is left.
     pub fn pass(
         &mut self,
         from: Attachment,
         origin: Option<Origin>,
+        row: Option<RowNumber>,
         format: u32,
         payload: Bytes,
     ) -> Result<bool, AllocError>
         ensures chosen { IfOk result (λ chosen. (t : List Entry) → PassingFit self.old t → chosen ≡ is_some (consumer_of t (link_of t from))) }
-        ensures fits { OnOk result ((t : List Entry) → PassingFit self.old t → PassingFit self.new (with_bound (passing t from origin format payload) t)) }
+        ensures fits { OnOk result ((t : List Entry) → PassingFit self.old t → PassingFit self.new (with_bound (passing t from origin row format payload) t)) }
     {
         self.tell_all()?;
         match self.choose(from) {
@@ -81,17 +84,49 @@ impl Passing {
                 Ok(false)
             }
             Some(consumer) => {
+                let lasting = lasts(&self.links, consumer);
                 self.deliveries.bind(Binding {
                     consumer,
                     origin,
-                    row: None,
-                    lasting: false,
+                    row,
+                    lasting,
                     format,
                     payload,
                 })?;
                 self.claims.bind(origin)?;
                 Ok(true)
             }
+        }
+    }
+
+    /// The consumer that [`Passing::pass`] would choose now for a message of the producer's link on a handle of the router; nothing is noted, so
+    /// asked again it answers the same.
+    pub fn consumer_for(
+        &mut self,
+        conn: u64,
+        own: u16,
+        handle: u32,
+    ) -> Result<Option<Attachment>, AllocError>
+        ensures consumer { IfOk result (λ at. (t : List Entry) → PassingFit self.old t → at ≡ consumer_of t (link t conn own handle)) }
+        ensures fits { OnOk result ((t : List Entry) → PassingFit self.old t → PassingFit self.new t) }
+    {
+        self.tell_all()?;
+        Ok(self.peek(conn, own, handle))
+    }
+
+    /// The same after the pools were told of all links.
+    fn peek(&self, conn: u64, own: u16, handle: u32) -> Option<Attachment>
+        ensures { (t : List Entry) → Untouched self.now → PassingFit self.now t → result ≡ consumer_of t (link t conn own handle) }
+    {
+        let place = Attachment {
+            number: 0,
+            conn: ConnectionId(conn),
+            channel: own,
+            handle,
+        };
+        match self.links.link(place) {
+            None => None,
+            Some(link) => peek_of(&self.pools, &self.links, link.address.as_str()),
         }
     }
 
@@ -127,6 +162,17 @@ fn choose_of(pools: &mut Pools, links: &Links, address: &str) -> Option<Attachme
     match pools.choose(address) {
         None => None,
         Some(chosen) => links.place_of(chosen.0),
+    }
+}
+
+/// The consumer that would be chosen for an address, after the pools were told of all links.
+fn peek_of(pools: &Pools, links: &Links, address: &str) -> Option<Attachment>
+    ensures { (t : List Entry) → LinksFit links.now t → NoneTouched pools.now → PoolsFit pools.now (distribution t) (figure t) (last_chosen t)
+        → result ≡ option_and_then (numbered t) (choice_of t address.now) }
+{
+    match pools.peek(address) {
+        None => None,
+        Some(number) => links.place_of(number),
     }
 }
 

@@ -3,6 +3,7 @@
 
 mod asking;
 mod busy;
+mod durable;
 mod figures;
 mod grant;
 mod granting;

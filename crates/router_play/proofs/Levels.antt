@@ -290,7 +290,7 @@ item_known id t u d i links (Some p) there =
     (stolen_known u links (last_of_key u (key_at u d (answer_to x 0))) (holder u (key_at u d (answer_to x 0))) refl)
     (each_known _ u d (there refl)))
     (λ own handle e x. each_known (refused (largest_frame u d) own handle e x) u d (there refl))
-    (λ own handle q. each_known (part_put u d own handle q) u d (there refl))
+    (λ own handle row q. each_known (part_put u d own handle row q) u d (there refl))
     (λ own r ids. each_known (settled_answers own r ids) u d (there refl))
     i (answer_of t d p i)
 

@@ -107,6 +107,16 @@ impl ByAddress {
         }
     }
 
+    /// The consumer that would be chosen for the next delivery of an address.
+    pub(crate) fn peek(&self, address: &[u8]) -> Option<ConsumerId>
+        ensures { (share : List ℕ → Distribution) → option_map (λ c. c.0) result ≡ choice (pool_in share self.now address.now) }
+    {
+        match self.pools.get(address) {
+            None => None,
+            Some(pool) => pool.peek(),
+        }
+    }
+
     /// Chooses the consumer of the next delivery of an address.
     pub(crate) fn choose(&mut self, address: &[u8]) -> Option<ConsumerId>
         ensures chosen { (share : List ℕ → Distribution) → option_map (λ c. c.0) result ≡ choice (pool_in share self.old address.now) }

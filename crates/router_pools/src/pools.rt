@@ -138,6 +138,17 @@ impl Pools {
         Ok(())
     }
 
+    /// The consumer that [`Pools::choose`] would choose now, by number. Nothing is noted, so asked again it answers the same.
+    pub fn peek(&self, address: &str) -> Option<u64>
+        ensures { (share : List ℕ → Distribution) (known : ℕ → Option Figure) (last : List ℕ → ℕ) (count : ℕ) → PoolsFit self.now share known last → NoneTouched self.now → AreNumbered known count
+            → result ≡ choice (sharing (share address.now) known count (last address.now) address.now) }
+    {
+        match self.pools.peek(address.as_bytes()) {
+            None => None,
+            Some(consumer) => Some(consumer.0),
+        }
+    }
+
     /// Chooses the consumer of the next delivery of an address; none if no consumer has free credit. It allocates no memory.
     pub fn choose(&mut self, address: &str) -> Option<ConsumerId>
         ensures chosen { (share : List ℕ → Distribution) (known : ℕ → Option Figure) (last : List ℕ → ℕ) (count : ℕ) → PoolsFit self.old share known last → NoneTouched self.old → AreNumbered known count

@@ -15,7 +15,7 @@ use Rattle.router_rows.specs.declared.answer.Answer.{Answer}
 use Rattle.router_rows.specs.declared.answer.Answer.TheVariants.{Taken, Settle}
 use Rattle.router_rows.specs.Rows.{said}
 use Rattle.router_reply.specs.Acts.{answer_of}
-use Rattle.router_reply.specs.Replies.{item_row, item_bound, item_put, links_put, put_for_transfer, put_for_disposition, bound_for, part_put, part_bound, settled_put, disposition_in, attach_put, given_behind, behind_answer}
+use Rattle.router_reply.specs.Replies.{item_row, item_bound, item_put, links_put, put_for_transfer, put_for_disposition, bound_for, part_put, part_bound, settled_put, disposition_in, attach_put, row_found, given_behind, behind_answer}
 use Rattle.router_reply.proofs.Puts.{goes_both}
 
 -- an answer takes no transfer, or answers no disposition
@@ -27,7 +27,7 @@ NotSettled a = (own : ℕ) → a ≡ Settle own → ⊥
 
 -- what is put, by the answer
 taken_put : (t u : List Entry) (c : ℕ) (i : Item) (own handle : ℕ)
-    → links_put t u c i (Taken own handle) ≡ each_to c (part_put u c own handle (part_of i (link_place t c own)))
+    → links_put t u c i (Taken own handle) ≡ each_to c (part_put u c own handle (row_found t) (part_of i (link_place t c own)))
 taken_put t u c (item.Frame true channel (perf.Attach x) payload) own handle = refl
 taken_put t u c (item.Frame true channel (perf.Transfer x) payload) own handle = refl
 taken_put t u c (item.Frame true channel (perf.Disposition x) payload) own handle = refl
@@ -66,9 +66,9 @@ unbound t u c i _ none = refl
 
 -- the trace after it
 pub taken_is : (id : List ℕ) (t after : List Entry) (c : ℕ) (p : Conn) (i : Item) (own handle : ℕ)
-    → behind_answer id t after c p i (Taken own handle) ≡ given_behind after c own handle (part_of i (link_place t c own))
+    → behind_answer id t after c p i (Taken own handle) ≡ given_behind after c own handle (row_found t) (part_of i (link_place t c own))
 taken_is id t after c p i own handle =
-    ap (λ (ps : List Put). goes ps (with_bound (part_bound after c own handle (part_of i (link_place t c own))) after)) (taken_put t after c i own handle)
+    ap (λ (ps : List Put). goes ps (with_bound (part_bound after c own handle (row_found t) (part_of i (link_place t c own))) after)) (taken_put t after c i own handle)
 
 pub settled_is : (id : List ℕ) (t after : List Entry) (c : ℕ) (p : Conn) (i : Item) (own : ℕ)
     → behind_answer id t after c p i (Settle own) ≡ goes (settled_put t c own (disposition_in i)) after

@@ -1,4 +1,7 @@
 pub mod Acts
+pub mod Admitting
+pub mod Deciding
+pub mod Heard
 pub mod Replies
 pub use Rattle.router_trace.specs.Trace
 pub use Rattle.router_trace.specs.Connection

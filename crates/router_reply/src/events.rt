@@ -1,149 +1,109 @@
-//! An event with all that follows: the closes because of full outboxes, then the event's own row.
-ghost use Rattle.std.specs.Prelude.{◌≡◌, ◌∷◌, ℕ, List, OnOk, IfOk, true, false};
-ghost use Rattle.router_trace.specs.Trace.{Entry, did, newest, step_of, goes};
+//! The reply to an event that was handled: the closes because of full outboxes, then the event's own row.
+ghost use Rattle.std.specs.Prelude.{◌≡◌, ◌∷◌, ℕ, List, OnOk, true, false};
+ghost use Rattle.router_trace.specs.Trace.{Entry, did, step_of, goes, puts_of};
+ghost use Rattle.router_trace.specs.Connection.{due, standing, found};
 ghost use Rattle.router_trace.specs.Sessions.{theirs, maps};
 ghost use Rattle.router_trace.specs.Links.{link_place};
 ghost use Rattle.router_trace.specs.Settling.{part_of};
 ghost use Rattle.router_links.specs.Fits.{channel_of};
-ghost use Rattle.router_trace.specs.Refusing.{rises, refuses};
-ghost use Rattle.router_state.specs.Tables.{TablesFit, TablesAt};
+ghost use Rattle.router_state.specs.Tables.{TablesFit, beats};
 ghost use Rattle.router_reply.specs.Acts.{answer_of, answer_to_event};
-ghost use Rattle.router_reply.specs.Replies.{replied, heard, given_behind, behind_answer, attach_put, settled_put, disposition_in};
+ghost use Rattle.router_reply.specs.Heard.{ids_named, ItemHeard, IsHeard};
+ghost use Rattle.router_reply.specs.Replies.{replied, replied_behind, given_behind, behind_answer, attach_put, settled_put, disposition_in, row_found};
 ghost use Rattle.router_trace.specs.declared.event.Event.TheVariants as event;
 
 use crate::attaching::answer_item;
 use crate::closing::{close_all, say};
-use crate::passing::{disposition_in, last_of, settle, take_part};
+use crate::heard::Heard;
+use crate::passing::{disposition_in, settle, take_part};
 use amqp_conn::Conn;
 use amqp_frames::Item;
 use amqp_link::Part;
+use book_core::RowNumber;
 use router_rows::Answer;
 use router_state::State;
-use router_trace::{ConnectionId, Event, Peer, RouterId};
+use router_trace::{ConnectionId, Event, Outgoing, RouterId};
 use std::alloc::AllocError;
 
-/// Handles an item: notes its event and puts the closes because of full outboxes. Returns what a transfer makes of its delivery.
-fn hear_item(
-    state: &mut State,
-    id: &RouterId,
-    ends: &[u64],
-    conn: ConnectionId,
-    item: &Item,
-) -> Result<Option<Part>, AllocError>
-    ensures part { IfOk result (λ part. (t : List Entry) (own : ℕ) → TablesAt state.old t (event.Item conn item.now) ends.now
-        → maps (theirs t conn.0 (channel_of item.now)) own ≡ true → part ≡ part_of item.now (link_place t conn.0 own)) }
-    ensures fits { OnOk result ((t : List Entry) → TablesAt state.old t (event.Item conn item.now) ends.now → TablesFit state.new (heard id.now t (step_of (event.Item conn item.now)))) }
-{
-    let part = state.hear(conn, item)?;
-    close_all(state, id, ends)?;
-    Ok(part)
-}
-
-/// A transfer that is taken: a whole delivery is passed on.
-fn on_taken(
-    state: &mut State,
-    id: &RouterId,
-    ends: &[u64],
-    conn: ConnectionId,
-    own: u16,
-    handle: u32,
-    item: &Item,
-) -> Result<(), AllocError>
-    ensures { OnOk result ((t : List Entry) → TablesAt state.old t (event.Item conn item.now) ends.now
-        → maps (theirs t conn.0 (channel_of item.now)) own ≡ true
-        → TablesFit state.new (given_behind (heard id.now t (step_of (event.Item conn item.now))) conn.0 own handle (part_of item.now (link_place t conn.0 own)))) }
-{
-    let part = hear_item(state, id, ends, conn, item)?;
-    take_part(state, id, conn.0, own, handle, part)?;
-    Ok(())
-}
-
-/// A disposition whose deliveries are answered: those that it names are looked up before it is handled.
+/// The deliveries that a disposition decides without settling them, and that are answered.
 fn on_settle(
     state: &mut State,
     id: &RouterId,
-    ends: &[u64],
     conn: ConnectionId,
     own: u16,
     item: &Item,
+    ids: &[u32],
 ) -> Result<(), AllocError>
-    ensures { OnOk result ((t : List Entry) → TablesAt state.old t (event.Item conn item.now) ends.now
-        → TablesFit state.new (goes (settled_put t conn.0 own (disposition_in item.now)) (heard id.now t (step_of (event.Item conn item.now))))) }
+    ensures { OnOk result ((t after : List Entry) → TablesFit state.old after → ids_named t conn.0 own (disposition_in item.now) ids.now
+        → TablesFit state.new (goes (settled_put t conn.0 own (disposition_in item.now)) after)) }
 {
-    let Some(disposition) = disposition_in(item) else {
-        hear_item(state, id, ends, conn, item)?;
-        return Ok(());
-    };
-    let ids = state.open_ids(conn.0, own, disposition.first, last_of(disposition))?;
-    hear_item(state, id, ends, conn, item)?;
-    settle(state, id, conn.0, own, &ids, disposition)?;
+    if let Some(disposition) = disposition_in(item) {
+        settle(state, id, conn.0, own, ids, disposition)?;
+    }
     Ok(())
 }
 
-/// An item whose row gave this answer: handles it and puts the answer, except what an attach puts.
+/// An item whose row gave this answer, behind the closes: puts the answer, except what an attach puts.
 fn begin_item(
     state: &mut State,
     id: &RouterId,
-    ends: &[u64],
     conn: ConnectionId,
     phase: Conn,
     item: &Item,
     answer: &Answer,
+    row: Option<RowNumber>,
+    heard: Heard,
 ) -> Result<(), AllocError>
-    ensures { OnOk result ((t : List Entry) → TablesAt state.old t (event.Item conn item.now) ends.now → answer.now ≡ answer_of t conn.0 phase item.now
-        → (u : List Entry) × TablesFit state.new u
-        × (goes (attach_put u conn.0 item.now answer.now) u ≡ behind_answer id.now t (heard id.now t (step_of (event.Item conn item.now))) conn.0 phase item.now answer.now)) }
+    ensures { OnOk result ((t after : List Entry) → TablesFit state.old after → ItemHeard t conn item.now answer.now heard → answer.now ≡ answer_of t conn.0 phase item.now
+        → row ≡ row_found t → (u : List Entry) × TablesFit state.new u
+        × (goes (attach_put u conn.0 item.now answer.now) u ≡ behind_answer id.now t after conn.0 phase item.now answer.now)) }
 {
+    let Heard {
+        part,
+        ids,
+        beats,
+        ..
+    } = heard;
+    drop(beats);
     match answer {
         Answer::Taken { own, handle } => {
-            on_taken(state, id, ends, conn, *own, *handle, item)?;
+            drop(ids);
+            take_part(state, id, conn.0, *own, *handle, row, part)?;
             Ok(())
         }
         Answer::Settle { own } => {
-            on_settle(state, id, ends, conn, *own, item)?;
+            drop(part);
+            on_settle(state, id, conn, *own, item, &ids)?;
             Ok(())
         }
         _ => {
-            hear_item(state, id, ends, conn, item)?;
+            drop(part);
+            drop(ids);
             say(state, id, conn.0, phase, answer)?;
             Ok(())
         }
     }
 }
 
-/// An item on a connection that isn't live as the event finds it: it is handled, and has no answer.
-fn hear_late(
-    state: &mut State,
-    id: &RouterId,
-    ends: &[u64],
-    conn: ConnectionId,
-    item: &Item,
-) -> Result<(), AllocError>
-    ensures { OnOk result ((t : List Entry) → TablesAt state.old t (event.Item conn item.now) ends.now → TablesFit state.new (heard id.now t (step_of (event.Item conn item.now)))) }
-{
-    hear_item(state, id, ends, conn, item)?;
-    Ok(())
-}
-
-/// An item that has this answer: its event is handled and the answer put.
+/// An item that has this answer, behind the closes.
 fn on_item(
     state: &mut State,
     id: &RouterId,
-    ends: &[u64],
     conn: ConnectionId,
     item: Item,
     answer: Answer,
+    row: Option<RowNumber>,
+    heard: Heard,
 ) -> Result<(), AllocError>
-    ensures { OnOk result ((t : List Entry) → TablesAt state.old t (event.Item conn item) ends.now → answer ≡ answer_to_event t (event.Item conn item)
-        → TablesFit state.new (replied id.now t (step_of (event.Item conn item)))) }
+    ensures { OnOk result ((t after : List Entry) → TablesFit state.old after → answer ≡ answer_to_event t (event.Item conn item) → row ≡ row_found t → ItemHeard t conn item answer heard
+        → TablesFit state.new (replied_behind id.now t after (event.Item conn item))) }
 {
-    let Some(phase) = state.standing(conn.0) else {
-        let heard = hear_late(state, id, ends, conn, &item);
+    let Some(phase) = heard.phase else {
+        drop(heard);
         drop(item);
-        heard?;
         return Ok(());
     };
-    let Ok(()) = begin_item(state, id, ends, conn, phase, &item, &answer) else {
+    let Ok(()) = begin_item(state, id, conn, phase, &item, &answer, row, heard) else {
         drop(item);
         return Err(AllocError);
     };
@@ -151,65 +111,52 @@ fn on_item(
     Ok(())
 }
 
-/// A connection comes up.
-fn on_up(
-    state: &mut State,
-    id: &RouterId,
-    ends: &[u64],
-    conn: ConnectionId,
-    peer: &Peer,
-) -> Result<(), AllocError>
-    ensures { OnOk result ((t : List Entry) → TablesAt state.old t (event.Up conn peer.now) ends.now → rises conn.0 (newest t) ≡ true → TablesFit state.new (replied id.now t (step_of (event.Up conn peer.now)))) }
+/// The heartbeats that a tick made due.
+fn on_tick(state: &mut State, heard: Heard) -> Result<(), AllocError>
+    ensures { OnOk result ((t after : List Entry) (ms : ℕ) → TablesFit state.old after → puts_of heard.beats.items ≡ beats t (event.Tick ms) ms
+        → TablesFit state.new (goes (beats t (event.Tick ms) ms) after)) }
 {
-    state.up(conn, peer)?;
-    close_all(state, id, ends)?;
-    Ok(())
-}
-
-/// The down reply: a connection is lost; there is no answer.
-fn on_down(
-    state: &mut State,
-    id: &RouterId,
-    ends: &[u64],
-    conn: ConnectionId,
-) -> Result<(), AllocError>
-    ensures { OnOk result ((t : List Entry) → TablesAt state.old t (event.Down conn) ends.now → TablesFit state.new (replied id.now t (step_of (event.Down conn)))) }
-{
-    state.down(conn)?;
-    close_all(state, id, ends)?;
-    Ok(())
-}
-
-/// Handles a tick: notes its event and puts the closes because of full outboxes.
-fn hear_tick(state: &mut State, id: &RouterId, ends: &[u64], moment: u64) -> Result<(), AllocError>
-    ensures { OnOk result ((t : List Entry) → TablesAt state.old t (event.Tick moment) ends.now → TablesFit state.new (heard id.now t (step_of (event.Tick moment)))) }
-{
-    state.tick(moment);
-    close_all(state, id, ends)?;
-    Ok(())
-}
-
-/// The tick reply: a heartbeat for each live connection, once half of its peer's idle-time-out has passed.
-fn on_tick(state: &mut State, id: &RouterId, ends: &[u64], moment: u64) -> Result<(), AllocError>
-    ensures { OnOk result ((t : List Entry) → TablesAt state.old t (event.Tick moment) ends.now → TablesFit state.new (replied id.now t (step_of (event.Tick moment)))) }
-{
-    let beats = state.beats(moment)?;
-    hear_tick(state, id, ends, moment)?;
+    let Heard {
+        part,
+        ids,
+        beats,
+        ..
+    } = heard;
+    drop(part);
+    drop(ids);
     state.put_all(beats)?;
     Ok(())
 }
 
-/// The silent reply: the start has no answer.
-fn on_start(state: &mut State, id: &RouterId, ends: &[u64]) -> Result<(), AllocError>
-    ensures { OnOk result ((t : List Entry) → TablesAt state.old t event.Start ends.now → TablesFit state.new (replied id.now t (step_of event.Start))) }
+/// What an event's own row puts, behind the closes.
+fn own_row(
+    state: &mut State,
+    id: &RouterId,
+    event: Event,
+    answer: Answer,
+    row: Option<RowNumber>,
+    heard: Heard,
+) -> Result<(), AllocError>
+    ensures { OnOk result ((t after : List Entry) → TablesFit state.old after → answer ≡ answer_to_event t event → row ≡ row_found t
+        → IsHeard t event answer heard → TablesFit state.new (replied_behind id.now t after event)) }
 {
-    state.start();
-    close_all(state, id, ends)?;
+    match event {
+        Event::Up(_, peer) => {
+            drop(peer);
+            drop(heard);
+        }
+        Event::Item(conn, item) => {
+            on_item(state, id, conn, item, answer, row, heard)?;
+        }
+        Event::Down(_) => drop(heard),
+        Event::Tick(_) => on_tick(state, heard)?,
+        Event::Start => drop(heard),
+    }
     Ok(())
 }
 
-/// Replies to an event that is not refused with the answer that `plan` gave, after the turn that ended these connections because their
-/// outboxes were full (`State::turn`).
+/// Replies to an event that was handled (`hear`) with the answer that was planned and the row that its acts admit: the closes of these connections, whose
+/// outboxes were full, then the event's own row.
 ///
 /// # Errors
 ///
@@ -220,16 +167,18 @@ pub fn reply(
     ends: &[u64],
     event: Event,
     answer: Answer,
+    row: Option<RowNumber>,
+    heard: Heard,
 ) -> Result<(), AllocError>
-    ensures { OnOk result ((t : List Entry) → TablesAt state.old t event ends.now → refuses t event ≡ false → answer ≡ answer_to_event t event
+    ensures { OnOk result ((t : List Entry) → TablesFit state.old (did event ∷ t) → ends.now ≡ due t event
+        → answer ≡ answer_to_event t event → row ≡ row_found t → IsHeard t event answer heard
         → TablesFit state.new (replied id.now t (step_of event))) }
 {
-    match event {
-        Event::Up(conn, peer) => on_up(state, id, ends, conn, &peer)?,
-        Event::Item(conn, item) => on_item(state, id, ends, conn, item, answer)?,
-        Event::Down(conn) => on_down(state, id, ends, conn)?,
-        Event::Tick(moment) => on_tick(state, id, ends, moment)?,
-        Event::Start => on_start(state, id, ends)?,
-    }
+    let Ok(()) = close_all(state, id, ends) else {
+        drop(event);
+        drop(heard);
+        return Err(AllocError);
+    };
+    own_row(state, id, event, answer, row, heard)?;
     Ok(())
 }

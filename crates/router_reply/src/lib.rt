@@ -1,12 +1,17 @@
 //! The replies to events.
 #![tactic(auto)]
 
+mod admitting;
 mod attaching;
 mod closing;
+mod deciding;
 mod events;
+mod heard;
 mod passing;
 mod planning;
 
+pub use admitting::{admission_for, row_in};
 pub use events::reply;
+pub use heard::{Heard, hear};
 pub use passing::UNBOUND;
 pub use planning::{Plan, make_plan};

@@ -1,19 +1,21 @@
 //! Transfers that are taken, and dispositions whose deliveries are answered.
-ghost use Rattle.std.specs.Prelude.{◌∷◌, [], List, ℕ, OnOk, Some, None, true, map, option_map, ◌≡◌};
+ghost use Rattle.std.specs.Prelude.{◌∷◌, [], List, ℕ, OnOk, Some, None, true, nat_lt, map, option_map, ◌≡◌};
 ghost use Rattle.amqp_perf.specs.declared.perf.Role.TheVariants.{Sender};
 ghost use Rattle.router_trace.specs.Trace.{Entry, puts};
 ghost use Rattle.router_trace.specs.Links.{link};
+ghost use Rattle.router_trace.specs.Settling.{unbound};
 ghost use Rattle.router_trace.specs.Deliveries.{terminal, last_of};
 ghost use Rattle.router_trace.specs.DeliveryFrames.{outcome_item};
 ghost use Rattle.router_passing.specs.Passing.{with_bound, passing, consumer_of};
 ghost use Rattle.router_trace.specs.Following.{link_of};
 ghost use Rattle.router_state.specs.Tables.{TablesFit};
-ghost use Rattle.router_reply.specs.Replies.{claimed_id, origin_of, released, ignored_put, unbound_put, whole_put, whole_bound, fresh_bound, part_put, part_bound, settled_answers, disposition_in, disposition_of};
+ghost use Rattle.router_reply.specs.Admitting.{claimed_id};
+ghost use Rattle.router_reply.specs.Replies.{origin_of, may_pass, let_go, released_by, released, ignored_put, unbound_put, consumer_for, whole_put, whole_bound, fresh_bound, part_put, part_bound, settled_answers, disposition_in, disposition_of};
 
-use crate::closing::write_detach;
 use amqp_frames::Item;
 use amqp_link::{Delivery, Part};
 use amqp_perf::{DeliveryState, Disposition, Perf, Role};
+use book_core::RowNumber;
 use bytes::Bytes;
 use router_frames::outcome_item;
 use router_state::State;
@@ -24,7 +26,7 @@ use std::alloc::AllocError;
 pub const UNBOUND: usize = 1024;
 
 /// The delivery's id, if its producer hasn't settled it.
-fn claimed_id(state: &State, conn: u64, own: u16, handle: u32, id: Option<u32>) -> Option<u32>
+pub fn claimed_id(state: &State, conn: u64, own: u16, handle: u32, id: Option<u32>) -> Option<u32>
     ensures { (t : List Entry) → TablesFit state.now t → result ≡ claimed_id t conn own handle id }
 {
     let id = id?;
@@ -45,7 +47,17 @@ fn origin_of(from: Attachment, claimed: Option<u32>) -> Option<Origin>
     }
 }
 
-/// Reports the outcome of one delivery, and settles it.
+/// Whether a delivery may be bound: on a durable link one that its producer hasn't settled needs a row.
+fn may_pass(durable: bool, claimed: Option<u32>, row: Option<RowNumber>) -> bool
+    ensures { result ≡ may_pass durable claimed row }
+{
+    match claimed {
+        None => true,
+        Some(_) => !durable || row.is_some(),
+    }
+}
+
+/// Reports the outcome of one delivery, and settles it or not.
 fn put_outcome(
     state: &mut State,
     id: &RouterId,
@@ -53,12 +65,73 @@ fn put_outcome(
     own: u16,
     role: Role,
     delivery: u32,
+    settled: bool,
     outcome: &DeliveryState,
 ) -> Result<(), AllocError>
-    ensures { OnOk result ((t : List Entry) → TablesFit state.old t → TablesFit state.new (puts conn (outcome_item own role delivery true outcome.now ∷ []) t)) }
+    ensures { OnOk result ((t : List Entry) → TablesFit state.old t → TablesFit state.new (puts conn (outcome_item own role delivery settled outcome.now ∷ []) t)) }
 {
-    let item = outcome_item(id.alloc(), own, role, delivery, true, outcome)?;
+    let item = outcome_item(id.alloc(), own, role, delivery, settled, outcome)?;
     state.put(conn, item)?;
+    Ok(())
+}
+
+/// Detaches a link, which is closed unless it is durable.
+fn let_go(
+    state: &mut State,
+    id: &RouterId,
+    conn: u64,
+    own: u16,
+    handle: u32,
+    error: Condition,
+) -> Result<(), AllocError>
+    ensures { OnOk result ((t : List Entry) → TablesFit state.old t → TablesFit state.new (puts conn (let_go t conn own handle error) t)) }
+{
+    let closed = !state.is_durable(conn, own, handle);
+    let item = id.detach_item(own, handle, closed, Some(error))?;
+    state.put(conn, item)?;
+    Ok(())
+}
+
+/// Whether a link has more unsettled deliveries that are bound to no consumer than the router allows.
+fn has_many(state: &State, conn: u64, own: u16, handle: u32) -> bool
+    ensures { (t : List Entry) → TablesFit state.now t → result ≡ nat_lt 1024 (unbound t conn own handle) }
+{
+    state.unbound(conn, own, handle) > UNBOUND
+}
+
+/// Releases a delivery of a durable link: its producer settles it.
+fn release_unsettled(
+    state: &mut State,
+    id: &RouterId,
+    conn: u64,
+    own: u16,
+    handle: u32,
+    delivery: u32,
+) -> Result<(), AllocError>
+    ensures { OnOk result ((t : List Entry) → TablesFit state.old t → TablesFit state.new (puts conn (released_by t conn own handle true delivery) t)) }
+{
+    if has_many(state, conn, own, handle) {
+        let_go(
+            state,
+            id,
+            conn,
+            own,
+            handle,
+            Condition::ResourceLimitExceeded,
+        )?;
+        return Ok(());
+    }
+    let outcome = DeliveryState::Released;
+    put_outcome(
+        state,
+        id,
+        conn,
+        own,
+        Role::Receiver,
+        delivery,
+        false,
+        &outcome,
+    )?;
     Ok(())
 }
 
@@ -68,14 +141,29 @@ fn release(
     id: &RouterId,
     conn: u64,
     own: u16,
+    handle: u32,
     claimed: Option<u32>,
 ) -> Result<(), AllocError>
-    ensures { OnOk result ((t : List Entry) → TablesFit state.old t → TablesFit state.new (puts conn (released own claimed) t)) }
+    ensures { OnOk result ((t : List Entry) → TablesFit state.old t → TablesFit state.new (puts conn (released t conn own handle claimed) t)) }
 {
-    if let Some(delivery) = claimed {
-        let outcome = DeliveryState::Released;
-        put_outcome(state, id, conn, own, Role::Receiver, delivery, &outcome)?;
+    let Some(delivery) = claimed else {
+        return Ok(());
+    };
+    if state.is_durable(conn, own, handle) {
+        release_unsettled(state, id, conn, own, handle, delivery)?;
+        return Ok(());
     }
+    let outcome = DeliveryState::Released;
+    put_outcome(
+        state,
+        id,
+        conn,
+        own,
+        Role::Receiver,
+        delivery,
+        true,
+        &outcome,
+    )?;
     Ok(())
 }
 
@@ -93,10 +181,10 @@ fn ignore(
     if claimed.is_none() {
         return Ok(());
     }
-    if state.unbound(conn, own, handle) <= UNBOUND {
+    if !has_many(state, conn, own, handle) {
         return Ok(());
     }
-    write_detach(
+    let_go(
         state,
         id,
         conn,
@@ -107,27 +195,28 @@ fn ignore(
     Ok(())
 }
 
-/// Binds a message of a link to a consumer of its address; if none is chosen, the delivery is released.
+/// Binds a message of the link on this handle to a consumer of its address; if none is chosen, the delivery is released.
 fn bind(
     state: &mut State,
     id: &RouterId,
     from: Attachment,
     claimed: Option<u32>,
+    row: Option<RowNumber>,
     format: u32,
     payload: Bytes,
 ) -> Result<(), AllocError>
-    ensures { OnOk result ((t : List Entry) → TablesFit state.old t → TablesFit state.new (puts from.conn.0 (unbound_put from.channel claimed (consumer_of t (link_of t from)))
-        (with_bound (passing t from (option_map (origin_of from) claimed) format payload) t))) }
+    ensures { OnOk result ((t : List Entry) → TablesFit state.old t → TablesFit state.new (puts from.conn.0 (unbound_put t from.conn.0 from.channel from.handle claimed (consumer_of t (link_of t from)))
+        (with_bound (passing t from (option_map (origin_of from) claimed) row format payload) t))) }
 {
-    let chosen = state.pass(from, origin_of(from, claimed), format, payload)?;
+    let chosen = state.pass(from, origin_of(from, claimed), row, format, payload)?;
     if chosen {
         return Ok(());
     }
-    release(state, id, from.conn.0, from.channel, claimed)?;
+    release(state, id, from.conn.0, from.channel, from.handle, claimed)?;
     Ok(())
 }
 
-/// A whole delivery that isn't resumed: it is bound if its link is attached, else released.
+/// A whole delivery that isn't resumed: it is bound if its link is attached and it may be, else released.
 fn pass_fresh(
     state: &mut State,
     id: &RouterId,
@@ -135,24 +224,25 @@ fn pass_fresh(
     own: u16,
     handle: u32,
     delivery: &Delivery,
+    row: Option<RowNumber>,
     payload: Bytes,
 ) -> Result<(), AllocError>
-    ensures { OnOk result ((t : List Entry) → TablesFit state.old t → TablesFit state.new (puts conn (unbound_put own (claimed_id t conn own handle delivery.now.id) (consumer_of t (link t conn own handle)))
-        (with_bound (fresh_bound t conn own handle delivery.now payload (link t conn own handle)) t))) }
+    ensures { OnOk result ((t : List Entry) → TablesFit state.old t → TablesFit state.new (puts conn (unbound_put t conn own handle (claimed_id t conn own handle delivery.now.id) (consumer_for t conn own handle delivery.now row))
+        (with_bound (fresh_bound t conn own handle delivery.now row payload (link t conn own handle)) t))) }
 {
     let claimed = claimed_id(state, conn, own, handle, delivery.id);
+    if !may_pass(state.is_durable(conn, own, handle), claimed, row) {
+        drop(payload);
+        release(state, id, conn, own, handle, claimed)?;
+        return Ok(());
+    }
     let Some(from) = state.attachment(conn, own, handle) else {
-        release(state, id, conn, own, claimed)?;
+        drop(payload);
+        release(state, id, conn, own, handle, claimed)?;
         return Ok(());
     };
-    bind(
-        state,
-        id,
-        from,
-        claimed,
-        delivery.format.unwrap_or(0),
-        payload,
-    )?;
+    let format = delivery.format.unwrap_or(0);
+    bind(state, id, from, claimed, row, format, payload)?;
     Ok(())
 }
 
@@ -164,40 +254,42 @@ fn pass_whole(
     own: u16,
     handle: u32,
     delivery: &Delivery,
+    row: Option<RowNumber>,
     payload: Bytes,
 ) -> Result<(), AllocError>
-    ensures { OnOk result ((t : List Entry) → TablesFit state.old t → TablesFit state.new (puts conn (whole_put t conn own handle delivery.now (link t conn own handle))
-        (with_bound (whole_bound t conn own handle delivery.now payload (link t conn own handle)) t))) }
+    ensures { OnOk result ((t : List Entry) → TablesFit state.old t → TablesFit state.new (puts conn (whole_put t conn own handle delivery.now row)
+        (with_bound (whole_bound t conn own handle delivery.now row payload) t))) }
 {
     if delivery.resume {
         let claimed = claimed_id(state, conn, own, handle, delivery.id);
         ignore(state, id, conn, own, handle, claimed)?;
         return Ok(());
     }
-    pass_fresh(state, id, conn, own, handle, delivery, payload)?;
+    pass_fresh(state, id, conn, own, handle, delivery, row, payload)?;
     Ok(())
 }
 
-/// Handles what a transfer that is taken makes of its delivery: a whole delivery is bound to a consumer of its address, or released, or ignored;
-/// one that is too large detaches its link (AMQP 1.0 part 2, sections 2.6.12, 2.7.3 and 2.7.5).
+/// Handles what a transfer that is taken makes of its delivery: a whole delivery is bound to a consumer of its address, with its row if it has one, or
+/// released, or ignored; one that is too large detaches its link (AMQP 1.0 part 2, sections 2.6.12, 2.7.3 and 2.7.5).
 pub fn take_part(
     state: &mut State,
     id: &RouterId,
     conn: u64,
     own: u16,
     handle: u32,
+    row: Option<RowNumber>,
     part: Option<Part>,
 ) -> Result<(), AllocError>
-    ensures { OnOk result ((t : List Entry) → TablesFit state.old t → TablesFit state.new (puts conn (part_put t conn own handle part)
-        (with_bound (part_bound t conn own handle part) t))) }
+    ensures { OnOk result ((t : List Entry) → TablesFit state.old t → TablesFit state.new (puts conn (part_put t conn own handle row part)
+        (with_bound (part_bound t conn own handle row part) t))) }
 {
     match part {
         None => {}
         Some(Part::Whole(delivery, payload)) => {
-            pass_whole(state, id, conn, own, handle, &delivery, payload)?;
+            pass_whole(state, id, conn, own, handle, &delivery, row, payload)?;
         }
         Some(Part::TooLarge) => {
-            write_detach(state, id, conn, own, handle, Condition::MessageSizeExceeded)?;
+            let_go(state, id, conn, own, handle, Condition::MessageSizeExceeded)?;
         }
         Some(Part::More) => {}
         Some(Part::Aborted) => {}
@@ -257,7 +349,7 @@ fn settle_each(
     ensures { OnOk result ((t : List Entry) → TablesFit state.old t → TablesFit state.new (puts conn (map (λ n. outcome_item own Sender n true outcome.now) ids.now) t)) }
 {
     for delivery in ids {
-        put_outcome(state, id, conn, own, Role::Sender, *delivery, outcome)?;
+        put_outcome(state, id, conn, own, Role::Sender, *delivery, true, outcome)?;
     }
     Ok(())
 }

@@ -1,6 +1,6 @@
 -- A transfer is taken on the session that its channel stands for.
 use Rattle.std.proofs.Common.{◌≡◌, refl, ℕ, Bool, true, false, List, ◌∷◌}
-use Rattle.std.specs.Prelude.{nat_lt, nat_eq, length, ◌&&◌, Option, Some, None, Result, Ok, Err, option_map}
+use Rattle.std.specs.Prelude.{nat_lt, nat_eq, length, is_none, ◌&&◌, Option, Some, None, Result, Ok, Err, option_map}
 use Rattle.std.proofs.lemmas.Bool.{eq-eqb}
 use Rattle.amqp_perf.specs.declared.perf.Attach.{Attach as AnAttach}
 use Rattle.amqp_perf.specs.declared.perf.Begin.{Begin as ABegin}
@@ -27,8 +27,8 @@ use Rattle.router_trace.specs.declared.channel.PeerChannel.TheVariants.{Mapped, 
 use Rattle.router_trace.specs.declared.condition.Condition.{Condition}
 use Rattle.router_trace.specs.Trace.{Entry}
 use Rattle.router_trace.specs.Sessions.{Place, nowhere, ending, on, on_session, place_by, session, theirs, maps, flow_state}
-use Rattle.router_trace.specs.Links.{free_handle, LinkPlace, nowhere as no_link, detaching, on as on_link, Happened, sends, receives}
-use Rattle.router_trace.specs.Settling.{middle_by}
+use Rattle.router_trace.specs.Links.{link, link_place, durable_key, free_handle, LinkPlace, nowhere as no_link, detaching, on as on_link, Happened, sends, receives}
+use Rattle.router_trace.specs.Settling.{middle_by, middle_on}
 use Rattle.router_links.specs.Fits.{channel_of}
 use Rattle.router_rows.specs.declared.answer.Answer.{Answer}
 use Rattle.router_rows.specs.declared.answer.Answer.TheVariants.{Taken, Attach}
@@ -36,7 +36,7 @@ use Rattle.router_rows.specs.Rows.{Finds, Links, header_by, open_by, begin_by, b
 use Rattle.router_rows.specs.LinkRows.{is_multicast_link, refusal, attach_or, attach_at, session_detach_reply, link_echo, is_reached, link_flow_reply, is_anonymous, is_among, is_same_id, is_same_tag, is_unattached, asks, delivery_by, delivery_on, link_transfer_reply}
 use Rattle.router_rows.specs.LinkRows.{flow_on as link_flow_on}
 use Rattle.router_rows.specs.Finding.{finds}
-use Rattle.router_rows.specs.Booking.{attach_unless, booked_attach, attach_in, booked, book_refusal, answer_at}
+use Rattle.router_rows.specs.Booking.{attach_unless, booked_attach, repeats, booked_transfer, booked_perf, booked, book_refusal, answer_at}
 use Rattle.book_core.specs.Book.{BookView}
 
 -- if a transfer is taken, this stands for its session
@@ -206,9 +206,19 @@ attach_here_or : (here : ℕ → Bool) (free : ℕ → Option ℕ) (refusal : Op
 attach_here_or here free refusal (Attach own) is = booked_here here own (free own) refusal
 attach_here_or here free refusal _ is = is
 
+transfer_here_or : (here : ℕ → Bool) (b : BookView) (t : List Entry) (c : ℕ) (x : ATransfer) (a : Answer) → IsHere here a → IsHere here (booked_transfer b t c x a)
+transfer_here_or here b t c x (Taken own handle) is =
+    by_test (is_none (middle_on (link_place t c own x.handle)) && repeats b t c own handle x.resume (durable_key (link t c own handle)) (tag_in x)) (λ e. rw e tt) (λ e. rw e is)
+transfer_here_or here b t c x _ is = is
+
+perf_here_or : (here : ℕ → Bool) (full : Bool) (b : BookView) (t : List Entry) (c : ℕ) (body : Perf) (a : Answer) → IsHere here a → IsHere here (booked_perf full b t c body a)
+perf_here_or here full b t c (perf.Attach x) a is = attach_here_or here (free_handle t c) (book_refusal full b t c x) a is
+perf_here_or here full b t c (perf.Transfer x) a is = transfer_here_or here b t c x a is
+perf_here_or here full b t c _ a is = is
+
+answer_here_or : (here : ℕ → Bool) (full : Bool) (b : BookView) (t : List Entry) (c : ℕ) (i : Item) (a : Answer) → IsHere here a → IsHere here (booked full b t c i a)
+answer_here_or here full b t c (item.Frame sasl channel body payload) a is = perf_here_or here full b t c body a is
+answer_here_or here full b t c _ a is = is
+
 pub answer_here : (full : Bool) (b : BookView) (p : Conn) (t : List Entry) (c : ℕ) (i : Item) → IsHere (maps (theirs t c (channel_of i))) (answer_at full b t c p i)
-answer_here full b p t c i = by (attach_in i)
-  where
-    by : (v : Option AnAttach) → IsHere (maps (theirs t c (channel_of i))) (booked (free_handle t c) (book_refusal full b t c) v (item_reply p (finds t c) i))
-    by None = taken_here p t c i
-    by (Some a) = attach_here_or (maps (theirs t c (channel_of i))) (free_handle t c) (book_refusal full b t c a) (item_reply p (finds t c) i) (taken_here p t c i)
+answer_here full b p t c i = answer_here_or (maps (theirs t c (channel_of i))) full b t c i (item_reply p (finds t c) i) (taken_here p t c i)

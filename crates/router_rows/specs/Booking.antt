@@ -1,26 +1,28 @@
--- Durable links and the book of durable deliveries: why a link that its row would take is refused after all.
-use Rattle.std.specs.Prelude.{ℕ, Bool, not, ◌&&◌, nat_lt, if◌then◌else◌, List, [], length, Option, Some, None, unwrap_or}
+-- Durable links and the book of durable deliveries: why a link, or a delivery on one, that its row would take is refused after all.
+use Rattle.std.specs.Prelude.{ℕ, Bool, false, not, ◌&&◌, ◌||◌, nat_lt, if◌then◌else◌, List, [], length, Option, Some, None, is_none, is_some, unwrap_or}
 use Rattle.amqp_perf.specs.declared.perf.Attach.{Attach as AnAttach}
 use Rattle.amqp_perf.specs.declared.perf.Perf.{Perf}
 use Rattle.amqp_perf.specs.declared.perf.Perf.TheVariants as perf
-use Rattle.amqp_perf.specs.declared.perf.Role.{Role}
-use Rattle.amqp_perf.specs.declared.perf.Role.TheVariants.{Sender, Receiver}
+use Rattle.amqp_perf.specs.declared.perf.Transfer.{Transfer as ATransfer}
 use Rattle.amqp_frames.specs.declared.item.Item.{Item}
 use Rattle.amqp_frames.specs.declared.item.Item.TheVariants as item
 use Rattle.amqp_conn.specs.declared.conn.Conn.{Conn}
-use Rattle.book_core.specs.Book.{BookView, same_bytes, terminus_of, has_short_texts}
+use Rattle.book_core.specs.Book.{BookView, same_bytes, terminus_of, has_short_texts, row_named}
+use Rattle.book_core.specs.declared.row.Row.{Row}
 use Rattle.book_core.specs.declared.terminus.LinkKey.{LinkKey}
 use Rattle.book_core.specs.declared.terminus.Terminus.{Terminus}
 use Rattle.router_trace.specs.Trace.{Trace}
 use Rattle.router_trace.specs.Durable.{is_durable}
 use Rattle.router_trace.specs.LinkFrames.{other, plain_answer}
-use Rattle.router_trace.specs.Links.{address_by, key_at, free_handle, holds_durable}
+use Rattle.router_trace.specs.Deliveries.{tag_in}
+use Rattle.router_trace.specs.Links.{address_by, key_at, link, link_place, free_handle, durable_key, holds_durable}
+use Rattle.router_trace.specs.Settling.{middle_on, uses_tag}
 use Rattle.router_trace.specs.declared.condition.Condition.{Condition}
 use Rattle.router_trace.specs.declared.condition.Condition.TheVariants.{NotAllowed, NotImplemented, ResourceLimitExceeded}
 use Rattle.router_rows.specs.Finding.{finds}
 use Rattle.router_rows.specs.Rows.{item_reply}
 use Rattle.router_rows.specs.declared.answer.Answer.{Answer}
-use Rattle.router_rows.specs.declared.answer.Answer.TheVariants.{End, Refuse, Attach}
+use Rattle.router_rows.specs.declared.answer.Answer.TheVariants.{End, Refuse, Attach, Detach, Taken}
 
 -- the link that a peer's attach asks for: its key, the address of its terminus at the router's side, and whether it is durable
 abbrev pub wanted_key : Trace → ℕ → AnAttach → LinkKey
@@ -40,15 +42,11 @@ new_terminus b key address = record { number = record { 0 = b.next_terminus }; k
 abbrev pub has_room : Bool → BookView → Terminus → Bool
 has_room full b x = not full && (nat_lt (length b.termini) 1024 && has_short_texts x)
 
--- A durable link is refused if its terminus has another address, or if there is no room for one. That a link takes its terminus up again, and
--- durable links on which the peer sends, aren't served yet.
-abbrev pub if_receiver : Role → Option Condition
-if_receiver Sender = Some NotImplemented
-if_receiver Receiver = None
-
+-- A durable link is refused if its terminus has another address, or if there is no room for one. That a link takes its terminus up again isn't
+-- served yet.
 abbrev pub durable_refusal : Option Terminus → AnAttach → Bool → Option Condition
 durable_refusal (Some x) a room = if same_bytes x.address (wanted_address a) then Some NotImplemented else Some NotAllowed
-durable_refusal None a room = if room then if_receiver a.role else Some ResourceLimitExceeded
+durable_refusal None a room = if room then None else Some ResourceLimitExceeded
 
 -- Another link is refused if it has the key of a durable link that is attached: that one isn't stolen yet.
 abbrev pub volatile_refusal : Bool → Option Condition
@@ -75,19 +73,35 @@ abbrev pub booked_attach : (ℕ → Option ℕ) → Option Condition → Answer 
 booked_attach free refusal (Attach own) = attach_unless own (free own) refusal
 booked_attach free refusal answer = answer
 
--- the attach in a frame
-abbrev pub attach_of : Perf → Option AnAttach
-attach_of (perf.Attach a) = Some a
-attach_of _ = None
+-- A transfer that starts a delivery on a durable link, with the tag of a delivery that the link's producer has yet to settle, or, unless it resumes one,
+-- of a row that it has yet to settle: the link is detached.
+abbrev pub stands_from : Option Terminus → List ℕ → List Row → Bool
+stands_from None tag rows = false
+stands_from (Some x) tag rows = is_some (row_named x.number.0 tag rows)
 
-abbrev pub attach_in : Item → Option AnAttach
-attach_in (item.Frame sasl channel body payload) = attach_of body
-attach_in _ = None
+abbrev pub repeats_tag : BookView → Trace → ℕ → ℕ → ℕ → Bool → LinkKey → List ℕ → Bool
+repeats_tag b t c own handle resume key tag = uses_tag t c own handle tag || (not resume && stands_from (terminus_of key b.termini) tag b.rows)
 
-abbrev pub booked : (ℕ → Option ℕ) → (AnAttach → Option Condition) → Option AnAttach → Answer → Answer
-booked free refusal None answer = answer
-booked free refusal (Some a) answer = booked_attach free (refusal a) answer
+abbrev pub repeats : BookView → Trace → ℕ → ℕ → ℕ → Bool → Option LinkKey → Option (List ℕ) → Bool
+repeats b t c own handle resume (Some key) (Some tag) = repeats_tag b t c own handle resume key tag
+repeats b t c own handle resume _ _ = false
 
--- the answer to an item on a live connection in this phase: that of its row, unless the book stands in the way of a link
+abbrev pub booked_transfer : BookView → Trace → ℕ → ATransfer → Answer → Answer
+booked_transfer b t c x (Taken own handle) =
+    if is_none (middle_on (link_place t c own x.handle)) && repeats b t c own handle x.resume (durable_key (link t c own handle)) (tag_in x)
+    then Detach own handle false (Some NotAllowed) else Taken own handle
+booked_transfer b t c x answer = answer
+
+-- the answer of a row, by the frame that it answers
+abbrev pub booked_perf : Bool → BookView → Trace → ℕ → Perf → Answer → Answer
+booked_perf full b t c (perf.Attach a) answer = booked_attach (free_handle t c) (book_refusal full b t c a) answer
+booked_perf full b t c (perf.Transfer x) answer = booked_transfer b t c x answer
+booked_perf full b t c _ answer = answer
+
+abbrev pub booked : Bool → BookView → Trace → ℕ → Item → Answer → Answer
+booked full b t c (item.Frame sasl channel body payload) answer = booked_perf full b t c body answer
+booked full b t c _ answer = answer
+
+-- the answer to an item on a live connection in this phase: that of its row, unless the book stands in the way
 abbrev pub answer_at : Bool → BookView → Trace → ℕ → Conn → Item → Answer
-answer_at full b t c p i = booked (free_handle t c) (book_refusal full b t c) (attach_in i) (item_reply p (finds t c) i)
+answer_at full b t c p i = booked full b t c i (item_reply p (finds t c) i)

@@ -1,14 +1,15 @@
-//! Durable links and the book of durable deliveries: why a link that its row would take is refused after all.
+//! Durable links and the book of durable deliveries: why a link, or a delivery on one, that its row would take is refused after all.
 ghost use Rattle.std.specs.Prelude.{◌≡◌, [], List, option_map, unwrap_or, IfOk};
 ghost use Rattle.router_trace.specs.Trace.{Entry};
 ghost use Rattle.router_trace.specs.LinkFrames.{other};
 ghost use Rattle.router_state.specs.Tables.{TablesFind};
-ghost use Rattle.router_rows.specs.Booking.{wanted_key, wanted_address, wants_durable, new_terminus, has_room, if_receiver, durable_refusal, volatile_refusal, attach_unless};
+ghost use Rattle.router_rows.specs.Booking.{wanted_key, wanted_address, wants_durable, new_terminus, has_room, durable_refusal, volatile_refusal, attach_unless, stands_from, repeats_tag, repeats, booked_transfer};
+ghost use Rattle.router_trace.specs.Deliveries.{tag_in};
 ghost use Rattle.book_core.specs.Book.{terminus_of, same_bytes, is_short};
 
 use crate::answer::Answer;
 use crate::link_rows::LINK_TEXT;
-use amqp_perf::{Attach, Role, Text};
+use amqp_perf::{Attach, DeliveryTag, Role, Text, Transfer};
 use book_core::{Book, LinkKey, LinkRole, Terminus};
 use router_links::address_by;
 use router_state::State;
@@ -101,10 +102,7 @@ pub fn durable_refusal(book: &Book, full: bool, key: &LinkKey, attach: &Attach) 
         Some(terminus) if has_address(terminus, address) => Some(Condition::NotImplemented),
         Some(_) => Some(Condition::NotAllowed),
         None if !has_room(full, book, key, address) => Some(Condition::ResourceLimitExceeded),
-        None => match attach.role {
-            Role::Sender => Some(Condition::NotImplemented),
-            Role::Receiver => None,
-        },
+        None => None,
     }
 }
 
@@ -133,4 +131,80 @@ pub fn attach_unless(own: u16, free: Option<u32>, refusal: Option<Condition>) ->
             error: Some(Condition::ResourceLimitExceeded),
         },
     }
+}
+
+/// Whether the producer of a terminus has yet to settle a row with this tag.
+fn stands_from(book: &Book, terminus: Option<&Terminus>, tag: &DeliveryTag) -> bool
+    ensures { result ≡ stands_from (option_map (λ x. x.now) terminus.entry) tag.now.items book.now.rows }
+{
+    match terminus {
+        None => false,
+        Some(terminus) => book.row_named(terminus.number, tag).is_some(),
+    }
+}
+
+/// Whether a transfer has the tag of an unsettled delivery, or, unless it resumes one, of a row that its producer has yet to settle, on the durable link with
+/// this key.
+fn repeats_tag(
+    state: &State,
+    book: &Book,
+    conn: u64,
+    own: u16,
+    handle: u32,
+    resume: bool,
+    key: &LinkKey,
+    tag: &DeliveryTag,
+) -> bool
+    ensures { (t : List Entry) → TablesFind state.now t → result ≡ repeats_tag book.now t conn own handle resume key.now tag.now.items }
+{
+    state.uses_tag(conn, own, handle, tag.as_slice())
+        || (!resume && stands_from(book, book.terminus_of(key), tag))
+}
+
+/// The same of the link with this key, if it is durable, and the tag, if there is one.
+fn repeats(
+    state: &State,
+    book: &Book,
+    conn: u64,
+    own: u16,
+    handle: u32,
+    key: Option<&LinkKey>,
+    transfer: &Transfer,
+) -> bool
+    ensures { (t : List Entry) → TablesFind state.now t → result ≡ repeats book.now t conn own handle transfer.now.resume (option_map (λ k. k.now) key.entry) (tag_in transfer.now) }
+{
+    match key {
+        None => false,
+        Some(key) => match &transfer.delivery_tag {
+            None => false,
+            Some(tag) => { repeats_tag(state, book, conn, own, handle, transfer.resume, key, tag) }
+        },
+    }
+}
+
+/// The answer to a transfer whose row gave this one: if it starts a delivery on a durable link with the tag of a delivery that is unsettled there, or,
+/// without resuming it, of a row that its producer has yet to settle, the link is detached (AMQP 1.0 part 2, section 2.6.12).
+pub fn booked_transfer(
+    state: &State,
+    book: &Book,
+    conn: u64,
+    transfer: &Transfer,
+    answer: Answer,
+) -> Answer
+    ensures { (t : List Entry) → TablesFind state.now t → result ≡ booked_transfer book.now t conn transfer.now answer }
+{
+    let Answer::Taken { own, handle } = answer else {
+        return answer;
+    };
+    let starts = state.middle(conn, own, transfer.handle).is_none();
+    let key = state.durable_key(conn, own, handle);
+    if starts && repeats(state, book, conn, own, handle, key, transfer) {
+        return Answer::Detach {
+            own,
+            handle,
+            closed: false,
+            error: Some(Condition::NotAllowed),
+        };
+    }
+    Answer::Taken { own, handle }
 }

@@ -47,7 +47,12 @@ impl<D: Disk, L: Log, G: Ledgers> Shared<D, L, G> {
         requires starts { (blanks.starts.name ≡ G.Starts.name) × (blanks.starts.parts ≡ G.Starts.parts) × (seats ≡ G.Starts.seats) × (G.Starts.seats ≡ G.Starts.parts) }
         requires batches { (blanks.batches.name ≡ G.Batches.name) × (blanks.batches.parts ≡ G.Batches.parts) × (seats ≡ G.Batches.seats) × (G.Batches.seats ≡ G.Batches.parts) }
     {
-        let bells = bells(alloc)?;
+        let Ok(bells) = bells(alloc) else {
+            drop(core);
+            drop(log);
+            drop(blanks);
+            return Err(AllocError);
+        };
         let locked = Locked::new(Router::new(core), Totals::new(blanks, seats), log);
         Ok(Shared {
             state: Mutex::new(locked),

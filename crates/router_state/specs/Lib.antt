@@ -1,4 +1,5 @@
 pub mod Tables
+pub mod Waiting
 pub use Rattle.router_trace.specs.Trace
 pub use Rattle.router_trace.specs.Connection
 pub use Rattle.router_trace.specs.Refusing

@@ -40,7 +40,7 @@ use amqp_frames::Item;
 use amqp_link::{Delivery, Part};
 use amqp_perf::{Attach, Perf};
 use amqp_session::{FlowState, Window};
-use book_core::LinkKey;
+use book_core::{LinkKey, RowNumber};
 use bytes::Bytes;
 use route_table::Table;
 use router_conns::{Clocks, Connections, Peers, Ready, Taken};
@@ -57,12 +57,12 @@ use std::alloc::{AllocError, Global};
 #[derive(Drop)]
 pub struct State {
     alloc: Global,
-    connections: Connections,
+    pub(crate) connections: Connections,
     ready: Ready,
     clocks: Clocks,
     peers: Peers,
-    sessions: Sessions,
-    passing: Passing,
+    pub(crate) sessions: Sessions,
+    pub(crate) passing: Passing,
 }
 
 impl State {
@@ -163,14 +163,16 @@ impl State {
 
     /// Whether a durable link is attached with a key.
     pub fn holds_durable(&self, key: &LinkKey) -> bool
-        ensures { (t : List Entry) → TablesFit self.now t → result ≡ holds_durable t key.now }
+        ensures now { (t : List Entry) → TablesFit self.now t → result ≡ holds_durable t key.now }
+        ensures found { (t : List Entry) → TablesFind self.now t → result ≡ holds_durable t key.now }
     {
         self.passing.links().holds_durable(key)
     }
 
     /// The key of the durable link on a handle of the router.
     pub fn durable_key(&self, conn: u64, own: u16, handle: u32) -> Option<&LinkKey>
-        ensures { (t : List Entry) → TablesFit self.now t → option_map (λ k. k.now) result ≡ durable_key (link t conn own handle) }
+        ensures now { (t : List Entry) → TablesFit self.now t → option_map (λ k. k.now) result ≡ durable_key (link t conn own handle) }
+        ensures found { (t : List Entry) → TablesFind self.now t → option_map (λ k. k.now) result ≡ durable_key (link t conn own handle) }
     {
         self.passing.links().durable_key(conn, own, handle)
     }
@@ -401,18 +403,20 @@ impl State {
         self.passing.links().attachment(conn, own, handle)
     }
 
-    /// Binds a message of a producer's link to the chosen consumer of its address; returns whether there is one.
+    /// Binds a message of a producer's link to the chosen consumer of its address; returns whether there is one. A durable message comes with
+    /// the number of its row.
     pub fn pass(
         &mut self,
         from: Attachment,
         origin: Option<Origin>,
+        row: Option<RowNumber>,
         format: u32,
         payload: Bytes,
     ) -> Result<bool, AllocError>
         ensures chosen { IfOk result (λ chosen. (t : List Entry) → TablesFit self.old t → chosen ≡ is_some (consumer_of t (link_of t from))) }
-        ensures bound { OnOk result ((t : List Entry) → TablesFit self.old t → TablesFit self.new (with_bound (passing t from origin format payload) t)) }
+        ensures bound { OnOk result ((t : List Entry) → TablesFit self.old t → TablesFit self.new (with_bound (passing t from origin row format payload) t)) }
     {
-        let chosen = self.passing.pass(from, origin, format, payload)?;
+        let chosen = self.passing.pass(from, origin, row, format, payload)?;
         Ok(chosen)
     }
 

@@ -5,3 +5,10 @@ pub mod Started
 pub mod Ones
 pub mod Writing
 pub mod Moments
+pub mod Merging
+pub mod Numbered
+pub mod Rowwise
+pub mod Settled
+pub mod Released
+pub mod Gathered
+pub mod Events

@@ -23,12 +23,12 @@ use Rattle.router_store.proofs.Few.{few_acts, first_applies, rest_applies}
 use Rattle.router_store.proofs.Started.{start_applies, start_small}
 
 -- acts, and then more acts
-effects_more : (b : BookView) (acts more : List Act) → effects b (acts ++ more) ≡ effects (effects b acts) more
+pub effects_more : (b : BookView) (acts more : List Act) → effects b (acts ++ more) ≡ effects (effects b acts) more
 unfolding effects
 effects_more b [] more = refl
 effects_more b (act ∷ acts) more = effects_more (effect b act) acts more
 
-applies_more : (b : BookView) (acts more : List Act) → first_fault b acts ≡ None → first_fault (effects b acts) more ≡ None → first_fault b (acts ++ more) ≡ None
+pub applies_more : (b : BookView) (acts more : List Act) → first_fault b acts ≡ None → first_fault (effects b acts) more ≡ None → first_fault b (acts ++ more) ≡ None
 unfolding first_fault effects
 applies_more b [] more first rest = rest
 applies_more b (act ∷ acts) more first rest =

@@ -38,9 +38,9 @@ all_four true true false d e = absurd cc
 all_four true false c d e = absurd cc
 all_four false b c d e = absurd cc
 
-pub make_small : (b : BookView) (t : Terminus) → make_refusal b t ≡ None → length (act_bytes (Make t)) ≤ 4194304
+pub make_short : (b : BookView) (t : Terminus) → make_refusal b t ≡ None → length (act_bytes (Make t)) ≤ 4114
 unfolding act_bytes
-make_small b t applies =
+make_short b t applies =
     let short_texts = unless (has_short_texts t) Limit None in
     let few = unless (nat_lt (length b.termini) 1024) Limit short_texts in
     let other = unless (not (list_any (λ (u : Terminus). same_key u.key t.key) b.termini)) NoTerminus few in
@@ -68,6 +68,9 @@ make_small b t applies =
       length-append container (text_bytes t.key.name),
       length-append name (text_bytes t.address),
     )
+
+pub make_small : (b : BookView) (t : Terminus) → make_refusal b t ≡ None → length (act_bytes (Make t)) ≤ 4194304
+make_small b t applies = let short = make_short b t applies in omega (arith, short)
 
 pub drop_small : (n : TerminusNumber) → length (act_bytes (Drop n)) ≤ 4194304
 unfolding act_bytes

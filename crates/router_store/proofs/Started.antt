@@ -86,7 +86,7 @@ outcome_length : length (state_spelling failed) ≡ 7
 unfolding state_spelling described_text given value_spelling
 outcome_length = refl
 
-short_outcome : length (state_spelling failed) ≤ 400
+pub short_outcome : length (state_spelling failed) ≤ 400
 short_outcome = let seven = outcome_length in omega (arith, seven)
 
 may_fail : (b : BookView) (r : Row) → row_at r.number.0 b.rows ≡ Some r → is_undecided r ≡ true → refusal b (failure_of r) ≡ None
@@ -135,7 +135,7 @@ flags_length : length (joined (given (modified_texts (record { delivery_failed =
 unfolding given value_spelling
 flags_length = refl
 
-failed_is_outcome : IsOutcome failed
+pub failed_is_outcome : IsOutcome failed
 failed_is_outcome = is_outcome failed tt (record { message_annotations = tt; whole = let one = flags_length in omega (arith, one) })
 
 all_outcomes : (rs : List Row) → HaveOutcomes (map failure_of rs)

@@ -1,13 +1,13 @@
 -- The delivery store: a book, and the journal that keeps it on a disk.
-use Rattle.std.specs.Prelude.{◌≡◌, ◌≤◌, ℕ, ◌+◌, Bool, false, List, [], ◌∷◌, length, None}
+use Rattle.std.specs.Prelude.{◌≡◌, ℕ, ◌+◌, Bool, false, List, [], ◌∷◌}
 use Rattle.book_core.specs.declared.act.Act.{Act}
-use Rattle.book_core.specs.Book.{BookView, empty_book, first_fault, effects}
+use Rattle.book_core.specs.Book.{BookView, empty_book, effects}
 use Rattle.gate_journal.specs.declared.journal.Journal.{Journal}
-use Rattle.gate_journal.specs.Batches.{Holds, HaveOutcomes, book_after}
-use Rattle.gate_journal.specs.Format.{acts_bytes}
+use Rattle.gate_journal.specs.Batches.{Holds, book_after}
 use Rattle.gate_journal.specs.Journal.{Keeps, batch_count, used_bytes, kept_bytes}
 use Rattle.gate_journal.specs.Reserve.{reserve, batch_bytes, is_full}
 use Rattle.router_store.specs.declared.store.Store.{Store}
+pub use Rattle.router_store.specs.Writable.{Writable}
 
 -- its journal, the disk of that, and its book
 abbrev pub journal_of : {D : Type 0} → Store D → Journal D
@@ -57,12 +57,6 @@ pub record OpensTo (file : List ℕ) (book : BookView) : Type 0 where
   pub batches : List (List Act)
   pub holds : Holds file batches
   pub leaves : book ≡ book_after empty_book batches
-
--- acts that can be written to a store with this book: they apply to it, fit one batch, and each outcome among them is one
-pub record Writable (b : BookView) (acts : List Act) : Type 0 where
-  pub applies : first_fault b acts ≡ None
-  pub small : length (acts_bytes acts) ≤ 4194304
-  pub outcomes : HaveOutcomes acts
 
 -- The disk of a store keeps its book: it holds batches that leave this book, and a crash leaves just that.
 pub record Stands {D : Type 0} (seen : D → List ℕ) (may_leave : D → List ℕ → Type 0) (s : Store D) : Type 0 where

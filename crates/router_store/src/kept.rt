@@ -3,11 +3,14 @@ ghost use Rattle.std.specs.Prelude.{◌≡◌, ◌≤◌, None, length, OnOk, On
 ghost use Rattle.book_core.specs.Book.{first_fault, effects};
 ghost use Rattle.gate_journal.specs.Batches.{HaveOutcomes};
 ghost use Rattle.gate_journal.specs.Format.{acts_bytes};
+ghost use Rattle.router_store.specs.Acting.{admission_acts, event_acts};
 ghost use Rattle.router_store.specs.Lost.{start_acts};
 ghost use Rattle.router_store.specs.Made.{IsMade};
+ghost use Rattle.router_store.specs.Writable.{Writable};
 
+use crate::acting::{TerminusAct, admission_acts, event_acts};
 use crate::lost::start_acts;
-use book_core::{Act, Book, BookFault};
+use book_core::{Act, Admission, Book, BookFault, Decision, RowNumber};
 use std::alloc::{AllocError, Global};
 
 /// A book that acts made of the empty one.
@@ -51,5 +54,32 @@ impl Kept {
         ensures outcomes { IfOk result (λ acts. HaveOutcomes acts.items) }
     {
         start_acts(alloc, &self.book)
+    }
+
+    /// The act of an admission, if the book admits it.
+    pub fn admission_acts(
+        &self,
+        alloc: Global,
+        admission: Admission,
+    ) -> Result<Vec<Act>, AllocError>
+        ensures acts { IfOk result (λ acts. acts.items ≡ admission_acts self.now.book admission) }
+        ensures writable { IfOk result (λ acts. Writable self.now.book acts.items) }
+    {
+        admission_acts(alloc, &self.book, admission)
+    }
+
+    /// The acts of an event, from what it decides, the numbers of the rows that it forgets, and what it asks for a terminus.
+    pub fn event_acts(
+        &self,
+        alloc: Global,
+        decided: Vec<Decision>,
+        forgotten: Vec<RowNumber>,
+        terminus: Option<TerminusAct>,
+    ) -> Result<Vec<Act>, AllocError>
+        ensures acts { IfOk result (λ acts. acts.items ≡ event_acts self.now.book decided.items forgotten.items terminus) }
+        ensures writable { IfOk result (λ acts. Writable self.now.book acts.items) }
+    {
+        self.book.rows_rise();
+        event_acts(alloc, &self.book, decided, forgotten, terminus)
     }
 }

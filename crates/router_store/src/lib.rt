@@ -2,10 +2,13 @@
 //! written to the store is on the disk, whole or not at all, wherever a crash comes.
 #![tactic(auto)]
 
+mod acting;
 mod kept;
 pub mod laws;
 mod lost;
+mod settling;
 mod store;
 
+pub use acting::TerminusAct;
 pub use lost::start_acts;
 pub use store::Store;

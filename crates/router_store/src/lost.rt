@@ -14,17 +14,24 @@ fn is_lost(row: &Row) -> bool
     row.outcome.is_none() && row.consumer.is_none()
 }
 
+/// The outcome of a delivery whose consumer had it and is gone.
+pub(crate) fn failed() -> DeliveryState
+    ensures { result ≡ failed }
+{
+    DeliveryState::Modified(Modified {
+        delivery_failed: true,
+        undeliverable_here: false,
+        message_annotations: None,
+    })
+}
+
 /// The decision that a row's delivery failed at its consumer.
 fn failure(number: RowNumber) -> Act
     ensures { result ≡ AnAct.Decide (record { row = number; outcome = failed }) }
 {
     Act::Decide(Decision {
         row: number,
-        outcome: DeliveryState::Modified(Modified {
-            delivery_failed: true,
-            undeliverable_here: false,
-            message_annotations: None,
-        }),
+        outcome: failed(),
     })
 }
 

@@ -8,14 +8,16 @@ ghost use Rattle.gate_journal.specs.Format.{acts_bytes, front};
 ghost use Rattle.gate_journal.specs.Journal.{batch_count, used_bytes, kept_bytes, has_failed};
 ghost use Rattle.gate_journal.specs.Opening.{Explains};
 ghost use Rattle.gate_journal.specs.Reserve.{reserve, batch_bytes, is_full};
+ghost use Rattle.router_store.specs.Acting.{admission_acts, event_acts};
 ghost use Rattle.router_store.specs.Lost.{start_acts};
 ghost use Rattle.router_store.specs.Store.{OpensTo, Stands, Writable, IsAsLong, IsLonger, journal_of, disk_of, book_of, used_of, kept_of, used_behind, batches_behind, exceeds};
 
+use crate::acting::TerminusAct;
 use crate::kept::Kept;
-use book_core::{Act, Book};
+use book_core::{Act, Admission, Book, Decision, RowNumber};
 use disk_core::{Crash, Disk};
 use gate_journal::{Journal, JournalFault, OpenFault};
-use std::alloc::Global;
+use std::alloc::{AllocError, Global};
 
 /// The delivery store: a book, and the journal that keeps it on a disk.
 #[derive(Drop)]
@@ -172,6 +174,55 @@ impl<D: Disk> Store<D> {
             return Err(JournalFault::Memory);
         };
         self.commit(acts)
+    }
+
+    /// The acts of an event: the decisions and what is forgotten, each in the order of the rows' numbers, and then what is asked for
+    /// a terminus. Of several decisions of a row the first counts; what doesn't apply to the book is left out.
+    pub fn event_acts(
+        &self,
+        alloc: Global,
+        decided: Vec<Decision>,
+        forgotten: Vec<RowNumber>,
+        terminus: Option<TerminusAct>,
+    ) -> Result<Vec<Act>, AllocError>
+        ensures acts { IfOk result (λ acts. acts.items ≡ event_acts (book_of self.now) decided.items forgotten.items terminus) }
+        ensures writable { IfOk result (λ acts. Writable (book_of self.now) acts.items) }
+    {
+        self.kept.event_acts(alloc, decided, forgotten, terminus)
+    }
+
+    /// The act of an admission; none where the book refuses it.
+    pub fn admission_acts(
+        &self,
+        alloc: Global,
+        admission: Admission,
+    ) -> Result<Vec<Act>, AllocError>
+        ensures acts { IfOk result (λ acts. acts.items ≡ admission_acts (book_of self.now) admission) }
+        ensures writable { IfOk result (λ acts. Writable (book_of self.now) acts.items) }
+    {
+        self.kept.admission_acts(alloc, admission)
+    }
+
+    /// The acts of a router that starts on this store.
+    pub fn start_acts(&self, alloc: Global) -> Result<Vec<Act>, AllocError>
+        ensures acts { IfOk result (λ acts. acts.items ≡ start_acts (book_of self.now)) }
+        ensures writable { IfOk result (λ acts. Writable (book_of self.now) acts.items) }
+    {
+        self.kept.start_acts(alloc)
+    }
+
+    /// Whether acts cost more than nothing, and more than the room: `commit` answers `Full` to them.
+    ///
+    /// # Errors
+    ///
+    /// `AllocError` where memory was refused, or an act can't be encoded.
+    pub fn exceeds(&self, acts: &[Act]) -> Result<bool, AllocError>
+        ensures { IfOk result (λ full. full ≡ exceeds (used_of self.now) (kept_of self.now) acts.now) }
+    {
+        match acts {
+            [] => Ok(false),
+            _ => self.journal.is_full(acts),
+        }
     }
 
     /// The book.

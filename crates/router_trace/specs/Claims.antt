@@ -20,12 +20,14 @@ use Rattle.router_trace.specs.Trace.{Did, Out, Took, Bound, Booked, Began, Trace
 use Rattle.router_trace.specs.Links.{Link, Happened, sends, receives, link, their_handle, ends_handle_in}
 use Rattle.router_trace.specs.Sessions.{maps, theirs}
 use Rattle.router_trace.specs.declared.binding.Origin.{Origin}
-use Rattle.router_trace.specs.Deliveries.{last_of, stands_on}
+use Rattle.router_trace.specs.Deliveries.{last_of, stands_on, tag_in}
 
--- A peer's unsettled delivery: the router's handle of its link, and whether it came whole and is bound to no consumer.
+-- A peer's unsettled delivery: the router's handle of its link, whether it came whole and is bound to no consumer, and the delivery-tag of its first
+-- frame.
 pub record Claim : Type 0 where
   pub handle : ℕ
   pub unbound : Bool
+  pub tag : Option (List ℕ)
 
 -- A transfer that begins a delivery claims its id, unless it is settled or has no credit. A later transfer frees the id if it settles or
 -- aborts the delivery. Once a delivery is settled its id is free, even while more of its frames come: another link of the session may then
@@ -33,24 +35,24 @@ pub record Claim : Type 0 where
 abbrev pub ends_well : Transfer → Bool
 ends_well x = if x.settled then false else not x.aborted
 
-abbrev pub claim : ℕ → Transfer → Option Claim
-claim h x = if ends_well x then Some (record { handle = h; unbound = not x.more }) else None
+abbrev pub claim : ℕ → Option (List ℕ) → Transfer → Option Claim
+claim h tag x = if ends_well x then Some (record { handle = h; unbound = not x.more; tag = tag }) else None
 
 abbrev pub is_named : Option ℕ → ℕ → Bool
 is_named None id = false
 is_named (Some k) id = k == id
 
 abbrev pub claimed_first : ℕ → Transfer → Bool → ℕ → Option Claim → Option Claim
-claimed_first h x beyond id v = if is_named x.delivery_id id && not beyond then claim h x else v
+claimed_first h x beyond id v = if is_named x.delivery_id id && not beyond then claim h (tag_in x) x else v
 
-abbrev pub claimed_later : ℕ → Option Claim → Option Claim → Option Claim
-claimed_later h now None = None
-claimed_later h now (Some v) = if v.handle == h then now else Some v
+abbrev pub claimed_later : ℕ → Transfer → Option Claim → Option Claim
+claimed_later h x None = None
+claimed_later h x (Some v) = if v.handle == h then claim h v.tag x else Some v
 
 abbrev pub claimed_in : ℕ → Transfer → List Frame → Bool → ℕ → Option Claim → Option Claim
 claimed_in h x [] beyond id v = claimed_first h x beyond id v
 claimed_in h x (f ∷ fs) beyond id v =
-    if is_named (delivery f fs).id id then claimed_later h (claim h x) v else v
+    if is_named (delivery f fs).id id then claimed_later h x v else v
 
 abbrev pub claimed_by : ℕ → Transfer → Happened → ℕ → Option Claim → Option Claim
 claimed_by h x (sends list) id v = v

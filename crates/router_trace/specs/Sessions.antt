@@ -100,6 +100,12 @@ abbrev pub maps : Option PeerChannel → ℕ → Bool
 maps (Some (Mapped own)) o = own == o
 maps _ o = false
 
+-- the router's channel of the session that the peer's channel stands for, if it stands for one
+abbrev pub own_of : Option PeerChannel → Option ℕ
+own_of None = None
+own_of (Some Ending) = None
+own_of (Some (Mapped own)) = Some own
+
 abbrev pub is_channel : Option ℕ → ℕ → Bool
 is_channel None p = false
 is_channel (Some channel) p = channel == p
@@ -122,6 +128,10 @@ theirs (Took d n ∷ t) c p = theirs t c p
 theirs (Bound b ∷ t) c p = theirs t c p
 theirs (Booked acts ∷ t) c p = theirs t c p
 theirs (Began g ∷ t) c p = theirs t c p
+
+-- the router's channel of the session on a peer's channel
+abbrev pub session_on : Trace → ℕ → ℕ → Option ℕ
+session_on t c channel = own_of (theirs t c channel)
 
 -- What happened on the session of a router's channel, from its begins on; none if no session is on it. A transfer
 -- beyond the incoming window that the peer was granted is not counted.

@@ -1,6 +1,6 @@
 -- What a peer's dispositions and transfers refer to: the deliveries that a range of ids names, in order, and what a transfer makes of its delivery (AMQP
 -- 1.0 part 2, sections 2.6.12, 2.6.14, 2.7.5 and 2.7.6).
-use Rattle.std.specs.Prelude.{ℕ, zero, suc, ◌+◌, ◌%◌, ◌^◌, Bool, false, ◌&&◌, ◌==◌, nat_lt, nat_eq, if◌then◌else◌, is_some, List, [], ◌∷◌, ◌++◌, filter, Option, Some, None}
+use Rattle.std.specs.Prelude.{ℕ, zero, suc, ◌+◌, ◌%◌, ◌^◌, Bool, false, ◌&&◌, ◌==◌, nat_lt, nat_eq, if◌then◌else◌, is_some, List, [], ◌∷◌, ◌++◌, filter, bytes_eq, Option, Some, None}
 use Rattle.amqp_perf.specs.declared.perf.Perf.{Perf}
 use Rattle.amqp_perf.specs.declared.perf.Perf.TheVariants as perf
 use Rattle.amqp_perf.specs.declared.perf.Transfer.{Transfer}
@@ -15,7 +15,7 @@ use Rattle.router_trace.specs.Trace.{Trace}
 use Rattle.router_trace.specs.Links.{LinkPlace, on, Happened, sends, receives, link_place}
 use Rattle.router_trace.specs.Deliveries.{Delivery, delivery, named, stands_on, is_undecided, is_id}
 use Rattle.router_trace.specs.Claims.{Claim, claims}
-use Rattle.router_trace.specs.Numbers.{count_below}
+use Rattle.router_trace.specs.Numbers.{count_below, first_below}
 
 -- this many ids, from the first on
 unfoldable pub ids_from : ℕ → ℕ → List ℕ
@@ -61,6 +61,18 @@ is_unbound_on h (Some v) = if v.unbound then nat_eq v.handle h else false
 
 abbrev pub unbound : Trace → ℕ → ℕ → ℕ → ℕ
 unbound t c o h = count_below (2 ^ 32) (λ id. is_unbound_on h (claims t c o id))
+
+-- an unsettled delivery of a link has this delivery-tag
+abbrev pub is_tag : Option (List ℕ) → List ℕ → Bool
+is_tag None tag = false
+is_tag (Some own) tag = bytes_eq own tag
+
+abbrev pub is_tagged_on : ℕ → List ℕ → Option Claim → Bool
+is_tagged_on h tag None = false
+is_tagged_on h tag (Some v) = (v.handle == h) && is_tag v.tag tag
+
+abbrev pub uses_tag : Trace → ℕ → ℕ → ℕ → List ℕ → Bool
+uses_tag t c o h tag = is_some (first_below (2 ^ 32) (λ id. is_tagged_on h tag (claims t c o id)))
 
 -- the delivery in the middle of a link, as its first frame describes it
 abbrev pub told_first : List Frame → Option Told

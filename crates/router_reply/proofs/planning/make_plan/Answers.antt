@@ -1,10 +1,18 @@
-use Rattle.std.proofs.Common.{◌∙◌, sym}
-use Rattle.router_reply.proofs.Planned.{itemless_answer, itemless_idle}
+use Rattle.std.proofs.Common.{◌∙◌, ap}
+use Rattle.std.proofs.lemmas.Result.{IfOk-weaker}
+use Rattle.router_reply.specs.Deciding.{decided, forgotten, terminus_of_event}
 use Rattle.router_reply.proofs.planning.make_plan.Goals as goal
 
-pub returns-in_default : goal.returns-in_default
-returns-in_default c = record {
-  answer = λ t f. c.only-in_default.ensures.answer ∙ sym (itemless_answer c.args.full c.args.book.now t c.args.event.now c.in_default.not-Item);
-  acts = λ t f. c.only-in_default.ensures.acts ∙ sym (itemless_idle c.args.full c.args.book.now t c.args.event.now c.in_default.not-Item);
-  writable = c.only-in_default.ensures.writable c.args.book.now;
-}
+pub returns-clause-answer : goal.returns-clause-answer
+returns-clause-answer c = IfOk-weaker c.planned.result _ _ (λ p is t at. is ∙ c.in_ok-answer.ensures t _ at) c.planned.ensures.answer
+
+pub returns-clause-decided : goal.returns-clause-decided
+returns-clause-decided c = IfOk-weaker c.planned.result _ _ (λ p is t at. is t at ∙ ap (decided t c.args.event.now) (c.in_ok-answer.ensures t _ at)) c.planned.ensures.decided
+
+pub returns-clause-forgotten : goal.returns-clause-forgotten
+returns-clause-forgotten c =
+    IfOk-weaker c.planned.result _ _ (λ p is t at. is t at ∙ ap (forgotten c.args.book.now t c.args.event.now) (c.in_ok-answer.ensures t _ at)) c.planned.ensures.forgotten
+
+pub returns-clause-terminus : goal.returns-clause-terminus
+returns-clause-terminus c =
+    IfOk-weaker c.planned.result _ _ (λ p is t at. is t at ∙ ap (terminus_of_event c.args.book.now t c.args.event.now) (c.in_ok-answer.ensures t _ at)) c.planned.ensures.terminus

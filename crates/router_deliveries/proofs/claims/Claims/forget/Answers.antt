@@ -1,9 +1,14 @@
-use Rattle.std.proofs.Common.{true}
+use Rattle.std.proofs.Common.{true, refl}
 use Rattle.std.specs.Prelude.{◌==◌}
+use Rattle.router_trace.specs.Settling.{is_unbound_on, is_of_link}
 use Rattle.router_deliveries.specs.Places.{at_id}
 use Rattle.router_deliveries.proofs.Marked.{marked_end}
 use Rattle.router_deliveries.proofs.claims.Claims.forget.Goals as goal
 
 pub returns-clause-marked : goal.returns-clause-marked
-returns-clause-marked c = λ marked d o h q.
-    marked_end (c.args.conn == d) true h (at_id c.args.self.now.ids d o q) _ _ _ (marked d o h q) (c.forget-2.ensures d o h q) (c.forget.ensures d o q)
+returns-clause-marked c = λ marked. record {
+  unbound = λ d o h q.
+      marked_end is_unbound_on (λ h. refl) (c.args.conn == d) true h (at_id c.args.self.now.ids d o q) _ _ _ (marked.unbound d o h q) (c.forget-2.ensures d o h q) (c.forget.ensures d o q);
+  by_link = λ d o h q.
+      marked_end is_of_link (λ h. refl) (c.args.conn == d) true h (at_id c.args.self.now.ids d o q) _ _ _ (marked.by_link d o h q) (c.forget-3.ensures d o h q) (c.forget.ensures d o q);
+}

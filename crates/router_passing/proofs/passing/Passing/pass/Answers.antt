@@ -1,8 +1,9 @@
-use Rattle.std.proofs.Common.{◌≡◌, ◌∙◌, sym, refl, subst, Some}
+use Rattle.std.proofs.Common.{◌≡◌, ◌∙◌, sym, refl, subst, Some, Bool}
 use Rattle.router_trace.specs.Following.{link_of}
+use Rattle.router_trace.specs.declared.binding.Binding.{Binding}
 use Rattle.router_passing.specs.Fits.{NotedFit, PassingFit}
-use Rattle.router_passing.specs.Passing.{binding_to, consumer_of, last_behind}
-use Rattle.router_passing.proofs.Known.{bound_fits, passed}
+use Rattle.router_passing.specs.Passing.{consumer_of, last_behind}
+use Rattle.router_passing.proofs.Known.{bound_fits, message_to, passed}
 use Rattle.router_passing.proofs.passing.Passing.pass.Goals as goal
 
 pub returns-in_ok-bind-in-Some-2-clause-fits : goal.returns-in_ok-bind-in-Some-2-clause-fits
@@ -11,6 +12,8 @@ returns-in_ok-bind-in-Some-2-clause-fits c = λ t old.
     let chosen : Some c.in-Some.consumer ≡ consumer_of t (link_of t c.args.from) = sym c.in-Some.is ∙ c.choose.ensures.chosen t c.in_ok-tell_all.ensures.exact told in
     let noted : NotedFit c.choose.new.self t (last_behind t (Some c.in-Some.consumer)) =
     subst (λ v. NotedFit c.choose.new.self t (last_behind t v)) c.in-Some.is (c.choose.ensures.fits t c.in_ok-tell_all.ensures.exact told) in
-    passed _ t c.in-Some.consumer c.args.origin c.args.format c.args.payload (consumer_of t (link_of t c.args.from)) chosen
-    (bound_fits c.choose.new.self _ (binding_to c.args.origin c.args.format c.args.payload c.in-Some.consumer) t refl refl
-    (c.in_ok-bind-in-Some-2.ensures t (binding_to c.args.origin c.args.format c.args.payload c.in-Some.consumer) refl noted.claims) (c.in_ok-bind-in-Some.ensures.fits t noted.deliveries) c.in_ok-bind-in-Some.ensures.touches noted)
+    let lasting : Bool = c.lasts-lasting.result in
+    let bound : Binding = message_to c.args.origin c.args.row lasting c.args.format c.args.payload c.in-Some.consumer in
+    passed _ t c.in-Some.consumer c.args.origin c.args.row lasting c.args.format c.args.payload (consumer_of t (link_of t c.args.from)) chosen (c.lasts-lasting.ensures t noted.links)
+    (bound_fits c.choose.new.self _ bound t refl refl
+    (c.in_ok-bind-in-Some-2.ensures t bound refl noted.claims) (c.in_ok-bind-in-Some.ensures.fits t noted.deliveries) c.in_ok-bind-in-Some.ensures.touches noted)

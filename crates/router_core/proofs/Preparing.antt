@@ -1,0 +1,111 @@
+-- What is planned and admitted for an event is what its acts are.
+use Rattle.std.proofs.Common.{◌≡◌, ◌∙◌, ap, refl, sym, subst, ℕ, List, [], ◌∷◌, length, Bool, true, false, arith}
+use Rattle.std.specs.Prelude.{Option, Some, None, ◌==◌}
+use Rattle.std.proofs.lemmas.Bool.Decides.{nat_tests}
+use Rattle.amqp_frames.specs.declared.item.Item.{Item}
+use Rattle.amqp_conn.specs.declared.conn.Conn.{Conn}
+use Rattle.book_core.specs.declared.act.Act.{Act}
+use Rattle.book_core.specs.declared.act.Admission.{Admission}
+use Rattle.book_core.specs.declared.act.Decision.{Decision}
+use Rattle.book_core.specs.declared.row.RowNumber.{RowNumber}
+use Rattle.book_core.specs.Book.{BookView}
+use Rattle.router_store.specs.declared.acting.TerminusAct.{TerminusAct}
+use Rattle.router_store.specs.Acting.{event_acts as settled_acts}
+use Rattle.router_store.specs.Store.{used_of, kept_of}
+use Rattle.router_trace.specs.declared.event.ConnectionId.{ConnectionId}
+use Rattle.router_trace.specs.declared.event.Event.{Event}
+use Rattle.router_trace.specs.declared.event.Event.TheVariants as event
+use Rattle.router_trace.specs.Trace.{Entry, did}
+use Rattle.router_trace.specs.Connection.{due, standing, found}
+use Rattle.router_trace.specs.Sessions.{theirs, maps}
+use Rattle.router_links.specs.Fits.{channel_of}
+use Rattle.router_rows.specs.declared.answer.Answer.{Answer}
+use Rattle.router_rows.specs.declared.answer.Answer.TheVariants.{Taken}
+use Rattle.router_rows.specs.Booking.{answer_at}
+use Rattle.router_rows.proofs.Mapped.{IsHere, answer_here}
+use Rattle.router_reply.specs.declared.heard.Heard.{Heard}
+use Rattle.router_reply.specs.Acts.{event_answer, live_answer, answer_acts, planned_acts, acts_of}
+use Rattle.router_reply.specs.Admitting.{answer_admission, taken_admission, part_admission, unless_ends, event_admission, admits}
+use Rattle.router_reply.specs.Deciding.{decided, forgotten, terminus_of_event}
+use Rattle.router_reply.specs.Heard.{ItemHeard, IsHeard}
+use Rattle.router_core.specs.declared.router.Core.{Core}
+use Rattle.router_core.specs.Handling.{Fits, TakenHere, TakenIn, with_admission, kept_book}
+use Rattle.router_core.proofs.Books.{early_of, acts_are}
+
+-- of an event that is no start, the acts are those of its answer
+planned_is : (full : Bool) (b : BookView) (t : List Entry) (e : Event) → (e ≡ event.Start → ⊥) → answer_acts b t e (event_answer full b t e) ≡ planned_acts full b t e
+planned_is full b t event.Start other = absurd (other refl)
+planned_is full b t (event.Up c p) other = refl
+planned_is full b t (event.Item c i) other = refl
+planned_is full b t (event.Down c) other = refl
+planned_is full b t (event.Tick ms) other = refl
+
+pub planned_told : (full : Bool) (b given : BookView) (t : List Entry) (e : Event) (acts : List Act) (ds : List Decision) (ns : List RowNumber) (x : Option TerminusAct)
+    → given ≡ b → (e ≡ event.Start → ⊥) → acts ≡ settled_acts b ds ns x → ds ≡ decided t e (event_answer full given t e) → ns ≡ forgotten given t e (event_answer full given t e)
+    → x ≡ terminus_of_event given t e (event_answer full given t e) → acts ≡ planned_acts full b t e
+planned_told full b given t e acts ds ns x same other are ds_are ns_are x_is =
+    are ∙ ap (λ (v : List Decision). settled_acts b v ns x) ds_are
+    ∙ ap (λ (v : List RowNumber). settled_acts b (decided t e (event_answer full given t e)) v x) ns_are
+    ∙ ap (λ (v : Option TerminusAct). settled_acts b (decided t e (event_answer full given t e)) (forgotten given t e (event_answer full given t e)) v) x_is
+    ∙ ap (λ (g : BookView). settled_acts b (decided t e (event_answer full g t e)) (forgotten g t e (event_answer full g t e)) (terminus_of_event g t e (event_answer full g t e))) same
+    ∙ planned_is full b t e other
+
+pub none_ended : (ends : List ℕ) → (length ends == 0) ≡ true → ends ≡ []
+none_ended [] is = refl
+none_ended (c ∷ cs) is = absurd (grind (arith, nat_tests, is))
+
+-- what an item admits, by what was heard of it
+taken_here : (here : ℕ → Bool) (a : Answer) → IsHere here a → TakenHere here a
+taken_here here (Taken own handle) is = is
+taken_here here _ is = tt
+
+pub taken_in : (full : Bool) (b : BookView) (t : List Entry) (e : Event) → TakenIn t e (event_answer full b t e)
+taken_in full b t (event.Item d i) = by (standing (found t (event.Item d i) d.0))
+  where
+    by : (v : Option Conn) → TakenHere (maps (theirs t d.0 (channel_of i))) (live_answer full b t d.0 i v)
+    by None = tt
+    by (Some p) = taken_here (maps (theirs t d.0 (channel_of i))) (answer_at full b t d.0 p i) (answer_here full b p t d.0 i)
+taken_in full b t (event.Up c p) = tt
+taken_in full b t (event.Down c) = tt
+taken_in full b t (event.Tick ms) = tt
+taken_in full b t event.Start = tt
+
+item_part : (b : BookView) (t after : List Entry) (d : ConnectionId) (i : Item) (a : Answer) (h : Heard) → ItemHeard t d i a h → TakenHere (maps (theirs t d.0 (channel_of i))) a
+    → answer_admission b after d.0 a h.part ≡ taken_admission b t after d.0 i a
+item_part b t after d i (Taken own handle) h heard here = ap (part_admission b after d.0 own handle) (heard.part own here)
+item_part b t after d i _ h heard here = refl
+
+pub item_admits : (b given : BookView) (t : List Entry) (e : Event) (d : ConnectionId) (i : Item) (a : Answer) (h : Heard) (ends : List ℕ) (found : Option Admission)
+    → given ≡ b → e ≡ event.Item d i → ends ≡ due t e → ends ≡ [] → IsHeard t e a h → TakenIn t e a → found ≡ answer_admission given (did e ∷ t) d.0 a h.part
+    → admits b found ≡ admits b (event_admission b t e a)
+item_admits b given t e d i a h ends found same is are none =
+    subst (λ (x : Event). due t x ≡ [] → IsHeard t x a h → TakenIn t x a → found ≡ answer_admission given (did x ∷ t) d.0 a h.part → admits b found ≡ admits b (event_admission b t x a))
+    (sym is) by (sym are ∙ none)
+  where
+    f : Event
+    f = event.Item d i
+
+    by : due t (event.Item d i) ≡ [] → ItemHeard t d i a h → TakenHere (maps (theirs t d.0 (channel_of i))) a → found ≡ answer_admission given (did (event.Item d i) ∷ t) d.0 a h.part
+        → admits b found ≡ admits b (unless_ends (due t (event.Item d i)) (taken_admission b t (did (event.Item d i) ∷ t) d.0 i a))
+    by free heard here told =
+        ap (admits b) (told ∙ ap (λ (g : BookView). answer_admission g (did (event.Item d i) ∷ t) d.0 a h.part) same ∙ item_part b t (did (event.Item d i) ∷ t) d i a h heard here)
+        ∙ ap (λ (cs : List ℕ). admits b (unless_ends cs (taken_admission b t (did (event.Item d i) ∷ t) d.0 i a))) (sym free)
+
+pub itemless_admits : (b : BookView) (t : List Entry) (e : Event) (a : Answer) → ((d : ConnectionId) (i : Item) → e ≡ event.Item d i → ⊥) → admits b (event_admission b t e a) ≡ []
+itemless_admits b t (event.Item d i) a other = absurd (other d i refl)
+itemless_admits b t (event.Up c p) a other = refl
+itemless_admits b t (event.Down c) a other = refl
+itemless_admits b t (event.Tick ms) a other = refl
+itemless_admits b t event.Start a other = refl
+
+-- all of it together
+pub prepared : {D : Type 0} (core : Core D) (t : List Entry) (e : Event) (full : Bool) (a : Answer) (planned acts : List Act) → Fits core t → full ≡ early_of core t e
+    → a ≡ event_answer full (kept_book core) t e → planned ≡ planned_acts full (kept_book core) t e
+    → acts ≡ with_admission full (used_of core.store) (kept_of core.store) planned (admits (kept_book core) (event_admission (kept_book core) t e a)) → acts ≡ acts_of t e
+prepared core t e full a planned acts f early answered are told =
+    told
+    ∙ ap (λ (xs : List Act). with_admission full (used_of core.store) (kept_of core.store) xs (admits (kept_book core) (event_admission (kept_book core) t e a))) are
+    ∙ ap (λ (x : Answer). with_admission full (used_of core.store) (kept_of core.store) (planned_acts full (kept_book core) t e) (admits (kept_book core) (event_admission (kept_book core) t e x))) answered
+    ∙ ap (λ (b : Bool). with_admission b (used_of core.store) (kept_of core.store) (planned_acts b (kept_book core) t e)
+    (admits (kept_book core) (event_admission (kept_book core) t e (event_answer b (kept_book core) t e)))) early
+    ∙ acts_are core t e f

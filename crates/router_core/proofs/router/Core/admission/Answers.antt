@@ -1,0 +1,41 @@
+use Rattle.std.proofs.Common.{◌≡◌, ◌∙◌, refl, sym, ap, subst, List, []}
+use Rattle.std.proofs.lemmas.Result.{IfOk-weaker}
+use Rattle.book_core.specs.declared.act.Act.{Act}
+use Rattle.router_store.specs.Store.{Writable}
+use Rattle.router_store.proofs.Writing.{none_writable}
+use Rattle.router_reply.specs.Admitting.{admits}
+use Rattle.router_core.specs.Handling.{kept_book}
+use Rattle.router_core.proofs.Preparing.{none_ended, item_admits, itemless_admits}
+use Rattle.router_core.proofs.router.Core.admission.Goals as goal
+
+pub returns-in_default : goal.returns-in_default
+returns-in_default g c = record {
+  rest = refl;
+  tables = λ t f. f;
+  acts = λ t f are heard here. c.new.ensures.items ∙ sym (itemless_admits (kept_book c.args.self.now) t c.args.event.now c.args.answer.now c.in_default.not-Item);
+  writable = subst (λ (xs : List Act). Writable (kept_book c.args.self.now) xs) (sym c.new.ensures.items) (none_writable (kept_book c.args.self.now));
+}
+
+pub returns-then-not-is_empty-clause-writable : goal.returns-then-not-is_empty-clause-writable
+returns-then-not-is_empty-clause-writable g c =
+    subst (λ (xs : List Act). Writable (kept_book c.args.self.now) xs) (sym c.new-then-not-is_empty.ensures.items) (none_writable (kept_book c.args.self.now))
+
+pub returns-in-None-clause-acts : goal.returns-in-None-clause-acts
+returns-in-None-clause-acts g c = λ t f are heard here.
+    let none : c.args.ends.now ≡ [] = none_ended c.args.ends.now (sym c.if-not-is_empty.ensures) in
+    c.new-in-None.ensures.items ∙ ap (admits (kept_book c.args.self.now)) (sym c.in-None.is)
+    ∙ item_admits (kept_book c.args.self.now) c.book.result.now t c.args.event.now c.in-Item.conn _ c.args.answer.now c.args.heard.now c.args.ends.now _ c.book.ensures c.in-Item.is are none heard here
+    (c.in_ok-found.ensures.admission _ f)
+
+pub returns-in-None-clause-writable : goal.returns-in-None-clause-writable
+returns-in-None-clause-writable g c =
+    subst (λ (xs : List Act). Writable (kept_book c.args.self.now) xs) (sym c.new-in-None.ensures.items) (none_writable (kept_book c.args.self.now))
+
+pub returns-in-Some-clause-acts : goal.returns-in-Some-clause-acts
+returns-in-Some-clause-acts g c = IfOk-weaker c.admission_acts.result _ _
+    (λ r is t f are heard here.
+    let none : c.args.ends.now ≡ [] = none_ended c.args.ends.now (sym c.if-not-is_empty.ensures) in
+    is ∙ ap (admits (kept_book c.args.self.now)) (sym c.in-Some.is)
+    ∙ item_admits (kept_book c.args.self.now) c.book.result.now t c.args.event.now c.in-Item.conn _ c.args.answer.now c.args.heard.now c.args.ends.now _ c.book.ensures c.in-Item.is are none heard here
+    (c.in_ok-found.ensures.admission _ f))
+    c.admission_acts.ensures.acts

@@ -1,0 +1,41 @@
+use Rattle.std.proofs.Common.{◌≡◌, ◌∙◌, sym, ap, subst, ℕ, List, ◌∷◌, Bool, false}
+use Rattle.router_trace.specs.Trace.{Entry, did}
+use Rattle.router_trace.specs.Refusing.{refuses}
+use Rattle.router_state.specs.Tables.{TablesFit, TablesAt}
+use Rattle.router_state.proofs.Bound.{booked_fits}
+use Rattle.router_rows.specs.declared.answer.Answer.{Answer}
+use Rattle.router_reply.specs.Acts.{event_answer, booked, answer_to_event}
+use Rattle.router_core.specs.Handling.{TakenIn, kept_book, state_of}
+use Rattle.router_core.proofs.Booking.{booked_keeps, taken_booked}
+use Rattle.router_core.proofs.Books.{not_refused, answer_is}
+use Rattle.router_core.proofs.Preparing.{taken_in, prepared}
+use Rattle.router_core.proofs.router.Core.prepare.Goals as goal
+
+pub returns-clause-ready : goal.returns-clause-ready
+returns-clause-ready g c = λ t f taken.
+    let core = c.args.self.now in
+    let e = c.args.event.now in
+    let fit : TablesFit (state_of core) (booked t e) = booked_keeps (λ (u : List Entry). TablesFit (state_of core) u) t e (λ acts it. booked_fits (state_of core) acts t it) f.tables in
+    let behind = c.in_ok-ends.ensures (booked t e) fit in
+    let at = c.in_ok-ends.ensures t f.tables in
+    let planned : TablesAt c.turn.new.self t e c.deref.result.now = subst (λ (cs : List ℕ). TablesAt c.turn.new.self t e cs) (sym c.deref.ensures.value) at in
+    let free : refuses (booked t e) e ≡ false = taken_booked t e (not_refused t e taken) in
+    let answer : c.in_ok-full.field-0.answer ≡ answer_to_event (booked t e) e =
+    c.in_ok-full.ensures.answer t planned ∙ ap (λ (b : Bool). event_answer b (kept_book core) t e) (c.in_ok-full.ensures.full t planned) ∙ answer_is core t e f in
+    record {
+      tables = c.in_ok-acts.ensures.tables (did e ∷ booked t e) (c.in_ok-heard.ensures.fits (booked t e) _ behind free);
+      ends = behind.are_due;
+      answer = answer;
+      heard = c.in_ok-heard.ensures.heard (booked t e) _ behind;
+    }
+
+pub returns-clause-acts : goal.returns-clause-acts
+returns-clause-acts g c = λ t f taken.
+    let core = c.args.self.now in
+    let e = c.args.event.now in
+    let at = c.in_ok-ends.ensures t f.tables in
+    let planned : TablesAt c.turn.new.self t e c.deref.result.now = subst (λ (cs : List ℕ). TablesAt c.turn.new.self t e cs) (sym c.deref.ensures.value) at in
+    let answer = c.in_ok-full.ensures.answer t planned in
+    let told = c.in_ok-acts.ensures.acts t (c.in_ok-heard.ensures.fits t _ at (not_refused t e taken)) (c.deref-2.ensures.value ∙ at.are_due) (c.in_ok-heard.ensures.heard t _ at)
+    (subst (λ (a : Answer). TakenIn t e a) (sym answer) (taken_in _ (kept_book core) t e)) in
+    prepared core t e _ _ _ _ f (c.in_ok-full.ensures.full t planned) answer (c.in_ok-full.ensures.acts t planned) told

@@ -1,0 +1,119 @@
+//! The delivery that an event admits to the book.
+ghost use Rattle.std.specs.Prelude.{◌≡◌, [], List, option_map, unwrap_or, IfOk, OnOk};
+ghost use Rattle.router_trace.specs.Trace.{Entry};
+ghost use Rattle.router_trace.specs.Links.{link, durable_key};
+ghost use Rattle.router_state.specs.Tables.{TablesFit};
+ghost use Rattle.router_reply.specs.Admitting.{terminus_for, admission_of, admitted_to, whole_admission, part_admission, answer_admission, row_in};
+
+use crate::passing::claimed_id;
+use amqp_link::{Delivery, Part};
+use amqp_perf::DeliveryTag;
+use book_core::{Act, Admission, Book, LinkKey, RowNumber, TerminusNumber};
+use bytes::Bytes;
+use router_rows::Answer;
+use router_state::State;
+use router_trace::{Attachment, ConnectionId};
+use std::alloc::AllocError;
+
+/// The number of a durable link's terminus in the book.
+fn terminus_for(book: &Book, key: Option<&LinkKey>) -> Option<TerminusNumber>
+    ensures { result ≡ terminus_for book.now (option_map (λ k. k.now) key.entry) }
+{
+    match book.terminus_of(key?) {
+        None => None,
+        Some(terminus) => Some(terminus.number),
+    }
+}
+
+/// A copy of a delivery's tag; the empty one if it has none.
+fn copied(tag: &Option<DeliveryTag>) -> Result<DeliveryTag, AllocError>
+    ensures { IfOk result (λ copy. copy ≡ unwrap_or tag.now (record { items = [] })) }
+{
+    match tag {
+        None => Ok(DeliveryTag::new()),
+        Some(tag) => tag.clone(),
+    }
+}
+
+/// The admission of a delivery from this producer to this consumer.
+fn admission_of(
+    book: &Book,
+    producer: TerminusNumber,
+    consumer: Option<TerminusNumber>,
+    delivery: &Delivery,
+    payload: &Bytes,
+) -> Result<Admission, AllocError>
+    ensures { IfOk result (λ admission. admission ≡ admission_of book.now producer consumer delivery.now payload.now) }
+{
+    Ok(Admission {
+        row: book.next_row(),
+        producer,
+        tag: copied(&delivery.tag)?,
+        consumer,
+        format: delivery.format.unwrap_or(0),
+        payload: payload.clone()?,
+    })
+}
+
+/// The admission of a whole delivery; none if it isn't to have a row, or no consumer of its address is chosen.
+fn whole_admission(
+    state: &mut State,
+    book: &Book,
+    conn: u64,
+    own: u16,
+    handle: u32,
+    delivery: &Delivery,
+    payload: &Bytes,
+) -> Result<Option<Admission>, AllocError>
+    ensures admission { IfOk result (λ admission. (t : List Entry) → TablesFit state.old t → admission ≡ whole_admission book.now t conn own handle delivery.now payload.now) }
+    ensures fits { OnOk result ((t : List Entry) → TablesFit state.old t → TablesFit state.new t) }
+{
+    if delivery.resume || claimed_id(state, conn, own, handle, delivery.id).is_none() {
+        return Ok(None);
+    }
+    let Some(producer) = terminus_for(book, state.durable_key(conn, own, handle)) else {
+        return Ok(None);
+    };
+    let Some(at) = state.consumer_for(conn, own, handle)? else {
+        return Ok(None);
+    };
+    let consumer = terminus_for(book, state.durable_key(at.conn.0, at.channel, at.handle));
+    let admission = admission_of(book, producer, consumer, delivery, payload)?;
+    Ok(Some(admission))
+}
+
+/// The delivery that an event admits, behind the event, if it ends no connection for its full outbox: a whole delivery of a durable link, whose producer
+/// hasn't settled it and doesn't resume it, and for which a consumer of its address is chosen (AMQP 1.0 part 2, section 2.6.12).
+///
+/// # Errors
+///
+/// `AllocError` if memory was refused.
+pub fn admission_for(
+    state: &mut State,
+    book: &Book,
+    conn: ConnectionId,
+    answer: &Answer,
+    part: &Option<Part>,
+) -> Result<Option<Admission>, AllocError>
+    ensures admission { IfOk result (λ admission. (t : List Entry) → TablesFit state.old t → admission ≡ answer_admission book.now t conn.0 answer.now part.now) }
+    ensures fits { OnOk result ((t : List Entry) → TablesFit state.old t → TablesFit state.new t) }
+{
+    match (answer, part) {
+        (Answer::Taken { own, handle }, Some(Part::Whole(delivery, payload))) => {
+            whole_admission(state, book, conn.0, *own, *handle, delivery, payload)
+        }
+        _ => Ok(None),
+    }
+}
+
+/// The row that acts admit.
+pub fn row_in(acts: &[Act]) -> Option<RowNumber>
+    ensures { result ≡ row_in acts.now }
+{
+    for act in acts {
+        if let Act::Admit(admission) = act {
+            return Some(admission.row);
+        }
+    }
+    None
+}

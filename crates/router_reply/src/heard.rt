@@ -1,0 +1,121 @@
+//! An event is handled before anything is put: what its answer needs is kept.
+ghost use Rattle.std.specs.Prelude.{◌≡◌, ◌∷◌, ℕ, List, IfOk, OnOk, true, false};
+ghost use Rattle.router_trace.specs.Trace.{Entry, did, puts_of};
+ghost use Rattle.router_trace.specs.Refusing.{refuses};
+ghost use Rattle.router_trace.specs.declared.event.Event.TheVariants as event;
+ghost use Rattle.router_state.specs.Tables.{TablesFit, TablesAt, TablesFind, beats};
+ghost use Rattle.router_reply.specs.Heard.{ids_found, ItemHeard, IsHeard};
+
+use crate::passing::{disposition_in, last_of};
+use amqp_conn::Conn;
+use amqp_frames::Item;
+use amqp_link::Part;
+use router_rows::Answer;
+use router_state::State;
+use router_trace::{ConnectionId, Event, Outgoing};
+use std::alloc::{AllocError, Global};
+
+/// What is kept of an event that was handled, for its answer.
+#[derive(Debug, Drop)]
+pub struct Heard {
+    /// The phase of the connection of the event's item, as the event finds it; none if it isn't live then, and of other events.
+    pub phase: Option<Conn>,
+    /// What a transfer made of its delivery.
+    pub part: Option<Part>,
+    /// The deliveries that a disposition decided without settling them, by id.
+    pub ids: Vec<u32>,
+    /// The heartbeats that a tick made due.
+    pub beats: Vec<Outgoing>,
+}
+
+impl Heard {
+    /// Nothing.
+    pub(crate) fn nothing(alloc: Global) -> Heard {
+        Heard {
+            phase: None,
+            part: None,
+            ids: Vec::new(alloc),
+            beats: Vec::new(alloc),
+        }
+    }
+}
+
+/// The deliveries that an item's disposition decides without settling them, if its answer says that they are answered.
+fn ids_in(state: &State, conn: u64, item: &Item, answer: &Answer) -> Result<Vec<u32>, AllocError>
+    ensures { IfOk result (λ ids. (t : List Entry) → TablesFind state.now t → ids_found t conn item.now answer.now ids.items) }
+{
+    let Answer::Settle { own } = answer else {
+        return Ok(Vec::new(state.alloc()));
+    };
+    match disposition_in(item) {
+        None => Ok(Vec::new(state.alloc())),
+        Some(disposition) => { state.open_ids(conn, *own, disposition.first, last_of(disposition)) }
+    }
+}
+
+/// Handles an item.
+fn hear_item(
+    state: &mut State,
+    conn: ConnectionId,
+    item: &Item,
+    answer: &Answer,
+) -> Result<Heard, AllocError>
+    ensures heard { IfOk result (λ heard. (t : List Entry) (ends : List ℕ) → TablesAt state.old t (event.Item conn item.now) ends → ItemHeard t conn item.now answer.now heard) }
+    ensures fits { OnOk result ((t : List Entry) (ends : List ℕ) → TablesAt state.old t (event.Item conn item.now) ends → TablesFit state.new (did (event.Item conn item.now) ∷ t)) }
+{
+    let phase = state.standing(conn.0);
+    let ids = ids_in(state, conn.0, item, answer)?;
+    let Ok(part) = state.hear(conn, item) else {
+        drop(ids);
+        return Err(AllocError);
+    };
+    Ok(Heard {
+        phase,
+        part,
+        ids,
+        beats: Vec::new(state.alloc()),
+    })
+}
+
+/// Handles a tick: the clock moves to this moment.
+fn hear_tick(state: &mut State, moment: u64) -> Result<Heard, AllocError>
+    ensures heard { IfOk result (λ heard. (t : List Entry) (ends : List ℕ) → TablesAt state.old t (event.Tick moment) ends → puts_of heard.beats.items ≡ beats t (event.Tick moment) moment) }
+    ensures fits { OnOk result ((t : List Entry) (ends : List ℕ) → TablesAt state.old t (event.Tick moment) ends → TablesFit state.new (did (event.Tick moment) ∷ t)) }
+{
+    let beats = state.beats(moment)?;
+    state.tick(moment);
+    Ok(Heard {
+        phase: None,
+        part: None,
+        ids: Vec::new(state.alloc()),
+        beats,
+    })
+}
+
+/// Handles an event that is not refused, and puts nothing, after the turn that ended connections because their outboxes were full
+/// (`State::turn`). Returns what the answer to it needs.
+///
+/// # Errors
+///
+/// `AllocError` if memory was refused; the tables' contents are unspecified then.
+pub fn hear(state: &mut State, event: &Event, answer: &Answer) -> Result<Heard, AllocError>
+    ensures heard { IfOk result (λ heard. (t : List Entry) (ends : List ℕ) → TablesAt state.old t event.now ends → IsHeard t event.now answer.now heard) }
+    ensures fits { OnOk result ((t : List Entry) (ends : List ℕ) → TablesAt state.old t event.now ends → refuses t event.now ≡ false → TablesFit state.new (did event.now ∷ t)) }
+{
+    match event {
+        Event::Up(conn, peer) => {
+            state.up(*conn, peer)?;
+            Ok(Heard::nothing(state.alloc()))
+        }
+        Event::Item(conn, item) => hear_item(state, *conn, item, answer),
+        Event::Down(conn) => {
+            state.down(*conn)?;
+            Ok(Heard::nothing(state.alloc()))
+        }
+        Event::Tick(moment) => hear_tick(state, *moment),
+        Event::Start => {
+            state.start();
+            Ok(Heard::nothing(state.alloc()))
+        }
+    }
+}

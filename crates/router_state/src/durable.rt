@@ -1,0 +1,81 @@
+//! What is asked and done for durable messages: their rows are admitted and decided in the journal before the tables change.
+ghost use Rattle.std.specs.Prelude.{◌≡◌, List, OnOk, IfOk, is_some};
+ghost use Rattle.router_trace.specs.Trace.{Entry};
+ghost use Rattle.router_trace.specs.Sessions.{session_on};
+ghost use Rattle.router_trace.specs.Links.{durable_key, link};
+ghost use Rattle.router_trace.specs.Settling.{uses_tag};
+ghost use Rattle.router_deliveries.specs.Deciding.{decided_rows, rows_from};
+ghost use Rattle.router_passing.specs.Passing.{consumer_of};
+ghost use Rattle.router_state.specs.Tables.{TablesFit, TablesFind};
+ghost use Rattle.router_state.specs.Waiting.{NothingWaits};
+
+use crate::tables::State;
+use book_core::{Decision, RowNumber};
+use router_deliveries::Change;
+use router_trace::Attachment;
+use std::alloc::AllocError;
+
+impl State {
+    /// The router's channel of the session on a channel of the peer (AMQP 1.0 part 2, section 2.5.1).
+    pub fn own_channel(&self, conn: u64, channel: u16) -> Option<u16>
+        ensures { (t : List Entry) → TablesFind self.now t → result ≡ session_on t conn channel }
+    {
+        self.sessions.own_channel(conn, channel)
+    }
+
+    /// Whether the link on a handle of the router is durable.
+    pub fn is_durable(&self, conn: u64, own: u16, handle: u32) -> bool
+        ensures { (t : List Entry) → TablesFit self.now t → result ≡ is_some (durable_key (link t conn own handle)) }
+    {
+        self.passing.is_durable(conn, own, handle)
+    }
+
+    /// The consumer that [`State::pass`] would choose now for a message of the producer's link on a handle of the router; nothing is noted, so
+    /// asked again it answers the same.
+    pub fn consumer_for(
+        &mut self,
+        conn: u64,
+        own: u16,
+        handle: u32,
+    ) -> Result<Option<Attachment>, AllocError>
+        ensures consumer { IfOk result (λ at. (t : List Entry) → TablesFit self.old t → at ≡ consumer_of t (link t conn own handle)) }
+        ensures fits { OnOk result ((t : List Entry) → TablesFit self.old t → TablesFit self.new t) }
+    {
+        let consumer = self.passing.consumer_for(conn, own, handle)?;
+        Ok(consumer)
+    }
+
+    /// Whether the producer's link on a handle of the router has an unsettled delivery with this tag.
+    pub fn uses_tag(&self, conn: u64, own: u16, handle: u32, tag: &[u8]) -> bool
+        ensures { (t : List Entry) → TablesFind self.now t → result ≡ uses_tag t conn own handle tag.now }
+    {
+        self.passing.claims().uses_tag(conn, own, handle, tag)
+    }
+
+    /// The rows that these changes of deliveries would decide, one after another, each with its outcome, in order of the deliveries' numbers.
+    pub fn decided_rows(&self, changes: &[Change]) -> Result<Vec<Decision>, AllocError>
+        ensures { IfOk result (λ rows. (t : List Entry) → TablesFind self.now t → rows.items ≡ decided_rows t changes.now) }
+    {
+        self.passing.deliveries().decided_rows(changes)
+    }
+
+    /// The rows of the deliveries to which a producer gave an id in this range, on a session, in order of the deliveries' numbers.
+    pub fn rows_from(
+        &self,
+        conn: u64,
+        own: u16,
+        first: u32,
+        last: u32,
+    ) -> Result<Vec<RowNumber>, AllocError>
+        ensures { IfOk result (λ rows. (t : List Entry) → TablesFind self.now t → rows.items ≡ rows_from t conn own first last) }
+    {
+        self.passing.deliveries().rows_from(conn, own, first, last)
+    }
+
+    /// Forgets the items that wait in outboxes, so that none is put out. It takes no memory. The tables need not agree with any trace then.
+    pub fn give_up(&mut self)
+        ensures { NothingWaits self.new }
+    {
+        self.connections.give_up();
+    }
+}
