@@ -1,16 +1,40 @@
 //! Questions on what the program does: scripts, listings, journals, and its arguments.
-use crate::case::Case;
-use crate::fault::CaseFault;
-use crate::text::{bytes_of, digits_of, number_of};
 use amqr_commands::{Status, format_disk, list, list_journal, play_text, run};
+use case_files::{Case, CaseFault, Scene, bytes_of, digits_of, number_of};
 use disk_core::{Crash, FuseDisk, MemDisk};
 use route_table::Config;
 use std::alloc::Global;
 use std::fmt::Write;
 use std::fs;
 
+/// What the program does; only files are kept between questions.
+#[derive(Clone, Copy)]
+pub struct Scripts;
+
+impl Scene for Scripts {
+    fn begin(_alloc: Global, ending: &str) -> Option<Scripts> {
+        match ending {
+            "scripts" => Some(Scripts),
+            _ => None,
+        }
+    }
+
+    fn answer(&mut self, rt: &HostRuntime, case: &Case<'_>) -> Result<String, CaseFault> {
+        let alloc = rt.alloc();
+        match question_of(case)? {
+            Question::Play => play(alloc, case),
+            Question::Frames => frames(alloc, case.words),
+            Question::Journal => journal(alloc, case.words),
+            Question::Format => formatted(alloc, case.words),
+            Question::File => file(rt, case),
+            Question::Run => ran(rt, case),
+            Question::Shows => shows(rt, case),
+        }
+    }
+}
+
 /// What is asked.
-#[derive(Clone, Copy, Debug)]
+#[derive(Clone, Copy)]
 enum Question {
     /// To play the input as a script.
     Play,
@@ -39,24 +63,6 @@ fn question_of(case: &Case<'_>) -> Result<Question, CaseFault> {
         "run" => Ok(Question::Run),
         "shows" => Ok(Question::Shows),
         _ => Err(CaseFault::Question),
-    }
-}
-
-/// The answer to a question on the program: what it prints, and after it `status` and the exit status where it isn't 0.
-///
-/// # Errors
-///
-/// `Question`, `Word` and `Bytes` where the case isn't in the form, `File`; `Memory`.
-pub fn answer(rt: &HostRuntime, case: &Case<'_>) -> Result<String, CaseFault> {
-    let alloc = rt.alloc();
-    match question_of(case)? {
-        Question::Play => play(alloc, case),
-        Question::Frames => frames(alloc, case.words),
-        Question::Journal => journal(alloc, case.words),
-        Question::Format => formatted(alloc, case.words),
-        Question::File => file(rt, case),
-        Question::Run => ran(rt, case),
-        Question::Shows => shows(rt, case),
     }
 }
 
@@ -89,33 +95,51 @@ fn frames(alloc: Global, words: &str) -> Result<String, CaseFault> {
 
 /// A disk with these bytes, where each call after a number of calls fails: `BYTES CALLS`, or `BYTES` where none does.
 fn disk_of(alloc: Global, words: &str) -> Result<FuseDisk<MemDisk>, CaseFault> {
-    let (digits, calls) = words.split_once(' ').unwrap_or((words, ""));
+    let (digits, calls) = match words.split_once(' ') {
+        None => (words, None),
+        Some((digits, calls)) => (digits, Some(number_of(Some(calls))?)),
+    };
     let bytes = bytes_of(alloc, digits)?;
     let mut disk = FuseDisk::new(MemDisk::holding(alloc, bytes)?);
-    if !calls.is_empty() {
-        Crash::fuse(&mut disk, number_of(Some(calls))?);
+    if let Some(calls) = calls {
+        Crash::fuse(&mut disk, calls);
     }
     Ok(disk)
 }
 
-/// Lists the journal on a disk.
+/// Lists the journal on the disk that words tell.
 fn journal(alloc: Global, words: &str) -> Result<String, CaseFault> {
     let mut disk = disk_of(alloc, words)?;
+    let answer = listed(alloc, &mut disk);
+    drop(disk);
+    answer
+}
+
+/// Lists the journal on a disk.
+fn listed(alloc: Global, disk: &mut FuseDisk<MemDisk>) -> Result<String, CaseFault> {
     let mut printed = Vec::new(alloc);
-    let status = list_journal(alloc, &mut disk, &mut printed)?;
+    let status = list_journal(alloc, disk, &mut printed)?;
     answer_of(printed, status)
 }
 
-/// Makes a journal on a disk: what is printed, and the bytes that the disk has then.
+/// Makes a journal on the disk that words tell: what is printed, and the bytes that the disk has then.
 fn formatted(alloc: Global, words: &str) -> Result<String, CaseFault> {
     let mut disk = disk_of(alloc, words)?;
-    let mut printed = Vec::new(alloc);
-    let status = format_disk(&mut disk, &mut printed)?;
-    let mut text = answer_of(printed, status)?;
+    let made = made(alloc, &mut disk);
     let left = disk.into_inner();
-    let digits = digits_of(alloc, left.bytes())?;
+    let digits = digits_of(alloc, left.bytes());
+    drop(left);
+    let mut text = made?;
+    let digits = digits?;
     writeln!(text, "disk {digits}")?;
     Ok(text)
+}
+
+/// Makes a journal on a disk.
+fn made(alloc: Global, disk: &mut FuseDisk<MemDisk>) -> Result<String, CaseFault> {
+    let mut printed = Vec::new(alloc);
+    let status = format_disk(disk, &mut printed)?;
+    answer_of(printed, status)
 }
 
 /// Puts the lines of input into a file of this name.
@@ -125,41 +149,28 @@ fn file(rt: &HostRuntime, case: &Case<'_>) -> Result<String, CaseFault> {
     Ok(String::new(rt.alloc()))
 }
 
-/// What the program printed, what it wrote to its errors, and its status.
-#[derive(Drop)]
-struct Ending {
-    printed: Vec<u8>,
-    errors: Vec<u8>,
-    status: Status,
-}
-
 /// Runs the program with these arguments, whose input is the text `hello`.
-fn run_words(rt: &HostRuntime, words: &str) -> Result<Ending, CaseFault> {
+fn run_words(
+    rt: &HostRuntime,
+    words: &str,
+    printed: &mut Vec<u8>,
+    errors: &mut Vec<u8>,
+) -> Result<Status, CaseFault> {
     let mut parts = vec![in rt.alloc(); "amqr"]?;
     for word in words.split(' ') {
         if !word.is_empty() {
             parts.push(word)?;
         }
     }
-    let mut printed = Vec::new(rt.alloc());
-    let mut errors = Vec::new(rt.alloc());
     let mut input = b"hello\n".as_slice();
-    let status = run(rt, parts.as_slice(), &mut input, &mut printed, &mut errors)?;
-    Ok(Ending {
-        printed,
-        errors,
-        status,
-    })
+    Ok(run(rt, parts.as_slice(), &mut input, printed, errors)?)
 }
 
 /// What the program prints with these arguments, `errors` where it writes to its errors, and the status.
 fn ran(rt: &HostRuntime, case: &Case<'_>) -> Result<String, CaseFault> {
-    let Ending {
-        printed,
-        errors,
-        status,
-    } = run_words(rt, case.words)?;
-    let mut printed = printed;
+    let mut printed = Vec::new(rt.alloc());
+    let mut errors = Vec::new(rt.alloc());
+    let status = run_words(rt, case.words, &mut printed, &mut errors)?;
     if !errors.is_empty() {
         printed.extend_from_slice(b"errors\n")?;
     }
@@ -168,15 +179,18 @@ fn ran(rt: &HostRuntime, case: &Case<'_>) -> Result<String, CaseFault> {
 
 /// The lines of input that aren't in what the program prints with these arguments.
 fn shows(rt: &HostRuntime, case: &Case<'_>) -> Result<String, CaseFault> {
-    let Ending {
-        printed,
-        status,
-        ..
-    } = run_words(rt, case.words)?;
+    let mut printed = Vec::new(rt.alloc());
+    let mut errors = Vec::new(rt.alloc());
+    let status = run_words(rt, case.words, &mut printed, &mut errors)?;
     let text = answer_of(printed, status)?;
     let wanted = case.lines_text(rt.alloc())?;
-    let mut missing = String::new(rt.alloc());
-    for line in wanted.lines() {
+    missing_in(rt.alloc(), text.as_str(), wanted.as_str())
+}
+
+/// The lines that aren't in a text.
+fn missing_in(alloc: Global, text: &str, lines: &str) -> Result<String, CaseFault> {
+    let mut missing = String::new(alloc);
+    for line in lines.lines() {
         if !text.contains(line) {
             writeln!(missing, "{line}")?;
         }

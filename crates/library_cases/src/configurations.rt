@@ -1,12 +1,11 @@
 //! Questions on configurations: what a text says or where it is at fault, and the place of an address.
-use crate::case::Case;
-use crate::fault::CaseFault;
+use case_files::{Case, CaseFault};
 use route_table::{Config, Listener, Table, read_config};
 use std::alloc::Global;
 use std::fmt::Write;
 
 /// What is asked.
-#[derive(Clone, Copy, Debug)]
+#[derive(Clone, Copy)]
 enum Question {
     /// To read the input as a configuration.
     Read,
@@ -57,7 +56,7 @@ pub fn answer(
     match question_of(case)? {
         Question::Read => read(alloc, scene, case),
         Question::Standard => {
-            *scene = Some(Config::standard(alloc)?);
+            drop(scene.replace(Config::standard(alloc)?));
             Ok(String::new(alloc))
         }
         question => match scene {
@@ -72,7 +71,7 @@ fn read(alloc: Global, scene: &mut Option<Config>, case: &Case<'_>) -> Result<St
     let text = case.input_text(alloc)?;
     match read_config(alloc, text.as_str()) {
         Ok(config) => {
-            *scene = Some(config);
+            drop(scene.replace(config));
             Ok(String::new(alloc))
         }
         Err(fault) => {
@@ -105,6 +104,13 @@ fn told(
 /// The distribution of an address, and the containers that links to it and from it are routed to.
 fn place(alloc: Global, config: &Config, address: &str) -> Result<String, CaseFault> {
     let table = Table::new(alloc, config)?;
+    let text = place_in(alloc, &table, address);
+    drop(table);
+    text
+}
+
+/// The place of an address in a table.
+fn place_in(alloc: Global, table: &Table, address: &str) -> Result<String, CaseFault> {
     let place = table.find(address);
     let mut text = format!(in alloc; "{:?}", place.distribution)?;
     if let Some(container) = place.route_in {

@@ -1,16 +1,15 @@
 //! Acts of a book as case files write them, one a line.
-use crate::fault::CaseFault;
-use crate::text::{bytes_of, number_of};
 use amqp_perf::{DeliveryTag, Text, read_state};
 use book_core::{
     Act, Admission, Book, Decision, LinkKey, LinkRole, RowNumber, Terminus, TerminusNumber,
 };
 use bytes::Bytes;
+use case_files::{CaseFault, bytes_of, number_of};
 use std::alloc::{AllocError, Global};
 use std::str::Split;
 
 /// The numbers that `next` stands for, which rise with each act.
-#[derive(Clone, Copy, Debug)]
+#[derive(Clone, Copy)]
 struct Next {
     row: u64,
     terminus: u64,

@@ -30,6 +30,10 @@ fn put_times(alloc: Global, out: &mut Vec<u8>, digits: &str, times: &str) -> Res
 }
 
 /// The hexadecimal digits of bytes; `-` for none.
+///
+/// # Errors
+///
+/// `Memory`.
 pub fn digits_of(alloc: Global, bytes: &[u8]) -> Result<String, CaseFault> {
     if bytes.is_empty() {
         return Ok(String::from_str(alloc, "-")?);
@@ -37,7 +41,20 @@ pub fn digits_of(alloc: Global, bytes: &[u8]) -> Result<String, CaseFault> {
     Ok(hex::encode_upper(alloc, bytes)?)
 }
 
+/// `fault N`, where N is a fault's number.
+///
+/// # Errors
+///
+/// `Memory`.
+pub fn fault_number(alloc: Global, number: u8) -> Result<String, CaseFault> {
+    Ok(format!(in alloc; "fault {number}")?)
+}
+
 /// The number that a word is.
+///
+/// # Errors
+///
+/// `Word` where there is none or it is no number.
 pub fn number_of(word: Option<&str>) -> Result<u64, CaseFault> {
     match word {
         None => Err(CaseFault::Word),
@@ -46,6 +63,10 @@ pub fn number_of(word: Option<&str>) -> Result<u64, CaseFault> {
 }
 
 /// The number that a word is, as a length or a place.
+///
+/// # Errors
+///
+/// `Word` where there is none or it is no number.
 pub fn size_of(word: Option<&str>) -> Result<usize, CaseFault> {
     match word {
         None => Err(CaseFault::Word),

@@ -1,7 +1,5 @@
 //! Questions on disks: what is read after writes, cuts, syncs and stops.
-use crate::case::Case;
-use crate::fault::CaseFault;
-use crate::text::{bytes_of, digits_of, number_of, size_of};
+use case_files::{Case, CaseFault, bytes_of, digits_of, number_of, size_of};
 use disk_core::{Crash, Disk, DiskFault, FileDisk, FuseDisk, MemDisk};
 use std::alloc::Global;
 use std::fs;
@@ -25,7 +23,7 @@ pub enum AnyDisk {
 }
 
 /// A call on a disk.
-#[derive(Clone, Copy, Debug)]
+#[derive(Clone, Copy)]
 enum Call {
     /// The number of bytes.
     Length,
@@ -40,7 +38,7 @@ enum Call {
 }
 
 /// A disk that a scene may take.
-#[derive(Clone, Copy, Debug)]
+#[derive(Clone, Copy)]
 enum Taken {
     /// A disk in memory with these bytes.
     Memory,
@@ -55,7 +53,7 @@ enum Taken {
 }
 
 /// What is asked in a scene.
-#[derive(Clone, Copy, Debug)]
+#[derive(Clone, Copy)]
 enum Question {
     /// To take a disk.
     Take(Taken),
@@ -127,11 +125,11 @@ fn take(
     let alloc = rt.alloc();
     match taken {
         Taken::Memory => {
-            *scene = Some(AnyDisk::Memory(disk_of(alloc, words)?));
+            set(scene, AnyDisk::Memory(disk_of(alloc, words)?));
             Ok(String::new(alloc))
         }
         Taken::Fused => {
-            *scene = Some(AnyDisk::Fused(FuseDisk::new(disk_of(alloc, words)?)));
+            set(scene, AnyDisk::Fused(FuseDisk::new(disk_of(alloc, words)?)));
             Ok(String::new(alloc))
         }
         Taken::Create => set_file(alloc, scene, FileDisk::create(rt, alloc, words)),
@@ -141,6 +139,11 @@ fn take(
             set_file(alloc, scene, FileDisk::over(alloc, file))
         }
     }
+}
+
+/// Sets the scene's disk.
+fn set(scene: &mut Option<AnyDisk>, disk: AnyDisk) {
+    drop(scene.replace(disk));
 }
 
 /// A disk in memory with the bytes of a word.
@@ -157,7 +160,7 @@ fn set_file(
 ) -> Result<String, CaseFault> {
     match disk {
         Ok(disk) => {
-            *scene = Some(AnyDisk::File(disk));
+            set(scene, AnyDisk::File(disk));
             Ok(String::new(alloc))
         }
         Err(fault) => fault_text(alloc, fault),
@@ -190,7 +193,7 @@ fn crash(alloc: Global, scene: &mut Option<AnyDisk>, how: u64) -> Result<String,
         Some(AnyDisk::Fused(disk)) => AnyDisk::Fused(disk.crash(how)?),
         Some(AnyDisk::File(_)) | None => return Err(CaseFault::Missing),
     };
-    *scene = Some(left);
+    set(scene, left);
     Ok(String::new(alloc))
 }
 

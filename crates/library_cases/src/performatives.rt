@@ -1,12 +1,10 @@
 //! Questions on performatives, SASL bodies and delivery states: what bytes encode, and how it is written.
-use crate::case::Case;
-use crate::fault::CaseFault;
-use crate::text::{bytes_of, digits_of};
-use amqp_perf::{PerfFault, read_perf, read_state, write_perf, write_state};
+use amqp_perf::{DeliveryState, Perf, PerfFault, read_perf, read_state, write_perf, write_state};
+use case_files::{Case, CaseFault, bytes_of, digits_of, fault_number};
 use std::alloc::Global;
 
 /// What is asked of bytes.
-#[derive(Clone, Copy, Debug)]
+#[derive(Clone, Copy)]
 enum Question {
     /// The performative or SASL body at their front.
     Performative,
@@ -40,28 +38,40 @@ pub fn answer(alloc: Global, case: &Case<'_>) -> Result<String, CaseFault> {
 
 /// How the performative at the front is encoded, and where its payload begins.
 fn performative(alloc: Global, bytes: &[u8]) -> Result<String, CaseFault> {
-    let mut written = Vec::new(alloc);
     match read_perf(alloc, bytes) {
         Ok((perf, length)) => {
-            write_perf(alloc, &perf, &mut written)?;
+            let written = perf_bytes(alloc, &perf);
             drop(perf);
-            spelling(alloc, bytes, written.as_slice(), length)
+            spelling(alloc, bytes, written?.as_slice(), length)
         }
         Err(fault) => fault_text(alloc, fault),
     }
 }
 
+/// The encoding of a performative.
+fn perf_bytes(alloc: Global, perf: &Perf) -> Result<Vec<u8>, CaseFault> {
+    let mut written = Vec::new(alloc);
+    write_perf(alloc, perf, &mut written)?;
+    Ok(written)
+}
+
 /// How the delivery state at the front is encoded, and its length there.
 fn state(alloc: Global, bytes: &[u8]) -> Result<String, CaseFault> {
-    let mut written = Vec::new(alloc);
     match read_state(alloc, bytes) {
         Ok((state, length)) => {
-            write_state(alloc, &state, &mut written)?;
+            let written = state_bytes(alloc, &state);
             drop(state);
-            spelling(alloc, bytes, written.as_slice(), length)
+            spelling(alloc, bytes, written?.as_slice(), length)
         }
         Err(fault) => fault_text(alloc, fault),
     }
+}
+
+/// The encoding of a delivery state.
+fn state_bytes(alloc: Global, state: &DeliveryState) -> Result<Vec<u8>, CaseFault> {
+    let mut written = Vec::new(alloc);
+    write_state(alloc, state, &mut written)?;
+    Ok(written)
 }
 
 /// `same` where what was read is encoded as it came, else the digits of the encoding; and the length of what was read.
@@ -79,6 +89,10 @@ fn spelling(
 }
 
 /// A fault's number, and after it that of the value's fault where a value is encoded wrongly.
+///
+/// # Errors
+///
+/// `Memory`.
 pub fn fault_text(alloc: Global, fault: PerfFault) -> Result<String, CaseFault> {
     let number = fault.number();
     match fault {
@@ -86,6 +100,6 @@ pub fn fault_text(alloc: Global, fault: PerfFault) -> Result<String, CaseFault> 
             let inside = inner.number();
             Ok(format!(in alloc; "fault {number} {inside}")?)
         }
-        _ => Ok(format!(in alloc; "fault {number}")?),
+        _ => fault_number(alloc, number),
     }
 }

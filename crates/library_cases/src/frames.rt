@@ -1,12 +1,10 @@
 //! Questions on streams: which items their bytes are cut into, and how these are encoded.
 ghost use Rattle.std.specs.Prelude.{◌<◌};
 
-use crate::case::Case;
-use crate::fault::CaseFault;
 use crate::performatives::fault_text;
-use crate::text::{bytes_of, digits_of};
 use amqp_frames::{FrameFault, FrameReader, Item, write_item};
 use amqp_perf::Perf;
+use case_files::{Case, CaseFault, bytes_of, digits_of};
 use std::alloc::Global;
 use std::fmt::Write;
 
@@ -14,7 +12,7 @@ use std::fmt::Write;
 const LARGEST_PIECE: usize = 64;
 
 /// What is asked of a stream.
-#[derive(Clone, Copy, Debug)]
+#[derive(Clone, Copy)]
 enum Question {
     /// Its items, fed whole and in pieces of every size.
     Feed,
@@ -127,18 +125,28 @@ fn lines_of(alloc: Global, stream: &[u8], size: usize) -> Result<String, CaseFau
     let mut lines = String::new(alloc);
     let mut unread = stream.len();
     for piece in stream.chunks(size) {
-        match reader.feed(piece) {
-            Ok(items) => {
-                unread = unread.saturating_sub(piece.len());
-                put_items(&mut lines, items.as_slice())?;
-            }
-            Err(FrameFault::Failed) => break,
-            Err(_) => return Err(CaseFault::Memory),
+        if !put_fed(&mut reader, &mut lines, piece)? {
+            break;
         }
+        unread = unread.saturating_sub(piece.len());
     }
     let rest = unread.saturating_add(reader.rest().len());
     writeln!(lines, "rest {rest}")?;
     Ok(lines)
+}
+
+/// Feeds a piece, and appends a line for each item that it completes. Whether the reader took it, which it doesn't after a
+/// `Bad`.
+fn put_fed(reader: &mut FrameReader, lines: &mut String, piece: &[u8]) -> Result<bool, CaseFault> {
+    match reader.feed(piece) {
+        Ok(items) => {
+            let put = put_items(lines, items.as_slice());
+            drop(items);
+            put.and(Ok(true))
+        }
+        Err(FrameFault::Failed) => Ok(false),
+        Err(_) => Err(CaseFault::Memory),
+    }
 }
 
 /// The lines of a stream, where they are the same in pieces of every size, and its items are read again from their
@@ -179,14 +187,17 @@ fn feed_piece(
 ) -> Result<(), CaseFault> {
     let piece = bytes_of(alloc, word)?;
     match reader.feed(piece.as_slice()) {
-        Ok(items) => put_piece(lines, items.as_slice())?,
+        Ok(items) => {
+            let put = put_piece(lines, items.as_slice());
+            drop(items);
+            put
+        }
         Err(fault) => {
             let number = fault.number();
-            write!(lines, "fault {number}")?;
+            writeln!(lines, "fault {number}")?;
+            Ok(())
         }
     }
-    lines.push('\n')?;
-    Ok(())
 }
 
 /// Appends the items of a piece in one line.
@@ -200,6 +211,7 @@ fn put_piece(lines: &mut String, items: &[Item]) -> Result<(), CaseFault> {
         }
         put_item(lines, item)?;
     }
+    lines.push('\n')?;
     Ok(())
 }
 
@@ -207,6 +219,14 @@ fn put_piece(lines: &mut String, items: &[Item]) -> Result<(), CaseFault> {
 fn items_of(alloc: Global, stream: &[u8]) -> Result<Vec<Item>, CaseFault> {
     let mut reader = FrameReader::new(alloc);
     reader.feed(stream).or(Err(CaseFault::Memory))
+}
+
+/// The encodings of the items of a stream that is fed whole.
+fn encodings(alloc: Global, stream: &[u8]) -> Result<Vec<u8>, CaseFault> {
+    let items = items_of(alloc, stream)?;
+    let bytes = written(alloc, items.as_slice());
+    drop(items);
+    bytes
 }
 
 /// The encodings of items.
@@ -220,63 +240,86 @@ fn written(alloc: Global, items: &[Item]) -> Result<Vec<u8>, CaseFault> {
 
 /// `same` where the items of a stream are encoded as they came, else the digits of the encodings.
 fn rewritten(alloc: Global, stream: &[u8]) -> Result<String, CaseFault> {
-    let items = items_of(alloc, stream)?;
-    let bytes = written(alloc, items.as_slice())?;
+    let bytes = encodings(alloc, stream)?;
     if bytes.as_slice() == stream {
         return Ok(String::from_str(alloc, "same")?);
     }
     digits_of(alloc, bytes.as_slice())
 }
 
-/// The items as text, without a `Bad`.
-fn shown(alloc: Global, items: &[Item]) -> Result<String, CaseFault> {
+/// The items of a stream that is fed whole as text, without a `Bad`.
+fn shown(alloc: Global, stream: &[u8]) -> Result<String, CaseFault> {
+    let items = items_of(alloc, stream)?;
     let mut text = String::new(alloc);
+    let put = put_shown(&mut text, items.as_slice());
+    drop(items);
+    put.and(Ok(text))
+}
+
+/// Appends items as text, without a `Bad`.
+fn put_shown(text: &mut String, items: &[Item]) -> Result<(), CaseFault> {
     for item in items {
         if !matches!(item, Item::Bad(_)) {
             writeln!(text, "{item:?}")?;
         }
     }
-    Ok(text)
+    Ok(())
 }
 
 /// Whether the items of a stream are read again from their encodings.
 fn is_read_again(alloc: Global, stream: &[u8]) -> Result<bool, CaseFault> {
-    let items = items_of(alloc, stream)?;
-    let bytes = written(alloc, items.as_slice())?;
-    let read = items_of(alloc, bytes.as_slice())?;
-    let wanted = shown(alloc, items.as_slice())?;
-    let found = shown(alloc, read.as_slice())?;
+    let bytes = encodings(alloc, stream)?;
+    let wanted = shown(alloc, stream)?;
+    let found = shown(alloc, bytes.as_slice())?;
     Ok(found.as_str() == wanted.as_str())
 }
 
 /// A line for the payload of each frame.
 fn payloads(alloc: Global, stream: &[u8]) -> Result<String, CaseFault> {
+    let items = items_of(alloc, stream)?;
     let mut lines = String::new(alloc);
-    for item in &items_of(alloc, stream)? {
+    let put = put_payloads(alloc, &mut lines, items.as_slice());
+    drop(items);
+    put.and(Ok(lines))
+}
+
+/// Appends a line for the payload of each frame.
+fn put_payloads(alloc: Global, lines: &mut String, items: &[Item]) -> Result<(), CaseFault> {
+    for item in items {
         if let Item::Frame { payload, .. } = item {
             let digits = digits_of(alloc, payload.as_slice())?;
             writeln!(lines, "{digits}")?;
         }
     }
-    Ok(lines)
+    Ok(())
 }
 
 /// The number of the fault of bytes that begin no item, and after it those of the performative's fault.
 fn fault(alloc: Global, stream: &[u8]) -> Result<String, CaseFault> {
-    for item in &items_of(alloc, stream)? {
-        match item {
-            Item::Bad(FrameFault::Perf(inner)) => {
-                let inside = fault_text(alloc, *inner)?;
-                return Ok(format!(in alloc; "bad 5, {inside}")?);
-            }
-            Item::Bad(other) => {
-                let number = other.number();
-                return Ok(format!(in alloc; "bad {number}")?);
-            }
-            _ => {}
+    let items = items_of(alloc, stream)?;
+    let found = first_fault(items.as_slice());
+    drop(items);
+    match found {
+        None => Ok(String::from_str(alloc, "none")?),
+        Some(FrameFault::Perf(inner)) => {
+            let inside = fault_text(alloc, inner)?;
+            Ok(format!(in alloc; "bad 5, {inside}")?)
+        }
+        Some(other) => {
+            let number = other.number();
+            Ok(format!(in alloc; "bad {number}")?)
         }
     }
-    Ok(String::from_str(alloc, "none")?)
+}
+
+/// The fault of the first bytes that begin no item.
+fn first_fault(items: &[Item]) -> Option<FrameFault> {
+    for item in items {
+        if let Item::Bad(fault) = item {
+            return Some(*fault);
+        }
+    }
+    None
 }
 
 /// Tests that a stream is answered by items and at most one `Bad`, the same in pieces of every size.

@@ -1,12 +1,10 @@
 //! Questions on journals: what batches, stops and faults leave, and what is listed.
 ghost use Rattle.std.specs.Prelude.{◌≡◌};
 
-use crate::batches::{append_batches, twins};
-use crate::case::Case;
+use crate::batches::{append_batches, apply_entries};
 use crate::disks::fault_text;
-use crate::fault::CaseFault;
-use crate::text::{bytes_of, digits_of, number_of, size_of};
 use book_core::Book;
+use case_files::{Case, CaseFault, bytes_of, digits_of, number_of, size_of};
 use disk_core::{Crash, Disk, FuseDisk, MemDisk};
 use gate_journal::{Journal, Listing, OpenFault, format, list};
 use std::alloc::Global;
@@ -16,7 +14,7 @@ use std::fmt::Write;
 pub type StopDisk = FuseDisk<MemDisk>;
 
 /// What is asked in a scene.
-#[derive(Clone, Copy, Debug)]
+#[derive(Clone, Copy)]
 enum Question {
     /// To take a disk with these bytes.
     Disk,
@@ -64,25 +62,34 @@ pub fn answer(
     scene: &mut Option<StopDisk>,
     case: &Case<'_>,
 ) -> Result<String, CaseFault> {
-    let question = question_of(case)?;
-    if let Question::Disk = question {
-        let text = case.input_text(alloc)?;
-        let bytes = bytes_of(alloc, text.as_str())?;
-        *scene = Some(FuseDisk::new(MemDisk::holding(alloc, bytes)?));
-        return Ok(String::new(alloc));
+    match question_of(case)? {
+        Question::Disk => take(alloc, scene, case),
+        Question::Open => opened(alloc, scene),
+        Question::Append => appended(alloc, scene, case),
+        Question::Crash => crashed(alloc, scene, case.words),
+        question => match scene {
+            Some(disk) => told(alloc, disk, question, case.words),
+            None => Err(CaseFault::Missing),
+        },
     }
-    let mut disk = scene.take().ok_or(CaseFault::Missing)?;
-    let (disk, text) = match question {
-        Question::Open => opened(alloc, disk)?,
-        Question::Append => appended(alloc, disk, case)?,
-        Question::Crash => crashed(alloc, disk, case.words)?,
-        question => {
-            let text = told(alloc, &mut disk, question, case.words)?;
-            (Some(disk), text)
-        }
-    };
-    *scene = disk;
-    Ok(text)
+}
+
+/// Takes a disk with the bytes of the input.
+fn take(alloc: Global, scene: &mut Option<StopDisk>, case: &Case<'_>) -> Result<String, CaseFault> {
+    let text = case.input_text(alloc)?;
+    let bytes = bytes_of(alloc, text.as_str())?;
+    set(scene, FuseDisk::new(MemDisk::holding(alloc, bytes)?));
+    Ok(String::new(alloc))
+}
+
+/// Sets the scene's disk.
+fn set(scene: &mut Option<StopDisk>, disk: StopDisk) {
+    drop(scene.replace(disk));
+}
+
+/// The scene's disk, which the scene no longer has then.
+fn taken(scene: &mut Option<StopDisk>) -> Result<StopDisk, CaseFault> {
+    scene.take().ok_or(CaseFault::Missing)
 }
 
 /// The answer to a question after which the scene keeps the disk.
@@ -128,104 +135,117 @@ fn formatted(alloc: Global, disk: &mut StopDisk) -> Result<String, CaseFault> {
 }
 
 /// What a journal has, and the room that is left; or why it can't be opened, and then the disk is gone.
-fn opened(alloc: Global, disk: StopDisk) -> Result<(Option<StopDisk>, String), CaseFault> {
-    match Journal::open(alloc, disk) {
+fn opened(alloc: Global, scene: &mut Option<StopDisk>) -> Result<String, CaseFault> {
+    match Journal::open(alloc, taken(scene)?) {
         Ok((journal, book)) => {
-            let rows = book.row_count();
-            let termini = book.terminus_count();
-            let room = journal.room();
-            let text = format!(in alloc; "rows {rows} termini {termini} room {room}")?;
-            Ok((Some(journal.into_disk()), text))
+            let text = sizes(alloc, &book, journal.room());
+            drop(book);
+            set(scene, journal.into_disk());
+            text
         }
-        Err(fault) => Ok((None, format!(in alloc; "{fault}")?)),
+        Err(fault) => why_not(alloc, fault),
     }
+}
+
+/// How much a book has, and a journal's room.
+fn sizes(alloc: Global, book: &Book, room: i128) -> Result<String, CaseFault> {
+    let rows = book.row_count();
+    let termini = book.terminus_count();
+    Ok(format!(in alloc; "rows {rows} termini {termini} room {room}")?)
+}
+
+/// Why a journal can't be opened.
+fn why_not(alloc: Global, fault: OpenFault) -> Result<String, CaseFault> {
+    Ok(format!(in alloc; "{fault}")?)
 }
 
 /// Opens the journal and appends batches; the words say after how many calls each call on the disk fails. Gives the
 /// number of each batch, or why it isn't appended, which ends it.
 fn appended(
     alloc: Global,
-    disk: StopDisk,
+    scene: &mut Option<StopDisk>,
     case: &Case<'_>,
-) -> Result<(Option<StopDisk>, String), CaseFault> {
+) -> Result<String, CaseFault> {
     let text = case.lines_text(alloc)?;
     let calls = match case.words {
         "" => None,
         words => Some(number_of(Some(words))?),
     };
-    append_text(alloc, disk, calls, text.as_str())
+    let mut book = Book::empty(alloc);
+    let mut trial = Book::empty(alloc);
+    let answer = append_text(alloc, scene, &mut book, &mut trial, calls, text.as_str());
+    drop(book);
+    drop(trial);
+    answer
 }
 
-/// Appends the batches of a text to the journal on a disk.
+/// Appends the batches of a text to the journal on a disk, with two empty books that become copies of its own.
 fn append_text(
     alloc: Global,
-    disk: StopDisk,
-    calls: Option<u64>,
-    text: &str,
-) -> Result<(Option<StopDisk>, String), CaseFault> {
-    let mut disk = disk;
-    match list(alloc, &mut disk) {
-        Ok(listing) => {
-            let books = twins(alloc, listing.entries.as_slice())?;
-            append_with(alloc, disk, books, calls, text)
-        }
-        Err(fault) => Ok((Some(disk), format!(in alloc; "{fault}")?)),
-    }
-}
-
-/// Appends batches to the journal on a disk, with two copies of its book.
-fn append_with(
-    alloc: Global,
-    disk: StopDisk,
-    books: (Book, Book),
-    calls: Option<u64>,
-    text: &str,
-) -> Result<(Option<StopDisk>, String), CaseFault>
-    requires { books.0 ≡ books.1 }
-{
-    match Journal::open(alloc, disk) {
-        Ok((journal, _)) => {
-            let (mut book, mut trial) = books;
-            append_in(alloc, journal, &mut book, &mut trial, calls, text)
-        }
-        Err(fault) => Ok((None, format!(in alloc; "{fault}")?)),
-    }
-}
-
-/// Appends batches to a journal, and closes it.
-fn append_in(
-    alloc: Global,
-    journal: Journal<StopDisk>,
+    scene: &mut Option<StopDisk>,
     book: &mut Book,
     trial: &mut Book,
     calls: Option<u64>,
     text: &str,
-) -> Result<(Option<StopDisk>, String), CaseFault>
+) -> Result<String, CaseFault>
     requires { book.old ≡ trial.old }
 {
-    let mut journal = journal;
-    if let Some(calls) = calls {
-        journal.fuse(calls);
+    let Some(disk) = scene else {
+        return Err(CaseFault::Missing);
+    };
+    match list(alloc, disk) {
+        Ok(listing) => {
+            let applied = apply_entries(book, trial, listing.entries.as_slice());
+            drop(listing);
+            applied?;
+            append_in(alloc, scene, book, trial, calls, text)
+        }
+        Err(fault) => why_not(alloc, fault),
     }
-    let lines = append_batches(alloc, &mut journal, book, trial, text)?;
-    Ok((Some(journal.into_disk()), lines))
+}
+
+/// Opens the journal on a disk, appends batches, and closes it. The two books are copies of the journal's.
+fn append_in(
+    alloc: Global,
+    scene: &mut Option<StopDisk>,
+    book: &mut Book,
+    trial: &mut Book,
+    calls: Option<u64>,
+    text: &str,
+) -> Result<String, CaseFault>
+    requires { book.old ≡ trial.old }
+{
+    match Journal::open(alloc, taken(scene)?) {
+        Ok((mut journal, own)) => {
+            drop(own);
+            if let Some(calls) = calls {
+                journal.fuse(calls);
+            }
+            let lines = append_batches(alloc, &mut journal, book, trial, text);
+            set(scene, journal.into_disk());
+            lines
+        }
+        Err(fault) => why_not(alloc, fault),
+    }
 }
 
 /// Stops the disk: 0 leaves what the last sync left, 1 all writes since. A fuse is gone then.
-fn crashed(
-    alloc: Global,
-    disk: StopDisk,
-    how: &str,
-) -> Result<(Option<StopDisk>, String), CaseFault> {
+fn crashed(alloc: Global, scene: &mut Option<StopDisk>, how: &str) -> Result<String, CaseFault> {
     let how = how.parse::<u8>().or(Err(CaseFault::Word))?;
-    Ok((Some(disk.crash(how)?), String::new(alloc)))
+    let disk = taken(scene)?;
+    set(scene, disk.crash(how)?);
+    Ok(String::new(alloc))
 }
 
 /// A line for each act, with the place of its batch, and one for the end; or why there is none.
 fn listed(alloc: Global, disk: &mut StopDisk) -> Result<String, CaseFault> {
     match list(alloc, disk) {
-        Ok(listing) => lines_of(alloc, &listing),
-        Err(fault) => Ok(format!(in alloc; "{fault}")?),
+        Ok(listing) => {
+            let lines = lines_of(alloc, &listing);
+            drop(listing);
+            lines
+        }
+        Err(fault) => why_not(alloc, fault),
     }
 }
 
@@ -246,7 +266,7 @@ fn lines_of(alloc: Global, listing: &Listing) -> Result<String, CaseFault> {
 }
 
 /// The answers of opening and listing for a file.
-#[derive(Clone, Copy, Debug, PartialEq, Eq)]
+#[derive(Clone, Copy)]
 enum Reading {
     /// No journal, by opening and listing alike.
     NoJournal,

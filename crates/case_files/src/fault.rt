@@ -4,7 +4,7 @@ use std::{fmt, io};
 use thiserror::Error;
 
 /// Why a case has no answer, or a case file isn't read.
-#[derive(Clone, Copy, Debug, PartialEq, Eq, Error)]
+#[derive(Clone, Copy, Debug, Error)]
 pub enum CaseFault {
     /// No question of the file's subject begins like this.
     #[error("no such question")]

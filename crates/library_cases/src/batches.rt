@@ -1,11 +1,11 @@
 //! Batches of acts, as a journal accepts them: not empty, of outcomes, within the limit, and applying to its book.
-ghost use Rattle.std.specs.Prelude.{◌≡◌, true, OnOk, IfOk};
+ghost use Rattle.std.specs.Prelude.{◌≡◌, true, OnOk};
 ghost use Rattle.gate_journal.specs.Batches.{HasOutcome, HaveOutcomes};
 
 use crate::acts::acts_of;
-use crate::fault::CaseFault;
 use amqp_perf::DeliveryState;
 use book_core::{Act, Book, BookFault};
+use case_files::CaseFault;
 use disk_core::Disk;
 use gate_journal::laws::terminal_states_are_outcomes;
 use gate_journal::{Entry, Journal, JournalFault, acts_len};
@@ -17,7 +17,7 @@ use std::slice;
 const MOST_BYTES: usize = 4_194_304;
 
 /// The outcome of appending a batch.
-#[derive(Clone, Copy, Debug, PartialEq, Eq)]
+#[derive(Clone, Copy)]
 enum Outcome {
     /// It was appended as the journal's batch of this number.
     Stored(u64),
@@ -27,20 +27,19 @@ enum Outcome {
     Inapplicable(BookFault),
 }
 
-/// Two equal books, after all acts of a journal: one is the journal's, the other is for trying whether a batch applies.
+/// Applies the acts of a journal to two equal books: one is then the journal's, the other is for trying whether a batch applies.
 ///
 /// # Errors
 ///
 /// `Memory`, or `Word` where an act doesn't apply.
-pub fn twins(alloc: Global, entries: &[Entry]) -> Result<(Book, Book), CaseFault>
-    ensures { IfOk result (λ twins. twins.0 ≡ twins.1) }
+pub fn apply_entries(book: &mut Book, trial: &mut Book, entries: &[Entry]) -> Result<(), CaseFault>
+    requires { book.old ≡ trial.old }
+    ensures { OnOk result (book.new ≡ trial.new) }
 {
-    let mut book = Book::empty(alloc);
-    let mut trial = Book::empty(alloc);
     for entry in entries {
-        apply_both(&mut book, &mut trial, slice::from_ref(&entry.act))?;
+        apply_both(book, trial, slice::from_ref(&entry.act))?;
     }
-    Ok((book, trial))
+    Ok(())
 }
 
 /// Applies acts to both of two equal books.

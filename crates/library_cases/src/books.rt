@@ -1,14 +1,12 @@
 //! Questions on a book: which acts apply, and what it has then.
 use crate::acts::{acts_of, key_of, tag_of};
-use crate::case::Case;
-use crate::fault::CaseFault;
-use crate::text::number_of;
 use book_core::{Book, Row, RowNumber, Rows, TerminusNumber};
+use case_files::{Case, CaseFault, fault_number, number_of};
 use std::alloc::Global;
 use std::fmt::Write;
 
 /// What is asked of a book.
-#[derive(Clone, Copy, Debug)]
+#[derive(Clone, Copy)]
 enum Question {
     /// To apply acts.
     Apply,
@@ -65,10 +63,7 @@ fn apply(alloc: Global, book: &mut Book, case: &Case<'_>) -> Result<String, Case
     let acts = acts_of(alloc, book, text.as_str())?;
     match book.apply(acts.as_slice()) {
         Ok(()) => Ok(String::new(alloc)),
-        Err(fault) => {
-            let number = fault.number();
-            Ok(format!(in alloc; "fault {number}")?)
-        }
+        Err(fault) => fault_number(alloc, fault.number()),
     }
 }
 

@@ -1,15 +1,13 @@
 //! Questions on values: which value bytes encode, and how it is written.
-use crate::case::Case;
-use crate::fault::CaseFault;
-use crate::text::{bytes_of, digits_of};
-use amqp_types::{Value, decode, encode, front_of, opening_of, skip};
+use amqp_types::{TypeFault, Value, decode, encode, front_of, opening_of, skip};
+use case_files::{Case, CaseFault, bytes_of, digits_of, fault_number};
 use std::alloc::Global;
 
 /// The most levels of nesting (AMQP 1.0 sets no limit; this one is the router's).
 const DEPTH: u32 = 32;
 
 /// What is asked of bytes.
-#[derive(Clone, Copy, Debug)]
+#[derive(Clone, Copy)]
 enum Question {
     /// The value at their front, and its length.
     Decode,
@@ -58,10 +56,21 @@ pub fn answer(alloc: Global, case: &Case<'_>) -> Result<String, CaseFault> {
 
 /// Whether `skip` answers the length that `decode` answers, or its fault.
 fn is_skipped_alike(alloc: Global, bytes: &[u8]) -> bool {
-    match (decode(alloc, bytes), skip(bytes)) {
-        (Ok((_, length)), Ok(skipped)) => length == skipped,
+    match (decoded_length(alloc, bytes), skip(bytes)) {
+        (Ok(length), Ok(skipped)) => length == skipped,
         (Err(fault), Err(skipped)) => fault == skipped,
         _ => false,
+    }
+}
+
+/// The length of the value at the front, or the fault, as `decode` has it.
+fn decoded_length(alloc: Global, bytes: &[u8]) -> Result<usize, TypeFault> {
+    match decode(alloc, bytes) {
+        Ok((value, length)) => {
+            drop(value);
+            Ok(length)
+        }
+        Err(fault) => Err(fault),
     }
 }
 
@@ -71,22 +80,30 @@ fn decoded(alloc: Global, bytes: &[u8]) -> Result<String, CaseFault> {
         return Ok(String::from_str(alloc, "skip differs")?);
     }
     match decode(alloc, bytes) {
-        Ok((value, length)) => Ok(format!(in alloc; "{value:?} {length}")?),
-        Err(fault) => {
-            let number = fault.number();
-            Ok(format!(in alloc; "fault {number}")?)
+        Ok((value, length)) => {
+            let answer = shown(alloc, &value, length);
+            drop(value);
+            answer
         }
+        Err(fault) => fault_number(alloc, fault.number()),
     }
+}
+
+/// A value and a length.
+fn shown(alloc: Global, value: &Value, length: usize) -> Result<String, CaseFault> {
+    Ok(format!(in alloc; "{value:?} {length}")?)
 }
 
 /// The canonical encoding of the value in the bytes, and the value, which is decoded from it again.
 fn rewritten(alloc: Global, bytes: &[u8]) -> Result<String, CaseFault> {
-    let Ok((value, length)) = decode(alloc, bytes) else {
-        return decoded(alloc, bytes);
-    };
-    let answer = written_anew(alloc, &value, length, bytes);
-    drop(value);
-    answer
+    match decode(alloc, bytes) {
+        Ok((value, length)) => {
+            let answer = written_anew(alloc, &value, length, bytes);
+            drop(value);
+            answer
+        }
+        Err(_) => decoded(alloc, bytes),
+    }
 }
 
 /// The canonical encoding of a value that was decoded from so many of these bytes, and the value.
@@ -113,7 +130,7 @@ fn written_anew(
 /// Whether a value is decoded from all of these bytes.
 fn is_read_again(alloc: Global, value: &Value, written: &[u8]) -> Result<bool, CaseFault> {
     let again = decoded(alloc, written)?;
-    let wanted = format!(in alloc; "{value:?} {}", written.len())?;
+    let wanted = shown(alloc, value, written.len())?;
     Ok(again.as_str() == wanted.as_str())
 }
 
@@ -162,10 +179,7 @@ fn front(alloc: Global, bytes: &[u8]) -> Result<String, CaseFault> {
             let digits = digits_of(alloc, rest)?;
             Ok(format!(in alloc; "{value:?} {digits}")?)
         }
-        Err(fault) => {
-            let number = fault.number();
-            Ok(format!(in alloc; "fault {number}")?)
-        }
+        Err(fault) => fault_number(alloc, fault.number()),
     }
 }
 
@@ -173,9 +187,6 @@ fn front(alloc: Global, bytes: &[u8]) -> Result<String, CaseFault> {
 fn opening(alloc: Global, bytes: &[u8]) -> Result<String, CaseFault> {
     match opening_of(DEPTH, bytes) {
         Ok(opening) => Ok(format!(in alloc; "{opening:?}")?),
-        Err(fault) => {
-            let number = fault.number();
-            Ok(format!(in alloc; "fault {number}")?)
-        }
+        Err(fault) => fault_number(alloc, fault.number()),
     }
 }

@@ -4,7 +4,7 @@ use crate::text::put_input;
 use std::alloc::Global;
 
 /// A question, its input, and the answer that is wanted.
-#[derive(Debug, Drop)]
+#[derive(Drop)]
 pub struct Case<'a> {
     /// The line of the question in its file, from 1.
     pub line: usize,

@@ -1,0 +1,23 @@
+//! Tries the cases that ask one library: values, performatives, frames, configurations, books, disks and journals.
+//! `docs/cases.md` describes their form.
+#![tactic(auto)]
+
+mod acts;
+mod batches;
+mod books;
+mod configurations;
+mod disks;
+mod frames;
+mod journals;
+mod performatives;
+mod scene;
+mod values;
+
+use crate::scene::Subject;
+use case_files::try_words;
+
+fn main(rt: HostRuntime) -> anyhow::Result<()> {
+    let tally = try_words::<Subject>(&rt)?;
+    println!(rt; "{} cases, {} differ", tally.cases, tally.differing)?;
+    Ok(())
+}

@@ -1,0 +1,55 @@
+//! Scenes: what the questions of a case file are about.
+use crate::disks::{self, AnyDisk};
+use crate::journals::{self, StopDisk};
+use crate::{books, configurations, frames, performatives, values};
+use book_core::Book;
+use case_files::{Case, CaseFault, Scene};
+use route_table::Config;
+use std::alloc::Global;
+
+/// What the questions of a file are about, by its ending.
+#[derive(Drop)]
+pub enum Subject {
+    /// Values; nothing is kept between questions.
+    Values,
+    /// Performatives, SASL bodies and delivery states; nothing is kept between questions.
+    Performatives,
+    /// Streams of frames; nothing is kept between questions.
+    Frames,
+    /// The configuration that was read last.
+    Configuration(Option<Config>),
+    /// A book, empty at first.
+    Book(Book),
+    /// The disk that was taken last.
+    Disk(Option<AnyDisk>),
+    /// The disk of a journal, where one was taken.
+    Journal(Option<StopDisk>),
+}
+
+impl Scene for Subject {
+    fn begin(alloc: Global, ending: &str) -> Option<Subject> {
+        match ending {
+            "values" => Some(Subject::Values),
+            "performatives" => Some(Subject::Performatives),
+            "frames" => Some(Subject::Frames),
+            "configurations" => Some(Subject::Configuration(None)),
+            "books" => Some(Subject::Book(Book::empty(alloc))),
+            "disks" => Some(Subject::Disk(None)),
+            "journals" => Some(Subject::Journal(None)),
+            _ => None,
+        }
+    }
+
+    fn answer(&mut self, rt: &HostRuntime, case: &Case<'_>) -> Result<String, CaseFault> {
+        let alloc = rt.alloc();
+        match self {
+            Subject::Values => values::answer(alloc, case),
+            Subject::Performatives => performatives::answer(alloc, case),
+            Subject::Frames => frames::answer(alloc, case),
+            Subject::Configuration(scene) => configurations::answer(alloc, scene, case),
+            Subject::Book(book) => books::answer(alloc, book, case),
+            Subject::Disk(scene) => disks::answer(rt, scene, case),
+            Subject::Journal(scene) => journals::answer(alloc, scene, case),
+        }
+    }
+}
