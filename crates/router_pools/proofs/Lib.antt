@@ -2,5 +2,6 @@ pub mod Among
 pub mod AtAddress
 pub mod Fitting
 pub mod Listed
+pub mod Noted
 pub mod Touches
 pub mod Written

@@ -1,5 +1,5 @@
 -- A list of the numbers that have something gives what each has.
-use Rattle.std.proofs.Common.{◌≡◌, ◌∙◌, sym, ap, refl, ℕ, zero, suc, Bool, true, false, cond, ◌&&◌, ◌<◌, ◌≤◌, Option, Some, None, List, [], ◌∷◌, ◌++◌, arith}
+use Rattle.std.proofs.Common.{◌≡◌, ◌∙◌, sym, ap, refl, subst, inl, inr, ⊎_elim, ℕ, zero, suc, Bool, true, false, cond, ◌&&◌, ◌<◌, ◌≤◌, Option, Some, None, List, [], ◌∷◌, ◌++◌, arith}
 use Rattle.std.specs.Prelude.{◌==◌, nat_lt, nat_le}
 use Rattle.std.specs.List.{AllByRecursion}
 use Rattle.std.specs.List.Sorted.{IsStrictlySortedBy}
@@ -9,15 +9,16 @@ use Rattle.std.specs.Ordering.{nat_cmp}
 use Rattle.std.proofs.lemmas.Bool.{eqb-true, le-leb, lt-leb, lt-ltb}
 use Rattle.route_credit.specs.Links.{link_at}
 use Rattle.route_credit.specs.Granting.{choice, grants_of}
-use Rattle.route_credit.specs.Pool.{remembered, remembering, Sharing}
+use Rattle.route_credit.specs.Pool.{Sharing}
 use Rattle.route_credit.proofs.Entries.{Above, InOrder, less_is, same_entries}
 use Rattle.route_credit.proofs.Gains.{grants_but_last}
 use Rattle.route_credit.proofs.Indices.{same_test}
-use Rattle.route_credit.proofs.Remembered.{choice_but_last}
 use Rattle.route_table.specs.declared.sections.Distribution.{Distribution}
-use Rattle.router_pools.specs.Fits.{Fits}
+use Rattle.router_pools.specs.Fits.{AllAbove, Fits}
+use Rattle.router_pools.specs.Laws.{IsOrForgot}
 use Rattle.router_pools.specs.Sharing.{AreNumbered, demand_at, entry, Figure, listed, offer_at, sharing}
 use Rattle.router_pools.proofs.AtAddress.{by_test}
+use Rattle.router_pools.proofs.Noted.{none_noted}
 
 abbrev Below : ℕ → List ℕ → Type 0
 Below n ids = AllByRecursion (λ id. id < n) ids
@@ -113,33 +114,34 @@ module _ {X : Type 0} where
   listed_ordered f zero = tt
   listed_ordered f (suc n) = ordered_end (suc n) (f (suc n)) (listed f n) (listed_below f n) (listed_ordered f n)
 
-module _ (apart : ℕ → Bool) (table share : List ℕ → Distribution) (pools : List ℕ → Sharing) (place : ℕ → Option (List ℕ)) (due : List ℕ → Bool) (known : ℕ → Option Figure) (last : List ℕ → ℕ) (count : ℕ) (address : List ℕ)
-    (fits : Fits apart table share pools place due known last) (none : (n : ℕ) → apart n ≡ false) (numbered : AreNumbered known count) where
-  -- if nothing is apart, the pool of an address is the one computed from what each link has, with as much of its last choice as the next ones depend on
-  pub pool_is : remembering (pools address) ≡ sharing (share address) known count (remembered (share address) (last address)) address
-  pool_is =
-      λ i. record {
-        distribution = fits.distribution address i;
-        consumers = consumers i;
-        producers = producers i;
-        last = (ap (λ d. remembered d (pools address).last) (fits.distribution address) ∙ fits.chosen address) i;
-      }
-    where
-      consumers : (pools address).consumers ≡ listed (λ n. offer_at address (known n)) count
-      consumers = same_entries (pools address).consumers (listed (λ n. offer_at address (known n)) count) (fits.consumers_rise address) (listed_ordered (λ n. offer_at address (known n)) count)
-          (λ q. fits.consumers q address (none q) ∙ sym (listed_at (λ n. offer_at address (known n)) count (ap (offer_at address) numbered.first) (λ m l. ap (offer_at address) (numbered.most m l)) q))
-
-      producers : (pools address).producers ≡ listed (λ n. demand_at address (known n)) count
-      producers = same_entries (pools address).producers (listed (λ n. demand_at address (known n)) count) (fits.producers_rise address) (listed_ordered (λ n. demand_at address (known n)) count)
-          (λ q. fits.producers q address (none q) ∙ sym (listed_at (λ n. demand_at address (known n)) count (ap (demand_at address) numbered.first) (λ m l. ap (demand_at address) (numbered.most m l)) q))
-
+module _ (apart : ℕ → Bool) (table share : List ℕ → Distribution) (pools : List ℕ → Sharing) (place : ℕ → Option (List ℕ)) (due : List ℕ → Bool) (known actual : ℕ → Option Figure) (last : List ℕ → ℕ) (count : ℕ) (address : List ℕ)
+    (fits : Fits apart table share pools place due known actual last) (none : (n : ℕ) → apart n ≡ false) (numbered : AreNumbered known count) where
   abbrev shared : Sharing
   shared = sharing (share address) known count (last address) address
 
+  consumers : (pools address).consumers ≡ shared.consumers
+  consumers = same_entries (pools address).consumers (listed (λ n. offer_at address (known n)) count) (fits.consumers_rise address) (listed_ordered (λ n. offer_at address (known n)) count)
+      (λ q. fits.consumers q address (none q) ∙ sym (listed_at (λ n. offer_at address (known n)) count (ap (offer_at address) numbered.first) (λ m l. ap (offer_at address) (numbered.most m l)) q))
+
+  producers : (pools address).producers ≡ shared.producers
+  producers = same_entries (pools address).producers (listed (λ n. demand_at address (known n)) count) (fits.producers_rise address) (listed_ordered (λ n. demand_at address (known n)) count)
+      (λ q. fits.producers q address (none q) ∙ sym (listed_at (λ n. demand_at address (known n)) count (ap (demand_at address) numbered.first) (λ m l. ap (demand_at address) (numbered.most m l)) q))
+
+  -- if nothing is apart, the pool of an address is the one computed from what each link has, but for the consumer that it notes
+  but_last : pools address ≡ record shared { last = (pools address).last }
+  but_last = λ i. record { distribution = fits.distribution address i; consumers = consumers i; producers = producers i; last = (pools address).last }
+
+  -- it notes the one chosen last, or none where each of its consumers attached after that
+  pub pool_is : IsOrForgot (pools address) shared
+  pool_is = ⊎_elim
+      (λ e. inl (but_last ∙ ap (λ l. record shared { last = l }) e))
+      (λ e. inr (but_last ∙ ap (λ l. record shared { last = l }) e.0, subst (λ es. AllAbove (last address) es) consumers e.1))
+      (fits.chosen address)
+
   -- so its choice is
   pub choice_is : choice (pools address) ≡ choice shared
-  choice_is = sym (choice_but_last (pools address)) ∙ ap choice pool_is ∙ choice_but_last shared
+  choice_is = ⊎_elim (λ e. ap choice e) (λ e. ap choice e.0 ∙ none_noted shared (last address) e.1) pool_is
 
   -- and its grants are
   pub grants_are : grants_of (pools address) ≡ grants_of shared
-  grants_are = sym (grants_but_last (pools address) (remembering (pools address)).last) ∙ ap grants_of pool_is ∙ grants_but_last shared (remembering shared).last
+  grants_are = ap grants_of but_last ∙ grants_but_last shared (pools address).last

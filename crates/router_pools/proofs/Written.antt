@@ -8,9 +8,8 @@ use Rattle.std.specs.Ordering.{nat_cmp, is_eq}
 use Rattle.std.specs.Str.{bytes_eq}
 use Rattle.std.proofs.lemmas.Bool.{eqb-true}
 use Rattle.route_credit.specs.Pool.{has_no_links, no_links, Sharing}
-use Rattle.router_pools.specs.Addresses.{at_address, forgets, is_spent, pool_or, rested, with_pool}
+use Rattle.router_pools.specs.Addresses.{at_address, pool_or, rested, with_pool}
 use Rattle.route_table.specs.declared.sections.Distribution.{Distribution}
-use Rattle.route_table.specs.declared.sections.Distribution.TheVariants.{Balanced, Closest, Multicast}
 use Rattle.router_pools.proofs.AtAddress.{by_test, equal_bytes, insert_at, lookup_is, removed_elsewhere, same_bytes, set_at}
 
 module _ {K : Type 0} (read : K → List ℕ) (es : List (K × Sharing)) (q : List ℕ) where
@@ -37,39 +36,41 @@ module _ {K : Type 0} (read : K → List ℕ) (es : List (K × Sharing)) (q : Li
   pub missing : None ≡ found → is_some (at_address es read q) ≡ true → ⊥
   missing none there = true≢false (sym there ∙ ap is_some (sym (lookup_is read es q) ∙ sym none))
 
+-- a pool without links has no consumer and no producer
+first : (b c : Bool) → (b && c) ≡ true → b ≡ true
+first true c h = refl
+first false c h = h
+
+second : (b c : Bool) → (b && c) ≡ true → c ≡ true
+second true c h = h
+second false c h = absurd cc
+
+none : {X : Type 0} (xs : List X) → (length xs == 0) ≡ true → xs ≡ []
+none [] h = refl
+none (x ∷ xs) h = absurd (omega (arith, eqb-true (length (x ∷ xs)) 0 h))
+
+pub no_consumers : (pool : Sharing) → has_no_links pool ≡ true → pool.consumers ≡ []
+no_consumers pool empty = none pool.consumers (first (length pool.consumers == 0) (length pool.producers == 0) empty)
+
+pub no_producers : (pool : Sharing) → has_no_links pool ≡ true → pool.producers ≡ []
+no_producers pool empty = none pool.producers (second (length pool.consumers == 0) (length pool.producers == 0) empty)
+
 -- a new pool rests unchanged
 pub rested_new : (d : Distribution) → rested (no_links d) ≡ no_links d
-rested_new Balanced = refl
-rested_new Closest = refl
-rested_new Multicast = refl
+rested_new d = refl
 
--- and so does one that isn't spent
-rested_same : (pool : Sharing) → is_spent pool ≡ false → rested pool ≡ pool
-rested_same pool not_spent = ap (λ b. record pool { last = if b then 0 else pool.last }) not_spent
+-- and so does one with links
+rested_same : (pool : Sharing) → has_no_links pool ≡ false → rested pool ≡ pool
+rested_same pool some = ap (λ b. record pool { last = if b then 0 else pool.last }) some
 
--- one that is spent is a new one
-rested_spent : (pool : Sharing) (d : Distribution) → pool.distribution ≡ d → is_spent pool ≡ true → no_links d ≡ rested pool
-rested_spent pool d shared spent = λ i. record {
+-- one without links is a new one
+rested_none : (pool : Sharing) (d : Distribution) → pool.distribution ≡ d → has_no_links pool ≡ true → no_links d ≡ rested pool
+rested_none pool d shared empty = λ i. record {
   distribution = sym shared i;
-  consumers = sym (none pool.consumers (first (length pool.consumers == 0) (length pool.producers == 0) no_links_left)) i;
-  producers = sym (none pool.producers (second (length pool.consumers == 0) (length pool.producers == 0) no_links_left)) i;
-  last = sym (ap (λ b. if b then 0 else pool.last) spent) i;
+  consumers = sym (no_consumers pool empty) i;
+  producers = sym (no_producers pool empty) i;
+  last = sym (ap (λ b. if b then 0 else pool.last) empty) i;
 }
-  where
-    first : (b c : Bool) → (b && c) ≡ true → b ≡ true
-    first true c h = refl
-    first false c h = h
-
-    second : (b c : Bool) → (b && c) ≡ true → c ≡ true
-    second true c h = h
-    second false c h = absurd cc
-
-    no_links_left : has_no_links pool ≡ true
-    no_links_left = first (has_no_links pool) (forgets pool.distribution) spent
-
-    none : {X : Type 0} (xs : List X) → (length xs == 0) ≡ true → xs ≡ []
-    none [] h = refl
-    none (x ∷ xs) h = absurd (omega (arith, eqb-true (length (x ∷ xs)) 0 h))
 
 module _ {K : Type 0} (read : K → List ℕ) (share : List ℕ → Distribution) (es : List (K × Sharing)) (q : List ℕ) where
   -- the pools of a map, with this distribution of addresses
@@ -110,23 +111,23 @@ module _ {K : Type 0} (read : K → List ℕ) (share : List ℕ → Distribution
       rw (e, at) (new ∙ ap (λ b. no_links (share b)) same))
       (λ e. rw e refl)
 
-  -- a spent one was removed
-  pub forgotten : (fs : List (K × Sharing)) (pool : Sharing) → Some pool ≡ found read es q → is_spent pool ≡ true → pool.distribution ≡ share q
+  -- one without links was removed
+  pub forgotten : (fs : List (K × Sharing)) (pool : Sharing) → Some pool ≡ found read es q → has_no_links pool ≡ true → pool.distribution ≡ share q
       → fs ≡ remove_entry (λ k. is_eq (slice_cmp nat_cmp q (read k))) es → lookup (λ k. is_eq (slice_cmp nat_cmp q (read k))) fs ≡ None
       → (a : List ℕ) → pools_of fs a ≡ with_pool (pools_of es) q rested a
-  forgotten fs pool is spent shared set none a = by_test (bytes_eq q a)
+  forgotten fs pool is empty shared set gone a = by_test (bytes_eq q a)
       (λ e. let same : q ≡ a = same_bytes q a e in
-      let now : at_address fs read a ≡ None = ap (at_address fs read) (sym same) ∙ sym (lookup_is read fs q) ∙ none in
+      let now : at_address fs read a ≡ None = ap (at_address fs read) (sym same) ∙ sym (lookup_is read fs q) ∙ gone in
       let before : at_address es read a ≡ Some pool = ap (at_address es read) (sym same) ∙ sym (lookup_is read es q) ∙ sym is in
-      rw (e, now, before) (rested_spent pool (share a) (shared ∙ ap share same) spent))
+      rw (e, now, before) (rested_none pool (share a) (shared ∙ ap share same) empty))
       (λ e. ap (λ l. pool_or (share a) (at_address l read a)) set ∙ ap (pool_or (share a)) (removed_elsewhere read es q a e) ∙ sym (ap (λ b. if b then rested (pools_of es a) else pools_of es a) e))
 
-  -- one that isn't spent stays
-  pub stayed : (pool : Sharing) → Some pool ≡ found read es q → is_spent pool ≡ false → (a : List ℕ) → pools_of es a ≡ with_pool (pools_of es) q rested a
-  stayed pool is not_spent a = by_test (bytes_eq q a)
+  -- one with links stays
+  pub stayed : (pool : Sharing) → Some pool ≡ found read es q → has_no_links pool ≡ false → (a : List ℕ) → pools_of es a ≡ with_pool (pools_of es) q rested a
+  stayed pool is some a = by_test (bytes_eq q a)
       (λ e. let same : q ≡ a = same_bytes q a e in
       let at : at_address es read a ≡ Some pool = ap (at_address es read) (sym same) ∙ sym (lookup_is read es q) ∙ sym is in
-      rw (e, at) (sym (rested_same pool not_spent)))
+      rw (e, at) (sym (rested_same pool some)))
       (λ e. rw e refl)
 
 -- pools that are the same everywhere

@@ -1,11 +1,10 @@
 -- What is at an address, in maps by the bytes of addresses.
-use Rattle.std.specs.Prelude.{ℕ, Bool, true, false, ◌&&◌, List, Option, None, Some, if◌then◌else◌}
+use Rattle.std.specs.Prelude.{ℕ, Bool, List, Option, None, Some, if◌then◌else◌}
 use Rattle.std.specs.List.{list_any}
 use Rattle.std.specs.Map.{lookup}
 use Rattle.std.specs.Str.{bytes_eq}
 use Rattle.route_credit.specs.Pool.{has_no_links, no_links, Sharing, without_consumer, without_producer}
 use Rattle.route_table.specs.declared.sections.Distribution.{Distribution}
-use Rattle.route_table.specs.declared.sections.Distribution.TheVariants.{Balanced, Closest, Multicast}
 
 abbrev pub at_address : {K V : Type 0} → List (K × V) → (K → List ℕ) → List ℕ → Option V
 at_address entries read address = lookup (λ k. bytes_eq address (read k)) entries
@@ -27,16 +26,6 @@ with_pool pools address change other = if bytes_eq address other then change (po
 abbrev pub without : Sharing → ℕ → Sharing
 without pool id = without_producer (without_consumer pool id) id
 
--- whether the next choice doesn't depend on those before
-abbrev pub forgets : Distribution → Bool
-forgets Balanced = true
-forgets Closest = false
-forgets Multicast = true
-
--- whether a new pool would do as well
-abbrev pub is_spent : Sharing → Bool
-is_spent pool = has_no_links pool && forgets pool.distribution
-
--- a pool after the test whether a new one would do as well
+-- a pool that is a new one if it has no links
 abbrev pub rested : Sharing → Sharing
-rested pool = record pool { last = if is_spent pool then 0 else pool.last }
+rested pool = record pool { last = if has_no_links pool then 0 else pool.last }

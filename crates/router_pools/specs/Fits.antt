@@ -1,5 +1,5 @@
 -- When the pools agree with what each link has.
-use Rattle.std.specs.Prelude.{◌≡◌, ◌==◌, ◌||◌, ℕ, Bool, false, List, [], Option, None, Some, option_map, is_some, length, if◌then◌else◌}
+use Rattle.std.specs.Prelude.{◌≡◌, ◌==◌, ◌||◌, ◌<◌, ◌⊎◌, ℕ, Bool, true, false, List, [], Option, None, Some, option_map, is_some, length, if◌then◌else◌}
 use Rattle.std.specs.BTreeMap.{get}
 use Rattle.std.specs.BTreeSet.{contains}
 use Rattle.std.specs.List.Sorted.{IsStrictlySortedBy}
@@ -8,7 +8,8 @@ use Rattle.std.specs.Ordering.{nat_cmp}
 use Rattle.std.specs.Str.{bytes_eq}
 use Rattle.route_credit.specs.Granting.{grants_of}
 use Rattle.route_credit.specs.Links.{link_at}
-use Rattle.route_credit.specs.Pool.{remembered, Sharing}
+use Rattle.route_credit.specs.Pool.{Sharing}
+use Rattle.route_credit.specs.declared.offer.Offer.{Offer}
 use Rattle.router_pools.specs.Addresses.{among, at_address, pool_or}
 use Rattle.route_table.specs.declared.sections.Distribution.{Distribution}
 use Rattle.route_table.specs.Places.{distribution_of}
@@ -47,27 +48,42 @@ abbrev pub is_place : Option (List ℕ) → List ℕ → Bool
 is_place None address = false
 is_place (Some place) address = bytes_eq place address
 
--- The pools agree with what each link has that isn't apart, and with each address's distribution and the consumer chosen last, as far as
--- the next choice depends on it. A link is only at its place, and an address that isn't due has no grants. The table gives the distributions.
-pub record Fits (apart : ℕ → Bool) (table share : List ℕ → Distribution) (pools : List ℕ → Sharing) (place : ℕ → Option (List ℕ)) (due : List ℕ → Bool) (known : ℕ → Option Figure) (last : List ℕ → ℕ) : Type 0 where
+-- each of these consumers has a number above this one
+abbrev pub AllAbove : ℕ → List (ℕ × Offer) → Type 0
+AllAbove last consumers = (n : ℕ) → is_some (link_at consumers n) ≡ true → last < n
+
+-- A pool has noted the consumer chosen last. Or it notes none, since it was removed with its last link; then each consumer that it has
+-- attached after that one, so that the choice is the same.
+abbrev pub HasNoted : Sharing → ℕ → Type 0
+HasNoted pool last = (pool.last ≡ last) ⊎ ((pool.last ≡ 0) × AllAbove last pool.consumers)
+
+-- a link offers something to an address
+abbrev pub offers : Option Figure → List ℕ → Bool
+offers figure address = is_some (offer_at address figure)
+
+-- The pools agree with what is known of each link that isn't apart, and with each address's distribution and the consumer chosen last. A
+-- consumer that isn't in its address's pool yet has a number above the one chosen last there: what each link has now says whether it is a
+-- consumer there. A link is only at its place, and an address that isn't due has no grants. The table gives the distributions.
+pub record Fits (apart : ℕ → Bool) (table share : List ℕ → Distribution) (pools : List ℕ → Sharing) (place : ℕ → Option (List ℕ)) (due : List ℕ → Bool) (known actual : ℕ → Option Figure) (last : List ℕ → ℕ) : Type 0 where
   pub consumers : (n : ℕ) (address : List ℕ) → apart n ≡ false → link_at (pools address).consumers n ≡ offer_at address (known n)
   pub producers : (n : ℕ) (address : List ℕ) → apart n ≡ false → link_at (pools address).producers n ≡ demand_at address (known n)
   pub no_consumer : (n : ℕ) (address : List ℕ) → is_place (place n) address ≡ false → link_at (pools address).consumers n ≡ None
   pub no_producer : (n : ℕ) (address : List ℕ) → is_place (place n) address ≡ false → link_at (pools address).producers n ≡ None
   pub same : (address : List ℕ) → table address ≡ share address
   pub distribution : (address : List ℕ) → (pools address).distribution ≡ share address
-  pub chosen : (address : List ℕ) → remembered (share address) (pools address).last ≡ remembered (share address) (last address)
+  pub chosen : (address : List ℕ) → HasNoted (pools address) (last address)
+  pub later : (n : ℕ) (address : List ℕ) → link_at (pools address).consumers n ≡ None → offers (actual n) address ≡ true → last address < n
   pub consumers_rise : (address : List ℕ) → IsStrictlySortedBy nat_cmp (keys_of (pools address).consumers)
   pub producers_rise : (address : List ℕ) → IsStrictlySortedBy nat_cmp (keys_of (pools address).producers)
   pub quiet : (address : List ℕ) → due address ≡ false → grants_of (pools address) ≡ []
 
--- the pools agree with what each link has, except the touched links
-abbrev pub PoolsFit : Pools → (List ℕ → Distribution) → (ℕ → Option Figure) → (List ℕ → ℕ) → Type 0
-PoolsFit pools share known last = Fits (is_touched pools) (table_of pools) share (pool_at pools) (place_of pools) (is_due pools) known last
+-- the pools agree with what is known of each link, except the touched links, and with what each link has now
+abbrev pub PoolsFit : Pools → (List ℕ → Distribution) → (ℕ → Option Figure) → (ℕ → Option Figure) → (List ℕ → ℕ) → Type 0
+PoolsFit pools share known actual last = Fits (is_touched pools) (table_of pools) share (pool_at pools) (place_of pools) (is_due pools) known actual last
 
 -- the same, except one more link
-abbrev pub PoolsFitBut : ℕ → Pools → (List ℕ → Distribution) → (ℕ → Option Figure) → (List ℕ → ℕ) → Type 0
-PoolsFitBut number pools share known last = Fits (λ n. number == n || is_touched pools n) (table_of pools) share (pool_at pools) (place_of pools) (is_due pools) known last
+abbrev pub PoolsFitBut : ℕ → Pools → (List ℕ → Distribution) → (ℕ → Option Figure) → (ℕ → Option Figure) → (List ℕ → ℕ) → Type 0
+PoolsFitBut number pools share known actual last = Fits (λ n. number == n || is_touched pools n) (table_of pools) share (pool_at pools) (place_of pools) (is_due pools) known actual last
 
 -- both agree on each link but one
 abbrev pub AgreeBut : ℕ → (ℕ → Option Figure) → (ℕ → Option Figure) → Type 0

@@ -1,9 +1,9 @@
 //! Pools by the bytes of their addresses.
-ghost use Rattle.std.specs.Prelude.{◌≡◌, ℕ, List, Bool, true, None, Some, OnOk, IfOk, option_map, is_some};
+ghost use Rattle.std.specs.Prelude.{◌≡◌, ℕ, List, Bool, true, false, None, Some, OnOk, IfOk, option_map, is_some};
 ghost use Rattle.route_table.specs.declared.sections.Distribution.{Distribution};
 ghost use Rattle.route_credit.specs.Granting.{all_granted, choice, grants_of};
-ghost use Rattle.route_credit.specs.Pool.{by_id, chose, no_links, offered, wanted, without_consumer, without_producer};
-ghost use Rattle.router_pools.specs.Addresses.{at_address, is_spent, rested, with_pool, without};
+ghost use Rattle.route_credit.specs.Pool.{by_id, chose, has_no_links, no_links, offered, wanted, without_consumer, without_producer};
+ghost use Rattle.router_pools.specs.Addresses.{at_address, rested, with_pool, without};
 ghost use Rattle.router_pools.specs.Fits.{pool_in};
 
 use route_credit::{ConsumerId, Pool, ProducerId};
@@ -11,8 +11,7 @@ use route_table::Distribution;
 use std::alloc::{AllocError, Global};
 use std::collections::BTreeMap;
 
-/// Pools by the bytes of their addresses. A pool without links is removed, except on a closest address: there the next choice depends
-/// on the consumer that was chosen last.
+/// Pools by the bytes of their addresses. A pool without links is removed.
 #[derive(Debug, Drop)]
 pub(crate) struct ByAddress {
     alloc: Global,
@@ -96,12 +95,13 @@ impl ByAddress {
         }
     }
 
-    /// Removes the pool of an address if a new one would do as well.
+    /// Removes the pool of an address if it has no links.
     pub(crate) fn forget(&mut self, address: &[u8])
-        ensures { (share : List ℕ → Distribution) → (pool_in share self.old address.now).distribution ≡ share address.now → (a : List ℕ) → pool_in share self.new a ≡ with_pool (pool_in share self.old) address.now rested a }
+        ensures rested { (share : List ℕ → Distribution) → (pool_in share self.old address.now).distribution ≡ share address.now → (a : List ℕ) → pool_in share self.new a ≡ with_pool (pool_in share self.old) address.now rested a }
+        ensures gone { (share : List ℕ → Distribution) → has_no_links (pool_in share self.old address.now) ≡ true → is_some (at_address self.new.pools.entries (λ k. k.items) address.now) ≡ false }
     {
         if let Some(pool) = self.pools.get(address) {
-            if is_spent(pool) {
+            if pool.is_empty() {
                 let _ = self.pools.remove(address);
             }
         }
@@ -138,15 +138,4 @@ impl ByAddress {
             Some(pool) => pool.grants(),
         }
     }
-}
-
-/// Whether a new pool would do as well: this one has no links, and the next choice doesn't depend on those before.
-fn is_spent(pool: &Pool) -> bool
-    ensures { result ≡ is_spent pool.now }
-{
-    let forgets = match pool.distribution() {
-        Distribution::Balanced | Distribution::Multicast => true,
-        Distribution::Closest => false,
-    };
-    pool.is_empty() && forgets
 }

@@ -6,8 +6,8 @@ pub fn touched_say_nothing()
     ensures { TouchedSayNothing }
 {}
 
-/// If nothing is touched, the pool of an address is the one computed from what each link has, with as much of its last choice as the next
-/// ones depend on.
+/// If nothing is touched, the pool of an address is the one computed from what each link has and the consumer chosen last; or it notes no
+/// consumer as chosen last, and each one that it has attached after that.
 pub fn pools_are_sharing()
     ensures { PoolsAreSharing }
 {}

@@ -1,6 +1,7 @@
 //! The pools of all addresses.
 ghost use Rattle.std.specs.Prelude.{◌≡◌, ◌==◌, ◌||◌, ◌&&◌, ◌<◌, not, ℕ, List, [], Bool, true, false, Option, None, Some, OnOk, IfOk, IfNone, IfSome, option_map, is_some, length};
 ghost use Rattle.std.specs.Cmp.Lexicographic.{slice_cmp};
+ghost use Rattle.std.specs.Str.{bytes_eq};
 ghost use Rattle.std.specs.Ordering.{nat_cmp};
 ghost use Rattle.std.specs.declared.cmp.Ordering.TheVariants.{Less};
 ghost use Rattle.route_table.specs.declared.sections.Distribution.{Distribution};
@@ -9,7 +10,7 @@ ghost use Rattle.route_credit.specs.Granting.{choice, grants_of};
 ghost use Rattle.route_credit.specs.Links.{link_at};
 ghost use Rattle.route_credit.specs.Pool.{by_id};
 ghost use Rattle.std.specs.BTreeSet.{contains};
-ghost use Rattle.router_pools.specs.Fits.{AgreeBut, chosen_at, is_due, is_touched, is_granted, NoneTouched, place_of, pool_at, PoolsFit, PoolsFitBut, touched_count};
+ghost use Rattle.router_pools.specs.Fits.{AgreeBut, chosen_at, is_due, is_place, is_touched, is_granted, NoneTouched, offers, place_of, pool_at, PoolsFit, PoolsFitBut, touched_count};
 ghost use Rattle.router_pools.specs.Sharing.{AreNumbered, Figure, sharing};
 ghost use Rattle.router_pools.specs.Sharing.Figure.{consumer, producer};
 
@@ -23,9 +24,9 @@ use std::collections::{BTreeMap, BTreeSet};
 /// The pools of all addresses, with the links that may have changed, and the addresses that may have grants.
 ///
 /// A link is identified by its number, which is its order of attach. Each call takes time logarithmic in the number of links, and
-/// `grants` that much for each credit that it gives. The pool of an address is removed with the last of its links; on a closest
-/// address it stays, since the next choice depends on the consumer chosen last. The table of prefixes determines how an address is
-/// shared. If an operation fails to allocate, the contents are unspecified.
+/// `grants` that much for each credit that it gives. The pool of an address is removed with the last of its links: each link that comes
+/// later has a number above the consumer chosen last, so the next choice is the same as if there had been none. The table of prefixes
+/// determines how an address is shared. If an operation fails to allocate, the contents are unspecified.
 #[derive(Drop)]
 pub struct Pools {
     alloc: Global,
@@ -46,7 +47,7 @@ pub struct Grants {
 impl Pools {
     /// Pools without any links; addresses are shared as this table says.
     pub fn new(alloc: Global, table: Table) -> Pools
-        ensures { (g : Routing) → FindsAs table g → (known : ℕ → Option Figure) → ((n : ℕ) → known n ≡ None) → PoolsFit result (distribution_of g) known (λ a. 0) }
+        ensures { (g : Routing) → FindsAs table g → (known : ℕ → Option Figure) → ((n : ℕ) → known n ≡ None) → PoolsFit result (distribution_of g) known known (λ a. 0) }
     {
         Pools {
             alloc,
@@ -60,14 +61,14 @@ impl Pools {
 
     /// How the links of an address share its messages.
     pub fn distribution(&self, address: &str) -> Distribution
-        ensures { (share : List ℕ → Distribution) (known : ℕ → Option Figure) (last : List ℕ → ℕ) → PoolsFit self.now share known last → result ≡ share address.now }
+        ensures { (share : List ℕ → Distribution) (known actual : ℕ → Option Figure) (last : List ℕ → ℕ) → PoolsFit self.now share known actual last → result ≡ share address.now }
     {
         self.table.find(address).distribution
     }
 
     /// Notes that what a link has may have changed.
     pub fn touch(&mut self, number: u64) -> Result<(), AllocError>
-        ensures fits { OnOk result ((share : List ℕ → Distribution) (known other : ℕ → Option Figure) (last : List ℕ → ℕ) → PoolsFit self.old share known last → AgreeBut number other known → PoolsFit self.new share other last) }
+        ensures fits { OnOk result ((share : List ℕ → Distribution) (known other actual : ℕ → Option Figure) (last : List ℕ → ℕ) → PoolsFit self.old share known actual last → AgreeBut number other known → PoolsFit self.new share other actual last) }
         ensures touched { OnOk result ((n : ℕ) → is_touched self.new n ≡ (number == n || is_touched self.old n)) }
     {
         let _ = self.touched.insert(number)?;
@@ -91,8 +92,8 @@ impl Pools {
         free: u64,
         undecided: u64,
     ) -> Result<(), AllocError>
-        ensures fits { OnOk result ((share : List ℕ → Distribution) (known other : ℕ → Option Figure) (last : List ℕ → ℕ) → PoolsFit self.old share known last
-            → other number ≡ Some (consumer address.now free undecided) → AgreeBut number other known → PoolsFit self.new share other last) }
+        ensures fits { OnOk result ((share : List ℕ → Distribution) (known other actual : ℕ → Option Figure) (last : List ℕ → ℕ) → PoolsFit self.old share known actual last
+            → other number ≡ Some (consumer address.now free undecided) → actual number ≡ other number → AgreeBut number other known → PoolsFit self.new share other actual last) }
         ensures touched { OnOk result ((n : ℕ) → is_touched self.new n ≡ (not (number == n) && is_touched self.old n)) }
         ensures fewer { OnOk result (is_touched self.old number ≡ true → touched_count self.new < touched_count self.old) }
     {
@@ -113,8 +114,8 @@ impl Pools {
         unused: u32,
         held: u32,
     ) -> Result<(), AllocError>
-        ensures fits { OnOk result ((share : List ℕ → Distribution) (known other : ℕ → Option Figure) (last : List ℕ → ℕ) → PoolsFit self.old share known last
-            → other number ≡ Some (producer address.now unused held) → AgreeBut number other known → PoolsFit self.new share other last) }
+        ensures fits { OnOk result ((share : List ℕ → Distribution) (known other actual : ℕ → Option Figure) (last : List ℕ → ℕ) → PoolsFit self.old share known actual last
+            → other number ≡ Some (producer address.now unused held) → actual number ≡ other number → AgreeBut number other known → PoolsFit self.new share other actual last) }
         ensures touched { OnOk result ((n : ℕ) → is_touched self.new n ≡ (not (number == n) && is_touched self.old n)) }
         ensures fewer { OnOk result (is_touched self.old number ≡ true → touched_count self.new < touched_count self.old) }
     {
@@ -128,8 +129,8 @@ impl Pools {
 
     /// Notes that a link has nothing any more.
     pub fn leave(&mut self, number: u64) -> Result<(), AllocError>
-        ensures fits { OnOk result ((share : List ℕ → Distribution) (known other : ℕ → Option Figure) (last : List ℕ → ℕ) → PoolsFit self.old share known last
-            → other number ≡ None → AgreeBut number other known → PoolsFit self.new share other last) }
+        ensures fits { OnOk result ((share : List ℕ → Distribution) (known other actual : ℕ → Option Figure) (last : List ℕ → ℕ) → PoolsFit self.old share known actual last
+            → other number ≡ None → actual number ≡ other number → AgreeBut number other known → PoolsFit self.new share other actual last) }
         ensures touched { OnOk result ((n : ℕ) → is_touched self.new n ≡ (not (number == n) && is_touched self.old n)) }
         ensures fewer { OnOk result (is_touched self.old number ≡ true → touched_count self.new < touched_count self.old) }
     {
@@ -140,7 +141,7 @@ impl Pools {
 
     /// The consumer that [`Pools::choose`] would choose now, by number. Nothing is noted, so asked again it answers the same.
     pub fn peek(&self, address: &str) -> Option<u64>
-        ensures { (share : List ℕ → Distribution) (known : ℕ → Option Figure) (last : List ℕ → ℕ) (count : ℕ) → PoolsFit self.now share known last → NoneTouched self.now → AreNumbered known count
+        ensures { (share : List ℕ → Distribution) (known actual : ℕ → Option Figure) (last : List ℕ → ℕ) (count : ℕ) → PoolsFit self.now share known actual last → NoneTouched self.now → AreNumbered known count
             → result ≡ choice (sharing (share address.now) known count (last address.now) address.now) }
     {
         match self.pools.peek(address.as_bytes()) {
@@ -151,9 +152,10 @@ impl Pools {
 
     /// Chooses the consumer of the next delivery of an address; none if no consumer has free credit. It allocates no memory.
     pub fn choose(&mut self, address: &str) -> Option<ConsumerId>
-        ensures chosen { (share : List ℕ → Distribution) (known : ℕ → Option Figure) (last : List ℕ → ℕ) (count : ℕ) → PoolsFit self.old share known last → NoneTouched self.old → AreNumbered known count
+        ensures chosen { (share : List ℕ → Distribution) (known actual : ℕ → Option Figure) (last : List ℕ → ℕ) (count : ℕ) → PoolsFit self.old share known actual last → NoneTouched self.old → AreNumbered known count
             → option_map (λ c. c.0) result ≡ choice (sharing (share address.now) known count (last address.now) address.now) }
-        ensures fits { (share : List ℕ → Distribution) (known : ℕ → Option Figure) (last : List ℕ → ℕ) → PoolsFit self.old share known last → PoolsFit self.new share known (chosen_at address.now (option_map (λ c. c.0) result) last) }
+        ensures fits { (share : List ℕ → Distribution) (known : ℕ → Option Figure) (last : List ℕ → ℕ) → PoolsFit self.old share known known last → NoneTouched self.old
+            → PoolsFit self.new share known known (chosen_at address.now (option_map (λ c. c.0) result) last) }
         ensures touched { (n : ℕ) → is_touched self.new n ≡ is_touched self.old n }
     {
         self.pools.choose(address.as_bytes())
@@ -163,14 +165,14 @@ impl Pools {
     /// that are granted credit count as touched. If memory is refused, credit may be lent without any producer
     /// being told.
     pub fn grants(&mut self) -> Result<Option<Grants>, AllocError>
-        ensures none { IfOk result (λ r. IfNone r ((share : List ℕ → Distribution) (known : ℕ → Option Figure) (last : List ℕ → ℕ) (count : ℕ) → PoolsFit self.old share known last → NoneTouched self.old → AreNumbered known count
+        ensures none { IfOk result (λ r. IfNone r ((share : List ℕ → Distribution) (known actual : ℕ → Option Figure) (last : List ℕ → ℕ) (count : ℕ) → PoolsFit self.old share known actual last → NoneTouched self.old → AreNumbered known count
             → (a : List ℕ) → grants_of (sharing (share a) known count (last a) a) ≡ [])) }
-        ensures sums { IfOk result (λ r. IfSome r (λ grants. (share : List ℕ → Distribution) (known : ℕ → Option Figure) (last : List ℕ → ℕ) (count : ℕ) → PoolsFit self.old share known last → NoneTouched self.old → AreNumbered known count
+        ensures sums { IfOk result (λ r. IfSome r (λ grants. (share : List ℕ → Distribution) (known actual : ℕ → Option Figure) (last : List ℕ → ℕ) (count : ℕ) → PoolsFit self.old share known actual last → NoneTouched self.old → AreNumbered known count
             → by_id grants.sums.items ≡ grants_of (sharing (share grants.address.items) known count (last grants.address.items) grants.address.items))) }
         ensures some { IfOk result (λ r. IfSome r (λ grants. 0 < length grants.sums.items)) }
-        ensures below { IfOk result (λ r. IfSome r (λ grants. (share : List ℕ → Distribution) (known : ℕ → Option Figure) (last : List ℕ → ℕ) (count : ℕ) → PoolsFit self.old share known last → NoneTouched self.old → AreNumbered known count
+        ensures below { IfOk result (λ r. IfSome r (λ grants. (share : List ℕ → Distribution) (known actual : ℕ → Option Figure) (last : List ℕ → ℕ) (count : ℕ) → PoolsFit self.old share known actual last → NoneTouched self.old → AreNumbered known count
             → (a : List ℕ) → slice_cmp nat_cmp a grants.address.items ≡ Less → grants_of (sharing (share a) known count (last a) a) ≡ [])) }
-        ensures fits { OnOk result ((share : List ℕ → Distribution) (known : ℕ → Option Figure) (last : List ℕ → ℕ) → PoolsFit self.old share known last → PoolsFit self.new share known last) }
+        ensures fits { OnOk result ((share : List ℕ → Distribution) (known actual : ℕ → Option Figure) (last : List ℕ → ℕ) → PoolsFit self.old share known actual last → PoolsFit self.new share known actual last) }
         ensures touched { IfOk result (λ r. (n : ℕ) → is_touched self.new n ≡ (is_touched self.old n || is_granted (option_map (λ grants. by_id grants.sums.items) r) n)) }
     {
         loop {
@@ -187,13 +189,13 @@ impl Pools {
 
     /// The grants of the first address that may have any; they may be empty.
     fn next_grants(&mut self) -> Result<Option<Grants>, AllocError>
-        ensures none { IfOk result (λ r. IfNone r ((share : List ℕ → Distribution) (known : ℕ → Option Figure) (last : List ℕ → ℕ) (count : ℕ) → PoolsFit self.old share known last → NoneTouched self.old → AreNumbered known count
+        ensures none { IfOk result (λ r. IfNone r ((share : List ℕ → Distribution) (known actual : ℕ → Option Figure) (last : List ℕ → ℕ) (count : ℕ) → PoolsFit self.old share known actual last → NoneTouched self.old → AreNumbered known count
             → (a : List ℕ) → grants_of (sharing (share a) known count (last a) a) ≡ [])) }
-        ensures sums { IfOk result (λ r. IfSome r (λ grants. (share : List ℕ → Distribution) (known : ℕ → Option Figure) (last : List ℕ → ℕ) (count : ℕ) → PoolsFit self.old share known last → NoneTouched self.old → AreNumbered known count
+        ensures sums { IfOk result (λ r. IfSome r (λ grants. (share : List ℕ → Distribution) (known actual : ℕ → Option Figure) (last : List ℕ → ℕ) (count : ℕ) → PoolsFit self.old share known actual last → NoneTouched self.old → AreNumbered known count
             → by_id grants.sums.items ≡ grants_of (sharing (share grants.address.items) known count (last grants.address.items) grants.address.items))) }
-        ensures below { IfOk result (λ r. IfSome r (λ grants. (share : List ℕ → Distribution) (known : ℕ → Option Figure) (last : List ℕ → ℕ) (count : ℕ) → PoolsFit self.old share known last → NoneTouched self.old → AreNumbered known count
+        ensures below { IfOk result (λ r. IfSome r (λ grants. (share : List ℕ → Distribution) (known actual : ℕ → Option Figure) (last : List ℕ → ℕ) (count : ℕ) → PoolsFit self.old share known actual last → NoneTouched self.old → AreNumbered known count
             → (a : List ℕ) → slice_cmp nat_cmp a grants.address.items ≡ Less → grants_of (sharing (share a) known count (last a) a) ≡ [])) }
-        ensures fits { OnOk result ((share : List ℕ → Distribution) (known : ℕ → Option Figure) (last : List ℕ → ℕ) → PoolsFit self.old share known last → PoolsFit self.new share known last) }
+        ensures fits { OnOk result ((share : List ℕ → Distribution) (known actual : ℕ → Option Figure) (last : List ℕ → ℕ) → PoolsFit self.old share known actual last → PoolsFit self.new share known actual last) }
         ensures touched { IfOk result (λ r. (n : ℕ) → is_touched self.new n ≡ (is_touched self.old n || is_granted (option_map (λ grants. by_id grants.sums.items) r) n)) }
         ensures fewer { IfOk result (λ r. IfSome r (λ grants. length self.new.due.addresses.keys < length self.old.due.addresses.keys)) }
     {
@@ -210,7 +212,8 @@ impl Pools {
 
     /// Removes a link from its pool, which may then have grants, or be removed.
     fn take_out(&mut self, number: u64) -> Result<(), AllocError>
-        ensures fits { OnOk result ((share : List ℕ → Distribution) (known : ℕ → Option Figure) (last : List ℕ → ℕ) → PoolsFitBut number self.old share known last → PoolsFitBut number self.new share known last) }
+        ensures fits { OnOk result ((share : List ℕ → Distribution) (known actual : ℕ → Option Figure) (last : List ℕ → ℕ) → PoolsFitBut number self.old share known actual last
+            → ((a : List ℕ) → is_place (place_of self.old number) a ≡ true → offers (actual number) a ≡ false) → PoolsFitBut number self.new share known actual last) }
         ensures nowhere { OnOk result (place_of self.new number ≡ None) }
         ensures due { OnOk result ((a : List ℕ) → is_due self.new a ≡ false → is_due self.old a ≡ false) }
         ensures touched { OnOk result (self.new.touched ≡ self.old.touched) }
@@ -229,22 +232,37 @@ impl Pools {
 
     /// Places a link at an address, which may then have grants, and removes it from where it was before.
     fn place(&mut self, number: u64, address: &[u8]) -> Result<(), AllocError>
-        ensures fits { OnOk result ((share : List ℕ → Distribution) (known : ℕ → Option Figure) (last : List ℕ → ℕ) → PoolsFitBut number self.old share known last → PoolsFitBut number self.new share known last) }
+        ensures fits { OnOk result ((share : List ℕ → Distribution) (known actual : ℕ → Option Figure) (last : List ℕ → ℕ) → PoolsFitBut number self.old share known actual last
+            → ((a : List ℕ) → bytes_eq address.now a ≡ false → offers (actual number) a ≡ false) → PoolsFitBut number self.new share known actual last) }
         ensures there { OnOk result (place_of self.new number ≡ Some address.now) }
         ensures due { OnOk result (is_due self.new address.now ≡ true) }
         ensures touched { OnOk result (self.new.touched ≡ self.old.touched) }
     {
         if !self.stands_at(number, address) {
-            self.take_out(number)?;
-            let place = address.to_vec(self.alloc)?;
-            let _ = self.places.insert(number, place)?;
+            self.move_to(number, address)?;
         }
         self.due.add(address)
     }
 
+    /// Places a link at an address where it isn't yet.
+    fn move_to(&mut self, number: u64, address: &[u8]) -> Result<(), AllocError>
+        ensures fits { OnOk result ((share : List ℕ → Distribution) (known actual : ℕ → Option Figure) (last : List ℕ → ℕ) → PoolsFitBut number self.old share known actual last
+            → is_place (place_of self.old number) address.now ≡ false → ((a : List ℕ) → bytes_eq address.now a ≡ false → offers (actual number) a ≡ false)
+            → PoolsFitBut number self.new share known actual last) }
+        ensures there { OnOk result (place_of self.new number ≡ Some address.now) }
+        ensures due { OnOk result ((a : List ℕ) → is_due self.new a ≡ false → is_due self.old a ≡ false) }
+        ensures touched { OnOk result (self.new.touched ≡ self.old.touched) }
+    {
+        self.take_out(number)?;
+        let place = address.to_vec(self.alloc)?;
+        let _ = self.places.insert(number, place)?;
+        Ok(())
+    }
+
     /// Whether a link is at an address.
     fn stands_at(&self, number: u64, address: &[u8]) -> bool
-        ensures { result ≡ true → place_of self.now number ≡ Some address.now }
+        ensures there { result ≡ true → place_of self.now number ≡ Some address.now }
+        ensures elsewhere { result ≡ false → is_place (place_of self.now number) address.now ≡ false }
     {
         match self.places.get(&number) {
             None => false,

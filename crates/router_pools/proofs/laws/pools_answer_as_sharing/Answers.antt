@@ -3,7 +3,7 @@ use Rattle.router_pools.proofs.Listed.{choice_is, grants_are}
 use Rattle.router_pools.proofs.laws.pools_answer_as_sharing.Goals as goal
 
 pub returns : goal.returns
-returns c pools share known last count fits none numbered address = (
-  choice_is (is_touched pools) (table_of pools) share (pool_at pools) (place_of pools) (is_due pools) known last count address fits none numbered,
-  grants_are (is_touched pools) (table_of pools) share (pool_at pools) (place_of pools) (is_due pools) known last count address fits none numbered,
+returns c pools share known actual last count fits none numbered address = (
+  choice_is (is_touched pools) (table_of pools) share (pool_at pools) (place_of pools) (is_due pools) known actual last count address fits none numbered,
+  grants_are (is_touched pools) (table_of pools) share (pool_at pools) (place_of pools) (is_due pools) known actual last count address fits none numbered,
 )

@@ -3,4 +3,4 @@ use Rattle.router_pools.proofs.Fitting.{widened}
 use Rattle.router_pools.proofs.laws.touched_say_nothing.Goals as goal
 
 pub returns : goal.returns
-returns c pools share known other last fits same = widened (is_touched pools) (table_of pools) share (pool_at pools) (place_of pools) (is_due pools) known last fits (is_touched pools) (is_due pools) other (λ n is. (is, same n is)) (λ a is. is)
+returns c pools share known other actual last fits same = widened (is_touched pools) (table_of pools) share (pool_at pools) (place_of pools) (is_due pools) known actual last fits (is_touched pools) (is_due pools) other (λ n is. (is, same n is)) (λ a is. is)

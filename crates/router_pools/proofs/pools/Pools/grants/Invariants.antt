@@ -6,7 +6,7 @@ use Rattle.router_pools.proofs.pools.Pools.grants.Given as goal
 
 -- what agreed at the start still agrees, and no link was touched
 abbrev pub invariant-loop-grants : goal.invariant-loop-grants
-invariant-loop-grants l = ((share : List ℕ → Distribution) (known : ℕ → Option Figure) (last : List ℕ → ℕ) → PoolsFit l.fn.self share known last → PoolsFit l.self share known last) × ((n : ℕ) → is_touched l.self n ≡ is_touched l.fn.self n)
+invariant-loop-grants l = ((share : List ℕ → Distribution) (known actual : ℕ → Option Figure) (last : List ℕ → ℕ) → PoolsFit l.fn.self share known actual last → PoolsFit l.self share known actual last) × ((n : ℕ) → is_touched l.self n ≡ is_touched l.fn.self n)
 
 abbrev pub decreases-loop-grants : goal.decreases-loop-grants
 decreases-loop-grants l = length l.self.due.addresses.keys

@@ -1,16 +1,17 @@
 use Rattle.std.proofs.Common.{◌==◌, ◌||◌, ◌∙◌, sym, ap, Some}
 use Rattle.router_pools.specs.Sharing.Figure.{producer}
 use Rattle.router_pools.specs.Fits.{is_due, is_touched, place_of, pool_at, pool_in, table_of}
-use Rattle.router_pools.proofs.Fitting.{but_one, wanted_fits, untouched, widened}
+use Rattle.router_pools.proofs.Fitting.{but_one, offers_none, wanted_fits, untouched, widened}
 use Rattle.router_pools.proofs.pools.Pools.want.Goals as goal
 
 pub returns-clause-fits : goal.returns-clause-fits
-returns-clause-fits c share known other last fits is others =
+returns-clause-fits c share known other actual last fits is really others =
     let old = c.args.self.now in
     let mid = c.place.new.self in
-    wanted_fits (λ m. c.args.number == m || is_touched mid m) (table_of mid) share (pool_at mid) (place_of mid) (is_due mid) known last
-    (c.in_ok-place.ensures.fits share known last (widened (is_touched old) (table_of old) share (pool_at old) (place_of old) (is_due old) known last fits (λ m. c.args.number == m || is_touched old m) (is_due old) known (but_one c.args.number (is_touched old) known) (λ a is. is)))
+    wanted_fits (λ m. c.args.number == m || is_touched mid m) (table_of mid) share (pool_at mid) (place_of mid) (is_due mid) known actual last
+    (c.in_ok-place.ensures.fits share known actual last (widened (is_touched old) (table_of old) share (pool_at old) (place_of old) (is_due old) known actual last fits (λ m. c.args.number == m || is_touched old m) (is_due old) known (but_one c.args.number (is_touched old) known) (λ a is. is))
+    (λ a elsewhere. offers_none (actual c.args.number) a c.args.address.now c.args.unused c.args.held (really ∙ is)))
     (pool_in (table_of mid) c.want.new.self) c.as_bytes-place.result.now c.args.number c.in_ok-place.ensures.there c.in_ok-place.ensures.due
-    _ (untouched (is_touched mid) _ c.args.number c.remove.ensures.updates.0) other others c.args.unused c.args.held
+    _ (untouched (is_touched mid) _ c.args.number c.remove.ensures.updates.0) other others really c.args.unused c.args.held
     (c.in_ok-want.ensures (table_of mid) (c.find-distribution.ensures.distribution ∙ ap (table_of mid) (sym c.as_bytes-place.ensures.value)))
     (is ∙ ap (λ a. Some (producer a c.args.unused c.args.held)) (sym c.as_bytes-place.ensures.value))
