@@ -71,6 +71,10 @@ impl<'a, R: Wait + Eprint> Watch<'a, R> {
 }
 
 impl<'a, R: Wait + Eprint> Gate for Watch<'a, R> {
+    fn holds(&self, _side: Side) -> bool {
+        false
+    }
+
     fn pass<T: Wait>(&self, _rt: &T, _conn: ConnectionId, _side: Side, _number: u64) {}
 
     fn see<T: Wait>(&self, _rt: &T, conn: ConnectionId, side: Side, item: &Item) {

@@ -2,7 +2,8 @@
 ghost use Rattle.std.specs.Prelude.{◌≡◌, ℕ, List, length, IfOk, IfErr};
 ghost use Rattle.std.specs.Io.KnownBytes.{Consumes};
 ghost use Rattle.router_serve.specs.Greeting.{Gives, Stops};
-ghost use Rattle.router_serve.specs.Submitting.{with_items, needs_down, Submitted};
+ghost use Rattle.router_shared.specs.Adding.{with_items};
+ghost use Rattle.router_serve.specs.Submitting.{needs_down, Submitted};
 
 use crate::end::ReadEnd;
 use crate::gate::{Gate, Side};
@@ -11,6 +12,7 @@ use disk_core::Disk;
 use router_core::{ConnectionId, CoreFault, Event};
 use router_shared::{Ledgers, Log, Receipt, Seat, Shared};
 use std::alloc::Global;
+use std::collections::VecDeque;
 use std::io::{ErrorKind, Read};
 use std::sync::Wait;
 
@@ -73,7 +75,7 @@ fn hand_in_all<D: Disk, L: Log, G: Ledgers, R: Wait, I: Read, P: Gate>(
     let mut number = 0u64;
     let mut items = left;
     for _turn in 0..u64::MAX {
-        if let Err(end) = hand_in(rt, shared, seat, conn, items, &mut number, gate) {
+        if let Err(end) = hand_in(rt, alloc, shared, seat, conn, items, &mut number, gate) {
             return end;
         }
         items = match read_items(alloc, frames, input, piece.as_mut_slice()) {
@@ -84,13 +86,14 @@ fn hand_in_all<D: Disk, L: Log, G: Ledgers, R: Wait, I: Read, P: Gate>(
     ReadEnd::ReadFailed
 }
 
-/// Submits items, each after it passes the gate.
+/// Submits items, each after it passes the gate: several at once where the gate holds nothing.
 ///
 /// # Errors
 ///
-/// Why the reader ends: the router's fault, or `End` after an item `Bad`.
+/// Why the reader ends: the router's fault, `Memory`, or `End` after an item `Bad`.
 fn hand_in<D: Disk, L: Log, G: Ledgers, R: Wait, P: Gate>(
     rt: &R,
+    alloc: Global,
     shared: &Shared<D, L, G>,
     seat: &mut Seat<G>,
     conn: ConnectionId,
@@ -100,26 +103,73 @@ fn hand_in<D: Disk, L: Log, G: Ledgers, R: Wait, P: Gate>(
 ) -> Result<(), ReadEnd>
     ensures { (k : ℕ) × (seat.new ≡ with_items k seat.old) }
 {
+    let last = ends_in_bad(items.as_slice());
+    let mut passed = VecDeque::new(alloc);
     for item in items {
+        make_way(rt, shared, seat, conn, &mut passed, gate)?;
         gate.pass(rt, conn, Side::Reader, *number);
         gate.see(rt, conn, Side::Reader, &item);
         *number = number.saturating_add(1);
-        let last = is_bad(&item);
-        match shared.submit(rt, seat, Event::Item(conn, item)) {
-            Ok(_) => {}
-            Err(fault) => return Err(ReadEnd::Core(fault)),
+        if let Err(left) = passed.push_back(item) {
+            drop(left);
+            return Err(ReadEnd::Memory);
         }
-        if last {
-            return Err(ReadEnd::End);
+    }
+    submit_all(rt, shared, seat, conn, &mut passed)?;
+    if last { Err(ReadEnd::End) } else { Ok(()) }
+}
+
+/// Submits the items that passed the gate, if it may hold the next one.
+///
+/// # Errors
+///
+/// The router's fault.
+fn make_way<D: Disk, L: Log, G: Ledgers, R: Wait, P: Gate>(
+    rt: &R,
+    shared: &Shared<D, L, G>,
+    seat: &mut Seat<G>,
+    conn: ConnectionId,
+    passed: &mut VecDeque<Item>,
+    gate: &P,
+) -> Result<(), ReadEnd>
+    ensures { (k : ℕ) × (seat.new ≡ with_items k seat.old) }
+{
+    if gate.holds(Side::Reader) {
+        return submit_all(rt, shared, seat, conn, passed);
+    }
+    Ok(())
+}
+
+/// Submits the items that passed the gate, up to 64 at once.
+///
+/// # Errors
+///
+/// The router's fault.
+fn submit_all<D: Disk, L: Log, G: Ledgers, R: Wait>(
+    rt: &R,
+    shared: &Shared<D, L, G>,
+    seat: &mut Seat<G>,
+    conn: ConnectionId,
+    items: &mut VecDeque<Item>,
+) -> Result<(), ReadEnd>
+    ensures { (k : ℕ) × (seat.new ≡ with_items k seat.old) }
+{
+    for _turn in 0..u64::MAX {
+        if items.is_empty() {
+            break;
+        }
+        match shared.submit_items(rt, seat, conn, items) {
+            Ok(()) => {}
+            Err(fault) => return Err(ReadEnd::Core(fault)),
         }
     }
     Ok(())
 }
 
-/// Whether an item is the last of its stream.
-fn is_bad(item: &Item) -> bool {
-    match item {
-        Item::Bad(_) => true,
+/// Whether the last of these items is the last of their stream.
+fn ends_in_bad(items: &[Item]) -> bool {
+    match items.last() {
+        Some(Item::Bad(_)) => true,
         _ => false,
     }
 }
