@@ -254,7 +254,7 @@ fine_took c t x fine = record {
   settled = fine.settled;
 }
 
-fine_batch : (c : ℕ) (t : List Entry) (acts : List Act) → Fine c t → Fine c (Booked acts ∷ t)
+fine_batch : (c : ℕ) (t : List Entry) (acts : List Act) {full : List ℕ} → Fine c t → Fine c (Booked acts full ∷ t)
 fine_batch c t acts fine = record {
   ordered = batch_turns t acts fine.ordered;
   told = record { told = fine.told.told; strange = fine.told.strange };

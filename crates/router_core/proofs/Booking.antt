@@ -3,15 +3,16 @@ use Rattle.std.proofs.Common.{◌≡◌, ◌∙◌, refl, false, List, ◌∷◌
 use Rattle.book_core.specs.declared.act.Act.{Act}
 use Rattle.router_trace.specs.declared.event.Event.{Event}
 use Rattle.router_trace.specs.Trace.{Entry, Booked}
+use Rattle.router_trace.specs.Connection.{due}
 use Rattle.router_trace.specs.Refusing.{refuses}
 use Rattle.router_reply.specs.Acts.{acts_of, booked}
 
 -- what acts keep, an event's acts keep
-pub booked_keeps : (P : List Entry → Type 0) (t : List Entry) (e : Event) → ((acts : List Act) → P t → P (Booked acts ∷ t)) → P t → P (booked t e)
+pub booked_keeps : (P : List Entry → Type 0) (t : List Entry) (e : Event) → ((acts : List Act) → P t → P (Booked acts (due t e) ∷ t)) → P t → P (booked t e)
 booked_keeps P t e keeps was = keeps (acts_of t e) was
 
 -- a view that is the same after acts is the same after an event's acts
-pub booked_same : {A : Type 0} (view : List Entry → A) (t : List Entry) (e : Event) → ((acts : List Act) → view (Booked acts ∷ t) ≡ view t) → view (booked t e) ≡ view t
+pub booked_same : {A : Type 0} (view : List Entry → A) (t : List Entry) (e : Event) → ((acts : List Act) → view (Booked acts (due t e) ∷ t) ≡ view t) → view (booked t e) ≡ view t
 booked_same view t e same = same (acts_of t e)
 
 -- an event that isn't refused isn't refused after its acts

@@ -22,7 +22,7 @@ use Rattle.router_rows.specs.Booking.{attach_unless, booked_attach, booked as an
 use Rattle.router_rows.specs.Finding.{finds}
 use Rattle.router_rows.specs.Rows.{item_reply}
 use Rattle.router_reply.specs.Acts.{event_answer, live_answer, answer_acts, planned_acts, admitted_acts, or_admits, event_acts}
-use Rattle.router_reply.specs.Admitting.{taken_admission, unless_ends, event_admission, admits}
+use Rattle.router_reply.specs.Admitting.{taken_admission, unless_ends, event_admission, admits, without_acts}
 use Rattle.router_core.specs.Handling.{within, or_within, with_admission}
 
 -- what holds of what is there, if it is
@@ -72,7 +72,7 @@ answer_alike b t (event.Item c i) = by (live_alike b t c.0 i (standing (found t 
     by : (event_answer true b t e ≡ event_answer false b t e) ⊎ NotTaken (event_answer false b t e)
         → (event_answer true b t e ≡ event_answer false b t e) ⊎ (event_admission b t e (event_answer false b t e) ≡ None)
     by (inl same) = inl same
-    by (inr none) = inr (ap (unless_ends (due t e)) (none_taken b t (did e ∷ t) c.0 i (event_answer false b t e) none) ∙ none_kept (due t e))
+    by (inr none) = inr (ap (unless_ends (due t e)) (none_taken b t (without_acts t e) c.0 i (event_answer false b t e) none) ∙ none_kept (due t e))
 answer_alike b t (event.Up c p) = inl refl
 answer_alike b t (event.Down c) = inl refl
 answer_alike b t (event.Tick ms) = inl refl

@@ -87,7 +87,7 @@ quiet (Did s ∷ t) c h =
 quiet (Out d i ∷ t) c h =
     by_test (d == c) (λ e. absurd (push_some (outs t c) i (rw e at h))) (λ e. rw e (quiet t c (rw e at h)))
 quiet (Bound b ∷ t) c h = quiet t c h
-quiet (Booked acts ∷ t) c h = quiet t c h
+quiet (Booked acts full ∷ t) c h = quiet t c h
 quiet (Began g ∷ t) c h = quiet t c h
 quiet (Took d n ∷ t) c h =
     by_test (d == c) (λ e. rw e (waits_took n (conn t c) (quiet t c h))) (λ e. rw e (quiet t c h))
@@ -166,7 +166,7 @@ untold (Did s ∷ t) c h = untold_at s.event c (ins t c) (terms t c) h (untold t
 untold (Out d i ∷ t) c h = goes_strange (record { conn = d; item = i } ∷ []) t c (untold t c h)
 untold (Took d n ∷ t) c h = untold t c h
 untold (Bound b ∷ t) c h = untold t c h
-untold (Booked acts ∷ t) c h = untold t c h
+untold (Booked acts full ∷ t) c h = untold t c h
 untold (Began g ∷ t) c h = untold t c h
 
 -- an item of another connection puts nothing if no link is attached
@@ -372,7 +372,7 @@ pub record Kept (t : List Entry) : Type 0 where
   pub told : Told t
   pub headed : Headed t
 
-batch_kept : (t : List Entry) (acts : List Act) → Kept t → Kept (Booked acts ∷ t)
+batch_kept : (t : List Entry) (acts : List Act) {full : List ℕ} → Kept t → Kept (Booked acts full ∷ t)
 batch_kept t acts was = record {
   ordered = batch_turns t acts was.ordered;
   lively = was.lively;

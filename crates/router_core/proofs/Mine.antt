@@ -82,7 +82,7 @@ apart (Did s ∷ t) c = plain_at s.event c 0 (apart t c)
 apart (Out d i ∷ t) c = if d == c then option_and_then (stand_behind i) (apart t c) else apart t c
 apart (Took d n ∷ t) c = apart t c
 apart (Bound b ∷ t) c = apart t c
-apart (Booked acts ∷ t) c = apart t c
+apart (Booked acts full ∷ t) c = apart t c
 apart (Began g ∷ t) c = apart t c
 
 -- the views of a connection
@@ -94,7 +94,7 @@ own_moment (Did s ∷ t) c =
 own_moment (Out d i ∷ t) c = by_test (d == c) (λ e. rw e (own_moment t c)) (λ e. rw e (own_moment t c))
 own_moment (Took d n ∷ t) c = own_moment t c
 own_moment (Bound b ∷ t) c = own_moment t c
-own_moment (Booked acts ∷ t) c = own_moment t c
+own_moment (Booked acts full ∷ t) c = own_moment t c
 own_moment (Began g ∷ t) c = own_moment t c
 
 pub own_terms : (t : List Entry) (c : ℕ) → terms t c ≡ terms (own_part c t) c
@@ -104,7 +104,7 @@ own_terms (Did s ∷ t) c =
 own_terms (Out d i ∷ t) c = by_test (d == c) (λ e. rw e (rw e (ap (unless_close i) (own_terms t c)))) (λ e. rw e (own_terms t c))
 own_terms (Took d n ∷ t) c = own_terms t c
 own_terms (Bound b ∷ t) c = own_terms t c
-own_terms (Booked acts ∷ t) c = own_terms t c
+own_terms (Booked acts full ∷ t) c = own_terms t c
 own_terms (Began g ∷ t) c = own_terms t c
 
 own_offered : (t : List Entry) (c : ℕ) → offered t c ≡ offered (own_part c t) c
@@ -114,7 +114,7 @@ own_offered (Did s ∷ t) c =
 own_offered (Out d i ∷ t) c = by_test (d == c) (λ e. rw e (rw e (ap (unless_close i) (own_offered t c)))) (λ e. rw e (own_offered t c))
 own_offered (Took d n ∷ t) c = own_offered t c
 own_offered (Bound b ∷ t) c = own_offered t c
-own_offered (Booked acts ∷ t) c = own_offered t c
+own_offered (Booked acts full ∷ t) c = own_offered t c
 own_offered (Began g ∷ t) c = own_offered t c
 
 pub own_written : (t : List Entry) (c : ℕ) → written t c ≡ written (own_part c t) c
@@ -124,7 +124,7 @@ own_written (Did s ∷ t) c =
 own_written (Out d i ∷ t) c = by_test (d == c) (λ e. rw e (rw e (ap (λ m. unless_close i (Some m)) (own_moment t c)))) (λ e. rw e (own_written t c))
 own_written (Took d n ∷ t) c = own_written t c
 own_written (Bound b ∷ t) c = own_written t c
-own_written (Booked acts ∷ t) c = own_written t c
+own_written (Booked acts full ∷ t) c = own_written t c
 own_written (Began g ∷ t) c = own_written t c
 
 own_answered : (t : List Entry) (c o : ℕ) → answered_channel t c o ≡ answered_channel (own_part c t) c o
@@ -135,7 +135,7 @@ own_answered (Did s ∷ t) c o =
 own_answered (Out d i ∷ t) c o = by_test (d == c) (λ e. rw e (rw e (ap (answered_by i o) (own_answered t c o)))) (λ e. rw e (own_answered t c o))
 own_answered (Took d n ∷ t) c o = own_answered t c o
 own_answered (Bound b ∷ t) c o = own_answered t c o
-own_answered (Booked acts ∷ t) c o = own_answered t c o
+own_answered (Booked acts full ∷ t) c o = own_answered t c o
 own_answered (Began g ∷ t) c o = own_answered t c o
 
 pub own_theirs : (t : List Entry) (c p : ℕ) → theirs t c p ≡ theirs (own_part c t) c p
@@ -147,7 +147,7 @@ own_theirs (Out d i ∷ t) c p =
     by_test (d == c) (λ e. rw e (rw e (λ j. theirs_behind i p (λ o. own_answered t c o j) (own_theirs t c p j)))) (λ e. rw e (own_theirs t c p))
 own_theirs (Took d n ∷ t) c p = own_theirs t c p
 own_theirs (Bound b ∷ t) c p = own_theirs t c p
-own_theirs (Booked acts ∷ t) c p = own_theirs t c p
+own_theirs (Booked acts full ∷ t) c p = own_theirs t c p
 own_theirs (Began g ∷ t) c p = own_theirs t c p
 
 pub own_session : (t : List Entry) (c o : ℕ) → session t c o ≡ session (own_part c t) c o
@@ -159,7 +159,7 @@ own_session (Out d i ∷ t) c o =
     by_test (d == c) (λ e. rw e (rw e (λ j. behind_item i o (own_offered t c j) (own_session t c o j)))) (λ e. rw e (own_session t c o))
 own_session (Took d n ∷ t) c o = own_session t c o
 own_session (Bound b ∷ t) c o = own_session t c o
-own_session (Booked acts ∷ t) c o = own_session t c o
+own_session (Booked acts full ∷ t) c o = own_session t c o
 own_session (Began g ∷ t) c o = own_session t c o
 
 pub own_outs : (t : List Entry) (c : ℕ) → outs t c ≡ outs (own_part c t) c
@@ -168,7 +168,7 @@ own_outs (Did s ∷ t) c = by_test (is_about c s.event) (λ e. rw e (own_outs t 
 own_outs (Out d i ∷ t) c = by_test (d == c) (λ e. rw e (rw e (ap (λ (is : List Item). is ++ i ∷ []) (own_outs t c)))) (λ e. rw e (own_outs t c))
 own_outs (Took d n ∷ t) c = own_outs t c
 own_outs (Bound b ∷ t) c = own_outs t c
-own_outs (Booked acts ∷ t) c = own_outs t c
+own_outs (Booked acts full ∷ t) c = own_outs t c
 own_outs (Began g ∷ t) c = own_outs t c
 
 pub own_place : (t : List Entry) (c p : ℕ) → place t c p ≡ place (own_part c t) c p
@@ -188,7 +188,7 @@ own_apart (Did s ∷ t) c =
 own_apart (Out d i ∷ t) c = by_test (d == c) (λ e. rw e (rw e (ap (option_and_then (stand_behind i)) (own_apart t c)))) (λ e. rw e (own_apart t c))
 own_apart (Took d n ∷ t) c = own_apart t c
 own_apart (Bound b ∷ t) c = own_apart t c
-own_apart (Booked acts ∷ t) c = own_apart t c
+own_apart (Booked acts full ∷ t) c = own_apart t c
 own_apart (Began g ∷ t) c = own_apart t c
 
 -- its outbox was not full when an event came, and it was admitted
@@ -198,7 +198,7 @@ Eased c (Did s ∷ t) = ((has c (due t s.event) ≡ false) × (comes_up c s.even
 Eased c (Out d i ∷ t) = Eased c t
 Eased c (Took d n ∷ t) = Eased c t
 Eased c (Bound b ∷ t) = Eased c t
-Eased c (Booked acts ∷ t) = Eased c t
+Eased c (Booked acts full ∷ t) = Eased c t
 Eased c (Began g ∷ t) = Eased c t
 
 pub eased_goes : (c : ℕ) (ps : List Put) (t : List Entry) → Eased c t → Eased c (goes ps t)
@@ -231,7 +231,7 @@ stood_apart (Out d i ∷ t) c eased =
     standing_item (d == c) i (conn t c) ∙ ap (λ (v : Option Conn). if d == c then option_and_then (stand_behind i) v else v) (stood_apart t c eased)
 stood_apart (Took d n ∷ t) c eased = standing_took (d == c) n (conn t c) ∙ stood_apart t c eased
 stood_apart (Bound b ∷ t) c eased = stood_apart t c eased
-stood_apart (Booked acts ∷ t) c eased = stood_apart t c eased
+stood_apart (Booked acts full ∷ t) c eased = stood_apart t c eased
 stood_apart (Began g ∷ t) c eased = stood_apart t c eased
 
 -- the phase of a live connection follows from its own part

@@ -61,7 +61,7 @@ own_asked (Did s ∷ t) c =
 own_asked (Out d i ∷ t) c = by_test (d == c) (λ e. rw e (rw e (ap (unless_close i) (own_asked t c)))) (λ e. rw e (own_asked t c))
 own_asked (Took d n ∷ t) c = own_asked t c
 own_asked (Bound b ∷ t) c = own_asked t c
-own_asked (Booked acts ∷ t) c = own_asked t c
+own_asked (Booked acts full ∷ t) c = own_asked t c
 own_asked (Began g ∷ t) c = own_asked t c
 
 own_answers : (t : List Entry) (c o h : ℕ) → answered_handle t c o h ≡ answered_handle (own_part c t) c o h
@@ -73,7 +73,7 @@ own_answers (Out d i ∷ t) c o h =
     by_test (d == c) (λ e. rw e (rw e (λ j. answers_by i o h (own_asked t c j) (own_answers t c o h j)))) (λ e. rw e (own_answers t c o h))
 own_answers (Took d n ∷ t) c o h = own_answers t c o h
 own_answers (Bound b ∷ t) c o h = own_answers t c o h
-own_answers (Booked acts ∷ t) c o h = own_answers t c o h
+own_answers (Booked acts full ∷ t) c o h = own_answers t c o h
 own_answers (Began g ∷ t) c o h = own_answers t c o h
 
 own_handle : (t : List Entry) (c o p : ℕ) → their_handle t c o p ≡ their_handle (own_part c t) c o p
@@ -87,7 +87,7 @@ own_handle (Out d i ∷ t) c o p =
     (λ e. rw e (own_handle t c o p))
 own_handle (Took d n ∷ t) c o p = own_handle t c o p
 own_handle (Bound b ∷ t) c o p = own_handle t c o p
-own_handle (Booked acts ∷ t) c o p = own_handle t c o p
+own_handle (Booked acts full ∷ t) c o p = own_handle t c o p
 own_handle (Began g ∷ t) c o p = own_handle t c o p
 
 own_told : (t : List Entry) (c : ℕ) → told_handle_max t c ≡ told_handle_max (own_part c t) c
@@ -97,7 +97,7 @@ own_told (Did s ∷ t) c =
 own_told (Out d i ∷ t) c = by_test (d == c) (λ e. rw e (rw e (ap (unless_close i) (own_told t c)))) (λ e. rw e (own_told t c))
 own_told (Took d n ∷ t) c = own_told t c
 own_told (Bound b ∷ t) c = own_told t c
-own_told (Booked acts ∷ t) c = own_told t c
+own_told (Booked acts full ∷ t) c = own_told t c
 own_told (Began g ∷ t) c = own_told t c
 
 own_highest : (t : List Entry) (c o : ℕ) → highest_handle t c o ≡ highest_handle (own_part c t) c o
@@ -109,7 +109,7 @@ own_highest (Out d i ∷ t) c o =
     by_test (d == c) (λ e. rw e (rw e (λ j. most_behind i o (own_told t c j) (own_highest t c o j)))) (λ e. rw e (own_highest t c o))
 own_highest (Took d n ∷ t) c o = own_highest t c o
 own_highest (Bound b ∷ t) c o = own_highest t c o
-own_highest (Booked acts ∷ t) c o = own_highest t c o
+own_highest (Booked acts full ∷ t) c o = own_highest t c o
 own_highest (Began g ∷ t) c o = own_highest t c o
 
 own_free_handle : (t : List Entry) (c o : ℕ) → free_handle t c o ≡ free_handle (own_part c t) c o
@@ -122,7 +122,7 @@ own_routing (Did s ∷ t) c = by_test (is_about c s.event) (λ e. rw e (own_rout
 own_routing (Out d i ∷ t) c = by_test (d == c) (λ e. rw e (own_routing t c)) (λ e. rw e (own_routing t c))
 own_routing (Took d n ∷ t) c = own_routing t c
 own_routing (Bound b ∷ t) c = own_routing t c
-own_routing (Booked acts ∷ t) c = own_routing t c
+own_routing (Booked acts full ∷ t) c = own_routing t c
 own_routing (Began g ∷ t) c = refl
 
 -- what an item finds on a connection without links

@@ -81,7 +81,7 @@ no_session (Out d i ∷ t) c none o =
     by_test (d == c) (λ e. absurd (push_some (outs t c) i (rw e at none))) (λ e. rw e (no_session t c (rw e at none) o))
 no_session (Took d n ∷ t) c none o = no_session t c none o
 no_session (Bound b ∷ t) c none o = no_session t c none o
-no_session (Booked acts ∷ t) c none o = no_session t c none o
+no_session (Booked acts full ∷ t) c none o = no_session t c none o
 no_session (Began g ∷ t) c none o = no_session t c none o
 
 event_phases : (t : List Entry) (e : Event) → Ordered t → refuses t e ≡ false → (c n : ℕ) (v : Connection)
@@ -219,7 +219,7 @@ took_turns t d n ord = record {
   once = ord.once;
 }
 
-pub batch_turns : (t : List Entry) (acts : List Act) → Ordered t → Ordered (Booked acts ∷ t)
+pub batch_turns : (t : List Entry) (acts : List Act) {full : List ℕ} → Ordered t → Ordered (Booked acts full ∷ t)
 batch_turns t acts ord = record {
   turns = ord.turns;
   phases = ord.phases;

@@ -35,7 +35,7 @@ plain (Did s ∷ t) c = plain_at s.event c (length (standing_of (ups t) (plain t
 plain (Out d i ∷ t) c = if d == c then option_and_then (stand_behind i) (plain t c) else plain t c
 plain (Took d n ∷ t) c = plain t c
 plain (Bound b ∷ t) c = plain t c
-plain (Booked acts ∷ t) c = plain t c
+plain (Booked acts full ∷ t) c = plain t c
 plain (Began g ∷ t) c = plain t c
 
 abbrev pub plain_live : List Entry → List ℕ
@@ -48,7 +48,7 @@ Calm (Did s ∷ t) = ((c : ℕ) → is_full (conn t c) ≡ false) × Calm t
 Calm (Out d i ∷ t) = Calm t
 Calm (Took d n ∷ t) = Calm t
 Calm (Bound b ∷ t) = Calm t
-Calm (Booked acts ∷ t) = Calm t
+Calm (Booked acts full ∷ t) = Calm t
 Calm (Began g ∷ t) = Calm t
 
 pub calm_goes : (ps : List Put) (t : List Entry) → Calm t → Calm (goes ps t)
@@ -114,7 +114,7 @@ stood (Out d i ∷ t) calm c =
     standing_item (d == c) i (conn t c) ∙ ap (λ (v : Option Conn). if d == c then option_and_then (stand_behind i) v else v) (stood t calm c)
 stood (Took d n ∷ t) calm c = standing_took (d == c) n (conn t c) ∙ stood t calm c
 stood (Bound b ∷ t) calm c = stood t calm c
-stood (Booked acts ∷ t) calm c = stood t calm c
+stood (Booked acts full ∷ t) calm c = stood t calm c
 stood (Began g ∷ t) calm c = stood t calm c
 
 -- and so are those that are live

@@ -25,7 +25,7 @@ use Rattle.router_rows.specs.Booking.{answer_at}
 use Rattle.router_rows.proofs.Mapped.{IsHere, answer_here}
 use Rattle.router_reply.specs.declared.heard.Heard.{Heard}
 use Rattle.router_reply.specs.Acts.{event_answer, live_answer, answer_acts, planned_acts, acts_of}
-use Rattle.router_reply.specs.Admitting.{answer_admission, taken_admission, part_admission, unless_ends, event_admission, admits}
+use Rattle.router_reply.specs.Admitting.{answer_admission, taken_admission, part_admission, unless_ends, event_admission, admits, without_acts}
 use Rattle.router_reply.specs.Deciding.{decided, forgotten, terminus_of_event}
 use Rattle.router_reply.specs.Heard.{ItemHeard, IsHeard}
 use Rattle.router_core.specs.declared.router.Core.{Core}
@@ -76,20 +76,20 @@ item_part b t after d i (Taken own handle) h heard here = ap (part_admission b a
 item_part b t after d i _ h heard here = refl
 
 pub item_admits : (b given : BookView) (t : List Entry) (e : Event) (d : ConnectionId) (i : Item) (a : Answer) (h : Heard) (ends : List ℕ) (found : Option Admission)
-    → given ≡ b → e ≡ event.Item d i → ends ≡ due t e → ends ≡ [] → IsHeard t e a h → TakenIn t e a → found ≡ answer_admission given (did e ∷ t) d.0 a h.part
+    → given ≡ b → e ≡ event.Item d i → ends ≡ due t e → ends ≡ [] → IsHeard t e a h → TakenIn t e a → found ≡ answer_admission given (without_acts t e) d.0 a h.part
     → admits b found ≡ admits b (event_admission b t e a)
 item_admits b given t e d i a h ends found same is are none =
-    subst (λ (x : Event). due t x ≡ [] → IsHeard t x a h → TakenIn t x a → found ≡ answer_admission given (did x ∷ t) d.0 a h.part → admits b found ≡ admits b (event_admission b t x a))
+    subst (λ (x : Event). due t x ≡ [] → IsHeard t x a h → TakenIn t x a → found ≡ answer_admission given (without_acts t x) d.0 a h.part → admits b found ≡ admits b (event_admission b t x a))
     (sym is) by (sym are ∙ none)
   where
     f : Event
     f = event.Item d i
 
-    by : due t (event.Item d i) ≡ [] → ItemHeard t d i a h → TakenHere (maps (theirs t d.0 (channel_of i))) a → found ≡ answer_admission given (did (event.Item d i) ∷ t) d.0 a h.part
-        → admits b found ≡ admits b (unless_ends (due t (event.Item d i)) (taken_admission b t (did (event.Item d i) ∷ t) d.0 i a))
+    by : due t (event.Item d i) ≡ [] → ItemHeard t d i a h → TakenHere (maps (theirs t d.0 (channel_of i))) a → found ≡ answer_admission given (without_acts t (event.Item d i)) d.0 a h.part
+        → admits b found ≡ admits b (unless_ends (due t (event.Item d i)) (taken_admission b t (without_acts t (event.Item d i)) d.0 i a))
     by free heard here told =
-        ap (admits b) (told ∙ ap (λ (g : BookView). answer_admission g (did (event.Item d i) ∷ t) d.0 a h.part) same ∙ item_part b t (did (event.Item d i) ∷ t) d i a h heard here)
-        ∙ ap (λ (cs : List ℕ). admits b (unless_ends cs (taken_admission b t (did (event.Item d i) ∷ t) d.0 i a))) (sym free)
+        ap (admits b) (told ∙ ap (λ (g : BookView). answer_admission g (without_acts t (event.Item d i)) d.0 a h.part) same ∙ item_part b t (without_acts t (event.Item d i)) d i a h heard here)
+        ∙ ap (λ (cs : List ℕ). admits b (unless_ends cs (taken_admission b t (without_acts t (event.Item d i)) d.0 i a))) (sym free)
 
 pub itemless_admits : (b : BookView) (t : List Entry) (e : Event) (a : Answer) → ((d : ConnectionId) (i : Item) → e ≡ event.Item d i → ⊥) → admits b (event_admission b t e a) ≡ []
 itemless_admits b t (event.Item d i) a other = absurd (other d i refl)

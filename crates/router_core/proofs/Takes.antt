@@ -68,7 +68,7 @@ abbrev pub plain_answered : List ℕ → List Entry → Step → List Entry
 plain_answered id x s = plain_followed (plain_replied id x s)
 
 abbrev pub plain_booked : List Entry → Event → List Entry
-plain_booked x e = Booked (plain_acts (journaled x) x e) ∷ x
+plain_booked x e = Booked (plain_acts (journaled x) x e) [] ∷ x
 
 abbrev pub plain_handled : List ℕ → List Entry → Step → List Entry
 plain_handled id x s = plain_answered id (plain_booked x s.event) s
@@ -149,7 +149,7 @@ same_handled id t s calm roomy =
     in let next = same_answered id (booked t s.event) s (booked_keeps Calm t s.event (λ acts c. c) calm)
     (booked_keeps (λ (v : List Entry). (c : ℕ) → is_full (conn v c) ≡ false) t s.event (λ acts r. r) roomy)
     (record { journal = same_journaled t; row = refl; full = same_full t s.event calm none })
-    in (next.0, next.1 ∙ ap (λ (acts : List Act). plain_answered id (Booked acts ∷ untaken t) s) (same_acts t s.event calm none))
+    in (next.0, next.1 ∙ (λ j. plain_answered id (Booked (same_acts t s.event calm none j) (none j) ∷ untaken t) s))
 
 -- moves
 same_moves : (id : List ℕ) (ms : List Move) (t u : List Entry) → Calm t → NeverFull id ms t → Goes id ms t u → untaken u ≡ plain_all id (events_of ms) (untaken t)

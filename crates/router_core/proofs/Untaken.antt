@@ -27,7 +27,7 @@ same_ups (Did s ∷ t) = ap (with_up s.event) (same_ups t)
 same_ups (Out d i ∷ t) = same_ups t
 same_ups (Took d n ∷ t) = same_ups t
 same_ups (Bound b ∷ t) = same_ups t
-same_ups (Booked acts ∷ t) = same_ups t
+same_ups (Booked acts full ∷ t) = same_ups t
 same_ups (Began g ∷ t) = same_ups t
 
 pub same_outs : (t : List Entry) (c : ℕ) → outs t c ≡ outs (untaken t) c
@@ -36,7 +36,7 @@ same_outs (Did s ∷ t) c = same_outs t c
 same_outs (Out d i ∷ t) c = ap (λ (is : List Item). if d == c then is ++ i ∷ [] else is) (same_outs t c)
 same_outs (Took d n ∷ t) c = same_outs t c
 same_outs (Bound b ∷ t) c = same_outs t c
-same_outs (Booked acts ∷ t) c = same_outs t c
+same_outs (Booked acts full ∷ t) c = same_outs t c
 same_outs (Began g ∷ t) c = same_outs t c
 
 same_moment : (t : List Entry) → moment t ≡ moment (untaken t)
@@ -45,7 +45,7 @@ same_moment (Did s ∷ t) = ap (moment_at s.event) (same_moment t)
 same_moment (Out d i ∷ t) = same_moment t
 same_moment (Took d n ∷ t) = same_moment t
 same_moment (Bound b ∷ t) = same_moment t
-same_moment (Booked acts ∷ t) = same_moment t
+same_moment (Booked acts full ∷ t) = same_moment t
 same_moment (Began g ∷ t) = same_moment t
 
 same_terms : (t : List Entry) (c : ℕ) → terms t c ≡ terms (untaken t) c
@@ -54,7 +54,7 @@ same_terms (Did s ∷ t) c = ap (terms_at s.event c) (same_terms t c)
 same_terms (Out d i ∷ t) c = ap (λ (v : Option Terms). if d == c then unless_close i v else v) (same_terms t c)
 same_terms (Took d n ∷ t) c = same_terms t c
 same_terms (Bound b ∷ t) c = same_terms t c
-same_terms (Booked acts ∷ t) c = same_terms t c
+same_terms (Booked acts full ∷ t) c = same_terms t c
 same_terms (Began g ∷ t) c = same_terms t c
 
 same_written : (t : List Entry) (c : ℕ) → written t c ≡ written (untaken t) c
@@ -63,7 +63,7 @@ same_written (Did s ∷ t) c = ap (written_at s.event c) (same_written t c)
 same_written (Out d i ∷ t) c = λ j. if d == c then unless_close i (Some (same_moment t j)) else same_written t c j
 same_written (Took d n ∷ t) c = same_written t c
 same_written (Bound b ∷ t) c = same_written t c
-same_written (Booked acts ∷ t) c = same_written t c
+same_written (Booked acts full ∷ t) c = same_written t c
 same_written (Began g ∷ t) c = same_written t c
 
 same_offered : (t : List Entry) (c : ℕ) → offered t c ≡ offered (untaken t) c
@@ -72,7 +72,7 @@ same_offered (Did s ∷ t) c = ap (offered_at s.event c) (same_offered t c)
 same_offered (Out d i ∷ t) c = ap (λ (v : Option BeginState). if d == c then unless_close i v else v) (same_offered t c)
 same_offered (Took d n ∷ t) c = same_offered t c
 same_offered (Bound b ∷ t) c = same_offered t c
-same_offered (Booked acts ∷ t) c = same_offered t c
+same_offered (Booked acts full ∷ t) c = same_offered t c
 same_offered (Began g ∷ t) c = same_offered t c
 
 same_answered : (t : List Entry) (c o : ℕ) → answered_channel t c o ≡ answered_channel (untaken t) c o
@@ -81,7 +81,7 @@ same_answered (Did s ∷ t) c o = ap (answered_at s.event c) (same_answered t c 
 same_answered (Out d i ∷ t) c o = ap (λ (v : Option ℕ). if d == c then answered_by i o v else v) (same_answered t c o)
 same_answered (Took d n ∷ t) c o = same_answered t c o
 same_answered (Bound b ∷ t) c o = same_answered t c o
-same_answered (Booked acts ∷ t) c o = same_answered t c o
+same_answered (Booked acts full ∷ t) c o = same_answered t c o
 same_answered (Began g ∷ t) c o = same_answered t c o
 
 pub same_theirs : (t : List Entry) (c p : ℕ) → theirs t c p ≡ theirs (untaken t) c p
@@ -90,7 +90,7 @@ same_theirs (Did s ∷ t) c p = ap (theirs_at s.event c p) (same_theirs t c p)
 same_theirs (Out d i ∷ t) c p = λ j. if d == c then theirs_behind i p (λ o. same_answered t c o j) (same_theirs t c p j) else same_theirs t c p j
 same_theirs (Took d n ∷ t) c p = same_theirs t c p
 same_theirs (Bound b ∷ t) c p = same_theirs t c p
-same_theirs (Booked acts ∷ t) c p = same_theirs t c p
+same_theirs (Booked acts full ∷ t) c p = same_theirs t c p
 same_theirs (Began g ∷ t) c p = same_theirs t c p
 
 pub same_session : (t : List Entry) (c o : ℕ) → session t c o ≡ session (untaken t) c o
@@ -99,7 +99,7 @@ same_session (Did s ∷ t) c o = λ j. session_at s.event c o (λ p. same_theirs
 same_session (Out d i ∷ t) c o = λ j. if d == c then behind_item i o (same_offered t c j) (same_session t c o j) else same_session t c o j
 same_session (Took d n ∷ t) c o = same_session t c o
 same_session (Bound b ∷ t) c o = same_session t c o
-same_session (Booked acts ∷ t) c o = same_session t c o
+same_session (Booked acts full ∷ t) c o = same_session t c o
 same_session (Began g ∷ t) c o = same_session t c o
 
 -- what rows need of them

@@ -30,7 +30,7 @@ use Rattle.router_trace.specs.declared.event.Event.TheVariants as event
 use Rattle.router_trace.specs.declared.handle.Attachment.{Attachment}
 use Rattle.router_trace.specs.Trace.{Entry, Did, Out, Took, Bound, Booked, Began, did}
 use Rattle.router_trace.specs.Connection.{due}
-use Rattle.router_trace.specs.Deliveries.{last_of}
+use Rattle.router_trace.specs.Deliveries.{last_of, none_if_ended}
 use Rattle.router_trace.specs.LinkFrames.{plain_answer}
 use Rattle.router_trace.specs.Links.{Link, link, link_place, durable_key}
 use Rattle.router_trace.specs.Sessions.{own_of, session_on}
@@ -43,7 +43,7 @@ use Rattle.router_passing.specs.Passing.{consumer_of}
 use Rattle.router_rows.specs.declared.answer.Answer.{Answer}
 use Rattle.router_rows.specs.declared.answer.Answer.TheVariants.{Nothing, Attach, Detach, Taken}
 use Rattle.router_rows.specs.Booking.{answer_at}
-use Rattle.router_reply.specs.Admitting.{terminus_for, admission_of, admitted_to, whole_admission, part_admission, taken_admission, unless_ends, event_admission, admits}
+use Rattle.router_reply.specs.Admitting.{without_acts, terminus_for, admission_of, admitted_to, whole_admission, part_admission, taken_admission, unless_ends, event_admission, admits}
 use Rattle.router_reply.specs.Deciding.{lost, stolen_from, stolen_for, ended_by, listed, event_changes, as_kept, decided, settled_on, sent_from, closed_terminus, forgotten_by, forgotten_in, forgotten, made_for, terminus_by, terminus_in, terminus_of_event}
 use Rattle.router_reply.specs.Acts.{Journaled, live_answer, event_answer, answer_acts, planned_acts, admitted_acts, or_admits, event_acts, finds_full, with_acts, journaled, book_in, acts_of, before_acts, found_journal, full_at, answer_of}
 use Rattle.router_core.specs.Laws.{untaken}
@@ -63,19 +63,23 @@ plain_changes x _ answer = []
 abbrev pub plain_decided : List Entry → Event → Answer → List Decision
 plain_decided x e answer = map as_kept (decided_rows x (plain_changes x e answer))
 
+abbrev pub plain_forgotten : BookView → List Entry → Event → Answer → List RowNumber
+plain_forgotten b x (event.Item c i) answer = forgotten_in b x c.0 (session_on x c.0 (channel_of i)) i answer
+plain_forgotten b x _ answer = []
+
 abbrev pub plain_event_answer : Bool → BookView → List Entry → Event → Answer
 plain_event_answer full b x (event.Item c i) = live_answer full b x c.0 i (plain x c.0)
 plain_event_answer full b x _ = Nothing
 
 abbrev pub plain_answer_acts : BookView → List Entry → Event → Answer → List Act
-plain_answer_acts b x e answer = settled_acts b (plain_decided x e answer) (forgotten b x e answer) (terminus_of_event b x e answer)
+plain_answer_acts b x e answer = settled_acts b (plain_decided x e answer) (plain_forgotten b x e answer) (terminus_of_event b x e answer)
 
 abbrev pub plain_planned : Bool → BookView → List Entry → Event → List Act
 plain_planned full b x event.Start = start_acts b
 plain_planned full b x e = plain_answer_acts b x e (plain_event_answer full b x e)
 
 abbrev pub plain_admission : BookView → List Entry → Event → Answer → Option Admission
-plain_admission b x (event.Item c i) answer = taken_admission b x (did (event.Item c i) ∷ x) c.0 i answer
+plain_admission b x (event.Item c i) answer = taken_admission b x (did (event.Item c i) ∷ Booked [] [] ∷ x) c.0 i answer
 plain_admission b x _ answer = None
 
 abbrev pub plain_admitted : Bool → BookView → List Entry → Event → List Act
@@ -115,7 +119,7 @@ same_ended t c i _ = refl
 
 changed_plainly : (t : List Entry) (e : Event) (a : Answer) → due t e ≡ [] → event_changes t e a ≡ plain_changes t e a
 changed_plainly t (event.Item c i) a none =
-    ap (λ (ks : List ℕ). listed (heard_change c.0 (session_on t c.0 (channel_of i)) i) ++ map lost ks ++ ended_by t c.0 i a) none
+    ap (λ (ks : List ℕ). listed (heard_change c.0 (none_if_ended ks c.0 (session_on t c.0 (channel_of i))) i) ++ map lost ks ++ ended_by t c.0 i a) none
 changed_plainly t (event.Down c) a none = ap (λ (ks : List ℕ). lost c.0 ∷ map lost ks) none
 changed_plainly t (event.Up c p) a none = ap (map lost) none
 changed_plainly t (event.Tick ms) a none = ap (map lost) none
@@ -158,18 +162,20 @@ same_forgotten_by b t c own (perf.Disposition x) a = same_settled t c own x.role
 same_forgotten_by b t c own (perf.Detach x) a = ap (sent_from b) (same_closed b t c a)
 same_forgotten_by b t c own _ a = refl
 
-same_forgotten_in : (b : BookView) (t : List Entry) (c : ℕ) (i : Item) (a : Answer) → forgotten_in b t c i a ≡ forgotten_in b (untaken t) c i a
-same_forgotten_in b t c (item.Frame true channel body payload) a = refl
-same_forgotten_in b t c (item.Frame false channel body payload) a =
-    ap (λ (own : Option ℕ). forgotten_by b t c own body a) (same_session_on t c channel) ∙ same_forgotten_by b t c (session_on (untaken t) c channel) body a
-same_forgotten_in b t c _ a = refl
+same_forgotten_in : (b : BookView) (t : List Entry) (c : ℕ) (own : Option ℕ) (i : Item) (a : Answer) → forgotten_in b t c own i a ≡ forgotten_in b (untaken t) c own i a
+same_forgotten_in b t c own (item.Frame true channel body payload) a = refl
+same_forgotten_in b t c own (item.Frame false channel body payload) a = same_forgotten_by b t c own body a
+same_forgotten_in b t c own _ a = refl
 
-same_forgotten : (b : BookView) (t : List Entry) (e : Event) (a : Answer) → forgotten b t e a ≡ forgotten b (untaken t) e a
-same_forgotten b t (event.Item c i) a = same_forgotten_in b t c.0 i a
-same_forgotten b t (event.Down c) a = refl
-same_forgotten b t (event.Up c p) a = refl
-same_forgotten b t (event.Tick ms) a = refl
-same_forgotten b t event.Start a = refl
+same_forgotten : (b : BookView) (t : List Entry) (e : Event) (a : Answer) → due t e ≡ [] → forgotten b t e a ≡ plain_forgotten b (untaken t) e a
+same_forgotten b t (event.Item c i) a none =
+    ap (λ (ks : List ℕ). forgotten_in b t c.0 (none_if_ended ks c.0 (session_on t c.0 (channel_of i))) i a) none
+    ∙ ap (λ (own : Option ℕ). forgotten_in b t c.0 own i a) (same_session_on t c.0 (channel_of i))
+    ∙ same_forgotten_in b t c.0 (session_on (untaken t) c.0 (channel_of i)) i a
+same_forgotten b t (event.Down c) a none = refl
+same_forgotten b t (event.Up c p) a none = refl
+same_forgotten b t (event.Tick ms) a none = refl
+same_forgotten b t event.Start a none = refl
 
 -- the terminus that is made or dropped
 
@@ -205,7 +211,7 @@ same_event_answer full b t (event.Tick ms) calm none = refl
 same_event_answer full b t event.Start calm none = refl
 
 same_answer_acts : (b : BookView) (t : List Entry) (e : Event) (a : Answer) → due t e ≡ [] → answer_acts b t e a ≡ plain_answer_acts b (untaken t) e a
-same_answer_acts b t e a none = λ j. settled_acts b (same_decided t e a none j) (same_forgotten b t e a j) (same_terminus b t e a j)
+same_answer_acts b t e a none = λ j. settled_acts b (same_decided t e a none j) (same_forgotten b t e a none j) (same_terminus b t e a j)
 
 same_told_acts : (full : Bool) (b : BookView) (t : List Entry) (e : Event) → Calm t → due t e ≡ []
     → answer_acts b t e (event_answer full b t e) ≡ plain_answer_acts b (untaken t) e (plain_event_answer full b (untaken t) e)
@@ -256,9 +262,10 @@ same_admission b t (event.Item c i) calm none =
     ap (λ (ks : List ℕ). unless_ends ks (taken_admission b t u c.0 i (event_answer false b t (event.Item c i)))) none
     ∙ ap (taken_admission b t u c.0 i) (same_event_answer false b t (event.Item c i) calm none)
     ∙ same_taken_admission b t u c.0 i (plain_event_answer false b (untaken t) (event.Item c i))
+    ∙ ap (λ (ks : List ℕ). taken_admission b (untaken t) (did (event.Item c i) ∷ Booked [] ks ∷ untaken t) c.0 i (plain_event_answer false b (untaken t) (event.Item c i))) none
   where
     u : List Entry
-    u = did (event.Item c i) ∷ t
+    u = without_acts t (event.Item c i)
 same_admission b t (event.Down c) calm none = refl
 same_admission b t (event.Up c p) calm none = refl
 same_admission b t (event.Tick ms) calm none = refl
@@ -279,7 +286,7 @@ same_journaled (Did s ∷ t) = same_journaled t
 same_journaled (Out d i ∷ t) = same_journaled t
 same_journaled (Took d n ∷ t) = same_journaled t
 same_journaled (Bound b ∷ t) = same_journaled t
-same_journaled (Booked acts ∷ t) = ap (λ (j : Journaled). with_acts j acts) (same_journaled t)
+same_journaled (Booked acts full ∷ t) = ap (λ (j : Journaled). with_acts j acts) (same_journaled t)
 same_journaled (Began g ∷ t) = refl
 
 pub same_full : (t : List Entry) (e : Event) → Calm t → due t e ≡ [] → finds_full (journaled t) t e ≡ plain_full (journaled (untaken t)) (untaken t) e

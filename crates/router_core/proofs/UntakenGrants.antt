@@ -56,7 +56,7 @@ same_routing (Did s ∷ t) = same_routing t
 same_routing (Out c i ∷ t) = same_routing t
 same_routing (Took c n ∷ t) = same_routing t
 same_routing (Bound b ∷ t) = same_routing t
-same_routing (Booked acts ∷ t) = same_routing t
+same_routing (Booked acts full ∷ t) = same_routing t
 same_routing (Began g ∷ t) = refl
 
 pub same_distribution : (t : List Entry) (address : List ℕ) → distribution t address ≡ distribution (untaken t) address
@@ -72,7 +72,7 @@ same_last (Took c n ∷ t) address = same_last t address
 same_last (Began g ∷ t) address = same_last t address
 same_last (Bound b ∷ t) address =
     λ j. if is_of address (same_link t b.consumer.conn.0 b.consumer.channel b.consumer.handle j) b.consumer.number then b.consumer.number else same_last t address j
-same_last (Booked acts ∷ t) address = same_last t address
+same_last (Booked acts full ∷ t) address = same_last t address
 
 same_pool : (t : List Entry) (address : List ℕ) → pool_of t address ≡ pool_of (untaken t) address
 same_pool t address = λ j. sharing (same_distribution t address j) (λ n. same_figure t n j) (same_attachments t j) (same_last t address j) address

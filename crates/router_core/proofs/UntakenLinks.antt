@@ -19,7 +19,7 @@ same_user (Did s ∷ t) c = ap (user_at s.event c) (same_user t c)
 same_user (Out d i ∷ t) c = ap (λ (v : Option (List ℕ)). if d == c then unless_close i v else v) (same_user t c)
 same_user (Took d n ∷ t) c = same_user t c
 same_user (Bound b ∷ t) c = same_user t c
-same_user (Booked acts ∷ t) c = same_user t c
+same_user (Booked acts full ∷ t) c = same_user t c
 same_user (Began g ∷ t) c = same_user t c
 
 same_container : (t : List Entry) (c : ℕ) → container t c ≡ container (untaken t) c
@@ -28,7 +28,7 @@ same_container (Did s ∷ t) c = ap (container_at s.event c) (same_container t c
 same_container (Out d i ∷ t) c = ap (λ (v : Option Container). if d == c then unless_close i v else v) (same_container t c)
 same_container (Took d n ∷ t) c = same_container t c
 same_container (Bound b ∷ t) c = same_container t c
-same_container (Booked acts ∷ t) c = same_container t c
+same_container (Booked acts full ∷ t) c = same_container t c
 same_container (Began g ∷ t) c = same_container t c
 
 pub same_largest : (t : List Entry) (c : ℕ) → largest_frame t c ≡ largest_frame (untaken t) c
@@ -45,7 +45,7 @@ same_asked (Did s ∷ t) c = ap (asked_at s.event c) (same_asked t c)
 same_asked (Out d i ∷ t) c = ap (λ (v : Option Asked). if d == c then unless_close i v else v) (same_asked t c)
 same_asked (Took d n ∷ t) c = same_asked t c
 same_asked (Bound b ∷ t) c = same_asked t c
-same_asked (Booked acts ∷ t) c = same_asked t c
+same_asked (Booked acts full ∷ t) c = same_asked t c
 same_asked (Began g ∷ t) c = same_asked t c
 
 same_answers : (t : List Entry) (c o h : ℕ) → answered_handle t c o h ≡ answered_handle (untaken t) c o h
@@ -54,7 +54,7 @@ same_answers (Did s ∷ t) c o h = ap (λ (v : Option ℕ). if is_lost s.event c
 same_answers (Out d i ∷ t) c o h = λ j. if d == c then answers_by i o h (same_asked t c j) (same_answers t c o h j) else same_answers t c o h j
 same_answers (Took d n ∷ t) c o h = same_answers t c o h
 same_answers (Bound b ∷ t) c o h = same_answers t c o h
-same_answers (Booked acts ∷ t) c o h = same_answers t c o h
+same_answers (Booked acts full ∷ t) c o h = same_answers t c o h
 same_answers (Began g ∷ t) c o h = same_answers t c o h
 
 pub same_handle : (t : List Entry) (c o p : ℕ) → their_handle t c o p ≡ their_handle (untaken t) c o p
@@ -64,7 +64,7 @@ same_handle (Out d i ∷ t) c o p =
     λ j. if d == c then their_handle_behind i o p (λ h. same_answers t c o h j) (same_asked t c j) (same_handle t c o p j) else same_handle t c o p j
 same_handle (Took d n ∷ t) c o p = same_handle t c o p
 same_handle (Bound b ∷ t) c o p = same_handle t c o p
-same_handle (Booked acts ∷ t) c o p = same_handle t c o p
+same_handle (Booked acts full ∷ t) c o p = same_handle t c o p
 same_handle (Began g ∷ t) c o p = same_handle t c o p
 
 same_told : (t : List Entry) (c : ℕ) → told_handle_max t c ≡ told_handle_max (untaken t) c
@@ -73,7 +73,7 @@ same_told (Did s ∷ t) c = ap (handle_max_at s.event c) (same_told t c)
 same_told (Out d i ∷ t) c = ap (λ (v : Option ℕ). if d == c then unless_close i v else v) (same_told t c)
 same_told (Took d n ∷ t) c = same_told t c
 same_told (Bound b ∷ t) c = same_told t c
-same_told (Booked acts ∷ t) c = same_told t c
+same_told (Booked acts full ∷ t) c = same_told t c
 same_told (Began g ∷ t) c = same_told t c
 
 same_highest : (t : List Entry) (c o : ℕ) → highest_handle t c o ≡ highest_handle (untaken t) c o
@@ -82,7 +82,7 @@ same_highest (Did s ∷ t) c o = ap (λ (v : Option ℕ). if is_lost s.event c t
 same_highest (Out d i ∷ t) c o = λ j. if d == c then most_behind i o (same_told t c j) (same_highest t c o j) else same_highest t c o j
 same_highest (Took d n ∷ t) c o = same_highest t c o
 same_highest (Bound b ∷ t) c o = same_highest t c o
-same_highest (Booked acts ∷ t) c o = same_highest t c o
+same_highest (Booked acts full ∷ t) c o = same_highest t c o
 same_highest (Began g ∷ t) c o = same_highest t c o
 
 pub same_free_handle : (t : List Entry) (c o : ℕ) → free_handle t c o ≡ free_handle (untaken t) c o
@@ -97,7 +97,7 @@ same_attachments (Did s ∷ t) = same_attachments t
 same_attachments (Out d i ∷ t) = ap (λ (n : ℕ). if is_taken i then n + 1 else n) (same_attachments t)
 same_attachments (Took d n ∷ t) = same_attachments t
 same_attachments (Bound b ∷ t) = same_attachments t
-same_attachments (Booked acts ∷ t) = same_attachments t
+same_attachments (Booked acts full ∷ t) = same_attachments t
 same_attachments (Began g ∷ t) = same_attachments t
 
 pub same_link : (t : List Entry) (c o h : ℕ) → link t c o h ≡ link (untaken t) c o h
@@ -107,7 +107,7 @@ same_link (Out d i ∷ t) c o h =
     λ j. if d == c then link_behind i o h (same_attachments t j + 1) (λ a. same_key_at t c a j) (same_asked t c j) (same_link t c o h j) else same_link t c o h j
 same_link (Took d n ∷ t) c o h = same_link t c o h
 same_link (Bound b ∷ t) c o h = same_link t c o h
-same_link (Booked acts ∷ t) c o h = same_link t c o h
+same_link (Booked acts full ∷ t) c o h = same_link t c o h
 same_link (Began g ∷ t) c o h = same_link t c o h
 
 pub same_link_place : (t : List Entry) (c o p : ℕ) → link_place t c o p ≡ link_place (untaken t) c o p
@@ -122,7 +122,7 @@ same_last u e b (Out d i ∷ t) =
     λ j. newest_by i d (same_attachments t j + 1) (λ a. same_key (same_key_at t d a j) (key_at u e b)) (same_last u e b t j)
 same_last u e b (Took d n ∷ t) = same_last u e b t
 same_last u e b (Bound x ∷ t) = same_last u e b t
-same_last u e b (Booked acts ∷ t) = same_last u e b t
+same_last u e b (Booked acts full ∷ t) = same_last u e b t
 same_last u e b (Began g ∷ t) = same_last u e b t
 
 same_attached : (t : List Entry) (v : Option Attachment) → if_attached t v ≡ if_attached (untaken t) v

@@ -78,7 +78,7 @@ WindowKept (Did s ∷ t) = WindowKept t
 WindowKept (Out c i ∷ t) = keeps_window i (session t c) × WindowKept t
 WindowKept (Took c n ∷ t) = WindowKept t
 WindowKept (Bound b ∷ t) = WindowKept t
-WindowKept (Booked acts ∷ t) = WindowKept t
+WindowKept (Booked acts full ∷ t) = WindowKept t
 WindowKept (Began g ∷ t) = WindowKept t
 
 -- this holds in every trace of the router, and for every list of events
@@ -115,7 +115,7 @@ WithinCredit (Did s ∷ t) = WithinCredit t
 WithinCredit (Out c i ∷ t) = within_credit i (link t c) × WithinCredit t
 WithinCredit (Took c n ∷ t) = WithinCredit t
 WithinCredit (Bound b ∷ t) = WithinCredit t
-WithinCredit (Booked acts ∷ t) = WithinCredit t
+WithinCredit (Booked acts full ∷ t) = WithinCredit t
 WithinCredit (Began g ∷ t) = WithinCredit t
 
 -- this holds in every trace of the router, and for every list of events
@@ -132,7 +132,7 @@ untaken (Did s ∷ t) = Did s ∷ untaken t
 untaken (Out c i ∷ t) = Out c i ∷ untaken t
 untaken (Took c n ∷ t) = untaken t
 untaken (Bound b ∷ t) = Bound b ∷ untaken t
-untaken (Booked acts ∷ t) = Booked acts ∷ untaken t
+untaken (Booked acts full ∷ t) = Booked acts full ∷ untaken t
 untaken (Began g ∷ t) = Began g ∷ untaken t
 
 abbrev pub events_of : List Move → List Step
@@ -171,7 +171,7 @@ own_part c (Did s ∷ t) = if is_about c s.event then Did s ∷ own_part c t els
 own_part c (Out d i ∷ t) = if d == c then Out d i ∷ own_part c t else own_part c t
 own_part c (Took d n ∷ t) = own_part c t
 own_part c (Bound b ∷ t) = own_part c t
-own_part c (Booked acts ∷ t) = own_part c t
+own_part c (Booked acts full ∷ t) = own_part c t
 own_part c (Began g ∷ t) = Began g ∷ own_part c t
 
 abbrev pub comes_up : ℕ → Event → Bool

@@ -37,7 +37,7 @@ ins (Did s ∷ t) c = with_came s.event c (ins t c)
 ins (Out d i ∷ t) c = ins t c
 ins (Took d n ∷ t) c = ins t c
 ins (Bound b ∷ t) c = ins t c
-ins (Booked acts ∷ t) c = ins t c
+ins (Booked acts full ∷ t) c = ins t c
 ins (Began g ∷ t) c = ins t c
 
 -- the items put out for a connection, in order
@@ -47,5 +47,5 @@ outs (Did s ∷ t) c = outs t c
 outs (Out d i ∷ t) c = if d == c then outs t c ++ i ∷ [] else outs t c
 outs (Took d n ∷ t) c = outs t c
 outs (Bound b ∷ t) c = outs t c
-outs (Booked acts ∷ t) c = outs t c
+outs (Booked acts full ∷ t) c = outs t c
 outs (Began g ∷ t) c = outs t c

@@ -16,7 +16,7 @@ is_started (Did s ∷ t) = is_start s.event || is_started t
 is_started (Out c i ∷ t) = is_started t
 is_started (Took c n ∷ t) = is_started t
 is_started (Bound x ∷ t) = is_started t
-is_started (Booked acts ∷ t) = is_started t
+is_started (Booked acts full ∷ t) = is_started t
 is_started (Began g ∷ t) = is_started t
 
 abbrev pub is_out_of_turn : Trace → Event → Bool

@@ -12,7 +12,7 @@ ghost use Rattle.router_conns.specs.Fits.{IsLeast};
 ghost use Rattle.book_core.specs.Book.{effects};
 ghost use Rattle.gate_journal.specs.Reserve.{reserve};
 ghost use Rattle.router_reply.specs.Acts.{planned_acts, event_answer, acts_of, book_behind, booked};
-ghost use Rattle.router_reply.specs.Admitting.{admits, event_admission};
+ghost use Rattle.router_reply.specs.Admitting.{admits, event_admission, without_acts};
 ghost use Rattle.router_reply.specs.Heard.{IsHeard};
 ghost use Rattle.router_reply.specs.Replies.{row_found};
 ghost use Rattle.router_core.specs.Turns.{declines};
@@ -339,7 +339,7 @@ impl<D: Disk> Core<D> {
     {
         let ends = self.state.turn(event)?;
         let Planned { full, answer, acts } = self.plan(&ends, event)?;
-        let heard = hear(&mut self.state, event, &answer)?;
+        let heard = hear(&mut self.state, event, &ends, &answer)?;
         let acts = self.admit(full, &ends, event, &answer, &heard, acts)?;
         Ok(Prepared {
             ready: Ready {
@@ -408,7 +408,7 @@ impl<D: Disk> Core<D> {
         requires writable { Writable (kept_book self.old) acts.items }
         ensures rest { self.new ≡ record self.old { state = state_of self.new } }
         ensures tables { OnOk result ((t : List Entry) → TablesFit (state_of self.old) t → TablesFit (state_of self.new) t) }
-        ensures acts { IfOk result (λ r. (t : List Entry) → TablesFit (state_of self.old) (did event.now ∷ t) → ends.now ≡ due t event.now → IsHeard t event.now answer.now heard.now
+        ensures acts { IfOk result (λ r. (t : List Entry) → TablesFit (state_of self.old) (without_acts t event.now) → ends.now ≡ due t event.now → IsHeard t event.now answer.now heard.now
             → TakenIn t event.now answer.now → r.items ≡ with_admission full (used_of (store_of self.old)) (kept_of (store_of self.old)) acts.items (admits (kept_book self.old) (event_admission (kept_book self.old) t event.now answer.now))) }
         ensures writable { IfOk result (λ r. Writable (kept_book self.old) r.items) }
     {
@@ -446,7 +446,7 @@ impl<D: Disk> Core<D> {
     ) -> Result<Vec<Act>, AllocError>
         ensures rest { self.new ≡ record self.old { state = state_of self.new } }
         ensures tables { OnOk result ((t : List Entry) → TablesFit (state_of self.old) t → TablesFit (state_of self.new) t) }
-        ensures acts { IfOk result (λ r. (t : List Entry) → TablesFit (state_of self.old) (did event.now ∷ t) → ends.now ≡ due t event.now → IsHeard t event.now answer.now heard.now
+        ensures acts { IfOk result (λ r. (t : List Entry) → TablesFit (state_of self.old) (without_acts t event.now) → ends.now ≡ due t event.now → IsHeard t event.now answer.now heard.now
             → TakenIn t event.now answer.now → r.items ≡ admits (kept_book self.old) (event_admission (kept_book self.old) t event.now answer.now)) }
         ensures writable { IfOk result (λ r. Writable (kept_book self.old) r.items) }
     {

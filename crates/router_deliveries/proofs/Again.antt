@@ -5,16 +5,16 @@ use Rattle.std.proofs.lemmas.Bool.Decides.{nat_tests}
 use Rattle.amqp_session.specs.Ranges.{has}
 use Rattle.router_trace.specs.declared.handle.Attachment.{Attachment}
 use Rattle.amqp_perf.specs.declared.state.DeliveryState.{DeliveryState}
-use Rattle.router_trace.specs.Deliveries.{Delivery, source, unless_over, is_over, behind_ends, behind_origin, is_gone_with, ended, untold, unsettled}
+use Rattle.router_trace.specs.Deliveries.{Delivery, source, sender, unless_over, is_over, behind_ends, behind_origin, is_gone_with, ended, forsaken}
 use Rattle.router_deliveries.specs.declared.change.Change.{Change}
 use Rattle.router_deliveries.specs.declared.change.Change.TheVariants as change
 use Rattle.router_deliveries.specs.Stepping.{is_gone, comes_with_id, is_decided_by, changed, behind}
 
 -- a change that a delivery went through changes it no further
 settled_origin : (gone : Attachment → Bool) (d : Delivery) → behind_origin gone (behind_origin gone d) ≡ behind_origin gone d
-settled_origin gone d = by_test (is_gone_with gone (source d)) refl
+settled_origin gone d = by_test (is_gone_with gone (sender d)) refl
   where
-    by_test : (b : Bool) → is_gone_with gone (source d) ≡ b → behind_origin gone (behind_origin gone d) ≡ behind_origin gone d
+    by_test : (b : Bool) → is_gone_with gone (sender d) ≡ b → behind_origin gone (behind_origin gone d) ≡ behind_origin gone d
     by_test true e = rw e refl
     by_test false e = rw (e, e) refl
 
@@ -29,19 +29,19 @@ ended_twice closed d = by_tests d.suspended (d.lasting && not closed) d.outcome 
     by_tests false false (Some s) e f g = rw (e, f, f, g) refl
 
 -- the end of its own link leaves a delivery's link and its producer's delivery
-same_place : (closed : Bool) (d : Delivery) → ((ended closed d).link ≡ d.link) × (source (ended closed d) ≡ source d)
+same_place : (closed : Bool) (d : Delivery) → ((ended closed d).link ≡ d.link) × (sender (ended closed d) ≡ sender d)
 same_place closed d = by_tests d.suspended (d.lasting && not closed) refl refl
   where
-    by_tests : (s l : Bool) → d.suspended ≡ s → (d.lasting && not closed) ≡ l → ((ended closed d).link ≡ d.link) × (source (ended closed d) ≡ source d)
+    by_tests : (s l : Bool) → d.suspended ≡ s → (d.lasting && not closed) ≡ l → ((ended closed d).link ≡ d.link) × (sender (ended closed d) ≡ sender d)
     by_tests true l e f = rw e (refl, refl)
     by_tests false true e f = rw (e, f) (refl, refl)
     by_tests false false e f = rw (e, f) (refl, refl)
 
 -- ... and what an ended delivery without an origin becomes
-ended_untold : (closed : Bool) (d : Delivery) → ended closed (untold d) ≡ untold (ended closed d)
-ended_untold closed d = by_tests d.suspended (d.lasting && not closed) refl refl
+ended_forsaken : (closed : Bool) (d : Delivery) → ended closed (forsaken d) ≡ forsaken (ended closed d)
+ended_forsaken closed d = by_tests d.suspended (d.lasting && not closed) refl refl
   where
-    by_tests : (s l : Bool) → d.suspended ≡ s → (d.lasting && not closed) ≡ l → ended closed (untold d) ≡ untold (ended closed d)
+    by_tests : (s l : Bool) → d.suspended ≡ s → (d.lasting && not closed) ≡ l → ended closed (forsaken d) ≡ forsaken (ended closed d)
     by_tests true l e f = rw e refl
     by_tests false true e f = rw (e, f) refl
     by_tests false false e f = rw (e, f) refl
@@ -58,33 +58,33 @@ ends_twice closed gone d = by_link (gone d.link) refl
     e : Delivery
     e = ended closed d
 
-    origin_is : (b : Bool) → is_gone_with gone (source d) ≡ b → is_gone_with gone (source e) ≡ b
+    origin_is : (b : Bool) → is_gone_with gone (sender d) ≡ b → is_gone_with gone (sender e) ≡ b
     origin_is b x = ap (is_gone_with gone) (same_place closed d).1 ∙ x
 
-    told_or_not : (x : Delivery) (b : Bool) → is_gone_with gone (source x) ≡ b → behind_origin gone x ≡ (if b then untold x else x)
-    told_or_not x b is = ap (λ b. if b then untold x else x) is
+    told_or_not : (x : Delivery) (b : Bool) → is_gone_with gone (sender x) ≡ b → behind_origin gone x ≡ (if b then forsaken x else x)
+    told_or_not x b is = ap (λ b. if b then forsaken x else x) is
 
-    once : (b : Bool) → is_gone_with gone (source d) ≡ b → gone d.link ≡ true → behind_ends closed gone d ≡ (if b then untold e else e)
+    once : (b : Bool) → is_gone_with gone (sender d) ≡ b → gone d.link ≡ true → behind_ends closed gone d ≡ (if b then forsaken e else e)
     once b x l = ends_on closed gone d l ∙ told_or_not e b (origin_is b x)
 
     link_is : gone d.link ≡ true → gone e.link ≡ true
     link_is l = ap gone (same_place closed d).0 ∙ l
 
-    again : (b : Bool) → is_gone_with gone (source d) ≡ b → gone d.link ≡ true → behind_ends closed gone (if b then untold e else e) ≡ (if b then untold e else e)
-    again true x l = ends_on closed gone (untold e) (link_is l) ∙ ap (behind_origin gone) (ended_untold closed e ∙ ap untold (ended_twice closed d)) ∙ told_or_not (untold e) false refl
+    again : (b : Bool) → is_gone_with gone (sender d) ≡ b → gone d.link ≡ true → behind_ends closed gone (if b then forsaken e else e) ≡ (if b then forsaken e else e)
+    again true x l = ends_on closed gone (forsaken e) (link_is l) ∙ ap (behind_origin gone) (ended_forsaken closed e ∙ ap forsaken (ended_twice closed d)) ∙ told_or_not (forsaken e) false refl
     again false x l = ends_on closed gone e (link_is l) ∙ ap (behind_origin gone) (ended_twice closed d) ∙ told_or_not e false (origin_is false x)
 
     by_link : (b : Bool) → gone d.link ≡ b → behind_ends closed gone (behind_ends closed gone d) ≡ behind_ends closed gone d
     by_link true l =
-        let first = once (is_gone_with gone (source d)) refl l in
-        ap (behind_ends closed gone) first ∙ again (is_gone_with gone (source d)) refl l ∙ sym first
-    by_link false l = by_origin (is_gone_with gone (source d)) refl
+        let first = once (is_gone_with gone (sender d)) refl l in
+        ap (behind_ends closed gone) first ∙ again (is_gone_with gone (sender d)) refl l ∙ sym first
+    by_link false l = by_origin (is_gone_with gone (sender d)) refl
       where
-        first : (b : Bool) → is_gone_with gone (source d) ≡ b → behind_ends closed gone d ≡ (if b then untold d else d)
+        first : (b : Bool) → is_gone_with gone (sender d) ≡ b → behind_ends closed gone d ≡ (if b then forsaken d else d)
         first b x = ends_off closed gone d l ∙ told_or_not d b x
 
-        by_origin : (b : Bool) → is_gone_with gone (source d) ≡ b → behind_ends closed gone (behind_ends closed gone d) ≡ behind_ends closed gone d
-        by_origin true x = ap (behind_ends closed gone) (first true x) ∙ ends_off closed gone (untold d) l ∙ told_or_not (untold d) false refl ∙ sym (first true x)
+        by_origin : (b : Bool) → is_gone_with gone (sender d) ≡ b → behind_ends closed gone (behind_ends closed gone d) ≡ behind_ends closed gone d
+        by_origin true x = ap (behind_ends closed gone) (first true x) ∙ ends_off closed gone (forsaken d) l ∙ told_or_not (forsaken d) false refl ∙ sym (first true x)
         by_origin false x = ap (behind_ends closed gone) (first false x)
 
 changed_twice : (x : Change) (d : Delivery) → changed x (changed x d) ≡ changed x d

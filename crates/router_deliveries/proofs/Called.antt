@@ -1,5 +1,5 @@
 -- The names of deliveries: what is there under a name is the last binding with it.
-use Rattle.std.proofs.Common.{◌≡◌, ◌∙◌, ◌≤◌, ◌+◌, ℕ, Bool, true, false, refl, sym, ap, subst, arith, List, [], ◌∷◌, length, Option, Some, None}
+use Rattle.std.proofs.Common.{◌≡◌, ◌∙◌, ◌≤◌, ◌+◌, ℕ, Bool, true, false, refl, sym, ap, arith, [], ◌∷◌, length, Option, Some, None}
 use Rattle.std.specs.Prelude.{◌==◌, ◌&&◌, if◌then◌else◌, not}
 use Rattle.std.specs.Option.{option_and_then}
 use Rattle.std.proofs.lemmas.Bool.{eqb-true, eq-eqb}
@@ -19,8 +19,7 @@ use Rattle.router_trace.specs.declared.event.Event.TheVariants as event
 use Rattle.router_trace.specs.declared.channel.PeerChannel.{PeerChannel}
 use Rattle.router_trace.specs.declared.handle.Attachment.{Attachment}
 use Rattle.router_trace.specs.Trace.{Trace, Did, Out, Took, Bound, Booked, Began}
-use Rattle.router_trace.specs.Sessions.{theirs}
-use Rattle.router_trace.specs.Deliveries.{Delivery, source, delivery, bindings, bound, same_name, name_in, number_named, unless_over, unless_called, is_over, untold, unsettled, ended, decided_at_end, suspended_at_end, closes, behind_origin, behind_ends, is_gone_with, behind_frame, put_in, behind_put, told, decided, is_undecided, is_meant, is_named, is_number, carried, tag_in, disposed, is_on, is_settled_at, heard_in, heard, behind_event, ended_by, lost_with, origin_id, sending, named, decision, terminal}
+use Rattle.router_trace.specs.Deliveries.{Delivery, source, delivery, bindings, bound, same_name, name_in, number_named, unless_over, unless_called, is_over, untold, unsettled, ended, decided_at_end, suspended_at_end, closes, behind_ends, is_gone_with, behind_frame, put_in, behind_put, told, decided, is_undecided, is_meant, is_named, is_number, carried, tag_in, disposed, is_on, is_settled_at, heard_in, heard, behind_event, ended_by, lost_with, origin_id, sending, named, decision, terminal, sender, forsaken, channels_found}
 use Rattle.router_deliveries.specs.declared.by_name.ByName.{ByName}
 use Rattle.router_deliveries.specs.declared.change.Change.{Change}
 use Rattle.router_deliveries.specs.declared.change.Change.TheVariants as change
@@ -65,7 +64,7 @@ name_ended closed d =
 pub name_ends : (closed : Bool) (gone : Attachment → Bool) (d : Delivery) → (behind_ends closed gone d).name ≡ d.name
 name_ends closed gone d =
     let on : (if gone d.link then ended closed d else d).name ≡ d.name = either (gone d.link) (ended closed d) d d.name (name_ended closed d) refl in
-    either (is_gone_with gone (source (if gone d.link then ended closed d else d))) (untold (if gone d.link then ended closed d else d)) (if gone d.link then ended closed d else d) d.name on on
+    either (is_gone_with gone (sender (if gone d.link then ended closed d else d))) (forsaken (if gone d.link then ended closed d else d)) (if gone d.link then ended closed d else d) d.name on on
 
 name_told : (r : Role) (x : Disposition) (c o : ℕ) (d : Delivery) → (told r x c o d).name ≡ d.name
 name_told Receiver x c o d =
@@ -147,13 +146,13 @@ uncalled name (Some x) d e = by_test (same_name x.name name) refl
 pub there_named : (t : Trace) (n : ℕ) (d : Delivery) → delivery t n ≡ Some d → number_named t d.name ≡ Some n
 there_named [] n d e = absurd cc
 there_named (Did s ∷ t) n d e =
-    let w = was_there (behind_event s.event (theirs t) (named t) n) (delivery t n) d e in
-    ap (number_named t) (ap (λ (x : Delivery). x.name) w.is ∙ name_event s.event (theirs t) (named t) n w.before) ∙ there_named t n w.before w.there
+    let w = was_there (behind_event s.event (channels_found t) (named t) n) (delivery t n) d e in
+    ap (number_named t) (ap (λ (x : Delivery). x.name) w.is ∙ name_event s.event (channels_found t) (named t) n w.before) ∙ there_named t n w.before w.there
 there_named (Out c i ∷ t) n d e =
     let w = was_there (behind_put (number_named t) i c n (sending t c)) (delivery t n) d e in
     ap (number_named t) (ap (λ (x : Delivery). x.name) w.is ∙ name_put (number_named t) i c n (sending t c) w.before) ∙ there_named t n w.before w.there
 there_named (Took c k ∷ t) n d e = there_named t n d e
-there_named (Booked acts ∷ t) n d e = there_named t n d e
+there_named (Booked acts full ∷ t) n d e = there_named t n d e
 there_named (Began g ∷ t) n d e = there_named t n d e
 there_named (Bound b ∷ t) n d e = by_test (bindings t + 1 == n) refl (there_named t n d)
   where
@@ -185,7 +184,7 @@ one_name [] a b n e f = absurd cc
 one_name (Did s ∷ t) a b n e f = one_name t a b n e f
 one_name (Out c i ∷ t) a b n e f = one_name t a b n e f
 one_name (Took c k ∷ t) a b n e f = one_name t a b n e f
-one_name (Booked acts ∷ t) a b n e f = one_name t a b n e f
+one_name (Booked acts full ∷ t) a b n e f = one_name t a b n e f
 one_name (Began g ∷ t) a b n e f = one_name t a b n e f
 one_name (Bound x ∷ t) a b n e f = by_tests (same_name (name_in t x) a) (same_name (name_in t x) b) refl refl e f (one_name t a b n)
   where

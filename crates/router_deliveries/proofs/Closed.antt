@@ -18,8 +18,7 @@ use Rattle.router_trace.specs.declared.event.Event.TheVariants as event
 use Rattle.router_trace.specs.declared.channel.PeerChannel.{PeerChannel}
 use Rattle.router_trace.specs.declared.handle.Attachment.{Attachment}
 use Rattle.router_trace.specs.Trace.{Entry, Trace, Did, Out, Took, Booked, Bound, Began}
-use Rattle.router_trace.specs.Deliveries.{Delivery, source, delivery, bindings, bound, name_in, same_name, number_named, unless_called, unless_over, is_over, is_undecided, behind_ends, is_gone_with, ended, decided_at_end, suspended_at_end, untold, unsettled, failed, closes, behind_put, behind_frame, behind_event, put_in, is_number, carried, tag_in, told, is_meant, origin_id, heard, heard_in, disposed, decided, is_settled_at, is_on, ended_by, lost_with, named, sending}
-use Rattle.router_trace.specs.Sessions.{theirs}
+use Rattle.router_trace.specs.Deliveries.{Delivery, source, delivery, bindings, bound, name_in, same_name, number_named, unless_called, unless_over, is_over, is_undecided, behind_ends, is_gone_with, ended, decided_at_end, suspended_at_end, untold, unsettled, failed, closes, behind_put, behind_frame, behind_event, put_in, is_number, carried, tag_in, told, is_meant, origin_id, heard, heard_in, disposed, decided, is_settled_at, is_on, ended_by, lost_with, named, sending, sender, forsaken, channels_found}
 use Rattle.amqp_perf.specs.declared.state.DeliveryState.TheVariants as state
 use Rattle.router_deliveries.specs.Naming.{is_open}
 
@@ -69,7 +68,7 @@ untold_closed d e = e
 ends_closed : (closed : Bool) (gone : Attachment → Bool) → Closes (behind_ends closed gone)
 ends_closed closed gone d e =
     let on : is_undecided (if gone d.link then ended closed d else d) ≡ false = either (gone d.link) (ended closed d) d (ended_closed closed d) e in
-    either (is_gone_with gone (source (if gone d.link then ended closed d else d))) (untold (if gone d.link then ended closed d else d)) (if gone d.link then ended closed d else d) on on
+    either (is_gone_with gone (sender (if gone d.link then ended closed d else d))) (forsaken (if gone d.link then ended closed d else d)) (if gone d.link then ended closed d else d) on on
 
 frame_closed : (x : Transfer) (count : ℕ) → Closes (behind_frame x count)
 frame_closed x count d e = by_test (d.presettled && not x.more)
@@ -112,11 +111,11 @@ event_closed (event.Down c) known names n d e = ends_closed false (lost_with c.0
 event_closed _ known names n d e = e
 
 pub stays_closed : (e : Entry) (t : Trace) (n : ℕ) → n ≤ bindings t → is_open (delivery t n) ≡ false → is_open (delivery (e ∷ t) n) ≡ false
-stays_closed (Did s) t n there closed = closed_behind (behind_event s.event (theirs t) (named t) n) (event_closed s.event (theirs t) (named t) n) (delivery t n) closed
+stays_closed (Did s) t n there closed = closed_behind (behind_event s.event (channels_found t) (named t) n) (event_closed s.event (channels_found t) (named t) n) (delivery t n) closed
 stays_closed (Out c i) t n there closed = closed_behind (behind_put (number_named t) i c n (sending t c)) (put_closed (number_named t) i c n (sending t c)) (delivery t n) closed
 stays_closed (Took c k) t n there closed = closed
 stays_closed (Began g) t n there closed = closed
-stays_closed (Booked acts) t n there closed = closed
+stays_closed (Booked acts full) t n there closed = closed
 stays_closed (Bound b) t n there closed = fresh (bindings t + 1 == n) refl
   where
     uncalled : (v : Option Delivery) → is_open v ≡ false → is_open (unless_called (name_in t b) v) ≡ false

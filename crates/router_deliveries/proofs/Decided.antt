@@ -14,7 +14,7 @@ use Rattle.amqp_session.specs.Ranges.{has}
 use Rattle.book_core.specs.declared.row.RowNumber.{RowNumber}
 use Rattle.router_trace.specs.declared.handle.Attachment.{Attachment}
 use Rattle.router_trace.specs.Trace.{Trace}
-use Rattle.router_trace.specs.Deliveries.{Delivery, source, is_undecided, bindings, delivery, behind_ends, behind_origin, is_gone_with, ended, untold, unsettled}
+use Rattle.router_trace.specs.Deliveries.{Delivery, source, is_undecided, bindings, delivery, behind_ends, behind_origin, is_gone_with, ended, untold, unsettled, sender, forsaken}
 use Rattle.router_deliveries.specs.declared.change.Change.{Change}
 use Rattle.router_deliveries.specs.declared.change.Change.TheVariants as change
 use Rattle.router_deliveries.specs.declared.store.Store.{Store}
@@ -220,9 +220,9 @@ light_ended closed d = by_tests d.suspended (d.lasting && not closed) refl refl
     by_tests false false e f = rw (e, f) refl
 
 light_origin : (gone : Attachment → Bool) (d : Delivery) → behind_origin gone (light d) ≡ light (behind_origin gone d)
-light_origin gone d = by_test (is_gone_with gone (source d))
+light_origin gone d = by_test (is_gone_with gone (sender d))
   where
-    by_test : (b : Bool) → (if b then untold (light d) else light d) ≡ light (if b then untold d else d)
+    by_test : (b : Bool) → (if b then forsaken (light d) else light d) ≡ light (if b then forsaken d else d)
     by_test true = refl
     by_test false = refl
 

@@ -6,7 +6,7 @@ use Rattle.std.specs.Ordering.{nat_cmp}
 use Rattle.std.specs.BTreeMap.{get}
 use Rattle.amqp_perf.specs.declared.state.DeliveryState.{DeliveryState}
 use Rattle.router_trace.specs.declared.binding.Origin.{Origin}
-use Rattle.router_trace.specs.Deliveries.{Delivery, has_row, source, is_number, is_of, waits_on, undecided_on, held_from, is_to_tell}
+use Rattle.router_trace.specs.Deliveries.{Delivery, has_row, is_number, is_of, waits_on, undecided_on, held_from, is_to_tell, holder}
 use Rattle.router_trace.specs.Following.{is_unsent_on}
 use Rattle.router_deliveries.specs.declared.groups.Groups.{Groups}
 use Rattle.router_deliveries.specs.declared.unbound.Unbound.{Unbound}
@@ -62,7 +62,7 @@ undecided_is k (Some d) = on d.link.number k (is_none d.outcome && not d.suspend
 
 pub held_is : (k : ℕ) (v : Option Delivery) → is_number (standing v).held k ≡ held_from k v
 held_is k None = refl
-held_is k (Some d) = by_origin (source d) (is_none d.outcome || has_row d.name)
+held_is k (Some d) = by_origin (holder d) (is_none d.outcome || has_row d.name)
   where
     by_origin : (o : Option Origin) (holds : Bool) → is_number (from_link o holds) k ≡ (is_of k o && holds)
     by_origin None holds = refl

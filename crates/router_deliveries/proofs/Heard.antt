@@ -16,8 +16,8 @@ use Rattle.router_trace.specs.declared.event.ConnectionId.{ConnectionId}
 use Rattle.router_trace.specs.declared.event.Event.TheVariants as event
 use Rattle.router_trace.specs.declared.channel.PeerChannel.{PeerChannel}
 use Rattle.router_trace.specs.Trace.{Trace, did}
-use Rattle.router_trace.specs.Sessions.{theirs, maps, is_channel}
-use Rattle.router_trace.specs.Deliveries.{Delivery, source, delivery, unless_over, is_undecided, disposed, decided, is_on, is_meant, is_named, is_number, is_settled_at, stands_on, untold, last_of, decision, terminal, named}
+use Rattle.router_trace.specs.Sessions.{maps, is_channel}
+use Rattle.router_trace.specs.Deliveries.{Delivery, source, delivery, unless_over, is_undecided, disposed, decided, is_on, is_meant, is_named, is_number, is_settled_at, stands_on, untold, last_of, decision, terminal, named, channels_found}
 use Rattle.router_deliveries.specs.declared.change.Change.{Change}
 use Rattle.router_deliveries.specs.declared.change.Change.TheVariants as change
 use Rattle.router_deliveries.specs.Fits.{channel_of}
@@ -205,10 +205,10 @@ disposes Receiver x c n (Some own) t stored v same remembers =
     sent_by_consumer x c own n t stored v (decision x.settled (terminal x.state)) same remembers refl (delivery t n) refl (kept t n)
 
 pub heard_follows : (conn : ConnectionId) (i : Item) (t : Trace) (n : ℕ) (own : Option ℕ) (stored : ℕ → ℕ → ℕ → Option ℕ)
-    → ((o : ℕ) → is_channel own o ≡ maps (theirs t conn.0 (channel_of i)) o) → ((o id : ℕ) → Remembers t (stored conn.0 o id) (named t conn.0 o id))
+    → ((o : ℕ) → is_channel own o ≡ maps (channels_found t conn.0 (channel_of i)) o) → ((o id : ℕ) → Remembers t (stored conn.0 o id) (named t conn.0 o id))
     → heard_by (heard_change conn.0 own i) stored n (delivery t n) ≡ delivery (did (event.Item conn i) ∷ t) n
 heard_follows conn (item.Frame true channel body payload) t n own stored same remembers = quiet (λ d. d) (delivery t n) (kept t n) (λ d e. refl)
 heard_follows conn (item.Frame false channel (perf.Disposition x) payload) t n own stored same remembers =
-    disposes x.role x conn.0 n own t stored (theirs t conn.0 channel) same remembers
+    disposes x.role x conn.0 n own t stored (channels_found t conn.0 channel) same remembers
 heard_follows conn (item.Frame false channel body payload) t n own stored same remembers = quiet (λ d. d) (delivery t n) (kept t n) (λ d e. refl)
 heard_follows conn i t n own stored same remembers = quiet (λ d. d) (delivery t n) (kept t n) (λ d e. refl)

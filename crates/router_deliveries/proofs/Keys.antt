@@ -4,7 +4,7 @@ use Rattle.std.specs.Prelude.{◌&&◌, ◌==◌, not, if◌then◌else◌, is_n
 use Rattle.amqp_perf.specs.declared.state.DeliveryState.{DeliveryState}
 use Rattle.router_trace.specs.declared.binding.Origin.{Origin}
 use Rattle.router_trace.specs.declared.handle.Attachment.{Attachment}
-use Rattle.router_trace.specs.Deliveries.{Delivery, source, unless_over, is_undecided, stands_on, behind_ends, behind_origin, is_gone_with, ended, decided_at_end, suspended_at_end, untold, unsettled, failed}
+use Rattle.router_trace.specs.Deliveries.{Delivery, source, unless_over, is_undecided, stands_on, behind_ends, behind_origin, is_gone_with, ended, decided_at_end, suspended_at_end, untold, unsettled, failed, sender, forsaken}
 use Rattle.router_deliveries.specs.declared.change.Change.{Change}
 use Rattle.router_deliveries.specs.declared.change.Change.TheVariants as change
 use Rattle.router_deliveries.specs.declared.change.Gone.{Gone}
@@ -82,8 +82,8 @@ link_stays closed g d e = by_rest d.going_on d.outcome d.suspended refl refl ref
         (ap (λ b. if b then d else (if d.lasting && not closed then suspended_at_end d else decided_at_end d)) z ∙ decided (d.lasting && not closed) v x y z)
 
 ends_nothing : (closed : Bool) (g : Gone) (d : Delivery) → is_gone_there g (on_spot (spot_of d.link) (can_end d)) ≡ false
-    → is_gone_there g (from_spot (source d)) ≡ false → behind_ends closed (is_gone g) d ≡ d
-ends_nothing closed g d e f = ap (behind_origin (is_gone g)) (link_stays closed g d e) ∙ ap (λ b. if b then untold d else d) (origin_stays g (source d) f)
+    → is_gone_there g (from_spot (sender d)) ≡ false → behind_ends closed (is_gone g) d ≡ d
+ends_nothing closed g d e f = ap (behind_origin (is_gone g)) (link_stays closed g d e) ∙ ap (λ b. if b then forsaken d else d) (origin_stays g (sender d) f)
 
 pub untells_nothing : (p : Option Origin) (c o first last : ℕ) → is_id_there c o first last (id_spot p) ≡ false → comes_with_id p c o first last ≡ false
 untells_nothing None c o first last e = refl
@@ -119,7 +119,7 @@ decides_nothing d c o first last e = by_rest d.outcome d.suspended refl refl
 pub changes_nothing : (x : Change) (d : Delivery) → concerns x (standing (Some d)) ≡ false → changed x d ≡ d
 changes_nothing (change.Ends g closed) d e =
     let on = is_gone_there g (on_spot (spot_of d.link) (can_end d)) in
-    let from = is_gone_there g (from_spot (source d)) in
+    let from = is_gone_there g (from_spot (sender d)) in
     ends_nothing closed g d (or_first on from e) (or_second on from e)
 changes_nothing (change.Untold c o first last) d e = ap (λ b. if b then untold d else d) (untells_nothing (source d) c o first last e)
 changes_nothing (change.Told c o first last) d e = ap (λ b. if b then unsettled d else d) (untells_nothing (source d) c o first last e)

@@ -1,5 +1,5 @@
 -- The numbers that a table keeps agreeing with the trace, but for deliveries that are gone.
-use Rattle.std.proofs.Common.{◌≡◌, ◌∙◌, ◌≤◌, ◌+◌, ℕ, Bool, true, false, refl, sym, ap, subst, arith, List, [], ◌∷◌, Option, Some, None}
+use Rattle.std.proofs.Common.{◌≡◌, ◌∙◌, ◌≤◌, ◌+◌, ℕ, Bool, true, false, refl, sym, ap, subst, arith, List, ◌∷◌, Option, Some, None}
 use Rattle.std.specs.Prelude.{◌==◌, ◌&&◌, if◌then◌else◌}
 use Rattle.std.specs.Option.{option_and_then}
 use Rattle.std.proofs.lemmas.Bool.{eqb-true}
@@ -14,8 +14,7 @@ use Rattle.amqp_frames.specs.declared.item.Item.{Item}
 use Rattle.amqp_frames.specs.declared.item.Item.TheVariants as item
 use Rattle.router_trace.specs.declared.binding.DeliveryName.{DeliveryName}
 use Rattle.router_trace.specs.Trace.{Entry, Trace, Did, Out, Took, Bound, Booked, Began}
-use Rattle.router_trace.specs.Sessions.{theirs}
-use Rattle.router_trace.specs.Deliveries.{Delivery, delivery, bindings, bound, name_in, number_named, unless_over, unless_called, behind_event, behind_put, is_number, tagged, number_tagged, carried, tag_in, sending, sending_in, sending_by, named}
+use Rattle.router_trace.specs.Deliveries.{Delivery, delivery, bindings, bound, name_in, number_named, unless_over, unless_called, behind_event, behind_put, is_number, tagged, number_tagged, carried, tag_in, sending, sending_in, sending_by, named, channels_found}
 use Rattle.router_deliveries.specs.Calling.{IsGone, Knows}
 use Rattle.router_deliveries.specs.Fits.{carried_in, carried_by}
 use Rattle.router_deliveries.proofs.Low.{IsLow}
@@ -25,10 +24,10 @@ gone_behind : (f : Delivery → Option Delivery) (v : Option Delivery) → v ≡
 gone_behind f v e = ap (option_and_then f) e
 
 pub gone_stays : (e : Entry) (t : Trace) (n : ℕ) → n ≤ bindings t → delivery t n ≡ None → delivery (e ∷ t) n ≡ None
-gone_stays (Did s) t n low gone = gone_behind (λ d. unless_over (behind_event s.event (theirs t) (named t) n d)) (delivery t n) gone
+gone_stays (Did s) t n low gone = gone_behind (λ d. unless_over (behind_event s.event (channels_found t) (named t) n d)) (delivery t n) gone
 gone_stays (Out c i) t n low gone = gone_behind (λ d. unless_over (behind_put (number_named t) i c n (sending t c) d)) (delivery t n) gone
 gone_stays (Took c k) t n low gone = gone
-gone_stays (Booked acts) t n low gone = gone
+gone_stays (Booked acts full) t n low gone = gone
 gone_stays (Began g) t n low gone = gone
 gone_stays (Bound b) t n low gone =
     ap (λ x. if x then Some (bound (name_in t b) b) else unless_called (name_in t b) (delivery t n)) (apart (bindings t) n low) ∙ ap (unless_called (name_in t b)) gone

@@ -1,5 +1,5 @@
 -- Numbers of deliveries in a trace are those of bindings.
-use Rattle.std.proofs.Common.{◌≡◌, ◌≤◌, ◌+◌, ℕ, Bool, true, false, refl, sym, ap, subst, arith, List, [], ◌∷◌, Option, Some, None}
+use Rattle.std.proofs.Common.{◌≡◌, ◌≤◌, ◌+◌, ℕ, Bool, true, false, subst, arith, List, [], ◌∷◌, Option, Some, None}
 use Rattle.std.specs.Prelude.{◌==◌, ◌&&◌, if◌then◌else◌}
 use Rattle.std.specs.Option.{option_and_then}
 use Rattle.amqp_perf.specs.declared.perf.Perf.{Perf}
@@ -36,7 +36,7 @@ low_number (Out c i ∷ t) name = low_number t name
 low_number (Took c k ∷ t) name = low_number t name
 low_number (Bound b ∷ t) name =
     either (bindings t + 1) (same_name (name_in t b) name) (Some (bindings t + 1)) (number_named t name) (itself (bindings t + 1)) (more (bindings t) (number_named t name) (low_number t name))
-low_number (Booked acts ∷ t) name = low_number t name
+low_number (Booked acts full ∷ t) name = low_number t name
 low_number (Began g ∷ t) name = low_number t name
 
 -- what frames carry and begin
@@ -78,7 +78,7 @@ low_sending (Out d i ∷ t) c o h =
     (low_sending_by (bindings t) (number_named t) (low_number t) i o h (sending t c o h) (low_sending t c o h)) (low_sending t c o h)
 low_sending (Took d n ∷ t) c o h = low_sending t c o h
 low_sending (Bound b ∷ t) c o h = more (bindings t) (sending t c o h) (low_sending t c o h)
-low_sending (Booked acts ∷ t) c o h = low_sending t c o h
+low_sending (Booked acts full ∷ t) c o h = low_sending t c o h
 low_sending (Began g ∷ t) c o h = low_sending t c o h
 
 low_named_in : (k : ℕ) (numbers : DeliveryName → Option ℕ) → AreLow k numbers → (body : Perf) (own o id : ℕ) (v : Option ℕ) → IsLow k v
@@ -103,5 +103,5 @@ low_named (Out d i ∷ t) c o id =
     (low_named_by (bindings t) (number_named t) (low_number t) i o id (named t c o id) (low_named t c o id)) (low_named t c o id)
 low_named (Took d n ∷ t) c o id = low_named t c o id
 low_named (Bound b ∷ t) c o id = more (bindings t) (named t c o id) (low_named t c o id)
-low_named (Booked acts ∷ t) c o id = low_named t c o id
+low_named (Booked acts full ∷ t) c o id = low_named t c o id
 low_named (Began g ∷ t) c o id = low_named t c o id

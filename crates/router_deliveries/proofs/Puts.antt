@@ -15,9 +15,8 @@ use Rattle.amqp_frames.specs.declared.item.Item.TheVariants as item
 use Rattle.router_trace.specs.declared.binding.DeliveryName.{DeliveryName}
 use Rattle.router_trace.specs.declared.binding.Origin.{Origin}
 use Rattle.router_trace.specs.declared.handle.Attachment.{Attachment}
-use Rattle.router_trace.specs.Sessions.{theirs}
 use Rattle.router_trace.specs.Trace.{Trace, Did, Out, Took, Bound, Booked, Began}
-use Rattle.router_trace.specs.Deliveries.{Delivery, source, delivery, named, behind_event, bindings, bound, name_in, same_name, number_named, unless_called, unless_over, is_over, behind_ends, behind_put, behind_frame, put_in, ended_by, is_number, carried, tag_in, told, is_meant, origin_id, stands_on, untold, unsettled, last_of, sending}
+use Rattle.router_trace.specs.Deliveries.{Delivery, source, delivery, named, behind_event, bindings, bound, name_in, same_name, number_named, unless_called, unless_over, is_over, behind_ends, behind_put, behind_frame, put_in, ended_by, is_number, carried, tag_in, told, is_meant, origin_id, stands_on, untold, unsettled, last_of, sending, sender, channels_found}
 use Rattle.router_deliveries.specs.declared.change.Change.{Change}
 use Rattle.router_deliveries.specs.declared.change.Change.TheVariants as change
 use Rattle.router_deliveries.specs.declared.change.Gone.TheVariants as gone
@@ -39,11 +38,11 @@ kept_behind f (Some d) = kept_once (f d)
 
 pub kept : (t : Trace) (n : ℕ) → IsKept (delivery t n)
 kept [] n = refl
-kept (Did s ∷ t) n = kept_behind (behind_event s.event (theirs t) (named t) n) (delivery t n)
+kept (Did s ∷ t) n = kept_behind (behind_event s.event (channels_found t) (named t) n) (delivery t n)
 kept (Out c i ∷ t) n = kept_behind (behind_put (number_named t) i c n (sending t c)) (delivery t n)
 kept (Took c k ∷ t) n = kept t n
 kept (Began g ∷ t) n = kept t n
-kept (Booked acts ∷ t) n = kept t n
+kept (Booked acts full ∷ t) n = kept t n
 kept (Bound b ∷ t) n = fresh (bindings t + 1 == n) (kept t n)
   where
     uncalled : (v : Option Delivery) → IsKept v → IsKept (unless_called (name_in t b) v)
@@ -63,9 +62,9 @@ pub same_ends : (closed : Bool) (p q : Attachment → Bool) → ((a : Attachment
 same_ends closed p q same d = ap (λ gone. behind_ends closed gone d) (λ i a. same a i)
 
 pub no_ends : (closed : Bool) (p : Attachment → Bool) → ((a : Attachment) → p a ≡ false) → (d : Delivery) → behind_ends closed p d ≡ d
-no_ends closed p none d = same_ends closed p (λ a. false) none d ∙ never (source d) refl
+no_ends closed p none d = same_ends closed p (λ a. false) none d ∙ never (sender d) refl
   where
-    never : (o : Option Origin) → source d ≡ o → behind_ends closed (λ a. false) d ≡ d
+    never : (o : Option Origin) → sender d ≡ o → behind_ends closed (λ a. false) d ≡ d
     never None e = rw e refl
     never (Some p) e = rw e refl
 

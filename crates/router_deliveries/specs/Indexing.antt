@@ -4,7 +4,7 @@ use Rattle.std.specs.Ordering.{nat_cmp}
 use Rattle.std.specs.BTreeMap.{get}
 use Rattle.std.specs.BTreeSet.{BTreeSet, contains}
 use Rattle.router_trace.specs.declared.binding.Origin.{Origin}
-use Rattle.router_trace.specs.Deliveries.{Delivery, has_row, source, is_number}
+use Rattle.router_trace.specs.Deliveries.{Delivery, has_row, source, sender, holder, is_number}
 use Rattle.router_deliveries.specs.declared.change.Change.{Change}
 use Rattle.router_deliveries.specs.declared.change.Change.TheVariants as change
 use Rattle.router_deliveries.specs.declared.change.Gone.TheVariants as gone
@@ -34,10 +34,10 @@ keys d = record {
   waiting = on_link d.link.number (is_none d.id && d.going_on);
   unsent = on_link d.link.number d.going_on;
   undecided = on_link d.link.number (is_none d.outcome && not d.suspended);
-  held = from_link (source d) (is_none d.outcome || has_row d.name);
+  held = from_link (holder d) (is_none d.outcome || has_row d.name);
   to_tell = not (is_none d.outcome) && is_some d.origin;
   on = on_spot (spot_of d.link) (d.going_on || (is_none d.outcome && not d.suspended));
-  from = from_spot (source d);
+  from = from_spot (sender d);
   by_id = id_spot (source d);
 }
 

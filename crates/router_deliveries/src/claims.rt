@@ -6,7 +6,7 @@ ghost use Rattle.router_trace.specs.Trace.{Beginning};
 ghost use Rattle.router_trace.specs.Configuration.{beginning};
 ghost use Rattle.router_trace.specs.Trace.{Entry, Out, Bound, did};
 ghost use Rattle.router_trace.specs.declared.binding.Binding.{Binding};
-ghost use Rattle.router_trace.specs.Claims.{claims, claim, claimed_later, bound_claim, claim_behind_in};
+ghost use Rattle.router_trace.specs.Claims.{claims, claim, unless_claimed, claimed_later, bound_claim, claim_behind_in};
 ghost use Rattle.router_trace.specs.Deliveries.{tag_in};
 ghost use Rattle.router_trace.specs.Settling.{is_claimed, is_claimed_on, unbound, is_tag, is_tagged_on, uses_tag};
 ghost use Rattle.router_trace.specs.Sessions.{theirs, maps, is_channel};
@@ -302,7 +302,7 @@ impl Claims {
         Ok(())
     }
 
-    /// A transfer begins the delivery with an id on a link.
+    /// A transfer begins the delivery with an id on a link, unless the id is claimed already.
     fn begin(
         &mut self,
         conn: u64,
@@ -312,12 +312,17 @@ impl Claims {
         transfer: &Transfer,
     ) -> Result<(), AllocError>
         ensures claims { OnOk result ((c o q : ℕ) → at_id self.new.ids c o q
-            ≡ (if conn == c then (if own == o then (if id == q then claim handle (tag_in transfer.now) transfer.now else at_id self.old.ids c o q) else at_id self.old.ids c o q) else at_id self.old.ids c o q)) }
+            ≡ (if conn == c then (if own == o then (if id == q then unless_claimed (at_id self.old.ids c o q) (claim handle (tag_in transfer.now) transfer.now) else at_id self.old.ids c o q) else at_id self.old.ids c o q) else at_id self.old.ids c o q)) }
         ensures small { OnOk result (AreSmall (at_id self.old.ids) → AreSmall (at_id self.new.ids)) }
         ensures marked { OnOk result (AreMarked self.old → AreMarked self.new) }
     {
-        let tag = copy_of(&transfer.delivery_tag)?;
-        self.set(conn, own, id, claimed(handle, tag, transfer))
+        match self.ids.get(conn, own, id) {
+            Some(_) => Ok(()),
+            None => {
+                let tag = copy_of(&transfer.delivery_tag)?;
+                self.set(conn, own, id, claimed(handle, tag, transfer))
+            }
+        }
     }
 
     /// A transfer continues the delivery with an id on a link, if it is claimed there.

@@ -7,8 +7,8 @@ ghost use Rattle.router_trace.specs.Trace.{Beginning};
 ghost use Rattle.router_trace.specs.Configuration.{beginning};
 ghost use Rattle.router_trace.specs.Trace.{Entry, Out, Bound, did};
 ghost use Rattle.router_trace.specs.declared.event.Event.TheVariants as event;
-ghost use Rattle.router_trace.specs.Deliveries.{delivery, name_of, next_id, sending, named, waits_on, undecided_on, held_from, is_to_tell};
-ghost use Rattle.router_trace.specs.Sessions.{theirs, maps, is_channel};
+ghost use Rattle.router_trace.specs.Deliveries.{delivery, channels_found, name_of, next_id, sending, named, waits_on, undecided_on, held_from, is_to_tell};
+ghost use Rattle.router_trace.specs.Sessions.{maps, is_channel};
 ghost use Rattle.router_trace.specs.Following.{first_delivery, is_unsent_on, is_used};
 ghost use Rattle.router_trace.specs.Settling.{open_ids};
 ghost use Rattle.router_deliveries.specs.Calling.{Knows};
@@ -251,14 +251,15 @@ impl Deliveries {
         Ok(())
     }
 
-    /// An item was received on a connection; `own` is the router's channel of its session, if its channel has one.
+    /// An item was received on a connection; `own` is the router's channel of its session, if its channel has one and the event didn't
+    /// end the connection first.
     pub fn hear(
         &mut self,
         conn: ConnectionId,
         own: Option<u16>,
         item: &Item,
     ) -> Result<(), AllocError>
-        ensures fits { OnOk result ((t : List Entry) → ((o : ℕ) → is_channel own o ≡ maps (theirs t conn.0 (channel_of item.now)) o)
+        ensures fits { OnOk result ((t : List Entry) → ((o : ℕ) → is_channel own o ≡ maps (channels_found t conn.0 (channel_of item.now)) o)
             → DeliveriesFit self.old t → DeliveriesFit self.new (did (event.Item conn item.now) ∷ t)) }
         ensures touches { OnOk result (Touches self.old self.new) }
     {

@@ -1,7 +1,7 @@
 //! Deliveries as the table keeps them.
 ghost use Rattle.std.specs.Prelude.{◌≡◌, ◌&&◌, OnOk, Some, if◌then◌else◌};
 ghost use Rattle.router_trace.specs.Settling.{is_open_as};
-ghost use Rattle.router_trace.specs.Deliveries.{bound, source, is_over, is_undecided, behind_frame, untold, unsettled, ended, behind_ends};
+ghost use Rattle.router_trace.specs.Deliveries.{bound, source, sender, holder, is_over, is_undecided, behind_frame, untold, unsettled, forsaken, ended, behind_ends};
 ghost use Rattle.router_deliveries.specs.Deciding.{bare, changed_by};
 ghost use Rattle.router_deliveries.specs.Stepping.{is_gone, is_decided_by, comes_with_id, changed};
 
@@ -38,6 +38,8 @@ pub struct Delivery {
     pub outcome: Option<DeliveryState>,
     /// The producer's delivery once its outcome was told, as long as the producer has yet to settle it.
     pub told: Option<Origin>,
+    /// The producer's delivery, if that has a row and the producer settled it before it was decided.
+    pub early: Option<Origin>,
     /// Whether it has a row and its consumer's link is durable.
     pub lasting: bool,
     /// Whether that link was suspended before it was decided.
@@ -61,6 +63,7 @@ impl Model for Delivery {
       going_on = d.going_on;
       outcome = d.outcome;
       told = d.told;
+      early = d.early;
       lasting = d.lasting;
       suspended = d.suspended;
     } };
@@ -83,6 +86,7 @@ impl Delivery {
             going_on: true,
             outcome: None,
             told: None,
+            early: None,
             lasting: name.has_row() && binding.lasting,
             suspended: false,
         }
@@ -92,7 +96,7 @@ impl Delivery {
     pub fn is_over(&self) -> bool
         ensures { result ≡ is_over self.now }
     {
-        !self.going_on && ((self.outcome.is_some() || self.suspended) && self.source().is_none())
+        !self.going_on && ((self.outcome.is_some() || self.suspended) && self.holder().is_none())
     }
 
     /// The producer's delivery, told or not.
@@ -102,6 +106,28 @@ impl Delivery {
         match self.origin {
             Some(origin) => Some(origin),
             None => self.told,
+        }
+    }
+
+    /// The producer's delivery, settled by the producer or not.
+    pub(crate) fn sender(&self) -> Option<Origin>
+        ensures { result ≡ sender self.now }
+    {
+        match self.source() {
+            Some(origin) => Some(origin),
+            None => self.early,
+        }
+    }
+
+    /// The producer's delivery, as long as it counts for the producer's link: until the producer has settled it, and, if it has a row, until it
+    /// is decided too.
+    pub(crate) fn holder(&self) -> Option<Origin>
+        ensures { result ≡ holder self.now }
+    {
+        if self.outcome.is_none() {
+            self.sender()
+        } else {
+            self.source()
         }
     }
 
@@ -138,12 +164,26 @@ impl Delivery {
         Ok(())
     }
 
-    /// Its producer needs no more of it.
+    /// Its producer needs no more of it. If it has a row and isn't decided yet, it still counts for the producer's link.
     pub(crate) fn untell(&mut self)
         ensures { self.new ≡ untold self.old }
     {
+        self.early = if self.outcome.is_none() && self.name.has_row() {
+            self.source()
+        } else {
+            None
+        };
         self.origin = None;
         self.told = None;
+    }
+
+    /// Its producer's link ends.
+    pub(crate) fn forsake(&mut self)
+        ensures { self.new ≡ forsaken self.old }
+    {
+        self.origin = None;
+        self.told = None;
+        self.early = None;
     }
 
     /// Its outcome was told, and its producer has yet to settle it.
@@ -179,8 +219,8 @@ impl Delivery {
         if gone.has(self.link) {
             self.end(closed);
         }
-        if gone.has_origin(self.source()) {
-            self.untell();
+        if gone.has_origin(self.sender()) {
+            self.forsake();
         }
     }
 
@@ -243,6 +283,7 @@ impl Delivery {
             going_on: self.going_on,
             outcome: None,
             told: self.told,
+            early: self.early,
             lasting: self.lasting,
             suspended: self.suspended,
         }

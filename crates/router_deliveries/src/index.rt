@@ -97,13 +97,13 @@ impl Keys {
             ),
             unsent: on_link(delivery.link.number, delivery.going_on),
             undecided: on_link(delivery.link.number, open),
-            held: match source {
+            held: match delivery.holder() {
                 None => None,
                 Some(origin) => on_link(origin.link.number, undecided || delivery.name.has_row()),
             },
             to_tell: !undecided && delivery.origin.is_some(),
             on: on_spot(spot_of(delivery.link), delivery.going_on || open),
-            from: from_spot(source),
+            from: from_spot(delivery.sender()),
             by_id: id_spot(source),
         }
     }

@@ -38,7 +38,7 @@ use Rattle.router_rows.specs.declared.answer.Answer.{Answer}
 use Rattle.router_rows.specs.declared.answer.Answer.TheVariants.{Nothing, Taken}
 use Rattle.router_rows.specs.Booking.{answer_at}
 use Rattle.router_reply.specs.Acts.{live_answer, event_answer, planned_acts, admitted_acts, or_admits, event_acts, finds_full, journaled, book_in, acts_of, booked, answer_of}
-use Rattle.router_reply.specs.Admitting.{claimed_id, terminus_for, admitted_to, whole_admission, part_admission, taken_admission, unless_ends, event_admission, admits, row_in}
+use Rattle.router_reply.specs.Admitting.{claimed_id, terminus_for, admitted_to, whole_admission, part_admission, taken_admission, unless_ends, event_admission, admits, row_in, without_acts}
 use Rattle.router_reply.specs.Deciding.{decided, forgotten, terminus_of_event}
 use Rattle.router_reply.specs.Replies.{from_link, origin_of, lasts_on, may_pass, fresh_bound, whole_bound, part_bound, row_found, ends, heard, bound_for, item_bound, bound_by}
 use Rattle.router_laws.specs.Admitted.{IsFromTerminus, IsAdmitted, IsAdmittedUnder, RowIsAdmitted}
@@ -214,35 +214,35 @@ unended [] o x is = (refl, is)
 unended (d ∷ ds) o x is = absurd (none_not_some is)
 
 -- views that an event's acts leave as they are
-link_behind : (acts : List Act) (e : Event) (t : List Entry) (c own handle : ℕ) → link (did e ∷ Booked acts ∷ t) c own handle ≡ link (did e ∷ t) c own handle
+link_behind : (acts : List Act) (e : Event) (t : List Entry) (c own handle : ℕ) → link (did e ∷ Booked acts (due t e) ∷ t) c own handle ≡ link (without_acts t e) c own handle
 link_behind acts e t c own handle = refl
 
 claimed_behind : (acts : List Act) (e : Event) (t : List Entry) (c own handle : ℕ) (v : Option ℕ)
-    → claimed_id (did e ∷ Booked acts ∷ t) c own handle v ≡ claimed_id (did e ∷ t) c own handle v
+    → claimed_id (did e ∷ Booked acts (due t e) ∷ t) c own handle v ≡ claimed_id (without_acts t e) c own handle v
 claimed_behind acts e t c own handle None = refl
 claimed_behind acts e t c own handle (Some id) = refl
 
-consumer_behind : (acts : List Act) (e : Event) (t : List Entry) (l : Option Link) → consumer_of (did e ∷ Booked acts ∷ t) l ≡ consumer_of (did e ∷ t) l
+consumer_behind : (acts : List Act) (e : Event) (t : List Entry) (l : Option Link) → consumer_of (did e ∷ Booked acts (due t e) ∷ t) l ≡ consumer_of (without_acts t e) l
 unfolding choice_of
 consumer_behind acts e t None = refl
 consumer_behind acts e t (Some l) = refl
 
 -- the answer to an item behind the acts of its event
-pub answer_behind : (acts : List Act) (t : List Entry) (full : Bool) (b : BookView) (c : ℕ) (p : Conn) (i : Item) → answer_at full b (Booked acts ∷ t) c p i ≡ answer_at full b t c p i
+pub answer_behind : (acts : List Act) (ends : List ℕ) (t : List Entry) (full : Bool) (b : BookView) (c : ℕ) (p : Conn) (i : Item) → answer_at full b (Booked acts ends ∷ t) c p i ≡ answer_at full b t c p i
 unfolding free_handle first_free_below free_channel
-answer_behind acts t full b c p (item.Frame sasl channel body payload) = by body
+answer_behind acts ends t full b c p (item.Frame sasl channel body payload) = by body
   where
-    by : (body : Perf) → answer_at full b (Booked acts ∷ t) c p (item.Frame sasl channel body payload) ≡ answer_at full b t c p (item.Frame sasl channel body payload)
+    by : (body : Perf) → answer_at full b (Booked acts ends ∷ t) c p (item.Frame sasl channel body payload) ≡ answer_at full b t c p (item.Frame sasl channel body payload)
     by (perf.Attach a) = refl
     by (perf.Transfer x) = refl
     by _ = refl
-answer_behind acts t full b c p _ = refl
+answer_behind acts ends t full b c p _ = refl
 
 -- the message that is bound behind an event whose acts admit its row
 admitted_there : (t : List Entry) (e : Event) (c own handle : ℕ) (d : Told) (payload : List ℕ) (x : Binding) (row : RowNumber) (y : Admission)
     → acts_of t e ≡ Admit y ∷ [] → admit_refusal (book_in t) y ≡ None → y.row ≡ row
     → CameAt (booked t e) (did e ∷ booked t e) c own handle d x.payload
-    → AdmittedWhole (book_in t) (did e ∷ t) c own handle d payload y
+    → AdmittedWhole (book_in t) (without_acts t e) c own handle d payload y
     → BoundWhole (did e ∷ booked t e) c own handle d (row_found (booked t e)) payload x
     → IsAdmitted (did e ∷ booked t e) x row
 admitted_there t e c own handle d payload x row y alone applies number came whole is = record {
@@ -253,12 +253,13 @@ admitted_there t e c own handle d payload x row y alone applies number came whol
   came = came.came;
   before = t;
   admission = y;
-  acts = came.at ∙ ap (λ (acts : List Act). Booked acts ∷ t) alone;
+  full = due t e;
+  acts = came.at ∙ ap (λ (acts : List Act). Booked acts (due t e) ∷ t) alone;
   applies = applies;
   number = number;
   is_next = sym (ap (λ (r : RowNumber). r.0) number) ∙ whole.row;
   producer = subst (λ (o : Option Origin). IsFromTerminus o (did e ∷ booked t e) (book_in t) y.producer) (sym origin) from;
-  consumer = whole.consumer ∙ ap (λ (a : Attachment). terminus_for (book_in t) (durable_key (link_of (did e ∷ t) a))) same;
+  consumer = whole.consumer ∙ ap (λ (a : Attachment). terminus_for (book_in t) (durable_key (link_of (without_acts t e) a))) same;
   tag = whole.tag;
   format = whole.format ∙ sym is.format;
   payload = whole.carried ∙ sym is.carried;
@@ -273,7 +274,7 @@ admitted_there t e c own handle d payload x row y alone applies number came whol
 
     same : whole.at ≡ x.consumer
     same =
-        some_same (sym whole.chosen ∙ sym (consumer_behind (acts_of t e) e t (link (did e ∷ t) c own handle)) ∙ is.chosen)
+        some_same (sym whole.chosen ∙ sym (consumer_behind (acts_of t e) e t (link (without_acts t e) c own handle)) ∙ is.chosen)
 
 -- it came whole
 came_there : (t : List Entry) (from : ConnectionId) (i : Item) (p : Conn) (own handle : ℕ) (d : Told) (payload : List ℕ)
@@ -313,18 +314,18 @@ whole_row id t from i p own handle d payload x stands answer part is (Some row) 
     let y : Admission = adm.admission in
     let answered : event_answer false b t e ≡ Taken own handle =
     ap (live_answer false b t from.0 i) stands ∙ ap (λ (f : Bool). answer_at f b t from.0 p i) (sym adm.room) ∙ answer in
-    let asked : unless_ends (due t e) (part_admission b (did e ∷ t) from.0 own handle (part_of i (link_place t from.0 own))) ≡ Some y =
+    let asked : unless_ends (due t e) (part_admission b (without_acts t e) from.0 own handle (part_of i (link_place t from.0 own))) ≡ Some y =
     sym (ap (event_admission b t e) answered) ∙ adm.asked in
-    let open_ended = unended (due t e) (part_admission b (did e ∷ t) from.0 own handle (part_of i (link_place t from.0 own))) y asked in
-    let admitted : whole_admission b (did e ∷ t) from.0 own handle d payload ≡ Some y =
-    sym (ap (part_admission b (did e ∷ t) from.0 own handle) part) ∙ open_ended.1 in
+    let open_ended = unended (due t e) (part_admission b (without_acts t e) from.0 own handle (part_of i (link_place t from.0 own))) y asked in
+    let admitted : whole_admission b (without_acts t e) from.0 own handle d payload ≡ Some y =
+    sym (ap (part_admission b (without_acts t e) from.0 own handle) part) ∙ open_ended.1 in
     let same : after ≡ did e ∷ at = ap (λ (ds : List ℕ). ends id ds (did e ∷ at)) open_ended.0 in
     let now : BoundWhole (did e ∷ at) from.0 own handle d (row_found at) payload x =
     whole_is_bound (did e ∷ at) from.0 own handle d (row_found at) payload x (subst (λ (w : List Entry). whole_bound w from.0 own handle d (row_found at) payload ≡ Some x) same is) in
     subst (λ (w : List Entry). IsAdmitted w x row) (sym same)
     (admitted_there t e from.0 own handle d payload x row y adm.alone adm.applies adm.number
     (subst (λ (bytes : List ℕ). CameAt at (did e ∷ at) from.0 own handle d bytes) (sym now.carried) (came_there t from i p own handle d payload answer part))
-    (whole_admitted b (did e ∷ t) from.0 own handle d payload y admitted) now)
+    (whole_admitted b (without_acts t e) from.0 own handle d payload y admitted) now)
 
 -- where a message that an event binds comes from
 
@@ -358,7 +359,7 @@ item_elim id t from i x Q comes is = by (standing (found t e from.0)) refl is
     by : (v : Option Conn) → standing (found t e from.0) ≡ v → item_bound (booked t e) after from.0 i v ≡ Some x → Q
     by None stands is = absurd (none_not_some is)
     by (Some p) stands is =
-        by_answer p (answer_of (booked t e) from.0 p i) stands (sym (answer_behind (acts_of t e) t (finds_full (journaled t) t e) (book_in t) from.0 p i)) is
+        by_answer p (answer_of (booked t e) from.0 p i) stands (sym (answer_behind (acts_of t e) (due t e) t (finds_full (journaled t) t e) (book_in t) from.0 p i)) is
 
 pub bound_row : (id : List ℕ) (t : List Entry) (e : Event) (x : Binding) → bound_by (booked t e) (heard id (booked t e) (step_of e)) e ≡ Some x
     → RowIsAdmitted (heard id (booked t e) (step_of e)) x
@@ -412,7 +413,7 @@ item_next : (id : List ℕ) (t : List Entry) (from : ConnectionId) (i : Item) (r
     → (adm : Admits (finds_full (journaled t) t (event.Item from i)) (book_in t) t (event.Item from i) (acts_of t (event.Item from i)) row)
     → standing (found t (event.Item from i) from.0) ≡ Some p → answer_at false (book_in t) t from.0 p i ≡ Taken own handle
     → part_of i (link_place t from.0 own) ≡ Some (part.Whole d payload) → due t (event.Item from i) ≡ []
-    → whole_admission (book_in t) (did (event.Item from i) ∷ t) from.0 own handle d payload ≡ Some adm.admission
+    → whole_admission (book_in t) (without_acts t (event.Item from i)) from.0 own handle d payload ≡ Some adm.admission
     → BindsNext id t (event.Item from i) row
 item_next id t from i row p own handle d payload adm stands answer part open_ended admitted =
     let e : Event = event.Item from i in
@@ -421,14 +422,14 @@ item_next id t from i row p own handle d payload adm stands answer part open_end
     let at : List Entry = booked t e in
     let u : List Entry = did e ∷ at in
     let y : Admission = adm.admission in
-    let whole : AdmittedWhole b (did e ∷ t) from.0 own handle d payload y = whole_admitted b (did e ∷ t) from.0 own handle d payload y admitted in
-    let there = terminus_of_link b (link (did e ∷ t) from.0 own handle) y.producer whole.producer in
+    let whole : AdmittedWhole b (without_acts t e) from.0 own handle d payload y = whole_admitted b (without_acts t e) from.0 own handle d payload y admitted in
+    let there = terminus_of_link b (link (without_acts t e) from.0 own handle) y.producer whole.producer in
     let named : row_found at ≡ Some row = ap row_in adm.alone ∙ ap (λ (r : RowNumber). Some r) adm.number in
     let same : heard id at (step_of e) ≡ u = ap (λ (ds : List ℕ). ends id ds u) open_ended in
     let after : List Entry = heard id at (step_of e) in
     let answered : answer_of at from.0 p i ≡ Taken own handle =
-    answer_behind (acts_of t e) t full b from.0 p i ∙ ap (λ (f : Bool). answer_at f b t from.0 p i) adm.room ∙ answer in
-    let chosen : consumer_of u (link u from.0 own handle) ≡ Some whole.at = consumer_behind (acts_of t e) e t (link (did e ∷ t) from.0 own handle) ∙ whole.chosen in
+    answer_behind (acts_of t e) (due t e) t full b from.0 p i ∙ ap (λ (f : Bool). answer_at f b t from.0 p i) adm.room ∙ answer in
+    let chosen : consumer_of u (link u from.0 own handle) ≡ Some whole.at = consumer_behind (acts_of t e) e t (link (without_acts t e) from.0 own handle) ∙ whole.chosen in
     record {
       binding = binding_to u (option_map (origin_of (from_link from.0 own handle there.0)) (claimed_id u from.0 own handle d.id)) (Some row) (unwrap_or d.format 0) payload whole.at;
       is =
@@ -451,19 +452,19 @@ admits_next id t from i row adm = by (standing (found t e from.0)) refl adm.aske
     y = adm.admission
 
     by_part : (p : Conn) (own handle : ℕ) (q : Option Part) → standing (found t e from.0) ≡ Some p → answer_at false (book_in t) t from.0 p i ≡ Taken own handle
-        → part_of i (link_place t from.0 own) ≡ q → (due t e ≡ []) × (part_admission (book_in t) (did e ∷ t) from.0 own handle q ≡ Some y) → BindsNext id t e row
+        → part_of i (link_place t from.0 own) ≡ q → (due t e ≡ []) × (part_admission (book_in t) (without_acts t e) from.0 own handle q ≡ Some y) → BindsNext id t e row
     by_part p own handle (Some (part.Whole d payload)) stands answer part is = item_next id t from i row p own handle d payload adm stands answer part is.0 is.1
     by_part p own handle _ stands answer part is = absurd (none_not_some is.1)
 
     by_answer : (p : Conn) (z : Answer) → standing (found t e from.0) ≡ Some p → answer_at false (book_in t) t from.0 p i ≡ z
-        → (due t e ≡ []) × (taken_admission (book_in t) t (did e ∷ t) from.0 i z ≡ Some y) → BindsNext id t e row
+        → (due t e ≡ []) × (taken_admission (book_in t) t (without_acts t e) from.0 i z ≡ Some y) → BindsNext id t e row
     by_answer p (Taken own handle) stands answer is = by_part p own handle (part_of i (link_place t from.0 own)) stands answer refl is
     by_answer p _ stands answer is = absurd (none_not_some is.1)
 
     by : (v : Option Conn) → standing (found t e from.0) ≡ v → event_admission (book_in t) t e (live_answer false (book_in t) t from.0 i v) ≡ Some y → BindsNext id t e row
-    by None stands is = absurd (none_not_some (unended (due t e) (taken_admission (book_in t) t (did e ∷ t) from.0 i Nothing) y is).1)
+    by None stands is = absurd (none_not_some (unended (due t e) (taken_admission (book_in t) t (without_acts t e) from.0 i Nothing) y is).1)
     by (Some p) stands is =
-        by_answer p (answer_at false (book_in t) t from.0 p i) stands refl (unended (due t e) (taken_admission (book_in t) t (did e ∷ t) from.0 i (answer_at false (book_in t) t from.0 p i)) y is)
+        by_answer p (answer_at false (book_in t) t from.0 p i) stands refl (unended (due t e) (taken_admission (book_in t) t (without_acts t e) from.0 i (answer_at false (book_in t) t from.0 p i)) y is)
 
 pub binds_next : (id : List ℕ) (t : List Entry) (e : Event) (row : RowNumber) → row_in (acts_of t e) ≡ Some row → BindsNext id t e row
 binds_next id t e row is = by e (event_admits (finds_full (journaled t) t e) (book_in t) t e row is)

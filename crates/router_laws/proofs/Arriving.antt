@@ -173,7 +173,7 @@ none_since (Did s ∷ t) h just = refl
 none_since (Out c i ∷ t) h just = none_since t h just
 none_since (Took c k ∷ t) h just = absurd (none_not_some just)
 none_since (Bound b ∷ t) h just = absurd (none_not_some just)
-none_since (Booked acts ∷ t) h just = absurd (none_not_some just)
+none_since (Booked acts full ∷ t) h just = absurd (none_not_some just)
 none_since (Began g ∷ t) h just = absurd (none_not_some just)
 
 -- whether it may be bound

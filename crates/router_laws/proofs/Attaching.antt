@@ -16,7 +16,7 @@ use Rattle.router_trace.specs.declared.condition.Condition.TheVariants.{FrameSiz
 use Rattle.router_trace.specs.declared.handle.Attachment.{Attachment}
 use Rattle.router_trace.specs.Durable.{is_durable}
 use Rattle.router_trace.specs.Trace.{Trace, Out, goes, each_to}
-use Rattle.router_trace.specs.Deliveries.{Delivery, delivery, source, untold, is_gone_with, behind_origin, ended, decided_at_end, suspended_at_end}
+use Rattle.router_trace.specs.Deliveries.{Delivery, delivery, source, is_gone_with, behind_origin, ended, decided_at_end, suspended_at_end, sender, forsaken, either_origin}
 use Rattle.router_trace.specs.LinkFrames.{other, source_answer, target_answer, plain_answer, lasting_by, answer_to, refused_source, refused_target, refusal_of, attach_item, detach_item, fits}
 use Rattle.router_trace.specs.Links.{Link, answered_handle, asked, address_by, link, has_number, is_attached, if_attached, key_at, last_of_key, holder, is_free_handle, first_free_below, free_handle, highest_handle, attached, attachments}
 use Rattle.router_trace.specs.Peers.{largest_frame}
@@ -111,9 +111,9 @@ source_spared : (closed : Bool) (gone_is : Attachment → Bool) (d : Delivery) (
 source_spared closed gone_is d p from spared = by (gone_is d.link)
   where
     kept : (e : Delivery) → source e ≡ Some p → source (behind_origin gone_is e) ≡ Some p
-    kept e is = on (is_gone_with gone_is (source e)) (ap (is_gone_with gone_is) is ∙ spared)
+    kept e is = on (is_gone_with gone_is (sender e)) (ap (λ (o : Option Origin). is_gone_with gone_is (either_origin o e.early)) is ∙ spared)
       where
-        on : (b : Bool) → b ≡ false → source (if b then untold e else e) ≡ Some p
+        on : (b : Bool) → b ≡ false → source (if b then forsaken e else e) ≡ Some p
         on true f = absurd (clash f)
         on false f = is
 

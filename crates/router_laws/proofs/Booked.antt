@@ -32,7 +32,6 @@ use Rattle.router_trace.specs.Connection.{due}
 use Rattle.router_trace.specs.DeliveryFrames.{kept_outcome}
 use Rattle.router_trace.specs.Deliveries.{Delivery, source, delivery, is_undecided}
 use Rattle.router_trace.specs.Links.{link, durable_key}
-use Rattle.router_trace.specs.Sessions.{session_on}
 use Rattle.router_trace.specs.Trace.{Trace, Booked}
 use Rattle.router_deliveries.specs.declared.change.Change.{Change}
 use Rattle.router_deliveries.specs.declared.change.Change.TheVariants as change
@@ -44,7 +43,7 @@ use Rattle.router_rows.specs.declared.answer.Answer.{Answer}
 use Rattle.router_rows.specs.declared.answer.Answer.TheVariants.{Detach}
 use Rattle.router_reply.specs.Acts.{event_answer, answer_acts, planned_acts, admitted_acts, or_admits, event_acts, finds_full, journaled, book_in, acts_of}
 use Rattle.router_reply.specs.Admitting.{event_admission, admits}
-use Rattle.router_reply.specs.Deciding.{lost, listed, ended_by, event_changes, decided as decided_in, sent_by, sent_from, closed_terminus, forgotten as forgotten_at, terminus_of_event}
+use Rattle.router_reply.specs.Deciding.{lost, listed, ended_by, session_found, event_changes, decided as decided_in, sent_by, sent_from, closed_terminus, forgotten as forgotten_at, terminus_of_event}
 use Rattle.router_laws.proofs.Applying.{settled_apply, admission_applies, ordered_behind}
 use Rattle.router_laws.proofs.Changing.{Leaves, leaves_by}
 use Rattle.router_laws.proofs.Decisions.{decided_of, settled_is_done, among_rows}
@@ -159,9 +158,9 @@ settle_step t b ds numbers r (Some row) d e leaves open_one number outcome done 
 
 -- over the book behind all acts of the event, and the trace behind them
 
-book_step : (t : Trace) (acts : List Act) (b c : BookView) (r : ℕ) (v : Option ARow) (e : Delivery) → row_at r b.rows ≡ v → Stays b c → Agrees t b v e → Agrees (Booked acts ∷ t) c v e
-book_step t acts b c r None e found stays was = was
-book_step t acts b c r (Some row) e found stays was = record {
+book_step : (t : Trace) (acts : List Act) (full : List ℕ) (b c : BookView) (r : ℕ) (v : Option ARow) (e : Delivery) → row_at r b.rows ≡ v → Stays b c → Agrees t b v e → Agrees (Booked acts full ∷ t) c v e
+book_step t acts full b c r None e found stays was = was
+book_step t acts full b c r (Some row) e found stays was = record {
   outcome = was.outcome;
   waits = was.waits;
   from = λ p from. let at = was.from p from in
@@ -270,8 +269,8 @@ forgotten_is_done : (t : Trace) (b : BookView) (n : ℕ) (d : Delivery) (r : Row
     → delivery t n ≡ Some d → d.name ≡ Row r → is_among r.0 (forgotten_at b t e answer) ≡ true → (p : Origin) → source (changed_by (event_changes t e answer) d) ≡ Some p → ⊥
 forgotten_is_done t b n d r (event.Item c (item.Frame false channel (perf.Disposition x) payload)) answer standing ordered agrees there name among p from =
     let i : Item = item.Frame false channel (perf.Disposition x) payload in
-    let heard : List Change = listed (disposed_change x.role c.0 (session_on t c.0 channel) x) in
-    settled_is_done t n d r c.0 (session_on t c.0 channel) x.role x (map lost (due t (event.Item c i)) ++ ended_by t c.0 i answer) there name among p
+    let heard : List Change = listed (disposed_change x.role c.0 (session_found t c i) x) in
+    settled_is_done t n d r c.0 (session_found t c i) x.role x (map lost (due t (event.Item c i)) ++ ended_by t c.0 i answer) there name among p
     (ap (λ (zs : List Change). source (changed_by zs d)) (sym (append_assoc heard (map lost (due t (event.Item c i))) (ended_by t c.0 i answer))) ∙ from)
 forgotten_is_done t b n d r (event.Item c (item.Frame false channel (perf.Detach x) payload)) answer standing ordered agrees there name among p from =
     let i : Item = item.Frame false channel (perf.Detach x) payload in
@@ -287,7 +286,7 @@ abbrev IsPlanned : Bool → Trace → Event → Type 0
 IsPlanned full t e = planned_acts full (book_in t) t e ≡ answer_acts (book_in t) t e (event_answer full (book_in t) t e)
 
 facts_behind : (full : Bool) (t : Trace) (e : Event) → IsPlanned full t e → Standing t → IsOrdered (book_in t) → Facts t []
-    → Facts (Booked (event_acts full (book_in t) t e) ∷ t) (event_changes t e (event_answer full (book_in t) t e))
+    → Facts (Booked (event_acts full (book_in t) t e) (due t e) ∷ t) (event_changes t e (event_answer full (book_in t) t e))
 facts_behind full t e planned standing ordered was n d r there name =
     let fact : RowFact t b r d = was n d r there name in
     let leaves : Leaves d after = leaves_by xs d in
@@ -301,8 +300,8 @@ facts_behind full t e planned standing ordered was n d r there name =
     record {
       settled = leaves.settled ∙ fact.settled;
       known = under r.0 between.next_row c.next_row low stays.next;
-      agrees = subst (λ (v : Option ARow). Agrees (Booked acts ∷ t) c v after) (sym (stays.rows r.0 low ∙ found))
-          (book_step t acts between c r.0 (settled ds numbers (row_at r.0 b.rows)) after found stays next);
+      agrees = subst (λ (v : Option ARow). Agrees (Booked acts (due t e) ∷ t) c v after) (sym (stays.rows r.0 low ∙ found))
+          (book_step t acts (due t e) between c r.0 (settled ds numbers (row_at r.0 b.rows)) after found stays next);
     }
   where
     b : BookView
@@ -370,7 +369,7 @@ acts_apply t e ordered = by (planned_acts full (book_in t) t e) (planned_apply f
     by [] applies = admitted_apply full (book_in t) t e
     by (act ∷ acts) applies = applies
 
-pub ordered_acts : (t : Trace) (e : Event) → IsOrdered (book_in t) → IsOrdered (book_in (Booked (acts_of t e) ∷ t))
+pub ordered_acts : (t : Trace) (e : Event) → IsOrdered (book_in t) → IsOrdered (book_in (Booked (acts_of t e) (due t e) ∷ t))
 ordered_acts t e ordered = ordered_behind (book_in t) (acts_of t e) ordered (acts_apply t e ordered)
 
 -- the answer that an event gets, and the changes that it brings
@@ -380,7 +379,7 @@ answer_for t e = event_answer (finds_full (journaled t) t e) (book_in t) t e
 abbrev pub changes_of : Trace → Event → List Change
 changes_of t e = event_changes t e (answer_for t e)
 
-pub booked_facts : (t : Trace) (e : Event) → Standing t → IsOrdered (book_in t) → (e ≡ event.Start → (n : ℕ) → delivery t n ≡ None) → Facts t [] → Facts (Booked (acts_of t e) ∷ t) (changes_of t e)
+pub booked_facts : (t : Trace) (e : Event) → Standing t → IsOrdered (book_in t) → (e ≡ event.Start → (n : ℕ) → delivery t n ≡ None) → Facts t [] → Facts (Booked (acts_of t e) (due t e) ∷ t) (changes_of t e)
 booked_facts t event.Start standing ordered none was = λ n d r there name. absurd (none_not_some (sym (none refl n) ∙ there))
 booked_facts t (event.Item c i) standing ordered none was = facts_behind (finds_full (journaled t) t (event.Item c i)) t (event.Item c i) refl standing ordered was
 booked_facts t (event.Up c p) standing ordered none was = facts_behind (finds_full (journaled t) t (event.Up c p)) t (event.Up c p) refl standing ordered was

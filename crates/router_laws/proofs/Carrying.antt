@@ -12,8 +12,7 @@ use Rattle.amqp_frames.specs.declared.item.Item.TheVariants as item
 use Rattle.router_trace.specs.declared.binding.Binding.{Binding}
 use Rattle.router_trace.specs.declared.binding.DeliveryName.{DeliveryName}
 use Rattle.router_trace.specs.Trace.{Entry, Did, Out, Took, Bound, Booked, Began}
-use Rattle.router_trace.specs.Sessions.{theirs}
-use Rattle.router_trace.specs.Deliveries.{Delivery, bindings, name_in, number_named, delivery, sending, named, unless_over, behind_frame, closes, ended_by, put_in, behind_put, behind_event, carried, tag_in, is_number}
+use Rattle.router_trace.specs.Deliveries.{Delivery, bindings, name_in, number_named, delivery, sending, named, unless_over, behind_frame, closes, ended_by, put_in, behind_put, behind_event, carried, tag_in, is_number, channels_found}
 use Rattle.router_laws.specs.OneConsumer.{IsOf, WhileThere}
 use Rattle.router_laws.specs.Each.{EachOut}
 use Rattle.router_laws.specs.Carried.{HasSmallNumbers, BeginsOrGoesOn, CarriesMessage, CarriesWhatWasBound, bytes_by, bytes_out, IsBeginning, GoesInOrder, CompletesMessage}
@@ -39,6 +38,7 @@ unmoved_left = record {
   same = unmoved;
   next = λ d e f first rest. record { id = rest.id ∙ first.id; sent = rest.sent ∙ first.sent; payload = rest.payload ∙ first.payload };
   untold = λ d. record { id = refl; sent = refl; payload = refl };
+  forsaken = λ d. record { id = refl; sent = refl; payload = refl };
   unsettled = λ d. record { id = refl; sent = refl; payload = refl };
   ended = λ d. record { id = refl; sent = refl; payload = refl };
   suspended = λ d. record { id = refl; sent = refl; payload = refl };
@@ -103,7 +103,7 @@ moves_unstarted f v unmoved was e there none =
 
 pub did_unstarted : (t : List Entry) (s : _) → Unstarted t → Unstarted (Did s ∷ t)
 did_unstarted t s was n =
-    moves_unstarted (behind_event s.event (theirs t) (named t) n) (delivery t n) (λ d. event_left Unmoved unmoved_left s.event (theirs t) (named t) n d) (was n)
+    moves_unstarted (behind_event s.event (channels_found t) (named t) n) (delivery t n) (λ d. event_left Unmoved unmoved_left s.event (channels_found t) (named t) n d) (was n)
 
 pub bound_unstarted : (t : List Entry) (b : Binding) → Unstarted t → Unstarted (Bound b ∷ t)
 bound_unstarted t b was n d there none =
@@ -198,7 +198,7 @@ none_early (Out c i ∷ t) n all small early =
         (λ test. rw test before)
 none_early (Began g ∷ t) n all small early = none_early t n all small early
 none_early (Took c k ∷ t) n all small early = none_early t n all small early
-none_early (Booked acts ∷ t) n all small early = none_early t n all small early
+none_early (Booked acts full ∷ t) n all small early = none_early t n all small early
 none_early (Bound b ∷ t) n all small early = none_early t n all (lower t b small) (lower_still (bindings t) n early)
   where
     lower_still : (k n : ℕ) → k + 1 < n → k < n
@@ -262,13 +262,13 @@ out_went t c n i small was =
 pub went : (u : List Entry) (n : ℕ) → AllCarried u → HasSmallNumbers u → AllWent u n
 went [] n all small d there = absurd cc
 went (Did s ∷ t) n all small d there =
-    let was = of_what (behind_event s.event (theirs t) (named t) n) (delivery t n) d there
+    let was = of_what (behind_event s.event (channels_found t) (named t) n) (delivery t n) d there
     in unmoved_went (bytes_out t n) was.0 d (went t n all small was.0 was.1)
-    (subst (λ (g : Delivery). Unmoved was.0 g) (sym was.2) (event_left Unmoved unmoved_left s.event (theirs t) (named t) n was.0))
+    (subst (λ (g : Delivery). Unmoved was.0 g) (sym was.2) (event_left Unmoved unmoved_left s.event (channels_found t) (named t) n was.0))
 went (Out c i ∷ t) n all small d there = out_went t c n i small (went t n all.1 small) all.0 d there
 went (Began g ∷ t) n all small d there = went t n all small d there
 went (Took c k ∷ t) n all small d there = went t n all small d there
-went (Booked acts ∷ t) n all small d there = went t n all small d there
+went (Booked acts full ∷ t) n all small d there = went t n all small d there
 went (Bound b ∷ t) n all small d there =
     by_test (bindings t + 1 == n)
     (λ e. none_early t n all (lower t b small) (just_below (bindings t) n (eqb-true (bindings t + 1) n e))
@@ -299,7 +299,7 @@ all_complete (Did s ∷ t) all = all_complete t all
 all_complete (Out c i ∷ t) all = (completes t c i all.1 all.0, all_complete t all.1)
 all_complete (Took c k ∷ t) all = all_complete t all
 all_complete (Bound b ∷ t) all = all_complete t all
-all_complete (Booked acts ∷ t) all = all_complete t all
+all_complete (Booked acts full ∷ t) all = all_complete t all
 all_complete (Began g ∷ t) all = all_complete t all
 
 -- the bytes sent are always a beginning
@@ -344,7 +344,7 @@ begins_later (Out c i ∷ later) t b all small =
     (begins_later later t b all.1 small) all.0
 begins_later (Took c k ∷ later) t b all small = begins_later later t b all small
 begins_later (Bound a ∷ later) t b all small = begins_later later t b all (lower (later ++ Bound b ∷ t) a small)
-begins_later (Booked acts ∷ later) t b all small = begins_later later t b all small
+begins_later (Booked acts full ∷ later) t b all small = begins_later later t b all small
 begins_later (Began g ∷ later) t b all small = begins_later later t b all small
 
 pub goes_in_order : (u : List Entry) → AllCarried u → GoesInOrder u

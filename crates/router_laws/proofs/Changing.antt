@@ -16,7 +16,7 @@ use Rattle.amqp_frames.specs.declared.item.Item.TheVariants as item
 use Rattle.router_trace.specs.declared.binding.DeliveryName.{DeliveryName}
 use Rattle.router_trace.specs.declared.binding.Origin.{Origin}
 use Rattle.router_trace.specs.declared.handle.Attachment.{Attachment}
-use Rattle.router_trace.specs.Deliveries.{Delivery, failed, source, untold, unsettled, is_undecided, is_gone_with, behind_ends, ended, decided_at_end, suspended_at_end, closes, ended_by, put_in, behind_put, behind_frame, told, is_meant, origin_id, is_number, carried, tag_in, stands_on}
+use Rattle.router_trace.specs.Deliveries.{Delivery, failed, source, untold, unsettled, is_undecided, is_gone_with, behind_ends, ended, decided_at_end, suspended_at_end, closes, ended_by, put_in, behind_put, behind_frame, told, is_meant, origin_id, is_number, carried, tag_in, stands_on, sender, forsaken}
 use Rattle.router_deliveries.specs.declared.change.Change.{Change}
 use Rattle.router_deliveries.specs.declared.change.Change.TheVariants as change
 use Rattle.router_deliveries.specs.declared.change.Gone.TheVariants as gone
@@ -53,6 +53,9 @@ leaves_if false d e f first second = second
 leaves_untold : (d : Delivery) → Leaves d (untold d)
 leaves_untold d = record { named = refl; settled = refl; comes = λ p is. absurd (none_not_some is); stays = λ s is. is; sleeps = λ none is. (none, is) }
 
+leaves_forsaken : (d : Delivery) → Leaves d (forsaken d)
+leaves_forsaken d = record { named = refl; settled = refl; comes = λ p is. absurd (none_not_some is); stays = λ s is. is; sleeps = λ none is. (none, is) }
+
 leaves_unsettled : (d : Delivery) → Leaves d (unsettled d)
 leaves_unsettled d = record { named = refl; settled = refl; comes = λ p is. is; stays = λ s is. is; sleeps = λ none is. (none, is) }
 
@@ -76,8 +79,8 @@ leaves_ended closed d = by d.suspended refl
 pub leaves_ends : (closed : Bool) (gone : Attachment → Bool) (d : Delivery) → Leaves d (behind_ends closed gone d)
 leaves_ends closed gone d =
     leaves_on d (if gone d.link then ended closed d else d) (behind_ends closed gone d) (leaves_if (gone d.link) d (ended closed d) d (leaves_ended closed d) (leaves_it d))
-    (leaves_if (is_gone_with gone (source (if gone d.link then ended closed d else d))) (if gone d.link then ended closed d else d) (untold (if gone d.link then ended closed d else d))
-    (if gone d.link then ended closed d else d) (leaves_untold (if gone d.link then ended closed d else d)) (leaves_it (if gone d.link then ended closed d else d)))
+    (leaves_if (is_gone_with gone (sender (if gone d.link then ended closed d else d))) (if gone d.link then ended closed d else d) (forsaken (if gone d.link then ended closed d else d))
+    (if gone d.link then ended closed d else d) (leaves_forsaken (if gone d.link then ended closed d else d)) (leaves_it (if gone d.link then ended closed d else d)))
 
 pub undecided_is : (d : Delivery) → is_undecided d ≡ true → (d.outcome ≡ None) × (d.suspended ≡ false)
 undecided_is d h = by d.outcome d.presettled d.suspended h
@@ -154,12 +157,15 @@ alike_if false d e f first second = second
 alike_untold : (d : Delivery) → Alike d (untold d)
 alike_untold d = record { named = refl; settled = refl; outcome = refl; comes = λ p is. absurd (none_not_some is) }
 
+alike_forsaken : (d : Delivery) → Alike d (forsaken d)
+alike_forsaken d = record { named = refl; settled = refl; outcome = refl; comes = λ p is. absurd (none_not_some is) }
+
 -- the end of links among which an undecided delivery's isn't
 pub alike_ends : (closed : Bool) (gone : Attachment → Bool) (d : Delivery) → d.presettled ≡ false → (is_undecided d ≡ true → gone d.link ≡ false) → Alike d (behind_ends closed gone d)
 alike_ends closed gone d open_one spared =
     alike_on d (if gone d.link then ended closed d else d) (behind_ends closed gone d) (on (gone d.link) refl)
-    (alike_if (is_gone_with gone (source (if gone d.link then ended closed d else d))) (if gone d.link then ended closed d else d) (untold (if gone d.link then ended closed d else d))
-    (if gone d.link then ended closed d else d) (alike_untold (if gone d.link then ended closed d else d)) (alike_it (if gone d.link then ended closed d else d) (if gone d.link then ended closed d else d) refl))
+    (alike_if (is_gone_with gone (sender (if gone d.link then ended closed d else d))) (if gone d.link then ended closed d else d) (forsaken (if gone d.link then ended closed d else d))
+    (if gone d.link then ended closed d else d) (alike_forsaken (if gone d.link then ended closed d else d)) (alike_it (if gone d.link then ended closed d else d) (if gone d.link then ended closed d else d) refl))
   where
     itself : Alike d d
     itself = alike_it d d refl

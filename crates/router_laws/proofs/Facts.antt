@@ -17,10 +17,9 @@ use Rattle.router_trace.specs.declared.binding.Origin.{Origin}
 use Rattle.router_trace.specs.declared.handle.Attachment.{Attachment}
 use Rattle.router_trace.specs.Trace.{Trace, Entry, Did, Out, Took, Bound, Step}
 use Rattle.router_trace.specs.DeliveryFrames.{kept_outcome}
-use Rattle.router_trace.specs.Deliveries.{Delivery, source, bindings, bound, name_in, name_of, number_named, delivery, sending, named, behind_put, behind_event}
+use Rattle.router_trace.specs.Deliveries.{Delivery, source, bindings, bound, name_in, name_of, number_named, delivery, sending, named, behind_put, behind_event, channels_found}
 use Rattle.router_trace.specs.Following.{link_of}
 use Rattle.router_trace.specs.Links.{durable_key}
-use Rattle.router_trace.specs.Sessions.{theirs}
 use Rattle.router_deliveries.specs.declared.change.Change.{Change}
 use Rattle.router_deliveries.specs.Deciding.{changed_by}
 use Rattle.router_deliveries.proofs.Called.{uncalled}
@@ -84,16 +83,16 @@ fact_moved t u b r e f alike stays was = record {
 }
 
 pub did_facts : (s : Step) (t : List Entry) (xs ys : List Change) → Standing t
-    → ((n : ℕ) (d : Delivery) → delivery t n ≡ Some d → Alike (changed_by xs d) (changed_by ys (behind_event s.event (theirs t) (named t) n d)))
+    → ((n : ℕ) (d : Delivery) → delivery t n ≡ Some d → Alike (changed_by xs d) (changed_by ys (behind_event s.event (channels_found t) (named t) n d)))
     → Facts t xs → Facts (Did s ∷ t) ys
 did_facts s t xs ys standing alike was n e r now name =
-    let before = of_what (behind_event s.event (theirs t) (named t) n) (delivery t n) e now in
+    let before = of_what (behind_event s.event (channels_found t) (named t) n) (delivery t n) e now in
     let w = was_did s t n e now in
     let d : Delivery = before.0 in
     let same : d ≡ w.before = some_same (sym before.1 ∙ w.there) in
     let called : d.name ≡ Row r = ap (λ (x : Delivery). x.name) same ∙ sym w.follows.name ∙ name in
     subst (λ (x : Delivery). RowFact (Did s ∷ t) (book_in t) r (changed_by ys x)) (sym before.2)
-    (fact_moved t (Did s ∷ t) (book_in t) r (changed_by xs d) (changed_by ys (behind_event s.event (theirs t) (named t) n d)) (alike n d before.1)
+    (fact_moved t (Did s ∷ t) (book_in t) r (changed_by xs d) (changed_by ys (behind_event s.event (channels_found t) (named t) n d)) (alike n d before.1)
     (λ p key from durable. did_durable s t p.link key durable (w.keeps p ((leaves_by ys e).comes p (ap (λ (x : Delivery). source (changed_by ys x)) before.2 ∙ from))))
     (was n d r before.1 called))
 

@@ -18,8 +18,7 @@ use Rattle.router_trace.specs.declared.event.Event.{Event}
 use Rattle.router_trace.specs.declared.event.Event.TheVariants as event
 use Rattle.router_trace.specs.declared.handle.Attachment.{Attachment}
 use Rattle.router_trace.specs.Trace.{Entry, Did, Out, Took, Booked, Bound, Began}
-use Rattle.router_trace.specs.Sessions.{theirs}
-use Rattle.router_trace.specs.Deliveries.{Delivery, bindings, name_in, same_name, number_named, unless_called, delivery, sending, named, is_over, unless_over, behind_frame, decided, source, untold, unsettled, told, ended, decided_at_end, suspended_at_end, closes, is_undecided, is_meant, is_named, decision, terminal, is_gone_with, behind_origin, behind_ends, ended_by, put_in, behind_put, carried, tag_in, is_number, is_on, is_settled_at, disposed, heard_in, heard, lost_with, behind_event, origin_id}
+use Rattle.router_trace.specs.Deliveries.{Delivery, bindings, name_in, same_name, number_named, unless_called, delivery, sending, named, is_over, unless_over, behind_frame, decided, source, untold, unsettled, told, ended, decided_at_end, suspended_at_end, closes, is_undecided, is_meant, is_named, decision, terminal, is_gone_with, behind_origin, behind_ends, ended_by, put_in, behind_put, carried, tag_in, is_number, is_on, is_settled_at, disposed, heard_in, heard, lost_with, behind_event, origin_id, channels_found, sender, forsaken}
 use Rattle.router_laws.specs.OneConsumer.{IsOrNone, WhileThere}
 use Rattle.router_conns.proofs.Lists.{by_test}
 
@@ -28,6 +27,7 @@ pub record Left (R : Delivery → Delivery → Type 0) : Type 0 where
   pub same : (d : Delivery) → R d d
   pub next : (d e f : Delivery) → R d e → R e f → R d f
   pub untold : (d : Delivery) → R d (untold d)
+  pub forsaken : (d : Delivery) → R d (forsaken d)
   pub unsettled : (d : Delivery) → R d (unsettled d)
   pub ended : (d : Delivery) → R d (decided_at_end d)
   pub suspended : (d : Delivery) → R d (suspended_at_end d)
@@ -39,7 +39,7 @@ choice R true d e f first second = first
 choice R false d e f first second = second
 
 origin_left : (R : Delivery → Delivery → Type 0) → Left R → (gone : Attachment → Bool) (d : Delivery) → R d (behind_origin gone d)
-origin_left R left gone d = choice R (is_gone_with gone (source d)) d (untold d) d (left.untold d) (left.same d)
+origin_left R left gone d = choice R (is_gone_with gone (sender d)) d (forsaken d) d (left.forsaken d) (left.same d)
 
 ended_left : (R : Delivery → Delivery → Type 0) → Left R → (closed : Bool) (d : Delivery) → R d (ended closed d)
 ended_left R left closed d =
@@ -140,6 +140,7 @@ follows_left = record {
   same = same;
   next = λ d e f first rest. then_follows first rest;
   untold = λ d. record { name = refl; link = refl; payload = refl; format = refl; presettled = refl; lasting = refl; origin = inr refl };
+  forsaken = λ d. record { name = refl; link = refl; payload = refl; format = refl; presettled = refl; lasting = refl; origin = inr refl };
   unsettled = λ d. record { name = refl; link = refl; payload = refl; format = refl; presettled = refl; lasting = refl; origin = inr refl };
   suspended = λ d. record { name = refl; link = refl; payload = refl; format = refl; presettled = refl; lasting = refl; origin = inl refl };
   ended = λ d. record { name = refl; link = refl; payload = refl; format = refl; presettled = refl; lasting = refl; origin = inl refl };
@@ -194,11 +195,11 @@ uncalled_follow name (Some d) = by (same_name d.name name)
     by false = same d
 
 pub entry_follows : (e : Entry) (t : List Entry) (n : ℕ) → n ≤ bindings t → AllFollow (delivery t n) (delivery (e ∷ t) n)
-entry_follows (Did s) t n given = changed (behind_event s.event (theirs t) (named t) n) (event_follows s.event (theirs t) (named t) n) (delivery t n)
+entry_follows (Did s) t n given = changed (behind_event s.event (channels_found t) (named t) n) (event_follows s.event (channels_found t) (named t) n) (delivery t n)
 entry_follows (Out c i) t n given = changed (behind_put (number_named t) i c n (sending t c)) (item_follows (number_named t) i c n (sending t c)) (delivery t n)
 entry_follows (Took c k) t n given = all_same (delivery t n)
 entry_follows (Began g) t n given = all_same (delivery t n)
-entry_follows (Booked acts) t n given = all_same (delivery t n)
+entry_follows (Booked acts full) t n given = all_same (delivery t n)
 entry_follows (Bound b) t n given =
     by_test (bindings t + 1 == n) (λ e. absurd (too_high n (bindings t) given (eqb-true (bindings t + 1) n e))) (λ e. rw e (uncalled_follow (name_in t b) (delivery t n)))
   where
@@ -210,7 +211,7 @@ more_bound (Did s) t n h = h
 more_bound (Out c i) t n h = h
 more_bound (Took c k) t n h = h
 more_bound (Began g) t n h = h
-more_bound (Booked acts) t n h = h
+more_bound (Booked acts full) t n h = h
 more_bound (Bound b) t n h = one_more n (bindings t) h
   where
     one_more : (n k : ℕ) → n ≤ k → n ≤ k + 1

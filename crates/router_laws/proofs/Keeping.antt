@@ -201,11 +201,11 @@ room_with (Some x) a room may = absurd (none_is (none_with (Some x) a room may))
     none_is e = cc
 
 -- the answer to an attach behind the acts of its event
-answer_behind : (acts : List Act) (t : List Entry) (c : ℕ) (p : Conn) (sasl : Bool) (channel : ℕ) (a : AnAttach) (payload : List ℕ)
-    → answer_of (Booked acts ∷ t) c p (item.Frame sasl channel (perf.Attach a) payload)
+answer_behind : (acts : List Act) (full : List ℕ) (t : List Entry) (c : ℕ) (p : Conn) (sasl : Bool) (channel : ℕ) (a : AnAttach) (payload : List ℕ)
+    → answer_of (Booked acts full ∷ t) c p (item.Frame sasl channel (perf.Attach a) payload)
     ≡ answer_at (finds_full (journaled t) t (event.Item (record { 0 = c }) (item.Frame sasl channel (perf.Attach a) payload))) (book_in t) t c p (item.Frame sasl channel (perf.Attach a) payload)
 unfolding free_handle first_free_below free_channel
-answer_behind acts t c p sasl channel a payload = refl
+answer_behind acts full t c p sasl channel a payload = refl
 
 record Makes (t : List Entry) (e : Event) (c : ℕ) (a : AnAttach) : Type 0 where
   made : terminus_of (wanted_key t c a) (book_behind t e).termini ≡ Some (new_terminus (book_in t) (wanted_key t c a) (wanted_address a))
@@ -222,7 +222,7 @@ makes t from sasl channel a payload p own stands answers wants =
     let x : Terminus = new_terminus b key (wanted_address a) in
     let full : Bool = finds_full (journaled t) t e in
     let admitted : List Act = admitted_acts full b t e in
-    let at : answer_at full b t from.0 p i ≡ Attach own = sym (answer_behind (acts_of t e) t from.0 p sasl channel a payload) ∙ answers in
+    let at : answer_at full b t from.0 p i ≡ Attach own = sym (answer_behind (acts_of t e) (due t e) t from.0 p sasl channel a payload) ∙ answers in
     let answer : event_answer full b t e ≡ Attach own = ap (live_answer full b t from.0 i) stands ∙ at in
     let only = attach_only (free_handle t from.0) (book_refusal full b t from.0 a) (item_reply p (finds t from.0) i) own at in
     let refusal : durable_refusal (terminus_of key b.termini) a (has_room full b x) ≡ None =

@@ -185,7 +185,7 @@ event_rows id t s (event.Item from i) is may was = by (standing (found t e from.
         → Kept (goes (item_row id at u from.0 i v) (with_bound (item_bound at u from.0 i v) u)) []
     by None here may was = was
     by (Some p) here may was =
-        let same : answer_of at from.0 p i ≡ answer_at full (book_in t) t from.0 p i = answer_behind (acts_of t e) t full (book_in t) from.0 p i in
+        let same : answer_of at from.0 p i ≡ answer_at full (book_in t) t from.0 p i = answer_behind (acts_of t e) (due t e) t full (book_in t) from.0 p i in
         item_rows id t s from i is p here (answer_of at from.0 p i) (sym same) may (subst (λ (y : Answer). Kept u (ended_by t from.0 i y)) (sym same) was)
 event_rows id t s (event.Down c) is may was = was
 event_rows id t s (event.Tick ms) is may was =
@@ -329,7 +329,7 @@ booked_once first t e was = record {
     first_one j k e f = omega (arith, e, f)
 
     either : (n : ℕ) → times_decided t n ≡ 0 → may_be_decided (book_in t) n ≡ true → (times_in acts n ≡ 0) ⊎ ((times_in acts n ≡ 1) × (may_be_decided (effects (book_in t) acts) n ≡ false))
-        → IsDecidedOnce first (Booked acts ∷ t) n
+        → IsDecidedOnce first (Booked acts (due t e) ∷ t) n
     either n none might (inl more) = record {
       once = zero_one (times_decided t n + times_in acts n) (sums (times_decided t n) (times_in acts n) none more);
       waits = λ might. sums (times_decided t n) (times_in acts n) none more;
@@ -341,7 +341,7 @@ booked_once first t e was = record {
       before = λ shut. absurd (clash (sym might ∙ was.stays n shut));
     }
 
-    by : (n : ℕ) (b : Bool) → may_be_decided (book_in t) n ≡ b → Decides (book_in t) (effects (book_in t) acts) (times_in acts n) n → IsDecidedOnce first (Booked acts ∷ t) n
+    by : (n : ℕ) (b : Bool) → may_be_decided (book_in t) n ≡ b → Decides (book_in t) (effects (book_in t) acts) (times_in acts n) n → IsDecidedOnce first (Booked acts (due t e) ∷ t) n
     by n true is more = either n ((was.once n).waits is) is (more.once is)
     by n false is more =
         let none = more.shut is in

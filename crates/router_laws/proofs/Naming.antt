@@ -17,10 +17,10 @@ use Rattle.router_trace.specs.Trace.{Entry, Did, Out, Bound, Put, Step}
 use Rattle.router_trace.specs.Links.{Link, is_lost, ends_handle_in, ends_handle, numbered}
 use Rattle.router_trace.specs.LinkFrames.{fits}
 use Rattle.router_trace.specs.Peers.{largest_frame}
-use Rattle.router_trace.specs.Sessions.{theirs, session}
+use Rattle.router_trace.specs.Sessions.{session}
 use Rattle.router_trace.specs.DeliveryFrames.{first_transfer, later_transfer, with_more, part_frame, filled, next_frame, largest_out, rest_of}
 use Rattle.router_trace.specs.Following.{link_of, is_busy, is_open, is_used, is_going, is_there, is_wide, goes_on_at, takes_more, can_start, can_go, place_to_go, transfer_of, send, send_of, sends_due}
-use Rattle.router_trace.specs.Deliveries.{Delivery, bindings, name_in, number_named, number_tagged, delivery, sending, named, named_in, named_by, next_id, is_id, carried, tag_in, tag_of, tagged, is_number, is_undecided, behind_frame, put_in, behind_put, behind_event, ended_by, closes, source, told, is_meant, origin_id, untold, unsettled}
+use Rattle.router_trace.specs.Deliveries.{Delivery, bindings, name_in, number_named, number_tagged, delivery, sending, named, named_in, named_by, next_id, is_id, carried, tag_in, tag_of, tagged, is_number, is_undecided, behind_frame, put_in, behind_put, behind_event, ended_by, closes, source, told, is_meant, origin_id, untold, unsettled, channels_found}
 use Rattle.router_deliveries.proofs.Called.{there_named, uncalled}
 use Rattle.router_deliveries.proofs.Puts.{no_ends}
 use Rattle.router_conns.proofs.Lists.{by_test}
@@ -49,6 +49,7 @@ same_id = record {
   same = λ d. refl;
   next = λ d e f first rest. rest ∙ first;
   untold = λ d. refl;
+  forsaken = λ d. refl;
   unsettled = λ d. refl;
   ended = λ d. refl;
   suspended = λ d. refl;
@@ -57,10 +58,10 @@ same_id = record {
 
 pub did_named : (s : Step) (t : List Entry) → AreNamed t → AreNamed (Did s ∷ t)
 did_named s t was n id e now undecided has =
-    let before = of_what (behind_event s.event (theirs t) (named t) n) (delivery t n) e now in
+    let before = of_what (behind_event s.event (channels_found t) (named t) n) (delivery t n) e now in
     let w = was_did s t n e now in
     let same : w.before ≡ before.0 = some_same (sym w.there ∙ before.1) in
-    let had : w.before.id ≡ Some id = ap (λ (d : Delivery). d.id) same ∙ sym (event_left SameId same_id s.event (theirs t) (named t) n before.0) ∙ sym (ap (λ (d : Delivery). d.id) before.2) ∙ has in
+    let had : w.before.id ≡ Some id = ap (λ (d : Delivery). d.id) same ∙ sym (event_left SameId same_id s.event (channels_found t) (named t) n before.0) ∙ sym (ap (λ (d : Delivery). d.id) before.2) ∙ has in
     let spared : is_lost s.event w.before.link.conn.0 ≡ false = w.spares undecided in
     let named_it : named t w.before.link.conn.0 w.before.link.channel id ≡ Some n = was n id w.before w.there (w.undecided undecided) had in
     subst (λ (a : Attachment). named (Did s ∷ t) a.conn.0 a.channel id ≡ Some n) (sym w.follows.link)

@@ -20,8 +20,8 @@ use Rattle.router_trace.specs.declared.event.Event.TheVariants as event
 use Rattle.router_trace.specs.declared.handle.Attachment.{Attachment}
 use Rattle.router_trace.specs.Trace.{Entry, Did, Out, Took, Booked, Bound, Began, Step}
 use Rattle.router_trace.specs.Links.{ends_handle}
-use Rattle.router_trace.specs.Sessions.{maps, theirs}
-use Rattle.router_trace.specs.Deliveries.{Delivery, bindings, name_in, number_named, delivery, sending, named, failed, behind_frame, decided, source, untold, unsettled, told, ended, decided_at_end, suspended_at_end, is_undecided, is_meant, is_named, is_number, last_of, decision, terminal, is_gone_with, behind_origin, behind_ends, ended_by, put_in, behind_put, carried, tag_in, is_on, is_settled_at, disposed, heard_in, heard, lost_with, behind_event, origin_id}
+use Rattle.router_trace.specs.Sessions.{maps}
+use Rattle.router_trace.specs.Deliveries.{Delivery, bindings, name_in, number_named, delivery, sending, named, failed, behind_frame, decided, source, untold, unsettled, told, ended, decided_at_end, suspended_at_end, is_undecided, is_meant, is_named, is_number, last_of, decision, terminal, is_gone_with, behind_origin, behind_ends, ended_by, put_in, behind_put, carried, tag_in, is_on, is_settled_at, disposed, heard_in, heard, lost_with, behind_event, origin_id, channels_found, sender, forsaken}
 use Rattle.router_laws.specs.Decided.{is_for_good, GivenByConsumer, Decides, Decided, IsByConsumer, DecidedByConsumer}
 use Rattle.router_laws.specs.Decided.Decides.{given_by_consumer, link_lost, link_ended, sent_settled}
 use Rattle.router_conns.proofs.Lists.{by_test}
@@ -46,9 +46,9 @@ choice D false d e f first second = second refl
 -- ends of links
 
 origin_outcome : (gone : Attachment → Bool) (d : Delivery) → (behind_origin gone d).outcome ≡ d.outcome
-origin_outcome gone d = by (is_gone_with gone (source d))
+origin_outcome gone d = by (is_gone_with gone (sender d))
   where
-    by : (b : Bool) → (if b then untold d else d).outcome ≡ d.outcome
+    by : (b : Bool) → (if b then forsaken d else d).outcome ≡ d.outcome
     by true = refl
     by false = refl
 
@@ -165,11 +165,11 @@ meant_is x (Some id) h = (id, refl, h)
 
 consumer_gives : (s : Step) (t : List Entry) (n : ℕ) (d : Delivery) (conn : ConnectionId) (channel : ℕ) (x : Disposition) (payload : List ℕ) (outcome : DeliveryState)
     → s.event ≡ event.Item conn (item.Frame false channel (perf.Disposition x) payload) → x.role ≡ Receiver
-    → is_on d.link conn.0 (theirs t conn.0 channel) ≡ true
+    → is_on d.link conn.0 (channels_found t conn.0 channel) ≡ true
     → (is_undecided d && is_meant x d.id && is_named d.id (named t conn.0 d.link.channel) n) ≡ true
     → decision x.settled (terminal x.state) ≡ Some outcome → GivenByConsumer (Did s) t n d outcome
 consumer_gives s t n d conn channel x payload outcome came role here tests gives =
-    let place = both_true (d.link.conn.0 == conn.0) (maps (theirs t conn.0 channel) d.link.channel) here
+    let place = both_true (d.link.conn.0 == conn.0) (maps (channels_found t conn.0 channel) d.link.channel) here
     in let outer = both_true (is_undecided d && is_meant x d.id) (is_named d.id (named t conn.0 d.link.channel) n) tests
     in let inner = both_true (is_undecided d) (is_meant x d.id) outer.0
     in let meant = meant_is x d.id inner.1
@@ -187,7 +187,7 @@ consumer_gives s t n d conn channel x payload outcome came role here tests gives
       came = came;
       receiver = role;
       on_connection = on_connection;
-      on_session = maps_is (theirs t conn.0 channel) d.link.channel place.1;
+      on_session = maps_is (channels_found t conn.0 channel) d.link.channel place.1;
       has_id = meant.1;
       in_its_range = meant.2;
       id_names_it = subst (λ (c : ℕ). named t c d.link.channel meant.0 ≡ Some n) on_connection (number_is (named t conn.0 d.link.channel meant.0) n names);
@@ -197,16 +197,16 @@ consumer_gives s t n d conn channel x payload outcome came role here tests gives
 
 disposed_from : (s : Step) (t : List Entry) (n : ℕ) (d : Delivery) (conn : ConnectionId) (channel : ℕ) (x : Disposition) (payload : List ℕ)
     → s.event ≡ event.Item conn (item.Frame false channel (perf.Disposition x) payload) → (role : Role) → x.role ≡ role
-    → From (Now (Did s) t n d) d (disposed role x conn.0 (theirs t conn.0 channel) (named t conn.0 d.link.channel) n d)
+    → From (Now (Did s) t n d) d (disposed role x conn.0 (channels_found t conn.0 channel) (named t conn.0 d.link.channel) n d)
 disposed_from s t n d conn channel x payload came Receiver role =
-    choice (Now (Did s) t n d) (is_on d.link conn.0 (theirs t conn.0 channel)) d (decided x (named t conn.0 d.link.channel) n d) d
+    choice (Now (Did s) t n d) (is_on d.link conn.0 (channels_found t conn.0 channel)) d (decided x (named t conn.0 d.link.channel) n d) d
     (λ here. choice (Now (Did s) t n d) (is_undecided d && is_meant x d.id && is_named d.id (named t conn.0 d.link.channel) n) d
     (record d { outcome = decision x.settled (terminal x.state) }) d
     (λ tests outcome gives. inr (given_by_consumer (consumer_gives s t n d conn channel x payload outcome came role here tests gives)))
     (λ e. was_there _ d))
     (λ e. was_there _ d)
 disposed_from s t n d conn channel x payload came Sender role =
-    λ outcome h. inl (sym (untold_outcome (is_settled_at x conn.0 (theirs t conn.0 channel) (source d))) ∙ h)
+    λ outcome h. inl (sym (untold_outcome (is_settled_at x conn.0 (channels_found t conn.0 channel) (source d))) ∙ h)
   where
     untold_outcome : (b : Bool) → (if b then untold d else d).outcome ≡ d.outcome
     untold_outcome true = refl
@@ -214,17 +214,17 @@ disposed_from s t n d conn channel x payload came Sender role =
 
 heard_perf : (s : Step) (t : List Entry) (n : ℕ) (d : Delivery) (conn : ConnectionId) (channel : ℕ) (body : Perf) (payload : List ℕ)
     → s.event ≡ event.Item conn (item.Frame false channel body payload)
-    → From (Now (Did s) t n d) d (heard_in body conn.0 (theirs t conn.0 channel) (named t conn.0) n d)
+    → From (Now (Did s) t n d) d (heard_in body conn.0 (channels_found t conn.0 channel) (named t conn.0) n d)
 heard_perf s t n d conn channel (perf.Disposition x) payload came = disposed_from s t n d conn channel x payload came x.role refl
 heard_perf s t n d conn channel _ payload came = was_there _ d
 
 heard_from : (s : Step) (t : List Entry) (n : ℕ) (d : Delivery) (conn : ConnectionId) (i : Item) → s.event ≡ event.Item conn i
-    → From (Now (Did s) t n d) d (heard i conn.0 (theirs t conn.0) (named t conn.0) n d)
+    → From (Now (Did s) t n d) d (heard i conn.0 (channels_found t conn.0) (named t conn.0) n d)
 heard_from s t n d conn (item.Frame true channel body payload) came = was_there _ d
 heard_from s t n d conn (item.Frame false channel body payload) came = heard_perf s t n d conn channel body payload came
 heard_from s t n d conn _ came = was_there _ d
 
-event_from : (s : Step) (t : List Entry) (n : ℕ) (d : Delivery) (e : Event) → s.event ≡ e → From (Now (Did s) t n d) d (behind_event e (theirs t) (named t) n d)
+event_from : (s : Step) (t : List Entry) (n : ℕ) (d : Delivery) (e : Event) → s.event ≡ e → From (Now (Did s) t n d) d (behind_event e (channels_found t) (named t) n d)
 event_from s t n d (event.Item c i) is = heard_from s t n d c i is
 event_from s t n d (event.Down c) is =
     ends_from (Now (Did s) t n d) false (lost_with c.0) d
@@ -263,7 +263,7 @@ either_decided x t n d s there was (inr now) = now_decided x t n d s there now
 pub outcomes_given : (u : List Entry) (n : ℕ) (d : Delivery) (s : DeliveryState) → delivery u n ≡ Some d → d.outcome ≡ Some s → Decided u n s
 outcomes_given [] n d s h e = absurd cc
 outcomes_given (Did x ∷ t) n d s h e =
-    let was = of_what (behind_event x.event (theirs t) (named t) n) (delivery t n) d h
+    let was = of_what (behind_event x.event (channels_found t) (named t) n) (delivery t n) d h
     in either_decided (Did x) t n was.0 s was.1 (outcomes_given t n was.0 s was.1)
     (event_from x t n was.0 x.event refl s (sym (ap (λ (f : Delivery). f.outcome) was.2) ∙ e))
 outcomes_given (Out c i ∷ t) n d s h e =
@@ -271,7 +271,7 @@ outcomes_given (Out c i ∷ t) n d s h e =
     in either_decided (Out c i) t n was.0 s was.1 (outcomes_given t n was.0 s was.1)
     (put_from c i t n was.0 s (sym (ap (λ (f : Delivery). f.outcome) was.2) ∙ e))
 outcomes_given (Took c k ∷ t) n d s h e = later_decided (Took c k) t n s (outcomes_given t n d s h e)
-outcomes_given (Booked acts ∷ t) n d s h e = later_decided (Booked acts) t n s (outcomes_given t n d s h e)
+outcomes_given (Booked acts full ∷ t) n d s h e = later_decided (Booked acts full) t n s (outcomes_given t n d s h e)
 outcomes_given (Began g ∷ t) n d s h e = later_decided (Began g) t n s (outcomes_given t n d s h e)
 outcomes_given (Bound b ∷ t) n d s h e =
     by_test (bindings t + 1 == n)

@@ -53,17 +53,17 @@ Before (Did s ∷ t) = Before t
 Before (Out c i ∷ t) = Before t
 Before (Took c k ∷ t) = Unit {0}
 Before (Bound b ∷ t) = Unit {0}
-Before (Booked acts ∷ t) = AllRowsOnce t
+Before (Booked acts full ∷ t) = AllRowsOnce t
 Before (Began g ∷ t) = Unit {0}
 
-before_acts : (u : List Entry) (h : Handled) (acts : List Act) (t : List Entry) → just_handled u ≡ Some h → h.found ≡ Booked acts ∷ t → Before u → AllRowsOnce t
-before_acts [] h acts t just is before = absurd (none_not_some just)
-before_acts (Did s ∷ w) h acts t just is before = subst (λ (v : List Entry). Before v) (ap (λ (k : Handled). k.found) (some_same just) ∙ is) before
-before_acts (Out c i ∷ w) h acts t just is before = before_acts w h acts t just is before
-before_acts (Took c k ∷ w) h acts t just is before = absurd (none_not_some just)
-before_acts (Bound b ∷ w) h acts t just is before = absurd (none_not_some just)
-before_acts (Booked x ∷ w) h acts t just is before = absurd (none_not_some just)
-before_acts (Began g ∷ w) h acts t just is before = absurd (none_not_some just)
+before_acts : (u : List Entry) (h : Handled) (acts : List Act) (full : List ℕ) (t : List Entry) → just_handled u ≡ Some h → h.found ≡ Booked acts full ∷ t → Before u → AllRowsOnce t
+before_acts [] h acts full t just is before = absurd (none_not_some just)
+before_acts (Did s ∷ w) h acts full t just is before = subst (λ (v : List Entry). Before v) (ap (λ (k : Handled). k.found) (some_same just) ∙ is) before
+before_acts (Out c i ∷ w) h acts full t just is before = before_acts w h acts full t just is before
+before_acts (Took c k ∷ w) h acts full t just is before = absurd (none_not_some just)
+before_acts (Bound b ∷ w) h acts full t just is before = absurd (none_not_some just)
+before_acts (Booked x more ∷ w) h acts full t just is before = absurd (none_not_some just)
+before_acts (Began g ∷ w) h acts full t just is before = absurd (none_not_some just)
 
 -- nothing is bound since then, and nothing done to the book
 pub record Since (u v : List Entry) (n : ℕ) : Type 0 where
@@ -78,7 +78,7 @@ since (Did s ∷ w) h n just =
 since (Out c i ∷ w) h n just = let was = since w h n just in record { times = was.times; book = was.book }
 since (Took c k ∷ w) h n just = absurd (none_not_some just)
 since (Bound b ∷ w) h n just = absurd (none_not_some just)
-since (Booked x ∷ w) h n just = absurd (none_not_some just)
+since (Booked x full ∷ w) h n just = absurd (none_not_some just)
 since (Began g ∷ w) h n just = absurd (none_not_some just)
 
 next_behind : (b : BookView) (x : Admission) → (effects b (Admit x ∷ [])).next_row ≡ b.next_row + 1
@@ -89,7 +89,7 @@ next_behind b x = refl
 new_once : (u : List Entry) (b : Binding) (row : RowNumber) → IsAdmitted u b row → Before u → (times_bound u row.0 ≡ 0) × ((book_in u).next_row ≡ row.0 + 1)
 new_once u b row is before =
     let acts : List Act = Admit is.admission ∷ [] in
-    let all : AllRowsOnce is.before = before_acts u is.came.handled acts is.before is.came.just is.acts before in
+    let all : AllRowsOnce is.before = before_acts u is.came.handled acts is.full is.before is.came.just is.acts before in
     let sofar : Since u is.came.handled.found row.0 = since u is.came.handled row.0 is.came.just in (
       sofar.times ∙ ap (λ (v : List Entry). times_bound v row.0) is.acts ∙ (all row.0).known (at_most row.0 (book_in is.before).next_row is.is_next),
       ap (λ (c : BookView). c.next_row) (sofar.book ∙ ap book_in is.acts) ∙ next_behind (book_in is.before) is.admission ∙ ap (λ (k : ℕ). k + 1) (sym is.is_next),
@@ -132,7 +132,7 @@ bound_once u b (Some row) its is all before n = by_test (row.0 == n) same apart
         none : (k : ℕ) → k ≡ 0 → k + 0 ≡ 0
         none k h = omega (arith, h)
 
-batch_once : (acts : List Act) (t : List Entry) → AllRowsOnce t → AllRowsOnce (Booked acts ∷ t)
+batch_once : (acts : List Act) {full : List ℕ} (t : List Entry) → AllRowsOnce t → AllRowsOnce (Booked acts full ∷ t)
 batch_once acts t all n = record { once = (all n).once; known = λ h. (all n).known (below (rises acts (book_in t)) h) }
   where
     below : {j k n : ℕ} → j ≤ k → k ≤ n → j ≤ n
@@ -160,7 +160,7 @@ out_rows c i t was = record { admitted = was.admitted; once = λ n. record { onc
 pub took_rows : (c k : ℕ) (t : List Entry) → Rows t → Rows (Took c k ∷ t)
 took_rows c k t was = record { admitted = was.admitted; once = λ n. record { once = (was.once n).once; known = (was.once n).known }; before = tt }
 
-batch_rows : (t : List Entry) (acts : List Act) → Rows t → Rows (Booked acts ∷ t)
+batch_rows : (t : List Entry) (acts : List Act) {full : List ℕ} → Rows t → Rows (Booked acts full ∷ t)
 batch_rows t acts was = record { admitted = was.admitted; once = batch_once acts t was.once; before = was.once }
 
 bound_rows : (u : List Entry) (b : Option Binding) → ((x : Binding) → b ≡ Some x → RowIsAdmitted u x) → Rows u → Rows (with_bound b u)
@@ -181,7 +181,7 @@ pub handled_rows : (id : List ℕ) (t : List Entry) (s : Step) → Rows t → Ro
 handled_rows id t s was =
     let at : List Entry = booked t s.event in
     let u : List Entry = heard id at s in
-    let came : Rows u = ends_rows id (due t s.event) (Did s ∷ at) (did_rows s at (booked_keeps Rows t s.event (batch_rows t) was)) in
+    let came : Rows u = ends_rows id (due t s.event) (Did s ∷ at) (did_rows s at (booked_keeps Rows t s.event (λ acts w. batch_rows t acts w) was)) in
     let bound : Rows (with_bound (bound_by at u s.event) u) = bound_rows u (bound_by at u s.event) (λ x is. bound_row id t s.event x is) came in
     all_keep Rows goes_rows (replied id at s) (goes_rows (own_row id at u s.event) (with_bound (bound_by at u s.event) u) bound)
 

@@ -40,7 +40,7 @@ did_sound s t sound = record { carries = sound.carries; tells = sound.tells; bin
 pub took_sound : (c n : ℕ) (t : List Entry) → Sound t → Sound (Took c n ∷ t)
 took_sound c n t sound = record { carries = sound.carries; tells = sound.tells; binds = sound.binds; unstarted = sound.unstarted }
 
-pub batch_sound : (t : List Entry) (acts : List Act) → Sound t → Sound (Booked acts ∷ t)
+pub batch_sound : (t : List Entry) (acts : List Act) {full : List ℕ} → Sound t → Sound (Booked acts full ∷ t)
 batch_sound t acts sound = record { carries = sound.carries; tells = sound.tells; binds = sound.binds; unstarted = sound.unstarted }
 
 pub bound_sound : (b : Binding) (t : List Entry) → BindsMessage t b → Sound t → Sound (Bound b ∷ t)

@@ -456,7 +456,7 @@ took_standing c k t was = record {
   producers = was.producers;
 }
 
-pub booked_standing : (t : List Entry) (acts : List Act) → Standing t → Standing (Booked acts ∷ t)
+pub booked_standing : (t : List Entry) (acts : List Act) {full : List ℕ} → Standing t → Standing (Booked acts full ∷ t)
 booked_standing t acts was = record {
   answered = was.answered;
   keys = was.keys;

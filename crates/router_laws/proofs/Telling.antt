@@ -12,8 +12,7 @@ use Rattle.amqp_frames.specs.declared.item.Item.TheVariants as item
 use Rattle.router_trace.specs.declared.binding.DeliveryName.{DeliveryName}
 use Rattle.router_trace.specs.declared.binding.Origin.{Origin}
 use Rattle.router_trace.specs.Trace.{Entry, Did, Out, Took, Bound, Booked, Began}
-use Rattle.router_trace.specs.Deliveries.{Delivery, bindings, name_in, same_name, number_named, unless_called, delivery, sending, named, unless_over, either_origin, source, untold, unsettled, told, is_meant, last_of, origin_id, ended_by, behind_put, behind_event}
-use Rattle.router_trace.specs.Sessions.{theirs}
+use Rattle.router_trace.specs.Deliveries.{Delivery, bindings, name_in, same_name, number_named, unless_called, delivery, sending, named, unless_over, either_origin, source, untold, unsettled, told, is_meant, last_of, origin_id, ended_by, behind_put, behind_event, channels_found}
 use Rattle.amqp_session.specs.Serials.{distance}
 use Rattle.amqp_session.specs.Ranges.{in_range}
 use Rattle.router_laws.specs.OneConsumer.{IsOrNone, WhileThere}
@@ -34,6 +33,7 @@ stays_left = record {
   same = λ d none. none;
   next = λ d e f first rest none. rest (first none);
   untold = λ d none. refl;
+  forsaken = λ d none. refl;
   unsettled = λ d none. refl;
   ended = λ d none. none;
   suspended = λ d none. none;
@@ -163,9 +163,9 @@ spent (Began g ∷ t) n = by (spent t n)
     by : Spent t n → Spent (Began g ∷ t) n
     by (inl none) = inl none
     by (inr was) = inr (record { once = was.once; given = was.given; none = was.none })
-spent (Booked acts ∷ t) n = by (spent t n)
+spent (Booked acts full ∷ t) n = by (spent t n)
   where
-    by : Spent t n → Spent (Booked acts ∷ t) n
+    by : Spent t n → Spent (Booked acts full ∷ t) n
     by (inl none) = inl none
     by (inr was) = inr (record { once = was.once; given = was.given; none = was.none })
 spent (Bound b ∷ t) n = by (spent t n)
@@ -222,6 +222,7 @@ was_left c own id = record {
   same = λ d under. under;
   next = λ d e f first rest under. first (rest under);
   untold = λ d under. absurd (none_under id under);
+  forsaken = λ d under. absurd (none_under id under);
   unsettled = λ d under. absurd (none_under id under);
   ended = λ d under. under;
   suspended = λ d under. under;
@@ -247,12 +248,12 @@ uncalled_under c own id name (Some d) none = by (same_name d.name name)
 entry_under : (c own id : ℕ) (e : Entry) (t : List Entry) (n : ℕ) → n ≤ bindings t → WhileThere (NotUnder c own id) (delivery t n)
     → WhileThere (NotUnder c own id) (delivery (e ∷ t) n)
 entry_under c own id (Did s) t n given none =
-    not_under c own id (behind_event s.event (theirs t) (named t) n) (event_left (WasUnder c own id) (was_left c own id) s.event (theirs t) (named t) n) (delivery t n) none
+    not_under c own id (behind_event s.event (channels_found t) (named t) n) (event_left (WasUnder c own id) (was_left c own id) s.event (channels_found t) (named t) n) (delivery t n) none
 entry_under c own id (Out d i) t n given none =
     not_under c own id (behind_put (number_named t) i d n (sending t d)) (item_left (WasUnder c own id) (was_left c own id) (was_frames c own id) (number_named t) i d n (sending t d)) (delivery t n) none
 entry_under c own id (Took d k) t n given none = none
 entry_under c own id (Began g) t n given none = none
-entry_under c own id (Booked acts) t n given none = none
+entry_under c own id (Booked acts full) t n given none = none
 entry_under c own id (Bound b) t n given none =
     by_test (bindings t + 1 == n) (λ e. absurd (too_high n (bindings t) given (eqb-true (bindings t + 1) n e))) (λ e. rw e (uncalled_under c own id (name_in t b) (delivery t n) none))
   where

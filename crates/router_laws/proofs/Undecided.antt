@@ -21,8 +21,7 @@ use Rattle.router_trace.specs.declared.event.Event.TheVariants as event
 use Rattle.router_trace.specs.declared.handle.Attachment.{Attachment}
 use Rattle.router_trace.specs.Trace.{Entry, Did, Out, Step}
 use Rattle.router_trace.specs.Links.{is_lost}
-use Rattle.router_trace.specs.Sessions.{theirs}
-use Rattle.router_trace.specs.Deliveries.{Delivery, number_named, delivery, sending, named, source, untold, unsettled, failed, is_undecided, is_gone_with, behind_origin, behind_ends, ended, decided_at_end, suspended_at_end, closes, ended_by, put_in, behind_put, behind_frame, behind_event, told, is_meant, origin_id, is_number, carried, tag_in, decided, is_on, is_settled_at, disposed, heard_in, heard, lost_with}
+use Rattle.router_trace.specs.Deliveries.{Delivery, number_named, delivery, sending, named, source, untold, unsettled, failed, is_undecided, is_gone_with, behind_origin, behind_ends, ended, decided_at_end, suspended_at_end, closes, ended_by, put_in, behind_put, behind_frame, behind_event, told, is_meant, origin_id, is_number, carried, tag_in, decided, is_on, is_settled_at, disposed, heard_in, heard, lost_with, channels_found, sender, forsaken, either_origin}
 use Rattle.router_laws.proofs.Followed.{Left, Frames, item_left, event_left, Follows, item_follows, event_follows}
 use Rattle.router_laws.proofs.Bindings.{of_what}
 use Rattle.router_laws.proofs.Tests.{none_not_some}
@@ -37,6 +36,7 @@ comes_left = record {
   same = λ d p is. is;
   next = λ d e f first rest p is. first p (rest p is);
   untold = λ d p is. absurd (none_not_some is);
+  forsaken = λ d p is. absurd (none_not_some is);
   unsettled = λ d p is. is;
   ended = λ d p is. is;
   suspended = λ d p is. is;
@@ -79,20 +79,20 @@ clash e = cc
 pub ends_spare : (closed : Bool) (gone : Attachment → Bool) (d : Delivery) → is_undecided (behind_ends closed gone d) ≡ true → gone d.link ≡ false
 ends_spare closed gone d h = by (gone d.link) refl h
   where
-    undone : (b : Bool) (e : Delivery) → is_undecided (if b then untold e else e) ≡ true → is_undecided e ≡ true
+    undone : (b : Bool) (e : Delivery) → is_undecided (if b then forsaken e else e) ≡ true → is_undecided e ≡ true
     undone true e h = h
     undone false e h = h
 
     by : (b : Bool) → gone d.link ≡ b → is_undecided (behind_origin gone (if b then ended closed d else d)) ≡ true → b ≡ false
     by false is h = refl
-    by true is h = absurd (clash (sym (ended_closed closed d) ∙ undone (is_gone_with gone (source (ended closed d))) (ended closed d) h))
+    by true is h = absurd (clash (sym (ended_closed closed d) ∙ undone (is_gone_with gone (sender (ended closed d))) (ended closed d) h))
 
 origin_keeps : (gone : Attachment → Bool) (e : Delivery) (p : Origin) → source (behind_origin gone e) ≡ Some p → gone p.link ≡ false
-origin_keeps gone e p h = by (is_gone_with gone (source e)) refl h
+origin_keeps gone e p h = by (is_gone_with gone (sender e)) refl h
   where
-    by : (b : Bool) → is_gone_with gone (source e) ≡ b → source (if b then untold e else e) ≡ Some p → gone p.link ≡ false
+    by : (b : Bool) → is_gone_with gone (sender e) ≡ b → source (if b then forsaken e else e) ≡ Some p → gone p.link ≡ false
     by true is h = absurd (none_not_some h)
-    by false is h = sym (ap (is_gone_with gone) h) ∙ is
+    by false is h = sym (ap (λ (o : Option Origin). is_gone_with gone (either_origin o e.early)) h) ∙ is
 
 pub ends_keep : (closed : Bool) (gone : Attachment → Bool) (d : Delivery) (p : Origin) → source (behind_ends closed gone d) ≡ Some p → gone p.link ≡ false
 ends_keep closed gone d p h = origin_keeps gone (if gone d.link then ended closed d else d) p h
@@ -142,7 +142,7 @@ Closes f = (d : Delivery) → is_undecided d ≡ false → is_undecided (f d) �
 ends_closed : (closed : Bool) (gone : Attachment → Bool) → Closes (behind_ends closed gone)
 ends_closed closed gone d e =
     let on : is_undecided (if gone d.link then ended closed d else d) ≡ false = either_closed (gone d.link) (ended closed d) d (ended_closed closed d) e in
-    either_closed (is_gone_with gone (source (if gone d.link then ended closed d else d))) (untold (if gone d.link then ended closed d else d)) (if gone d.link then ended closed d else d) on on
+    either_closed (is_gone_with gone (sender (if gone d.link then ended closed d else d))) (forsaken (if gone d.link then ended closed d else d)) (if gone d.link then ended closed d else d) on on
 
 frame_closed : (x : Transfer) (count : ℕ) → Closes (behind_frame x count)
 frame_closed x count d e = by (d.presettled && not x.more)
@@ -223,15 +223,15 @@ open_before f closes d e is open_now = by (is_undecided d) refl
 
 pub was_did : (s : Step) (t : List Entry) (n : ℕ) (e : Delivery) → delivery (Did s ∷ t) n ≡ Some e → Was (lost_by s.event) t n e
 was_did s t n e now =
-    let was = of_what (behind_event s.event (theirs t) (named t) n) (delivery t n) e now
+    let was = of_what (behind_event s.event (channels_found t) (named t) n) (delivery t n) e now
     in record {
       before = was.0;
       there = was.1;
-      follows = subst (λ (f : Delivery). Follows was.0 f) (sym was.2) (event_follows s.event (theirs t) (named t) n was.0);
-      undecided = open_before (behind_event s.event (theirs t) (named t) n) (event_closed s.event (theirs t) (named t) n) was.0 e was.2;
-      comes = subst (λ (f : Delivery). Comes was.0 f) (sym was.2) (event_left Comes comes_left s.event (theirs t) (named t) n was.0);
-      spares = λ h. event_spares s.event (theirs t) (named t) n was.0 (sym (ap is_undecided was.2) ∙ h);
-      keeps = λ p h. event_keeps s.event (theirs t) (named t) n was.0 p (sym (ap source was.2) ∙ h);
+      follows = subst (λ (f : Delivery). Follows was.0 f) (sym was.2) (event_follows s.event (channels_found t) (named t) n was.0);
+      undecided = open_before (behind_event s.event (channels_found t) (named t) n) (event_closed s.event (channels_found t) (named t) n) was.0 e was.2;
+      comes = subst (λ (f : Delivery). Comes was.0 f) (sym was.2) (event_left Comes comes_left s.event (channels_found t) (named t) n was.0);
+      spares = λ h. event_spares s.event (channels_found t) (named t) n was.0 (sym (ap is_undecided was.2) ∙ h);
+      keeps = λ p h. event_keeps s.event (channels_found t) (named t) n was.0 p (sym (ap source was.2) ∙ h);
     }
 
 pub was_out : (c : ℕ) (i : Item) (t : List Entry) (n : ℕ) (e : Delivery) → delivery (Out c i ∷ t) n ≡ Some e → Was (ended_by i c) t n e

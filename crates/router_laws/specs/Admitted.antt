@@ -1,6 +1,6 @@
 -- Durable messages and the book (AMQP 1.0 part 2, sections 2.6.12 and 2.7.5; part 3, sections 3.5.3 to 3.5.5): a message that has a row is bound once the
 -- row is in the book.
-use Rattle.std.specs.Prelude.{◌≡◌, ◌<◌, ◌≤◌, ℕ, ◌+◌, ◌==◌, Bool, false, if◌then◌else◌, [], ◌∷◌, Option, Some, None, unwrap_or}
+use Rattle.std.specs.Prelude.{◌≡◌, ◌<◌, ◌≤◌, ℕ, ◌+◌, ◌==◌, Bool, false, if◌then◌else◌, [], ◌∷◌, Option, Some, None, unwrap_or, List}
 use Rattle.amqp_link.specs.declared.part.Delivery.{Delivery as Told}
 use Rattle.book_core.specs.declared.act.Act.TheVariants.{Admit}
 use Rattle.book_core.specs.declared.act.Admission.{Admission}
@@ -31,7 +31,8 @@ pub record IsAdmitted (t : Trace) (b : Binding) (row : RowNumber) : Type 0 where
   pub came : CameWhole t conn own handle message b.payload
   pub before : Trace
   pub admission : Admission
-  pub acts : came.handled.found ≡ Booked (Admit admission ∷ []) ∷ before
+  pub full : List ℕ
+  pub acts : came.handled.found ≡ Booked (Admit admission ∷ []) full ∷ before
   pub applies : admit_refusal (book_in before) admission ≡ None
   pub number : admission.row ≡ row
   pub is_next : row.0 ≡ (book_in before).next_row
@@ -59,7 +60,7 @@ times_bound (Did s ∷ t) n = times_bound t n
 times_bound (Out c i ∷ t) n = times_bound t n
 times_bound (Took c k ∷ t) n = times_bound t n
 times_bound (Bound b ∷ t) n = times_bound t n + (if is_row b.row n then 1 else 0)
-times_bound (Booked acts ∷ t) n = times_bound t n
+times_bound (Booked acts full ∷ t) n = times_bound t n
 times_bound (Began g ∷ t) n = times_bound t n
 
 -- each row is bound at most once, and none that the book has yet to admit

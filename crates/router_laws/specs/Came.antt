@@ -33,7 +33,7 @@ just_handled (Did s ∷ t) = Some (record { step = s; found = t })
 just_handled (Out c i ∷ t) = just_handled t
 just_handled (Took c n ∷ t) = None
 just_handled (Bound b ∷ t) = None
-just_handled (Booked acts ∷ t) = None
+just_handled (Booked acts full ∷ t) = None
 just_handled (Began g ∷ t) = None
 
 -- how many messages were bound after the last event handled
@@ -43,7 +43,7 @@ bound_since (Did s ∷ t) = 0
 bound_since (Out c i ∷ t) = bound_since t
 bound_since (Took c n ∷ t) = bound_since t
 bound_since (Bound b ∷ t) = bound_since t + 1
-bound_since (Booked acts ∷ t) = bound_since t
+bound_since (Booked acts full ∷ t) = bound_since t
 bound_since (Began g ∷ t) = bound_since t
 
 -- A message is complete, on a link of a connection on which the peer is the sender, by the router's channel and handle: the frame just received,

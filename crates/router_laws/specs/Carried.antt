@@ -78,7 +78,7 @@ bytes_out (Did s ∷ t) n = bytes_out t n
 bytes_out (Out c i ∷ t) n = bytes_by (number_named t) i n (sending t c) (bytes_out t n)
 bytes_out (Took c k ∷ t) n = bytes_out t n
 bytes_out (Bound b ∷ t) n = bytes_out t n
-bytes_out (Booked acts ∷ t) n = bytes_out t n
+bytes_out (Booked acts full ∷ t) n = bytes_out t n
 bytes_out (Began g ∷ t) n = bytes_out t n
 
 -- It is a beginning of the message that was bound, and after a frame that says that no more are to come it is the whole message.

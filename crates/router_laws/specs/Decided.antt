@@ -15,8 +15,7 @@ use Rattle.router_trace.specs.declared.event.Event.TheVariants as event
 use Rattle.router_trace.specs.declared.channel.PeerChannel.TheVariants.{Mapped}
 use Rattle.router_trace.specs.Trace.{Trace, Entry, Did, Out, Step}
 use Rattle.router_trace.specs.Links.{ends_handle}
-use Rattle.router_trace.specs.Sessions.{theirs}
-use Rattle.router_trace.specs.Deliveries.{Delivery, number_named, delivery, named, terminal, decision, failed, closes, last_of, tag_in, carried, sending}
+use Rattle.router_trace.specs.Deliveries.{Delivery, channels_found, number_named, delivery, named, terminal, decision, failed, closes, last_of, tag_in, carried, sending}
 
 -- Its consumer gave it: a disposition was received, as a receiver's, on the link's session; the delivery's id is in its range, and
 -- names this delivery; the outcome is its state if that is terminal, and modified with delivery-failed if it settles without one.
@@ -31,7 +30,7 @@ pub record GivenByConsumer (entry : Entry) (t : Trace) (n : ℕ) (d : Delivery) 
   pub came : step.event ≡ event.Item conn (item.Frame false channel (perf.Disposition disposition) payload)
   pub receiver : disposition.role ≡ Receiver
   pub on_connection : conn.0 ≡ d.link.conn.0
-  pub on_session : theirs t conn.0 channel ≡ Some (Mapped d.link.channel)
+  pub on_session : channels_found t conn.0 channel ≡ Some (Mapped d.link.channel)
   pub has_id : d.id ≡ Some id
   pub in_its_range : in_range disposition.first (last_of disposition) id ≡ true
   pub id_names_it : named t d.link.conn.0 d.link.channel id ≡ Some n

@@ -11,7 +11,7 @@ EachOut P (Did s ∷ t) = EachOut P t
 EachOut P (Out c i ∷ t) = P t c i × EachOut P t
 EachOut P (Took c n ∷ t) = EachOut P t
 EachOut P (Bound b ∷ t) = EachOut P t
-EachOut P (Booked acts ∷ t) = EachOut P t
+EachOut P (Booked acts full ∷ t) = EachOut P t
 EachOut P (Began g ∷ t) = EachOut P t
 
 abbrev pub EachBound : (Trace → Binding → Type 0) → Trace → Type 0
@@ -20,5 +20,5 @@ EachBound P (Did s ∷ t) = EachBound P t
 EachBound P (Out c i ∷ t) = EachBound P t
 EachBound P (Took c n ∷ t) = EachBound P t
 EachBound P (Bound b ∷ t) = P t b × EachBound P t
-EachBound P (Booked acts ∷ t) = EachBound P t
+EachBound P (Booked acts full ∷ t) = EachBound P t
 EachBound P (Began g ∷ t) = EachBound P t

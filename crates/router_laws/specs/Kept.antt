@@ -68,7 +68,7 @@ times_decided (Did s ∷ t) n = times_decided t n
 times_decided (Out c i ∷ t) n = times_decided t n
 times_decided (Took c k ∷ t) n = times_decided t n
 times_decided (Bound b ∷ t) n = times_decided t n
-times_decided (Booked acts ∷ t) n = times_decided t n + times_in acts n
+times_decided (Booked acts full ∷ t) n = times_decided t n + times_in acts n
 times_decided (Began g ∷ t) n = times_decided t n
 
 -- Each row is decided at most once: not as long as it may still be decided, and not if it might not when the router was opened.

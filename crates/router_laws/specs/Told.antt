@@ -44,7 +44,7 @@ tellings (Did s ∷ t) n = tellings t n
 tellings (Out c i ∷ t) n = tellings t n + (if tells i c (delivery t n) then 1 else 0)
 tellings (Took c k ∷ t) n = tellings t n
 tellings (Bound b ∷ t) n = tellings t n
-tellings (Booked acts ∷ t) n = tellings t n
+tellings (Booked acts full ∷ t) n = tellings t n
 tellings (Began g ∷ t) n = tellings t n
 
 -- at most once, whatever happens

@@ -49,7 +49,7 @@ old_key (Did s ∷ t) k a e = old_key t k a e
 old_key (Out d i ∷ t) k a e = bound_by i d (attachments t) (λ x. same_key (key_at t d x) k) (last_of_key t k) a (old_key t k) e
 old_key (Took d n ∷ t) k a e = old_key t k a e
 old_key (Bound b ∷ t) k a e = old_key t k a e
-old_key (Booked acts ∷ t) k a e = old_key t k a e
+old_key (Booked acts full ∷ t) k a e = old_key t k a e
 old_key (Began g ∷ t) k a e = old_key t k a e
 
 pub old_number : (t : Trace) (m : ℕ) (a : Attachment) → numbered t m ≡ Some a → a.number ≤ attachments t
@@ -58,7 +58,7 @@ old_number (Did s ∷ t) m a e = old_number t m a e
 old_number (Out d i ∷ t) m a e = bound_by i d (attachments t) (λ x. attachments t + 1 == m) (numbered t m) a (old_number t m) e
 old_number (Took d n ∷ t) m a e = old_number t m a e
 old_number (Bound b ∷ t) m a e = old_number t m a e
-old_number (Booked acts ∷ t) m a e = old_number t m a e
+old_number (Booked acts full ∷ t) m a e = old_number t m a e
 old_number (Began g ∷ t) m a e = old_number t m a e
 
 -- an item that takes no link doesn't change the newest

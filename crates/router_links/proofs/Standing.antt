@@ -87,7 +87,7 @@ stands_where (Did s ∷ t) c o h n e =
     stands_where t c o h n (contra (has_number n (link t c o h)) _ (event_stays n s.event c o h (theirs t c) (their_handle t c o) (link t c o h)) e)
 stands_where (Took d k ∷ t) c o h n e = stands_where t c o h n e
 stands_where (Bound b ∷ t) c o h n e = stands_where t c o h n e
-stands_where (Booked acts ∷ t) c o h n e = stands_where t c o h n e
+stands_where (Booked acts full ∷ t) c o h n e = stands_where t c o h n e
 stands_where (Began g ∷ t) c o h n e = stands_where t c o h n e
 stands_where (Out d i ∷ t) c o h n e = by_new (attachments t + 1 == n) refl (stands_where t c o h n)
   where

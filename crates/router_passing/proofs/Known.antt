@@ -1,5 +1,5 @@
 -- What the pools know of the links, after a change of the tables.
-use Rattle.std.proofs.Common.{◌≡◌, ◌∙◌, ◌+◌, ℕ, zero, suc, Bool, false, refl, sym, ap, subst, Option, Some, None, List, ◌∷◌, arith}
+use Rattle.std.proofs.Common.{◌≡◌, ◌∙◌, ◌+◌, ◌<◌, ◌≤◌, ◌⊎◌, inl, inr, ⊎_elim, ℕ, zero, suc, Bool, true, false, refl, sym, ap, subst, Option, Some, None, List, ◌∷◌, arith}
 use Rattle.std.specs.Prelude.{◌==◌, if◌then◌else◌, option_map}
 use Rattle.std.specs.Ordering.{nat_cmp}
 use Rattle.std.specs.BTreeMap.{get}
@@ -11,7 +11,7 @@ use Rattle.book_core.specs.Keys.{key_cmp}
 use Rattle.router_trace.specs.declared.event.Event.{Event}
 use Rattle.router_trace.specs.declared.handle.Attachment.{Attachment}
 use Rattle.router_trace.specs.Configuration.{distribution}
-use Rattle.router_trace.specs.Links.{if_attached, last_of_key, numbered}
+use Rattle.router_trace.specs.Links.{attachments, if_attached, last_of_key, numbered}
 use Rattle.router_trace.specs.Trace.{Trace, Out, Bound, did}
 use Rattle.router_trace.specs.declared.binding.Binding.{Binding}
 use Rattle.router_trace.specs.declared.binding.Origin.{Origin}
@@ -28,35 +28,40 @@ use Rattle.router_links.specs.Fits.{LinksFit, channel_of as of_links}
 use Rattle.router_links.specs.Naming.{Remembers}
 use Rattle.router_links.specs.Touching as links
 use Rattle.route_table.specs.declared.sections.Distribution.{Distribution}
-use Rattle.route_credit.specs.Pool.{remembered}
 use Rattle.router_pools.specs.declared.pools.Pools.{Pools}
-use Rattle.router_pools.specs.Fits.{pool_at, PoolsFit}
+use Rattle.router_pools.specs.Fits.{HasNoted, offers, pool_at, PoolsFit}
 use Rattle.router_pools.specs.Sharing.{Figure, demand_at, offer_at}
 use Rattle.router_passing.specs.declared.passing.Passing.{Passing}
 use Rattle.router_passing.specs.Figures.{figure}
 use Rattle.router_passing.specs.Fits.{IsTold, NotedFit, PassingFit, PoolsKnow, Untouched}
 use Rattle.router_passing.specs.Passing.{binding_to, last_behind, last_chosen, lasts, with_bound}
+use Rattle.router_passing.proofs.Rising.{Rises, entry_counts, entry_rises}
 use Rattle.router_passing.proofs.Seen.{by_test, figure_same}
 
--- Equal functions serve the pools as well.
-pub exchanged : (s : Pools) (share shares : List ℕ → Distribution) (known other : ℕ → Option Figure) (last now : List ℕ → ℕ) → ((a : List ℕ) → shares a ≡ share a)
-    → ((n : ℕ) → other n ≡ known n) → ((a : List ℕ) → now a ≡ last a) → PoolsFit s share known last → PoolsFit s shares other now
-exchanged s share shares known other last now alike same chosen fits = record {
+-- a consumer stood where it stands now, or its number is above the one chosen last there
+abbrev pub Later : (ℕ → Option Figure) → (ℕ → Option Figure) → (List ℕ → ℕ) → Type 0
+Later actual really last = (n : ℕ) (a : List ℕ) → offers (really n) a ≡ true → (offers (actual n) a ≡ true) ⊎ (last a < n)
+
+-- Equal functions serve the pools as well, and links that are gone or have come since.
+pub exchanged : (s : Pools) (share shares : List ℕ → Distribution) (known other actual really : ℕ → Option Figure) (last now : List ℕ → ℕ) → ((a : List ℕ) → shares a ≡ share a)
+    → ((n : ℕ) → other n ≡ known n) → Later actual really last → ((a : List ℕ) → now a ≡ last a) → PoolsFit s share known actual last → PoolsFit s shares other really now
+exchanged s share shares known other actual really last now alike same come chosen fits = record {
   consumers = λ n a is. fits.consumers n a is ∙ ap (offer_at a) (sym (same n));
   producers = λ n a is. fits.producers n a is ∙ ap (demand_at a) (sym (same n));
   no_consumer = fits.no_consumer;
   no_producer = fits.no_producer;
   same = λ a. fits.same a ∙ sym (alike a);
   distribution = λ a. fits.distribution a ∙ sym (alike a);
-  chosen = λ a. ap (λ d. remembered d (pool_at s a).last) (alike a) ∙ fits.chosen a ∙ sym (ap (λ d. remembered d (last a)) (alike a)) ∙ sym (ap (remembered (shares a)) (chosen a));
+  chosen = λ a. subst (λ k. HasNoted (pool_at s a) k) (sym (chosen a)) (fits.chosen a);
+  later = λ n a none comes. subst (λ k. k < n) (sym (chosen a)) (⊎_elim (λ e. fits.later n a none e) (λ above. above) (come n a comes));
   consumers_rise = fits.consumers_rise;
   producers_rise = fits.producers_rise;
   quiet = fits.quiet;
 }
 
 -- once they were told of all links, the pools know all
-pub all_known : (s : Passing) (t : Trace) (last : List ℕ → ℕ) → Untouched s → PoolsKnow s t last → PoolsFit s.pools (distribution t) (figure t) last
-all_known s t last none know = exchanged s.pools (distribution t) (distribution t) know.known (figure t) last last (λ a. refl) (λ n. sym (know.same n (none.links n) (none.deliveries n))) (λ a. refl) know.fits
+pub all_known : (s : Passing) (t : Trace) (last : List ℕ → ℕ) → Untouched s → PoolsKnow s t last → PoolsFit s.pools (distribution t) (figure t) (figure t) last
+all_known s t last none know = exchanged s.pools (distribution t) (distribution t) know.known (figure t) (figure t) (figure t) last last (λ a. refl) (λ n. sym (know.same n (none.links n) (none.deliveries n))) (λ n a e. inl e) (λ a. refl) know.fits
 
 -- Equal tests have equal counts of deliveries.
 pub count_alike : (b : ℕ) (p q : ℕ → Bool) → ((n : ℕ) → p n ≡ q n) → count_below b p ≡ count_below b q
@@ -76,10 +81,20 @@ more b q none = let next : b + 1 ≡ suc b = omega arith in
 abbrev pub CountSame : Trace → Trace → Type 0
 CountSame t w = (p : Option Delivery → Bool) → p None ≡ false → ((n : ℕ) → p (delivery t n) ≡ p (delivery w n)) → count_deliveries t p ≡ count_deliveries w p
 
-pub bound_counts : (b : Binding) (t : Trace) → CountSame t (Bound b ∷ t)
-bound_counts b t p none same =
-    count_alike (bindings t + 1) (λ n. p (delivery t n)) (λ n. p (delivery (Bound b ∷ t) n)) same
-    ∙ more (bindings t + 1) (λ n. p (delivery (Bound b ∷ t) n)) (sym (same (bindings t + 1)) ∙ ap p (none_beyond t (bindings t + 1) (omega arith)) ∙ none)
+-- what any step to another trace leaves: such counts, and numbers that only rise
+pub record IsStep (t w : Trace) : Type 0 where
+  pub counts : CountSame t w
+  pub rises : Rises t w
+  pub attached : attachments t ≤ attachments w
+
+pub bound_counts : (b : Binding) (t : Trace) → IsStep t (Bound b ∷ t)
+bound_counts b t = record {
+  counts = λ p none same.
+      count_alike (bindings t + 1) (λ n. p (delivery t n)) (λ n. p (delivery (Bound b ∷ t) n)) same
+      ∙ more (bindings t + 1) (λ n. p (delivery (Bound b ∷ t) n)) (sym (same (bindings t + 1)) ∙ ap p (none_beyond t (bindings t + 1) (omega arith)) ∙ none);
+  rises = entry_rises (Bound b) t;
+  attached = entry_counts (Bound b) t;
+}
 
 -- A link that neither table has touched has the same figure in both.
 pub figures_same : (s u : Links) (d e : Deliveries) (t w : Trace) → LinksFit s t → LinksFit u w → DeliveriesFit d t → DeliveriesFit e w
@@ -93,14 +108,26 @@ figures_same s u d e t w fit fit' stand stand' one other counts n quiet silent =
 
 -- So what the pools know stays true after any change that touches the links that it changes.
 pub knows_still : (s u : Passing) (t w : Trace) (last now : List ℕ → ℕ) → u.pools ≡ s.pools → LinksFit s.links t → LinksFit u.links w → DeliveriesFit s.deliveries t → DeliveriesFit u.deliveries w
-    → links.Touches s.links u.links → deliveries.Touches s.deliveries u.deliveries → CountSame t w
+    → links.Touches s.links u.links → deliveries.Touches s.deliveries u.deliveries → IsStep t w
     → ((a : List ℕ) → distribution w a ≡ distribution t a) → ((a : List ℕ) → now a ≡ last a) → PoolsKnow s t last → PoolsKnow u w now
-knows_still s u t w last now pools fit fit' stand stand' one other counts alike chosen know = record {
+knows_still s u t w last now pools fit fit' stand stand' one other step alike chosen know = record {
   known = know.known;
-  fits = subst (λ p. PoolsFit p (distribution w) know.known now) (sym pools) (exchanged s.pools (distribution t) (distribution w) know.known know.known last now alike (λ n. refl) chosen know.fits);
+  fits = subst (λ p. PoolsFit p (distribution w) know.known (figure w) now) (sym pools)
+      (exchanged s.pools (distribution t) (distribution w) know.known know.known (figure t) (figure w) last now alike (λ n. refl) come chosen know.fits);
   same = λ n quiet silent. know.same n (one.before n quiet) (other.before n silent)
-      ∙ figures_same s.links u.links s.deliveries u.deliveries t w fit fit' stand stand' one other counts n quiet silent;
+      ∙ figures_same s.links u.links s.deliveries u.deliveries t w fit fit' stand stand' one other step.counts n quiet silent;
+  below = λ a.
+      let is : now a ≡ last a = chosen a in
+      let low : last a ≤ attachments t = know.below a in
+      let more : attachments t ≤ attachments w = step.attached in
+      let g : now a ≤ attachments w = omega (arith, is, low, more) in g;
 }
+  where
+    come : Later (figure t) (figure w) last
+    come n a e = ⊎_elim (λ old. inl old) (λ above. inr (over n a above (know.below a))) (step.rises n a e)
+      where
+        over : (n : ℕ) (a : List ℕ) → attachments t < n → last a ≤ attachments t → last a < n
+        over n a above low = omega (arith, above, low)
 
 -- After the pools were told what a link has, its number is forgotten.
 pub knows_told : (s u : Passing) (t : Trace) (last : List ℕ → ℕ) (n : ℕ) → IsTold s.pools u.pools n (figure t n)
@@ -109,11 +136,12 @@ pub knows_told : (s u : Passing) (t : Trace) (last : List ℕ → ℕ) (n : ℕ)
     → PoolsKnow s t last → PoolsKnow u t last
 knows_told s u t last n told quiet silent know = record {
   known = other;
-  fits = told (distribution t) know.known other last know.fits here (λ k e. ap (λ b. if b then figure t k else know.known k) e);
+  fits = told (distribution t) know.known other (figure t) last know.fits here (sym here) (λ k e. ap (λ b. if b then figure t k else know.known k) e);
   same = λ k e f. by_test (n == k)
       (λ is. ap (λ b. if b then figure t k else know.known k) is)
       (λ is. ap (λ b. if b then figure t k else know.known k) is
       ∙ know.same k (sym (quiet k ∙ ap (λ b. if b then false else links.is_touched s.links k) is) ∙ e) (sym (silent k ∙ ap (λ b. if b then false else deliveries.is_touched s.deliveries k) is) ∙ f));
+  below = know.below;
 }
   where
     other : ℕ → Option Figure
@@ -122,21 +150,29 @@ knows_told s u t last n told quiet silent know = record {
     here : other n ≡ figure t n
     here = ap (λ b. if b then figure t n else know.known n) (eq-eqb n n refl)
 
-pub put_counts : (d : ℕ) (i : Item) (t : Trace) → CountSame t (Out d i ∷ t)
-put_counts d i t p none same = count_alike (bindings t + 1) (λ n. p (delivery t n)) (λ n. p (delivery (Out d i ∷ t) n)) same
+pub put_counts : (d : ℕ) (i : Item) (t : Trace) → IsStep t (Out d i ∷ t)
+put_counts d i t = record {
+  counts = λ p none same. count_alike (bindings t + 1) (λ n. p (delivery t n)) (λ n. p (delivery (Out d i ∷ t) n)) same;
+  rises = entry_rises (Out d i) t;
+  attached = entry_counts (Out d i) t;
+}
 
-pub did_counts : (x : Event) (t : Trace) → CountSame t (did x ∷ t)
-did_counts x t p none same = count_alike (bindings t + 1) (λ n. p (delivery t n)) (λ n. p (delivery (did x ∷ t) n)) same
+pub did_counts : (x : Event) (t : Trace) → IsStep t (did x ∷ t)
+did_counts x t = record {
+  counts = λ p none same. count_alike (bindings t + 1) (λ n. p (delivery t n)) (λ n. p (delivery (did x ∷ t) n)) same;
+  rises = entry_rises (did x) t;
+  attached = entry_counts (did x) t;
+}
 
 -- All tables after such a change.
 pub moved : (s u : Passing) (t w : Trace) (last now : List ℕ → ℕ) → u.pools ≡ s.pools → LinksFit u.links w → DeliveriesFit u.deliveries w → ClaimsFit u.claims w
-    → links.Touches s.links u.links → deliveries.Touches s.deliveries u.deliveries → CountSame t w
+    → links.Touches s.links u.links → deliveries.Touches s.deliveries u.deliveries → IsStep t w
     → ((a : List ℕ) → distribution w a ≡ distribution t a) → ((a : List ℕ) → now a ≡ last a) → NotedFit s t last → NotedFit u w now
-moved s u t w last now pools fit stand claimed one other counts alike chosen old = record {
+moved s u t w last now pools fit stand claimed one other step alike chosen old = record {
   links = fit;
   deliveries = stand;
   claims = claimed;
-  pools = knows_still s u t w last now pools old.links fit old.deliveries stand one other counts alike chosen old.pools;
+  pools = knows_still s u t w last now pools old.links fit old.deliveries stand one other step alike chosen old.pools;
 }
 
 -- After the pools were told.

@@ -1,5 +1,6 @@
 pub mod Numbered
 pub mod Seen
+pub mod Rising
 pub mod Known
 pub mod Chosen
 pub mod Granted

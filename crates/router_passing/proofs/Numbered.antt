@@ -39,7 +39,7 @@ number_is (Did s ∷ t) n a e = number_is t n a e
 number_is (Out d i ∷ t) n a e = is_by i d (attachments t + 1) n (numbered t n) a (number_is t n a) e
 number_is (Took d k ∷ t) n a e = number_is t n a e
 number_is (Bound b ∷ t) n a e = number_is t n a e
-number_is (Booked acts ∷ t) n a e = number_is t n a e
+number_is (Booked acts full ∷ t) n a e = number_is t n a e
 number_is (Began g ∷ t) n a e = number_is t n a e
 
 -- no attachment has the number 0
@@ -65,7 +65,7 @@ none_first (Did s ∷ t) = none_first t
 none_first (Out d i ∷ t) = none_by i d (attachments t + 1) 0 (numbered t 0) (not_zero (attachments t)) (none_first t)
 none_first (Took d k ∷ t) = none_first t
 none_first (Bound b ∷ t) = none_first t
-none_first (Booked acts ∷ t) = none_first t
+none_first (Booked acts full ∷ t) = none_first t
 none_first (Began g ∷ t) = none_first t
 
 -- or one above the count

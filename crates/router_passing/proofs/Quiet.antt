@@ -1,5 +1,5 @@
 -- After an entry that doesn't concern links, deliveries and claims their tables are unchanged.
-use Rattle.std.proofs.Common.{◌≡◌, ◌∙◌, ◌+◌, ℕ, refl, sym, ap, subst, List, Option, Some, None, ◌∷◌}
+use Rattle.std.proofs.Common.{◌≡◌, ◌∙◌, ◌+◌, ◌≤◌, arith, ℕ, refl, sym, ap, subst, List, Option, Some, None, ◌∷◌}
 use Rattle.std.specs.Prelude.{if◌then◌else◌}
 use Rattle.std.specs.Ordering.{nat_cmp}
 use Rattle.std.specs.BTreeMap.{get}
@@ -29,7 +29,8 @@ use Rattle.router_links.specs.Naming.{Remembers}
 use Rattle.router_passing.specs.declared.passing.Passing.{Passing}
 use Rattle.router_passing.specs.Fits.{PassingFit}
 use Rattle.router_passing.specs.Passing.{last_chosen}
-use Rattle.router_passing.proofs.Known.{CountSame, count_alike, moved}
+use Rattle.router_passing.proofs.Known.{IsStep, count_alike, moved}
+use Rattle.router_passing.proofs.Rising.{same_rises}
 use Rattle.std.specs.Option.{option_map}
 
 -- two traces agree on links, deliveries and claims, and on the distribution of addresses
@@ -112,10 +113,14 @@ deliveries_quiet s t u q fit = record {
   next_ids = record { ids = λ c o. fit.next_ids.ids c o ∙ sym (q.next_ids c o) };
 }
 
-counts_quiet : (t u : Trace) → IsQuiet t u → CountSame t u
-counts_quiet t u q p none same =
-    count_alike (bindings t + 1) (λ n. p (delivery t n)) (λ n. p (delivery u n)) same
-    ∙ ap (λ b. count_below (b + 1) (λ n. p (delivery u n))) (sym q.bound)
+counts_quiet : (t u : Trace) → IsQuiet t u → IsStep t u
+counts_quiet t u q = record {
+  counts = λ p none same.
+      count_alike (bindings t + 1) (λ n. p (delivery t n)) (λ n. p (delivery u n)) same
+      ∙ ap (λ b. count_below (b + 1) (λ n. p (delivery u n))) (sym q.bound);
+  rises = same_rises t u q.numbers q.links;
+  attached = let is : attachments u ≡ attachments t = q.count in let g : attachments t ≤ attachments u = omega (arith, is) in g;
+}
 
 pub quiet_fits : (s : Passing) (t u : Trace) → IsQuiet t u → PassingFit s t → PassingFit s u
 quiet_fits s t u q old =
@@ -151,10 +156,10 @@ taken_fits s d k t old = quiet_fits s t (Took d k ∷ t) quiet old
       chosen = λ a. refl;
     }
 
-pub booked_fits : (s : Passing) (acts : List Act) (t : Trace) → PassingFit s t → PassingFit s (Booked acts ∷ t)
-booked_fits s acts t old = quiet_fits s t (Booked acts ∷ t) quiet old
+pub booked_fits : (s : Passing) (acts : List Act) (full : List ℕ) (t : Trace) → PassingFit s t → PassingFit s (Booked acts full ∷ t)
+booked_fits s acts full t old = quiet_fits s t (Booked acts full ∷ t) quiet old
   where
-    quiet : IsQuiet t (Booked acts ∷ t)
+    quiet : IsQuiet t (Booked acts full ∷ t)
     quiet = record {
       handle_max = λ c. refl;
       told_max = λ c. refl;

@@ -1,11 +1,12 @@
 -- When links, deliveries, claims and pools agree with a trace.
-use Rattle.std.specs.Prelude.{◌≡◌, ℕ, false, List, Option}
+use Rattle.std.specs.Prelude.{◌≡◌, ◌≤◌, ℕ, false, List, Option}
 use Rattle.route_table.specs.declared.sections.Distribution.{Distribution}
 use Rattle.router_pools.specs.Fits.{AgreeBut, PoolsFit, NoneTouched}
 use Rattle.router_pools.specs.declared.pools.Pools.{Pools}
 use Rattle.router_pools.specs.Sharing.{Figure}
 use Rattle.router_trace.specs.Trace.{Trace}
 use Rattle.router_trace.specs.Configuration.{distribution}
+use Rattle.router_trace.specs.Links.{attachments}
 use Rattle.router_deliveries.specs.Claiming.{ClaimsFit}
 use Rattle.router_deliveries.specs.Fits.{DeliveriesFit}
 use Rattle.router_deliveries.specs.Touching as deliveries
@@ -16,11 +17,12 @@ use Rattle.router_passing.specs.Figures.{figure}
 use Rattle.router_passing.specs.Passing.{last_chosen}
 
 -- The pools know what touched links had before, and what all others have now. Addresses are shared as the configuration says,
--- and these consumers were last chosen.
+-- and these consumers were last chosen; each had attached by then.
 pub record PoolsKnow (s : Passing) (t : Trace) (last : List ℕ → ℕ) : Type 0 where
   pub known : ℕ → Option Figure
-  pub fits : PoolsFit s.pools (distribution t) known last
+  pub fits : PoolsFit s.pools (distribution t) known (figure t) last
   pub same : (n : ℕ) → links.is_touched s.links n ≡ false → deliveries.is_touched s.deliveries n ≡ false → known n ≡ figure t n
+  pub below : (a : List ℕ) → last a ≤ attachments t
 
 -- all tables agree with the trace, and these consumers were last chosen
 pub record NotedFit (s : Passing) (t : Trace) (last : List ℕ → ℕ) : Type 0 where
@@ -41,5 +43,5 @@ pub record Untouched (s : Passing) : Type 0 where
 
 -- the pools are told what a link has now
 abbrev pub IsTold : Pools → Pools → ℕ → Option Figure → Type 0
-IsTold old new number now = (share : List ℕ → Distribution) (known other : ℕ → Option Figure) (last : List ℕ → ℕ) → PoolsFit old share known last → other number ≡ now → AgreeBut number other known
-    → PoolsFit new share other last
+IsTold old new number now = (share : List ℕ → Distribution) (known other actual : ℕ → Option Figure) (last : List ℕ → ℕ) → PoolsFit old share known actual last → other number ≡ now → actual number ≡ other number
+    → AgreeBut number other known → PoolsFit new share other actual last

@@ -154,10 +154,10 @@ impl Passing {
 
 /// The consumer chosen for an address, after the pools were told of all links; it is noted as the last one.
 fn choose_of(pools: &mut Pools, links: &Links, address: &str) -> Option<Attachment>
-    ensures chosen { (t : List Entry) → LinksFit links.now t → NoneTouched pools.old → PoolsFit pools.old (distribution t) (figure t) (last_chosen t)
+    ensures chosen { (t : List Entry) → LinksFit links.now t → NoneTouched pools.old → PoolsFit pools.old (distribution t) (figure t) (figure t) (last_chosen t)
         → result ≡ option_and_then (numbered t) (choice_of t address.now) }
-    ensures fits { (t : List Entry) → LinksFit links.now t → NoneTouched pools.old → PoolsFit pools.old (distribution t) (figure t) (last_chosen t)
-        → PoolsFit pools.new (distribution t) (figure t) (last_behind t result) }
+    ensures fits { (t : List Entry) → LinksFit links.now t → NoneTouched pools.old → PoolsFit pools.old (distribution t) (figure t) (figure t) (last_chosen t)
+        → PoolsFit pools.new (distribution t) (figure t) (figure t) (last_behind t result) }
 {
     match pools.choose(address) {
         None => None,
@@ -167,7 +167,7 @@ fn choose_of(pools: &mut Pools, links: &Links, address: &str) -> Option<Attachme
 
 /// The consumer that would be chosen for an address, after the pools were told of all links.
 fn peek_of(pools: &Pools, links: &Links, address: &str) -> Option<Attachment>
-    ensures { (t : List Entry) → LinksFit links.now t → NoneTouched pools.now → PoolsFit pools.now (distribution t) (figure t) (last_chosen t)
+    ensures { (t : List Entry) → LinksFit links.now t → NoneTouched pools.now → PoolsFit pools.now (distribution t) (figure t) (figure t) (last_chosen t)
         → result ≡ option_and_then (numbered t) (choice_of t address.now) }
 {
     match pools.peek(address) {
@@ -178,8 +178,8 @@ fn peek_of(pools: &Pools, links: &Links, address: &str) -> Option<Attachment>
 
 /// The grants due to the producers of the first address that has any, after the pools were told of all links.
 fn grants_due(alloc: Global, pools: &mut Pools, links: &Links) -> Result<Vec<LinkGrant>, AllocError>
-    ensures due { IfOk result (λ due. (t : List Entry) → LinksFit links.now t → NoneTouched pools.old → PoolsFit pools.old (distribution t) (figure t) (last_chosen t) → due.items ≡ grants t) }
-    ensures fits { OnOk result ((share : List ℕ → Distribution) (known : ℕ → Option Figure) (last : List ℕ → ℕ) → PoolsFit pools.old share known last → PoolsFit pools.new share known last) }
+    ensures due { IfOk result (λ due. (t : List Entry) → LinksFit links.now t → NoneTouched pools.old → PoolsFit pools.old (distribution t) (figure t) (figure t) (last_chosen t) → due.items ≡ grants t) }
+    ensures fits { OnOk result ((share : List ℕ → Distribution) (known actual : ℕ → Option Figure) (last : List ℕ → ℕ) → PoolsFit pools.old share known actual last → PoolsFit pools.new share known actual last) }
 {
     match pools.grants()? {
         None => Ok(Vec::new(alloc)),

@@ -4,6 +4,7 @@ ghost use Rattle.route_table.specs.Places.{FindsAs};
 ghost use Rattle.router_trace.specs.Trace.{Beginning};
 ghost use Rattle.router_trace.specs.Configuration.{beginning};
 ghost use Rattle.router_trace.specs.Trace.{Entry, Out, did};
+ghost use Rattle.router_trace.specs.Deliveries.{channels_found};
 ghost use Rattle.router_trace.specs.Sessions.{is_channel, maps, theirs};
 ghost use Rattle.router_trace.specs.Settling.{part_at};
 ghost use Rattle.router_trace.specs.declared.event.Event.TheVariants as event;
@@ -79,20 +80,23 @@ impl Passing {
         Ok(())
     }
 
-    /// An item was received on a connection; `own` is the router's channel of its session, if it has one. Returns what a transfer makes of its delivery.
+    /// An item was received on a connection; `own` is the router's channel of its session, if it has one, and `found` the same, unless the event
+    /// ended the connection first. Returns what a transfer makes of its delivery.
     pub fn hear(
         &mut self,
         conn: ConnectionId,
         own: Option<u16>,
+        found: Option<u16>,
         item: &Item,
     ) -> Result<Option<Part>, AllocError>
         ensures part { IfOk result (λ part. (t : List Entry) → PassingFit self.old t → part ≡ part_at t conn.0 own item.now) }
         ensures fits { OnOk result ((t : List Entry) → ((o : ℕ) → is_channel own o ≡ maps (theirs t conn.0 (channel_of item.now)) o)
+            → ((o : ℕ) → is_channel found o ≡ maps (channels_found t conn.0 (channel_of item.now)) o)
             → PassingFit self.old t → PassingFit self.new (did (event.Item conn item.now) ∷ t)) }
     {
-        let found = receiving(&self.links, conn.0, own, item);
-        self.claims.hear(conn, own, item, found)?;
-        self.deliveries.hear(conn, own, item)?;
+        let link = receiving(&self.links, conn.0, own, item);
+        self.claims.hear(conn, own, item, link)?;
+        self.deliveries.hear(conn, found, item)?;
         let part = self.links.hear(conn, own, item)?;
         Ok(part)
     }

@@ -32,7 +32,7 @@ room_calm (Did s ∷ t) room = (room.0, room_calm t room.1)
 room_calm (Out c i ∷ t) room = room_calm t room
 room_calm (Took c n ∷ t) room = room_calm t room
 room_calm (Bound b ∷ t) room = room_calm t room
-room_calm (Booked acts ∷ t) room = room_calm t room
+room_calm (Booked acts full ∷ t) room = room_calm t room
 room_calm (Began g ∷ t) room = room_calm t room
 
 -- the state before
@@ -85,7 +85,7 @@ same_newest (Did s ∷ t) = ap (newer s.event) (same_newest t)
 same_newest (Out c i ∷ t) = same_newest t
 same_newest (Took c n ∷ t) = same_newest t
 same_newest (Bound b ∷ t) = same_newest t
-same_newest (Booked acts ∷ t) = same_newest t
+same_newest (Booked acts full ∷ t) = same_newest t
 same_newest (Began g ∷ t) = same_newest t
 
 pub same_refused : (t : List Entry) (e : Event) → Calm t → refuses t e ≡ plain_refuses (untaken t) e

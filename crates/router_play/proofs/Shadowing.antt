@@ -287,7 +287,7 @@ plays_shadows (x ∷ xs) s p u plays calm h =
 -- from the opening on
 
 abbrev pub first : Settings → Course
-first config = record { id = config.router_id; config = config; trace = did event.Start ∷ Booked [] ∷ beginning (new_router config); last = None; spots = λ c. None }
+first config = record { id = config.router_id; config = config; trace = did event.Start ∷ Booked [] [] ∷ beginning (new_router config); last = None; spots = λ c. None }
 
 pub play_course : (config : Settings) (xs : List Step) (u : Scene) → Plays xs (opening config) u → Calm u.trace → untaken u.trace ≡ (course xs (first config)).trace
 play_course config xs u plays calm = (plays_shadows xs (opening config) (first config) u plays calm (record {

@@ -33,7 +33,7 @@ was_lost (Did s ∷ t) c = is_loss_of s.event c || was_lost t c
 was_lost (Out d i ∷ t) c = was_lost t c
 was_lost (Took d n ∷ t) c = was_lost t c
 was_lost (Bound b ∷ t) c = was_lost t c
-was_lost (Booked acts ∷ t) c = was_lost t c
+was_lost (Booked acts full ∷ t) c = was_lost t c
 was_lost (Began g ∷ t) c = was_lost t c
 
 -- the steps after a connection is made: its number is above that of each connection made before

@@ -34,7 +34,7 @@ AlwaysRoom (Did s ∷ t) = ((c : ℕ) → is_full (conn t c) ≡ false) × Alway
 AlwaysRoom (Out c i ∷ t) = AlwaysRoom t
 AlwaysRoom (Took c n ∷ t) = AlwaysRoom t
 AlwaysRoom (Bound b ∷ t) = AlwaysRoom t
-AlwaysRoom (Booked acts ∷ t) = AlwaysRoom t
+AlwaysRoom (Booked acts full ∷ t) = AlwaysRoom t
 AlwaysRoom (Began g ∷ t) = AlwaysRoom t
 
 -- Pieces make no difference: two scripts that differ only in how bytes of a connection are cut, whether into many steps or into one, have

@@ -43,7 +43,7 @@ new_router config = record { routing = routing_of config; book = empty_book; use
 
 -- before the first step: the router is started, which does nothing to an empty book and puts nothing out
 abbrev pub opening : Settings → Scene
-opening config = record { id = config.router_id; config = config; trace = did event.Start ∷ Booked [] ∷ beginning (new_router config); last = None; sockets = λ c. None; lines = [] }
+opening config = record { id = config.router_id; config = config; trace = did event.Start ∷ Booked [] [] ∷ beginning (new_router config); last = None; sockets = λ c. None; lines = [] }
 
 -- more lines
 abbrev pub say_all : List Line → Scene → Scene

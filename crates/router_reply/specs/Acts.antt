@@ -11,7 +11,7 @@ use Rattle.router_store.specs.Store.{used_behind, batches_behind, exceeds}
 use Rattle.router_trace.specs.declared.event.Event.{Event}
 use Rattle.router_trace.specs.declared.event.Event.TheVariants as event
 use Rattle.router_trace.specs.Trace.{Trace, Did, Out, Took, Bound, Booked, Began}
-use Rattle.router_trace.specs.Connection.{standing, found}
+use Rattle.router_trace.specs.Connection.{standing, found, due}
 use Rattle.router_rows.specs.Booking.{answer_at}
 use Rattle.router_rows.specs.declared.answer.Answer.{Answer}
 use Rattle.router_rows.specs.declared.answer.Answer.TheVariants.{Nothing}
@@ -69,7 +69,7 @@ journaled (Did s ∷ t) = journaled t
 journaled (Out c i ∷ t) = journaled t
 journaled (Took c n ∷ t) = journaled t
 journaled (Bound b ∷ t) = journaled t
-journaled (Booked acts ∷ t) = with_acts (journaled t) acts
+journaled (Booked acts full ∷ t) = with_acts (journaled t) acts
 journaled (Began g ∷ t) = record { book = g.book; used = g.used; batches = g.batches }
 
 abbrev pub book_in : Trace → BookView
@@ -83,15 +83,15 @@ abbrev pub book_behind : Trace → Event → BookView
 book_behind t e = effects (book_in t) (acts_of t e)
 
 abbrev pub booked : Trace → Event → Trace
-booked t e = Booked (acts_of t e) ∷ t
+booked t e = Booked (acts_of t e) (due t e) ∷ t
 
 -- The trace that an event finds, behind its own acts: that before them; and these acts.
 abbrev pub before_acts : Trace → Trace
-before_acts (Booked acts ∷ t) = t
+before_acts (Booked acts full ∷ t) = t
 before_acts t = t
 
 abbrev pub found_acts : Trace → List Act
-found_acts (Booked acts ∷ t) = acts
+found_acts (Booked acts full ∷ t) = acts
 found_acts t = []
 
 abbrev pub found_journal : Trace → Journaled

@@ -16,7 +16,7 @@ use Rattle.router_store.specs.Acting.{admission_acts}
 use Rattle.router_trace.specs.declared.event.Event.{Event}
 use Rattle.router_trace.specs.declared.event.Event.TheVariants as event
 use Rattle.router_trace.specs.declared.handle.Attachment.{Attachment}
-use Rattle.router_trace.specs.Trace.{Trace, did}
+use Rattle.router_trace.specs.Trace.{Trace, did, Booked}
 use Rattle.router_trace.specs.Connection.{due}
 use Rattle.router_trace.specs.Following.{link_of}
 use Rattle.router_trace.specs.Links.{link, link_place, durable_key}
@@ -73,8 +73,12 @@ abbrev pub unless_ends : List ℕ → Option Admission → Option Admission
 unless_ends [] x = x
 unless_ends (c ∷ cs) x = None
 
+-- an event whose acts aren't known yet
+abbrev pub without_acts : Trace → Event → Trace
+without_acts t e = did e ∷ Booked [] (due t e) ∷ t
+
 abbrev pub event_admission : BookView → Trace → Event → Answer → Option Admission
-event_admission b t (event.Item c i) answer = unless_ends (due t (event.Item c i)) (taken_admission b t (did (event.Item c i) ∷ t) c.0 i answer)
+event_admission b t (event.Item c i) answer = unless_ends (due t (event.Item c i)) (taken_admission b t (without_acts t (event.Item c i)) c.0 i answer)
 event_admission b t _ answer = None
 
 -- the acts of an admission, if the book takes it

@@ -23,7 +23,8 @@ use Rattle.router_trace.specs.declared.event.Event.TheVariants as event
 use Rattle.router_trace.specs.declared.handle.Attachment.{Attachment}
 use Rattle.router_trace.specs.Trace.{Trace}
 use Rattle.router_trace.specs.Connection.{due}
-use Rattle.router_trace.specs.Deliveries.{last_of}
+use Rattle.router_trace.specs.declared.event.ConnectionId.{ConnectionId}
+use Rattle.router_trace.specs.Deliveries.{last_of, none_if_ended}
 use Rattle.router_trace.specs.DeliveryFrames.{kept_outcome}
 use Rattle.router_trace.specs.Links.{link, holder, durable_key}
 use Rattle.router_trace.specs.Sessions.{session_on}
@@ -65,9 +66,13 @@ abbrev pub listed : Option Change → List Change
 listed None = []
 listed (Some x) = x ∷ []
 
+-- the session of an item as the event finds it: none if the event ends the item's connection for its full outbox
+abbrev pub session_found : Trace → ConnectionId → Item → Option ℕ
+session_found t c i = none_if_ended (due t (event.Item c i)) c.0 (session_on t c.0 (channel_of i))
+
 abbrev pub event_changes : Trace → Event → Answer → List Change
 event_changes t (event.Item c i) answer =
-    listed (heard_change c.0 (session_on t c.0 (channel_of i)) i) ++ map lost (due t (event.Item c i)) ++ ended_by t c.0 i answer
+    listed (heard_change c.0 (session_found t c i) i) ++ map lost (due t (event.Item c i)) ++ ended_by t c.0 i answer
 event_changes t (event.Down c) answer = lost c.0 ∷ map lost (due t (event.Down c))
 event_changes t e answer = map lost (due t e)
 
@@ -101,13 +106,13 @@ forgotten_by b t c own (perf.Disposition x) answer = settled_on t c own x.role x
 forgotten_by b t c own (perf.Detach x) answer = sent_from b (closed_terminus b t c answer)
 forgotten_by b t c own _ answer = []
 
-abbrev pub forgotten_in : BookView → Trace → ℕ → Item → Answer → List RowNumber
-forgotten_in b t c (item.Frame true channel body payload) answer = []
-forgotten_in b t c (item.Frame false channel body payload) answer = forgotten_by b t c (session_on t c channel) body answer
-forgotten_in b t c _ answer = []
+abbrev pub forgotten_in : BookView → Trace → ℕ → Option ℕ → Item → Answer → List RowNumber
+forgotten_in b t c own (item.Frame true channel body payload) answer = []
+forgotten_in b t c own (item.Frame false channel body payload) answer = forgotten_by b t c own body answer
+forgotten_in b t c own _ answer = []
 
 abbrev pub forgotten : BookView → Trace → Event → Answer → List RowNumber
-forgotten b t (event.Item c i) answer = forgotten_in b t c.0 i answer
+forgotten b t (event.Item c i) answer = forgotten_in b t c.0 (session_found t c i) i answer
 forgotten b t _ answer = []
 
 -- The terminus that it makes, for a durable link that is taken, or drops, of one that its peer closes.

@@ -3,6 +3,7 @@ ghost use Rattle.std.specs.Prelude.{◌≡◌, ◌++◌, ◌∷◌, [], List, �
 ghost use Rattle.book_core.specs.Book.{is_from};
 ghost use Rattle.router_trace.specs.Trace.{Entry};
 ghost use Rattle.router_trace.specs.Connection.{due};
+ghost use Rattle.router_trace.specs.Deliveries.{none_if_ended};
 ghost use Rattle.router_state.specs.Tables.{TablesFind};
 ghost use Rattle.router_trace.specs.Sessions.{session_on};
 ghost use Rattle.router_links.specs.Fits.{channel_of};
@@ -15,7 +16,7 @@ use book_core::{Book, Decision, LinkRole, RowNumber, Terminus, TerminusNumber};
 use router_deliveries::{Change, Gone};
 use router_frames::kept_outcome;
 use router_rows::{Answer, wanted_key};
-use router_state::State;
+use router_state::{State, none_if_ended};
 use router_trace::{Attachment, Event};
 use std::alloc::{AllocError, Global};
 
@@ -133,16 +134,23 @@ fn item_changes(
     answer: &Answer,
 ) -> Result<Vec<Change>, AllocError>
     ensures { IfOk result (λ changes. (t : List Entry) → TablesFind state.now t
-        → changes.items ≡ listed (heard_change conn (session_on t conn (channel_of item.now)) item.now) ++ map lost ends.now ++ ended_by t conn item.now answer.now) }
+        → changes.items ≡ listed (heard_change conn (none_if_ended ends.now conn (session_on t conn (channel_of item.now))) item.now) ++ map lost ends.now ++ ended_by t conn item.now answer.now) }
 {
     let mut changes = Vec::new(state.alloc());
-    let own = state.own_channel(conn, channel_of(item));
+    let own = session_found(state, ends, conn, item);
     let heard = Change::of_item(conn, own, item)?;
     add_some(&mut changes, heard)?;
     add_lost(&mut changes, ends)?;
     let ended = ended_by(state, conn, item, answer)?;
     add_some(&mut changes, ended)?;
     Ok(changes)
+}
+
+/// The session of an item, as an event finds it that ends these connections first.
+fn session_found(state: &State, ends: &[u64], conn: u64, item: &Item) -> Option<u16>
+    ensures { (t : List Entry) → TablesFind state.now t → result ≡ none_if_ended ends.now conn (session_on t conn (channel_of item.now)) }
+{
+    none_if_ended(ends, conn, state.own_channel(conn, channel_of(item)))
 }
 
 /// The channel of an item; 0 if it has none.
@@ -320,22 +328,17 @@ fn forgotten_in(
     state: &State,
     book: &Book,
     conn: u64,
+    own: Option<u16>,
     item: &Item,
     answer: &Answer,
 ) -> Result<Vec<RowNumber>, AllocError>
-    ensures { IfOk result (λ rows. (t : List Entry) → TablesFind state.now t → rows.items ≡ forgotten_in book.now t conn item.now answer.now) }
+    ensures { IfOk result (λ rows. (t : List Entry) → TablesFind state.now t → rows.items ≡ forgotten_in book.now t conn own item.now answer.now) }
 {
     match item {
-        Item::Frame {
-            sasl,
-            channel,
-            perf,
-            ..
-        } => {
+        Item::Frame { sasl, perf, .. } => {
             if *sasl {
                 return Ok(Vec::new(state.alloc()));
             }
-            let own = state.own_channel(conn, *channel);
             forgotten_by(state, book, conn, own, perf, answer)
         }
         _ => Ok(Vec::new(state.alloc())),
@@ -350,13 +353,17 @@ fn forgotten_in(
 pub fn forgotten(
     state: &State,
     book: &Book,
+    ends: &[u64],
     event: &Event,
     answer: &Answer,
 ) -> Result<Vec<RowNumber>, AllocError>
-    ensures { IfOk result (λ rows. (t : List Entry) → TablesFind state.now t → rows.items ≡ forgotten book.now t event.now answer.now) }
+    ensures { IfOk result (λ rows. (t : List Entry) → TablesFind state.now t → ends.now ≡ due t event.now → rows.items ≡ forgotten book.now t event.now answer.now) }
 {
     match event {
-        Event::Item(conn, item) => forgotten_in(state, book, conn.0, item, answer),
+        Event::Item(conn, item) => {
+            let own = session_found(state, ends, conn.0, item);
+            forgotten_in(state, book, conn.0, own, item, answer)
+        }
         _ => Ok(Vec::new(state.alloc())),
     }
 }

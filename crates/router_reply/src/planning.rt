@@ -244,7 +244,7 @@ fn planned(
     ensures terminus { IfOk result (λ plan. (t : List Entry) → TablesAt state.now t event.now ends.now → plan.terminus ≡ terminus_of_event book.now t event.now answer) }
 {
     let decided = decided(state, ends, event, &answer)?;
-    let forgotten = forgotten(state, book, event, &answer)?;
+    let forgotten = forgotten(state, book, ends, event, &answer)?;
     let terminus = terminus_of_event(state, book, event, &answer)?;
     Ok(Plan {
         answer,

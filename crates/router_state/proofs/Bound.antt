@@ -1,12 +1,15 @@
 -- A binding changes only the table `passing`, and a take from an outbox doesn't change that; a batch of the journal changes no table.
-use Rattle.std.proofs.Common.{◌≡◌, ℕ, true, ap, Option, Some, None, ◌∷◌, List}
+use Rattle.std.proofs.Common.{◌≡◌, ◌∙◌, ℕ, Bool, true, false, ap, sym, refl, Option, Some, None, ◌∷◌, List}
+use Rattle.std.specs.Prelude.{if◌then◌else◌}
 use Rattle.std.proofs.lemmas.Bool.{eqb-true}
 use Rattle.amqp_frames.specs.declared.item.Item.{Item}
 use Rattle.router_trace.specs.declared.binding.Binding.{Binding}
 use Rattle.book_core.specs.declared.act.Act.{Act}
 use Rattle.router_trace.specs.Trace.{Trace, Took, Booked}
 use Rattle.router_trace.specs.Links.{link_place}
-use Rattle.router_trace.specs.Sessions.{is_channel}
+use Rattle.router_trace.specs.Connection.{has}
+use Rattle.router_trace.specs.Deliveries.{none_if_ended, ended_first, channels_found}
+use Rattle.router_trace.specs.Sessions.{is_channel, maps, theirs}
 use Rattle.router_trace.specs.Settling.{part_at, part_of}
 use Rattle.router_passing.specs.declared.passing.Passing.{Passing}
 use Rattle.router_passing.specs.Fits.{PassingFit}
@@ -40,8 +43,8 @@ bound_fits s new t (Some b) fit p = record {
   passing = p;
 }
 
-pub booked_fits : (s : State) (acts : List Act) (t : Trace) → TablesFit s t → TablesFit s (Booked acts ∷ t)
-booked_fits s acts t fit = record {
+pub booked_fits : (s : State) (acts : List Act) (full : List ℕ) (t : Trace) → TablesFit s t → TablesFit s (Booked acts full ∷ t)
+booked_fits s acts full t fit = record {
   connections = record { rows = fit.connections.rows; live = fit.connections.live; last = fit.connections.last; rise = fit.connections.rise; roomy = fit.connections.roomy };
   ready = fit.ready;
   clocks = record { moment = fit.clocks.moment; terms = fit.clocks.terms; written = fit.clocks.written };
@@ -50,10 +53,20 @@ booked_fits s acts t fit = record {
     rows = record { offered = fit.sessions.rows.offered; answered = fit.sessions.rows.answered; theirs = fit.sessions.rows.theirs; windows = fit.sessions.rows.windows };
     marks = fit.sessions.marks;
   };
-  passing = passing_booked s.passing acts t fit.passing;
+  passing = passing_booked s.passing acts full t fit.passing;
 }
 
 -- what a transfer makes of its delivery, on the session of this channel
 pub part_on_session : (t : Trace) (c : ℕ) (own : Option ℕ) (i : Item) (o : ℕ) → is_channel own o ≡ true → part_at t c own i ≡ part_of i (link_place t c o)
 part_on_session t c None i o e = absurd cc
 part_on_session t c (Some k) i o e = ap (λ q. part_of i (link_place t c q)) (eqb-true k o e)
+
+-- the session of an item as the event finds it, which ended these connections first
+pub found_on_session : (t : Trace) (c channel : ℕ) (own found : Option ℕ) (ends : List ℕ) → ((o : ℕ) → is_channel own o ≡ maps (theirs t c channel) o) → ended_first t ≡ ends
+    → found ≡ none_if_ended ends c own → (o : ℕ) → is_channel found o ≡ maps (channels_found t c channel) o
+found_on_session t c channel own found ends on first is o =
+    ap (λ (v : Option ℕ). is_channel v o) is ∙ by (has c ends) ∙ sym (ap (λ (ks : List ℕ). maps (none_if_ended ks c (theirs t c channel)) o) first)
+  where
+    by : (b : Bool) → is_channel (if b then None else own) o ≡ maps (if b then None else theirs t c channel) o
+    by true = refl
+    by false = on o

@@ -1,6 +1,7 @@
 //! What is asked and done for durable messages: their rows are admitted and decided in the journal before the tables change.
 ghost use Rattle.std.specs.Prelude.{◌≡◌, List, OnOk, IfOk, is_some};
 ghost use Rattle.router_trace.specs.Trace.{Entry};
+ghost use Rattle.router_trace.specs.Deliveries.{none_if_ended};
 ghost use Rattle.router_trace.specs.Sessions.{session_on};
 ghost use Rattle.router_trace.specs.Links.{durable_key, link};
 ghost use Rattle.router_trace.specs.Settling.{uses_tag};
@@ -14,6 +15,13 @@ use book_core::{Decision, RowNumber};
 use router_deliveries::Change;
 use router_trace::Attachment;
 use std::alloc::AllocError;
+
+/// This, unless the event ended the connection first, because its outbox was full: these are the connections that it ended so.
+pub fn none_if_ended(ends: &[u64], conn: u64, own: Option<u16>) -> Option<u16>
+    ensures { result ≡ none_if_ended ends.now conn own }
+{
+    if ends.contains(&conn) { None } else { own }
+}
 
 impl State {
     /// The router's channel of the session on a channel of the peer (AMQP 1.0 part 2, section 2.5.1).

@@ -4,4 +4,5 @@
 mod durable;
 mod tables;
 
+pub use durable::none_if_ended;
 pub use tables::State;

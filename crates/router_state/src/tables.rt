@@ -9,7 +9,7 @@ ghost use Rattle.router_trace.specs.Sessions.{theirs, maps, session};
 ghost use Rattle.router_trace.specs.Frames.{told_of};
 ghost use Rattle.router_trace.specs.Links.{link, place_of, is_attached, durable_key, holds_durable};
 ghost use Rattle.router_trace.specs.Settling.{part_of, middle_on, is_claimed, is_claimed_on, open_ids, unbound};
-ghost use Rattle.router_trace.specs.Deliveries.{delivery, is_to_tell, sending, named, next_id};
+ghost use Rattle.router_trace.specs.Deliveries.{delivery, ended_first, is_to_tell, sending, named, next_id};
 ghost use Rattle.router_trace.specs.Following.{link_of, first_delivery, is_unsent_on, is_wide, is_busy, is_used, takes_more};
 ghost use Rattle.router_deliveries.specs.Calling.{Knows};
 ghost use Rattle.router_deliveries.specs.Finding.{IsFirst, is_above};
@@ -35,6 +35,7 @@ ghost use Rattle.router_state.specs.Tables.{TablesFit, TablesAt, TablesFind, bea
 ghost use Rattle.router_trace.specs.declared.event.Event.{Event as E};
 ghost use Rattle.router_trace.specs.declared.event.Event.TheVariants as event;
 
+use crate::durable::none_if_ended;
 use amqp_conn::Conn;
 use amqp_frames::Item;
 use amqp_link::{Delivery, Part};
@@ -252,15 +253,23 @@ impl State {
         Ok(())
     }
 
-    /// An item was received on a connection. Returns what a transfer makes of its delivery.
-    pub fn hear(&mut self, conn: ConnectionId, item: &Item) -> Result<Option<Part>, AllocError>
+    /// An item was received on a connection, by an event that ended these connections first (`State::turn`). Returns what a transfer makes of its
+    /// delivery.
+    #[tactic(auto, using(crate::proofs::Bound::found_on_session))]
+    pub fn hear(
+        &mut self,
+        conn: ConnectionId,
+        item: &Item,
+        ends: &[u64],
+    ) -> Result<Option<Part>, AllocError>
         ensures part { IfOk result (λ part. (t : List Entry) (ends : List ℕ) (own : ℕ) → TablesAt self.old t (event.Item conn item.now) ends → maps (theirs t conn.0 (channel_of item.now)) own ≡ true → part ≡ part_of item.now (link_place t conn.0 own)) }
-        ensures fits { OnOk result ((t : List Entry) (ends : List ℕ) → TablesAt self.old t (event.Item conn item.now) ends → TablesFit self.new (did (event.Item conn item.now) ∷ t)) }
+        ensures fits { OnOk result ((t : List Entry) → TablesAt self.old t (event.Item conn item.now) ends.now → ended_first t ≡ ends.now → TablesFit self.new (did (event.Item conn item.now) ∷ t)) }
     {
         let own = self.sessions.own_channel(conn.0, channel_of(item));
+        let found = none_if_ended(ends, conn.0, own);
         self.clocks.hear(conn, item)?;
         self.peers.hear(conn, item)?;
-        let part = self.passing.hear(conn, own, item)?;
+        let part = self.passing.hear(conn, own, found, item)?;
         self.sessions.hear(conn, item)?;
         Ok(part)
     }

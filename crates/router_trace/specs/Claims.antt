@@ -29,9 +29,9 @@ pub record Claim : Type 0 where
   pub unbound : Bool
   pub tag : Option (List ℕ)
 
--- A transfer that begins a delivery claims its id, unless it is settled or has no credit. A later transfer frees the id if it settles or
--- aborts the delivery. Once a delivery is settled its id is free, even while more of its frames come: another link of the session may then
--- claim it, and keeps it.
+-- A transfer that begins a delivery claims its id, unless it is settled or has no credit, or the id is claimed already: a claimed id stays its
+-- link's. A later transfer frees the id if it settles or aborts the delivery. Once a delivery is settled its id is free, even while more of its
+-- frames come: another link of the session may then claim it, and keeps it.
 abbrev pub ends_well : Transfer → Bool
 ends_well x = if x.settled then false else not x.aborted
 
@@ -42,8 +42,12 @@ abbrev pub is_named : Option ℕ → ℕ → Bool
 is_named None id = false
 is_named (Some k) id = k == id
 
+abbrev pub unless_claimed : Option Claim → Option Claim → Option Claim
+unless_claimed (Some v) new = Some v
+unless_claimed None new = new
+
 abbrev pub claimed_first : ℕ → Transfer → Bool → ℕ → Option Claim → Option Claim
-claimed_first h x beyond id v = if is_named x.delivery_id id && not beyond then claim h (tag_in x) x else v
+claimed_first h x beyond id v = if is_named x.delivery_id id && not beyond then unless_claimed v (claim h (tag_in x) x) else v
 
 abbrev pub claimed_later : ℕ → Transfer → Option Claim → Option Claim
 claimed_later h x None = None
@@ -118,5 +122,5 @@ claims (Did s ∷ t) c o id = claim_at s.event c o (theirs t c) (their_handle t 
 claims (Out d i ∷ t) c o id = if d == c then claim_behind i o id (claims t c o id) else claims t c o id
 claims (Took d n ∷ t) c o id = claims t c o id
 claims (Bound b ∷ t) c o id = bind_claim b.origin c o id (claims t c o id)
-claims (Booked acts ∷ t) c o id = claims t c o id
+claims (Booked acts full ∷ t) c o id = claims t c o id
 claims (Began g ∷ t) c o id = claims t c o id

@@ -24,7 +24,7 @@ moment (Did s ∷ t) = moment_at s.event (moment t)
 moment (Out c i ∷ t) = moment t
 moment (Took c n ∷ t) = moment t
 moment (Bound b ∷ t) = moment t
-moment (Booked acts ∷ t) = moment t
+moment (Booked acts full ∷ t) = moment t
 moment (Began g ∷ t) = moment t
 
 -- what the peer's first open says; none if the connection is closed or lost
@@ -54,7 +54,7 @@ terms (Did s ∷ t) c = terms_at s.event c (terms t c)
 terms (Out d i ∷ t) c = if d == c then unless_close i (terms t c) else terms t c
 terms (Took d n ∷ t) c = terms t c
 terms (Bound b ∷ t) c = terms t c
-terms (Booked acts ∷ t) c = terms t c
+terms (Booked acts full ∷ t) c = terms t c
 terms (Began g ∷ t) c = terms t c
 
 -- the moment at which an item was last put out; none before any, and if the connection is closed or lost
@@ -68,7 +68,7 @@ written (Did s ∷ t) c = written_at s.event c (written t c)
 written (Out d i ∷ t) c = if d == c then unless_close i (Some (moment t)) else written t c
 written (Took d n ∷ t) c = written t c
 written (Bound b ∷ t) c = written t c
-written (Booked acts ∷ t) c = written t c
+written (Booked acts full ∷ t) c = written t c
 written (Began g ∷ t) c = written t c
 
 -- at this moment a heartbeat is due

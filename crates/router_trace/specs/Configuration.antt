@@ -20,7 +20,7 @@ routing (Did s ∷ t) = routing t
 routing (Out c i ∷ t) = routing t
 routing (Took c n ∷ t) = routing t
 routing (Bound b ∷ t) = routing t
-routing (Booked acts ∷ t) = routing t
+routing (Booked acts full ∷ t) = routing t
 routing (Began g ∷ t) = g.routing
 
 -- how the links of an address share its messages

@@ -118,7 +118,7 @@ conn (Did s ∷ t) c =
 conn (Out d i ∷ t) c = if d == c then option_map (with_item i) (conn t c) else conn t c
 conn (Took d n ∷ t) c = if d == c then option_and_then (took n) (conn t c) else conn t c
 conn (Bound b ∷ t) c = conn t c
-conn (Booked acts ∷ t) c = conn t c
+conn (Booked acts full ∷ t) c = conn t c
 conn (Began g ∷ t) c = conn t c
 
 -- the connections that an event ends because their outboxes are full, by number

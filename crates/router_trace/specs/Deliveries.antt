@@ -22,6 +22,7 @@ use Rattle.router_trace.specs.declared.event.Event.TheVariants as event
 use Rattle.router_trace.specs.declared.channel.PeerChannel.{PeerChannel}
 use Rattle.router_trace.specs.declared.handle.Attachment.{Attachment}
 use Rattle.router_trace.specs.Trace.{Did, Out, Took, Bound, Booked, Began, Trace}
+use Rattle.router_trace.specs.Connection.{has}
 use Rattle.router_trace.specs.Links.{ends_handle, ends_handle_in, is_lost}
 use Rattle.router_trace.specs.Sessions.{maps, theirs}
 
@@ -32,7 +33,7 @@ bindings (Did s ∷ t) = bindings t
 bindings (Out d i ∷ t) = bindings t
 bindings (Took d n ∷ t) = bindings t
 bindings (Bound b ∷ t) = bindings t + 1
-bindings (Booked acts ∷ t) = bindings t
+bindings (Booked acts full ∷ t) = bindings t
 bindings (Began g ∷ t) = bindings t
 
 -- how many of them are of no row
@@ -42,7 +43,7 @@ counters (Did s ∷ t) = counters t
 counters (Out d i ∷ t) = counters t
 counters (Took d n ∷ t) = counters t
 counters (Bound b ∷ t) = if is_none b.row then counters t + 1 else counters t
-counters (Booked acts ∷ t) = counters t
+counters (Booked acts full ∷ t) = counters t
 counters (Began g ∷ t) = counters t
 
 -- The name of a delivery: a durable one has its row's number, any other the count of those without a row, with it.
@@ -65,7 +66,7 @@ number_named (Did s ∷ t) name = number_named t name
 number_named (Out d i ∷ t) name = number_named t name
 number_named (Took d n ∷ t) name = number_named t name
 number_named (Bound b ∷ t) name = if same_name (name_in t b) name then Some (bindings t + 1) else number_named t name
-number_named (Booked acts ∷ t) name = number_named t name
+number_named (Booked acts full ∷ t) name = number_named t name
 number_named (Began g ∷ t) name = number_named t name
 
 -- A delivery: its name, its consumer's link, the producer's delivery to which its outcome is reported, and its progress.
@@ -86,6 +87,8 @@ pub record Delivery : Type 0 where
   pub outcome : Option DeliveryState
   -- the producer's delivery once its outcome was told, as long as the producer has yet to settle it
   pub told : Option Origin
+  -- the producer's delivery, if that has a row and the producer settled it before it was decided
+  pub early : Option Origin
   -- it has a row, and its consumer's link is durable; that link was suspended before it was decided
   pub lasting : Bool
   pub suspended : Bool
@@ -102,6 +105,15 @@ either_origin None told = told
 abbrev pub source : Delivery → Option Origin
 source d = either_origin d.origin d.told
 
+-- the producer's delivery, settled by the producer or not
+abbrev pub sender : Delivery → Option Origin
+sender d = either_origin (source d) d.early
+
+-- The producer's delivery, as long as it counts for the producer's link: until the producer has settled it, and, if it has a row, until it
+-- is decided too.
+abbrev pub holder : Delivery → Option Origin
+holder d = if is_none d.outcome then sender d else source d
+
 abbrev pub bound : DeliveryName → Binding → Delivery
 bound name b = record {
   name = name;
@@ -115,13 +127,14 @@ bound name b = record {
   going_on = true;
   outcome = None;
   told = None;
+  early = None;
   lasting = has_row name && b.lasting;
   suspended = false;
 }
 
 -- A delivery is over once it is decided or suspended, its producer needs no more of it, and no frame of it remains to be sent.
 abbrev pub is_over : Delivery → Bool
-is_over d = not d.going_on && ((is_some d.outcome || d.suspended) && is_none (source d))
+is_over d = not d.going_on && ((is_some d.outcome || d.suspended) && is_none (holder d))
 
 abbrev pub unless_over : Delivery → Option Delivery
 unless_over d = if is_over d then None else Some d
@@ -174,7 +187,7 @@ sending (Did s ∷ t) c o h = if is_lost s.event c then None else sending t c o 
 sending (Out d i ∷ t) c o h = if d == c then sending_by (number_named t) i o h (sending t c o h) else sending t c o h
 sending (Took d n ∷ t) c o h = sending t c o h
 sending (Bound b ∷ t) c o h = sending t c o h
-sending (Booked acts ∷ t) c o h = sending t c o h
+sending (Booked acts full ∷ t) c o h = sending t c o h
 sending (Began g ∷ t) c o h = sending t c o h
 
 abbrev pub is_id : Option ℕ → ℕ → Bool
@@ -201,7 +214,7 @@ named (Did s ∷ t) c o id = if is_lost s.event c then None else named t c o id
 named (Out d i ∷ t) c o id = if d == c then named_by (number_named t) i o id (named t c o id) else named t c o id
 named (Took d n ∷ t) c o id = named t c o id
 named (Bound b ∷ t) c o id = named t c o id
-named (Booked acts ∷ t) c o id = named t c o id
+named (Booked acts full ∷ t) c o id = named t c o id
 named (Began g ∷ t) c o id = named t c o id
 
 -- A transfer that carries the delivery: the id is that of its first frame; a delivery that was settled before is decided with its last frame.
@@ -252,14 +265,14 @@ is_named (Some id) names n = is_number (names id) n
 abbrev pub decided : Disposition → (ℕ → Option ℕ) → ℕ → Delivery → Delivery
 decided x names n d = if is_undecided d && is_meant x d.id && is_named d.id names n then record d { outcome = decision x.settled (terminal x.state) } else d
 
--- The outcome needs no more reporting: a settled disposition of the router as a receiver reported it, or the producer settled or is gone. An
--- unsettled one tells it, and its producer settles it later.
+-- The outcome needs no more reporting: a settled disposition of the router as a receiver reported it, or the producer settled it. An unsettled
+-- one tells it, and its producer settles it later.
 abbrev pub origin_id : Option Origin → ℕ → ℕ → Option ℕ
 origin_id None c o = None
 origin_id (Some p) c o = if stands_on p.link c o then Some p.id else None
 
 abbrev pub untold : Delivery → Delivery
-untold d = record d { origin = None; told = None }
+untold d = record d { origin = None; told = None; early = (if is_none d.outcome && has_row d.name then source d else None) }
 
 abbrev pub unsettled : Delivery → Delivery
 unsettled d = record d { origin = None; told = source d }
@@ -282,8 +295,11 @@ abbrev pub is_gone_with : (Attachment → Bool) → Option Origin → Bool
 is_gone_with gone None = false
 is_gone_with gone (Some p) = gone p.link
 
+abbrev pub forsaken : Delivery → Delivery
+forsaken d = record d { origin = None; told = None; early = None }
+
 abbrev pub behind_origin : (Attachment → Bool) → Delivery → Delivery
-behind_origin gone d = if is_gone_with gone (source d) then untold d else d
+behind_origin gone d = if is_gone_with gone (sender d) then forsaken d else d
 
 abbrev pub behind_ends : Bool → (Attachment → Bool) → Delivery → Delivery
 behind_ends closed gone d = behind_origin gone (if gone d.link then ended closed d else d)
@@ -335,6 +351,23 @@ behind_event (event.Item c i) known names n d = heard i c.0 (known c.0) (names c
 behind_event (event.Down c) known names n d = behind_ends false (lost_with c.0) d
 behind_event _ known names n d = d
 
+-- The connections that the event to come ends first, because their outboxes are full. It finds that their channels stand for nothing, so its
+-- item says nothing of deliveries if it came on one of them.
+abbrev pub ended_first : Trace → List ℕ
+ended_first [] = []
+ended_first (Did s ∷ t) = []
+ended_first (Out d i ∷ t) = []
+ended_first (Took d n ∷ t) = ended_first t
+ended_first (Bound b ∷ t) = []
+ended_first (Booked acts full ∷ t) = full
+ended_first (Began g ∷ t) = []
+
+abbrev pub none_if_ended : {A : Type 0} → List ℕ → ℕ → Option A → Option A
+none_if_ended ends c v = if has c ends then None else v
+
+abbrev pub channels_found : Trace → ℕ → ℕ → Option PeerChannel
+channels_found t c p = none_if_ended (ended_first t) c (theirs t c p)
+
 -- The delivery with a number; none before it is bound, once it is over, and once its row is bound again.
 abbrev pub unless_called : DeliveryName → Option Delivery → Option Delivery
 unless_called name None = None
@@ -342,11 +375,11 @@ unless_called name (Some d) = if same_name d.name name then None else Some d
 
 abbrev pub delivery : Trace → ℕ → Option Delivery
 delivery [] n = None
-delivery (Did s ∷ t) n = option_and_then (λ d. unless_over (behind_event s.event (theirs t) (named t) n d)) (delivery t n)
+delivery (Did s ∷ t) n = option_and_then (λ d. unless_over (behind_event s.event (channels_found t) (named t) n d)) (delivery t n)
 delivery (Out c i ∷ t) n = option_and_then (λ d. unless_over (behind_put (number_named t) i c n (sending t c) d)) (delivery t n)
 delivery (Took c k ∷ t) n = delivery t n
 delivery (Bound b ∷ t) n = if bindings t + 1 == n then Some (bound (name_in t b) b) else unless_called (name_in t b) (delivery t n)
-delivery (Booked acts ∷ t) n = delivery t n
+delivery (Booked acts full ∷ t) n = delivery t n
 delivery (Began g ∷ t) n = delivery t n
 
 -- Tests of a delivery: it waits to start on a link, it is undecided there, its outcome must be reported to its producer.
@@ -364,7 +397,7 @@ is_of number (Some p) = p.link.number == number
 
 abbrev pub held_from : ℕ → Option Delivery → Bool
 held_from number None = false
-held_from number (Some d) = is_of number (source d) && (is_none d.outcome || has_row d.name)
+held_from number (Some d) = is_of number (holder d) && (is_none d.outcome || has_row d.name)
 
 abbrev pub is_to_tell : Option Delivery → Bool
 is_to_tell None = false
@@ -392,5 +425,5 @@ next_id (Did s ∷ t) c o = if is_lost s.event c then 0 else next_id t c o
 next_id (Out d i ∷ t) c o = if d == c then next_id_by i o (next_id t c o) else next_id t c o
 next_id (Took d n ∷ t) c o = next_id t c o
 next_id (Bound b ∷ t) c o = next_id t c o
-next_id (Booked acts ∷ t) c o = next_id t c o
+next_id (Booked acts full ∷ t) c o = next_id t c o
 next_id (Began g ∷ t) c o = next_id t c o

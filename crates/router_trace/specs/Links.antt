@@ -63,7 +63,7 @@ asked (Did s ∷ t) c = asked_at s.event c (asked t c)
 asked (Out d i ∷ t) c = if d == c then unless_close i (asked t c) else asked t c
 asked (Took d n ∷ t) c = asked t c
 asked (Bound b ∷ t) c = asked t c
-asked (Booked acts ∷ t) c = asked t c
+asked (Booked acts full ∷ t) c = asked t c
 asked (Began g ∷ t) c = asked t c
 
 -- What an item of the router ends: the handle of a detach on this session, or all handles of the session or the connection.
@@ -100,7 +100,7 @@ answered_handle (Did s ∷ t) c o h = if is_lost s.event c then None else answer
 answered_handle (Out d i ∷ t) c o h = if d == c then answers_by i o h (asked t c) (answered_handle t c o h) else answered_handle t c o h
 answered_handle (Took d n ∷ t) c o h = answered_handle t c o h
 answered_handle (Bound b ∷ t) c o h = answered_handle t c o h
-answered_handle (Booked acts ∷ t) c o h = answered_handle t c o h
+answered_handle (Booked acts full ∷ t) c o h = answered_handle t c o h
 answered_handle (Began g ∷ t) c o h = answered_handle t c o h
 
 -- What a peer's handle stands for, on the session with this router's channel: a link, on a handle of the router; one that the
@@ -146,7 +146,7 @@ their_handle (Out d i ∷ t) c o p =
     if d == c then their_handle_behind i o p (answered_handle t c o) (asked t c) (their_handle t c o p) else their_handle t c o p
 their_handle (Took d n ∷ t) c o p = their_handle t c o p
 their_handle (Bound b ∷ t) c o p = their_handle t c o p
-their_handle (Booked acts ∷ t) c o p = their_handle t c o p
+their_handle (Booked acts full ∷ t) c o p = their_handle t c o p
 their_handle (Began g ∷ t) c o p = their_handle t c o p
 
 -- The address at the router's own terminus of its attach: the source's if it is the sender, the target's if it is the receiver.
@@ -181,7 +181,7 @@ attachments (Did s ∷ t) = attachments t
 attachments (Out d i ∷ t) = if is_taken i then attachments t + 1 else attachments t
 attachments (Took d n ∷ t) = attachments t
 attachments (Bound b ∷ t) = attachments t
-attachments (Booked acts ∷ t) = attachments t
+attachments (Booked acts full ∷ t) = attachments t
 attachments (Began g ∷ t) = attachments t
 
 -- A link is identified by its user, container and name, and by the direction of its deliveries.
@@ -330,7 +330,7 @@ link (Out d i ∷ t) c o h =
     if d == c then link_behind i o h (attachments t + 1) (key_at t c) (asked t c) (link t c o h) else link t c o h
 link (Took d n ∷ t) c o h = link t c o h
 link (Bound b ∷ t) c o h = link t c o h
-link (Booked acts ∷ t) c o h = link t c o h
+link (Booked acts full ∷ t) c o h = link t c o h
 link (Began g ∷ t) c o h = link t c o h
 
 -- An attachment still has its link.
@@ -364,7 +364,7 @@ last_of_key (Did s ∷ t) k = last_of_key t k
 last_of_key (Out d i ∷ t) k = newest_by i d (attachments t + 1) (λ a. same_key (key_at t d a) k) (last_of_key t k)
 last_of_key (Took d n ∷ t) k = last_of_key t k
 last_of_key (Bound b ∷ t) k = last_of_key t k
-last_of_key (Booked acts ∷ t) k = last_of_key t k
+last_of_key (Booked acts full ∷ t) k = last_of_key t k
 last_of_key (Began g ∷ t) k = last_of_key t k
 
 abbrev pub numbered : Trace → ℕ → Option Attachment
@@ -373,7 +373,7 @@ numbered (Did s ∷ t) n = numbered t n
 numbered (Out d i ∷ t) n = newest_by i d (attachments t + 1) (λ a. attachments t + 1 == n) (numbered t n)
 numbered (Took d k ∷ t) n = numbered t n
 numbered (Bound b ∷ t) n = numbered t n
-numbered (Booked acts ∷ t) n = numbered t n
+numbered (Booked acts full ∷ t) n = numbered t n
 numbered (Began g ∷ t) n = numbered t n
 
 -- the link with a key, and the link with a number, while they are attached
@@ -443,7 +443,7 @@ told_handle_max (Did s ∷ t) c = handle_max_at s.event c (told_handle_max t c)
 told_handle_max (Out d i ∷ t) c = if d == c then unless_close i (told_handle_max t c) else told_handle_max t c
 told_handle_max (Took d n ∷ t) c = told_handle_max t c
 told_handle_max (Bound b ∷ t) c = told_handle_max t c
-told_handle_max (Booked acts ∷ t) c = told_handle_max t c
+told_handle_max (Booked acts full ∷ t) c = told_handle_max t c
 told_handle_max (Began g ∷ t) c = told_handle_max t c
 
 abbrev pub most_in : Perf → ℕ → ℕ → Option ℕ → Option ℕ → Option ℕ
@@ -462,7 +462,7 @@ highest_handle (Did s ∷ t) c o = if is_lost s.event c then None else highest_h
 highest_handle (Out d i ∷ t) c o = if d == c then most_behind i o (told_handle_max t c) (highest_handle t c o) else highest_handle t c o
 highest_handle (Took d n ∷ t) c o = highest_handle t c o
 highest_handle (Bound b ∷ t) c o = highest_handle t c o
-highest_handle (Booked acts ∷ t) c o = highest_handle t c o
+highest_handle (Booked acts full ∷ t) c o = highest_handle t c o
 highest_handle (Began g ∷ t) c o = highest_handle t c o
 
 -- The router's lowest handle on which nothing is attached, of 64 and up to the highest that the peer accepts.

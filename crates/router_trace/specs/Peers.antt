@@ -22,7 +22,7 @@ user (Did s ∷ t) c = user_at s.event c (user t c)
 user (Out d i ∷ t) c = if d == c then unless_close i (user t c) else user t c
 user (Took d n ∷ t) c = user t c
 user (Bound b ∷ t) c = user t c
-user (Booked acts ∷ t) c = user t c
+user (Booked acts full ∷ t) c = user t c
 user (Began g ∷ t) c = user t c
 
 -- what links need of the peer's first open: its container-id, and the largest frame that it accepts
@@ -56,7 +56,7 @@ container (Did s ∷ t) c = container_at s.event c (container t c)
 container (Out d i ∷ t) c = if d == c then unless_close i (container t c) else container t c
 container (Took d n ∷ t) c = container t c
 container (Bound b ∷ t) c = container t c
-container (Booked acts ∷ t) c = container t c
+container (Booked acts full ∷ t) c = container t c
 container (Began g ∷ t) c = container t c
 
 -- the largest frame that the peer accepts, in bytes; 4,294,967,295 if it states none

@@ -53,7 +53,7 @@ offered (Did s ∷ t) c = offered_at s.event c (offered t c)
 offered (Out d i ∷ t) c = if d == c then unless_close i (offered t c) else offered t c
 offered (Took d n ∷ t) c = offered t c
 offered (Bound b ∷ t) c = offered t c
-offered (Booked acts ∷ t) c = offered t c
+offered (Booked acts full ∷ t) c = offered t c
 offered (Began g ∷ t) c = offered t c
 
 -- What a peer's channel stands for: a session, on a channel of the router; one that the router ended, until the peer's
@@ -92,7 +92,7 @@ answered_channel (Did s ∷ t) c o = answered_at s.event c (answered_channel t c
 answered_channel (Out d i ∷ t) c o = if d == c then answered_by i o (answered_channel t c o) else answered_channel t c o
 answered_channel (Took d n ∷ t) c o = answered_channel t c o
 answered_channel (Bound b ∷ t) c o = answered_channel t c o
-answered_channel (Booked acts ∷ t) c o = answered_channel t c o
+answered_channel (Booked acts full ∷ t) c o = answered_channel t c o
 answered_channel (Began g ∷ t) c o = answered_channel t c o
 
 -- the peer's channel stands for the session on this channel of the router
@@ -126,7 +126,7 @@ theirs (Did s ∷ t) c p = theirs_at s.event c p (theirs t c p)
 theirs (Out d i ∷ t) c p = if d == c then theirs_behind i p (answered_channel t c) (theirs t c p) else theirs t c p
 theirs (Took d n ∷ t) c p = theirs t c p
 theirs (Bound b ∷ t) c p = theirs t c p
-theirs (Booked acts ∷ t) c p = theirs t c p
+theirs (Booked acts full ∷ t) c p = theirs t c p
 theirs (Began g ∷ t) c p = theirs t c p
 
 -- the router's channel of the session on a peer's channel
@@ -175,7 +175,7 @@ session (Did s ∷ t) c o = session_at s.event c o (theirs t c) (session t c o)
 session (Out d i ∷ t) c o = if d == c then behind_item i o (offered t c) (session t c o) else session t c o
 session (Took d n ∷ t) c o = session t c o
 session (Bound b ∷ t) c o = session t c o
-session (Booked acts ∷ t) c o = session t c o
+session (Booked acts full ∷ t) c o = session t c o
 session (Began g ∷ t) c o = session t c o
 
 -- What is on a peer's channel: nothing, a session that the router ended, or a session, on a channel of the router.

@@ -39,8 +39,9 @@ pub data Entry : Type 0 where
   Took : (conn : ℕ) (count : ℕ) → Entry
   -- a message was bound to a consumer's link; no item says so
   Bound : (binding : Binding) → Entry
-  -- the event that comes next does these acts to the book; they are written to the journal as one batch, if there are any
-  Booked : (acts : List Act) → Entry
+  -- the event that comes next does these acts to the book; they are written to the journal as one batch, if there are any. Before
+  -- all else it ends these connections, because their outboxes are full
+  Booked : (acts : List Act) (full : List ℕ) → Entry
   -- the router was opened
   Began : (beginning : Beginning) → Entry
 
@@ -82,7 +83,7 @@ ups (Did s ∷ t) = with_up s.event (ups t)
 ups (Out c i ∷ t) = ups t
 ups (Took c n ∷ t) = ups t
 ups (Bound b ∷ t) = ups t
-ups (Booked acts ∷ t) = ups t
+ups (Booked acts full ∷ t) = ups t
 ups (Began g ∷ t) = ups t
 
 -- the number of the last connection that came up
@@ -96,5 +97,5 @@ newest (Did s ∷ t) = newer s.event (newest t)
 newest (Out c i ∷ t) = newest t
 newest (Took c n ∷ t) = newest t
 newest (Bound b ∷ t) = newest t
-newest (Booked acts ∷ t) = newest t
+newest (Booked acts full ∷ t) = newest t
 newest (Began g ∷ t) = newest t

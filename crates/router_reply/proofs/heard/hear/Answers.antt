@@ -3,6 +3,7 @@ use Rattle.std.proofs.lemmas.Result.{IfOk-weaker, on_ok_weaker}
 use Rattle.std.specs.Prelude.{not}
 use Rattle.router_trace.specs.declared.event.Event.{Event}
 use Rattle.router_trace.specs.Trace.{did}
+use Rattle.router_trace.specs.Deliveries.{ended_first}
 use Rattle.router_trace.specs.Refusing.{refuses}
 use Rattle.router_state.specs.Tables.{TablesFit, TablesAt}
 use Rattle.router_reply.specs.Heard.{IsHeard}
@@ -13,9 +14,9 @@ not_false true is = cc
 not_false false is = absurd cc
 
 pub returns-in_ok-up-in-Up-clause-fits : goal.returns-in_ok-up-in-Up-clause-fits
-returns-in_ok-up-in-Up-clause-fits c = λ t ends.
-    subst (λ (e : Event). TablesAt c.args.state.now t e ends → refuses t e ≡ false → TablesFit c.up.new.self (did e ∷ t)) (sym c.in-Up.is)
-    (λ at free. c.in_ok-up-in-Up.ensures t ends at (not_false _ free))
+returns-in_ok-up-in-Up-clause-fits c = λ t.
+    subst (λ (e : Event). TablesAt c.args.state.now t e c.args.ends.now → ended_first t ≡ c.args.ends.now → refuses t e ≡ false → TablesFit c.up.new.self (did e ∷ t)) (sym c.in-Up.is)
+    (λ at first free. c.in_ok-up-in-Up.ensures t c.args.ends.now at (not_false _ free))
 
 pub returns-in-Item-clause-heard : goal.returns-in-Item-clause-heard
 returns-in-Item-clause-heard c = IfOk-weaker c.hear_item.result _ _
@@ -24,20 +25,20 @@ returns-in-Item-clause-heard c = IfOk-weaker c.hear_item.result _ _
 
 pub returns-in-Item-clause-fits : goal.returns-in-Item-clause-fits
 returns-in-Item-clause-fits c = on_ok_weaker c.hear_item.result
-    (λ is t ends. subst (λ (e : Event). TablesAt c.args.state.now t e ends → refuses t e ≡ false → TablesFit c.hear_item.new.state (did e ∷ t)) (sym c.in-Item.is) (λ at free. is t ends at))
+    (λ is t. subst (λ (e : Event). TablesAt c.args.state.now t e c.args.ends.now → ended_first t ≡ c.args.ends.now → refuses t e ≡ false → TablesFit c.hear_item.new.state (did e ∷ t)) (sym c.in-Item.is) (λ at first free. is t at first))
     c.hear_item.ensures.fits
 
 pub returns-in_ok-down-in-Down-clause-fits : goal.returns-in_ok-down-in-Down-clause-fits
-returns-in_ok-down-in-Down-clause-fits c = λ t ends.
-    subst (λ (e : Event). TablesAt c.args.state.now t e ends → refuses t e ≡ false → TablesFit c.down.new.self (did e ∷ t)) (sym c.in-Down.is)
-    (λ at free. c.in_ok-down-in-Down.ensures t ends at)
+returns-in_ok-down-in-Down-clause-fits c = λ t.
+    subst (λ (e : Event). TablesAt c.args.state.now t e c.args.ends.now → ended_first t ≡ c.args.ends.now → refuses t e ≡ false → TablesFit c.down.new.self (did e ∷ t)) (sym c.in-Down.is)
+    (λ at first free. c.in_ok-down-in-Down.ensures t c.args.ends.now at)
 
 pub returns-in-Tick-clause-fits : goal.returns-in-Tick-clause-fits
 returns-in-Tick-clause-fits c = on_ok_weaker c.hear_tick.result
-    (λ is t ends. subst (λ (e : Event). TablesAt c.args.state.now t e ends → refuses t e ≡ false → TablesFit c.hear_tick.new.state (did e ∷ t)) (sym c.in-Tick.is) (λ at free. is t ends at))
+    (λ is t. subst (λ (e : Event). TablesAt c.args.state.now t e c.args.ends.now → ended_first t ≡ c.args.ends.now → refuses t e ≡ false → TablesFit c.hear_tick.new.state (did e ∷ t)) (sym c.in-Tick.is) (λ at first free. is t c.args.ends.now at))
     c.hear_tick.ensures.fits
 
 pub returns-in-Start-clause-fits : goal.returns-in-Start-clause-fits
-returns-in-Start-clause-fits c = λ t ends.
-    subst (λ (e : Event). TablesAt c.args.state.now t e ends → refuses t e ≡ false → TablesFit c.start.new.self (did e ∷ t)) (sym c.in-Start.is)
-    (λ at free. c.start.ensures t ends at)
+returns-in-Start-clause-fits c = λ t.
+    subst (λ (e : Event). TablesAt c.args.state.now t e c.args.ends.now → ended_first t ≡ c.args.ends.now → refuses t e ≡ false → TablesFit c.start.new.self (did e ∷ t)) (sym c.in-Start.is)
+    (λ at first free. c.start.ensures t c.args.ends.now at)

@@ -1,6 +1,6 @@
 use Rattle.std.proofs.Common.{rules, ◌≡◌, ◌∙◌, ◌+◌, ap}
 use Rattle.std.specs.Prelude.{is_none, if◌then◌else◌}
-use Rattle.router_trace.specs.Deliveries.{bindings, counters, name_of}
+use Rattle.router_trace.specs.Deliveries.{counters, name_of}
 use Rattle.router_deliveries.proofs.Bound.{store_bound, sending_bound, names_bound}
 use Rattle.router_deliveries.proofs.deliveries.Deliveries.bind.Goals as goal
 

@@ -10,5 +10,6 @@ returns c = λ t old. record {
     known = old.pools.known;
     fits = old.pools.fits;
     same = λ n untouched others. old.pools.same n (sym (c.settle_owed.ensures.touched n) ∙ untouched) others;
+    below = old.pools.below;
   };
 }
