@@ -2,7 +2,8 @@
 use Rattle.std.proofs.Common.{◌≡◌, ◌∙◌, sym, ap, refl, ℕ, ◌+◌, true, false, Result, Ok, Err, OnOk, OnErr, arith}
 use Rattle.router_core.specs.declared.counts.Counts.{Counts}
 use Rattle.router_serve.specs.declared.end.ReadEnd.{ReadEnd}
-use Rattle.router_serve.specs.Submitting.{with_items, with_downs, needs_down, Submitted}
+use Rattle.router_shared.specs.Adding.{with_items}
+use Rattle.router_serve.specs.Submitting.{with_downs, needs_down, Submitted}
 
 -- items, then more of them
 abbrev pub HasItems : Counts → Counts → Type 0

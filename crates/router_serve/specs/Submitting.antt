@@ -2,12 +2,9 @@
 use Rattle.std.specs.Prelude.{◌≡◌, ◌≤◌, ℕ, ◌+◌, Bool, true, false}
 use Rattle.router_core.specs.declared.counts.Counts.{Counts}
 use Rattle.router_core.specs.declared.fault.CoreFault.TheVariants.{Failed, NoConnection}
+use Rattle.router_shared.specs.Adding.{with_items}
 use Rattle.router_serve.specs.declared.end.ReadEnd.{ReadEnd}
 use Rattle.router_serve.specs.declared.end.ReadEnd.TheVariants as end
-
--- this many more items
-abbrev pub with_items : ℕ → Counts → Counts
-with_items k n = record n { items = n.items + k }
 
 -- this many more losses
 abbrev pub with_downs : ℕ → Counts → Counts

@@ -2,7 +2,8 @@
 ghost use Rattle.std.specs.Prelude.{◌≡◌, ℕ, List, length, IfOk, IfErr};
 ghost use Rattle.std.specs.Io.KnownBytes.{Consumes};
 ghost use Rattle.router_serve.specs.Greeting.{Gives, Stops};
-ghost use Rattle.router_serve.specs.Submitting.{with_items, needs_down, Submitted};
+ghost use Rattle.router_shared.specs.Adding.{with_items};
+ghost use Rattle.router_serve.specs.Submitting.{needs_down, Submitted};
 
 use crate::end::ReadEnd;
 use crate::gate::{Gate, Side};
@@ -11,6 +12,7 @@ use disk_core::Disk;
 use router_core::{ConnectionId, CoreFault, Event};
 use router_shared::{Ledgers, Log, Receipt, Seat, Shared};
 use std::alloc::Global;
+use std::collections::VecDeque;
 use std::io::{ErrorKind, Read};
 use std::sync::Wait;
 
@@ -84,7 +86,7 @@ fn hand_in_all<D: Disk, L: Log, G: Ledgers, R: Wait, I: Read, P: Gate>(
     ReadEnd::ReadFailed
 }
 
-/// Submits items, each after it passes the gate.
+/// Submits items, after they pass the gate.
 ///
 /// # Errors
 ///
@@ -100,26 +102,43 @@ fn hand_in<D: Disk, L: Log, G: Ledgers, R: Wait, P: Gate>(
 ) -> Result<(), ReadEnd>
     ensures { (k : ℕ) × (seat.new ≡ with_items k seat.old) }
 {
-    for item in items {
-        gate.pass(rt, conn, Side::Reader, *number);
-        gate.see(rt, conn, Side::Reader, &item);
-        *number = number.saturating_add(1);
-        let last = is_bad(&item);
-        match shared.submit(rt, seat, Event::Item(conn, item)) {
-            Ok(_) => {}
-            Err(fault) => return Err(ReadEnd::Core(fault)),
+    announce(rt, gate, conn, items.as_slice(), number);
+    let last = ends_in_bad(items.as_slice());
+    let mut items = VecDeque::from(items);
+    for _turn in 0..u64::MAX {
+        if items.is_empty() {
+            break;
         }
-        if last {
-            return Err(ReadEnd::End);
+        match shared.submit_items(rt, seat, conn, &mut items) {
+            Ok(()) => {}
+            Err(fault) => {
+                drop(items);
+                return Err(ReadEnd::Core(fault));
+            }
         }
     }
-    Ok(())
+    if last { Err(ReadEnd::End) } else { Ok(()) }
 }
 
-/// Whether an item is the last of its stream.
-fn is_bad(item: &Item) -> bool {
-    match item {
-        Item::Bad(_) => true,
+/// Passes items at the gate.
+fn announce<R: Wait, P: Gate>(
+    rt: &R,
+    gate: &P,
+    conn: ConnectionId,
+    items: &[Item],
+    number: &mut u64,
+) {
+    for item in items {
+        gate.pass(rt, conn, Side::Reader, *number);
+        gate.see(rt, conn, Side::Reader, item);
+        *number = number.saturating_add(1);
+    }
+}
+
+/// Whether the last of these items is the last of their stream.
+fn ends_in_bad(items: &[Item]) -> bool {
+    match items.last() {
+        Some(Item::Bad(_)) => true,
         _ => false,
     }
 }

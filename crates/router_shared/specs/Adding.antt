@@ -1,5 +1,6 @@
--- Counts of several seats, added up.
-use Rattle.std.specs.Prelude.{ℕ, ◌+◌, List, map, sum}
+-- Counts of several seats, added up, and of several items.
+use Rattle.std.specs.Prelude.{◌≡◌, ◌≤◌, ℕ, ◌+◌, List, drop, map, sum}
+use Rattle.amqp_frames.specs.declared.item.Item.{Item}
 use Rattle.router_core.specs.declared.counts.Counts.{Counts}
 use Rattle.router_core.specs.Counting.{with_batch}
 use Rattle.router_shared.specs.declared.kind.Kind.{Kind}
@@ -12,6 +13,17 @@ with_kind kind.Item n = record n { items = n.items + 1 }
 with_kind kind.Down n = record n { downs = n.downs + 1 }
 with_kind kind.Tick n = record n { ticks = n.ticks + 1 }
 with_kind kind.Start n = record n { starts = n.starts + 1 }
+
+-- this many more items
+abbrev pub with_items : ℕ → Counts → Counts
+with_items k n = record n { items = n.items + k }
+
+-- items left the front of a queue, 64 at most, and all of them are counted but this many
+pub record Handled (refused : ℕ) (old new : Counts) (before behind : List Item) : Type 0 where
+  pub items : ℕ
+  pub most : items + refused ≤ 64
+  pub counted : new ≡ with_items items old
+  pub left : behind ≡ drop (items + refused) before
 
 -- the sum of two counts, number by number
 abbrev pub plus : Counts → Counts → Counts

@@ -4,17 +4,22 @@ ghost use Rattle.gate_journal.specs.Journal.{batch_count};
 ghost use Rattle.router_store.specs.Store.{journal_of};
 ghost use Rattle.router_core.specs.Handling.{counts_of, store_of};
 ghost use Rattle.router_core.specs.Counting.{uncounted, with_event, with_batch};
-ghost use Rattle.router_shared.specs.Adding.{sums};
+ghost use Rattle.router_shared.specs.Adding.{sums, Handled};
 ghost use Rattle.router_shared.specs.History.{HasHistory};
 
 use crate::bells::{BELLS, Bells, bell_of};
 use crate::kind::Kind;
 use crate::ledgers::Ledgers;
-use crate::router::Router;
+use crate::router::{MOST, Router};
 use crate::seat::Seat;
 use crate::totals::Totals;
+use amqp_frames::Item;
 use disk_core::Disk;
 use router_core::{Batch, ConnectionId, Core, CoreFault, Counts, Event};
+use std::collections::VecDeque;
+
+/// The most items that write to the journal while the lock is taken once.
+const WRITES: usize = 8;
 
 /// A log of a router's events and takes.
 pub trait Log: Drop {}
@@ -84,15 +89,41 @@ impl<D: Disk, L: Log, G: Ledgers> Locked<D, L, G> {
         self.totals.seat()
     }
 
-    /// Handles one event.
-    pub fn handle(&mut self, seat: &mut Seat<G>, event: Event) -> Result<Option<Receipt>, CoreFault>
+    /// Handles one event, and returns whether it wrote to the journal.
+    pub fn handle(&mut self, seat: &mut Seat<G>, event: Event) -> Result<bool, CoreFault>
         ensures counted { OnOk result (seat.new ≡ with_event event seat.old) }
         ensures uncounted { OnErr result (seat.new ≡ seat.old) }
     {
         let kind = Kind::of(&event);
-        self.router.handle(event)?;
+        let wrote = self.router.handle(event)?;
         self.totals.add(seat, kind, self.router.counts());
-        Ok(None)
+        Ok(wrote)
+    }
+
+    /// Handles the items at the front of a queue, in order: up to 64 of them, and none behind one that is refused or the eighth that
+    /// wrote to the journal. One that is refused is dropped.
+    pub fn handle_items(
+        &mut self,
+        seat: &mut Seat<G>,
+        conn: ConnectionId,
+        items: &mut VecDeque<Item>,
+    ) -> Result<(), CoreFault>
+        ensures handled { OnOk result (Handled 0 seat.old seat.new items.old.items items.new.items) }
+        ensures refused { OnErr result (Handled 1 seat.old seat.new items.old.items items.new.items) }
+    {
+        let mut writes = WRITES;
+        for _turn in 0..MOST {
+            if writes == 0 {
+                return Ok(());
+            }
+            let Some(item) = items.pop_front() else {
+                return Ok(());
+            };
+            if self.handle(seat, Event::Item(conn, item))? {
+                writes = writes.saturating_sub(1);
+            }
+        }
+        Ok(())
     }
 
     /// Handles one take.

@@ -30,15 +30,16 @@ impl<D: Disk> Router<D> {
         Router { core }
     }
 
-    /// Handles an event.
-    pub fn handle(&mut self, event: Event) -> Result<(), CoreFault>
+    /// Handles an event, and returns whether it wrote to the journal.
+    pub fn handle(&mut self, event: Event) -> Result<bool, CoreFault>
         ensures counted { OnOk result (counts_of self.new.core ≡ with_event event (counts_of self.old.core)) }
         ensures uncounted { OnErr result (counts_of self.new.core ≡ counts_of self.old.core) }
     {
         match self.core.handle(event) {
             Ok(done) => {
+                let wrote = done.journal.is_some();
                 drop(done);
-                Ok(())
+                Ok(wrote)
             }
             Err(fault) => Err(fault),
         }

@@ -4,7 +4,7 @@ ghost use Rattle.gate_journal.specs.Journal.{batch_count};
 ghost use Rattle.router_store.specs.Store.{journal_of};
 ghost use Rattle.router_core.specs.Handling.{counts_of, store_of};
 ghost use Rattle.router_core.specs.Counting.{uncounted, with_event, with_batch};
-ghost use Rattle.router_shared.specs.Adding.{sums};
+ghost use Rattle.router_shared.specs.Adding.{sums, Handled};
 ghost use Rattle.router_shared.specs.History.{IsOpened, HasHistory};
 
 use crate::bells::{BELLS, Bells, bell_of};
@@ -13,9 +13,11 @@ use crate::locked::{Closed, Locked, Log, Receipt};
 use crate::router::Router;
 use crate::seat::Seat;
 use crate::totals::Totals;
+use amqp_frames::Item;
 use disk_core::Disk;
 use router_core::{Batch, ConnectionId, Core, CoreFault, Event};
 use std::alloc::{AllocError, Global};
+use std::collections::VecDeque;
 use std::sync::{Condvar, Mutex, Wait};
 
 /// The router under one lock, for threads that each have a seat. Whenever the lock is taken, the data under it is a router that
@@ -82,6 +84,28 @@ impl<D: Disk, L: Log, G: Ledgers> Shared<D, L, G> {
         let mut locked = self.state.lock(rt);
         let done = locked.handle(seat, event);
         let woken = locked.wake(lost);
+        drop(locked);
+        self.ring(woken);
+        done?;
+        Ok(None)
+    }
+
+    /// Submits the items at the front of a queue, in order, each as an event of its own, while the lock is taken once: up to 64 of them, and
+    /// none behind one that is refused or the eighth that wrote to the journal. Then it wakes the writers that have something to take.
+    /// The seat counts exactly the items that left the queue, but for one that is refused, which is dropped.
+    pub fn submit_items<R: Wait>(
+        &self,
+        rt: &R,
+        seat: &mut Seat<G>,
+        conn: ConnectionId,
+        items: &mut VecDeque<Item>,
+    ) -> Result<(), CoreFault>
+        ensures handled { OnOk result (Handled 0 seat.old seat.new items.old.items items.new.items) }
+        ensures refused { OnErr result (Handled 1 seat.old seat.new items.old.items items.new.items) }
+    {
+        let mut locked = self.state.lock(rt);
+        let done = locked.handle_items(seat, conn, items);
+        let woken = locked.wake(None);
         drop(locked);
         self.ring(woken);
         done

@@ -1,8 +1,8 @@
 use Rattle.router_serve.proofs.Submits.{items_joined}
 use Rattle.router_serve.proofs.reader.hand_in.Goals as goal
 
-pub returns-then-last : goal.returns-then-last
-returns-then-last g c = items_joined _ _ _ c.loop-item.invariant (1, c.in-Ok.ensures.counted)
+pub returns-in-Err : goal.returns-in-Err
+returns-in-Err g c = items_joined _ _ _ c.loop-turn.invariant (c.in-Err.ensures.refused.items, c.in-Err.ensures.refused.counted)
 
-pub loop-item-preserved : goal.loop-item-preserved
-loop-item-preserved g c = items_joined _ _ _ c.loop-item.invariant (1, c.in-Ok.ensures.counted)
+pub loop-turn-preserved : goal.loop-turn-preserved
+loop-turn-preserved g c = items_joined _ _ _ c.loop-turn.invariant (c.in-Ok.ensures.handled.items, c.in-Ok.ensures.handled.counted)

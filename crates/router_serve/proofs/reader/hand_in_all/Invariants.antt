@@ -1,5 +1,5 @@
 use Rattle.std.proofs.Common.{◌≡◌, ℕ}
-use Rattle.router_serve.specs.Submitting.{with_items}
+use Rattle.router_shared.specs.Adding.{with_items}
 use Rattle.router_serve.proofs.reader.hand_in_all.Given as goal
 
 abbrev pub invariant-loop-turn : goal.invariant-loop-turn
