@@ -2,7 +2,6 @@
 use Rattle.std.specs.Prelude.{◌≡◌, ◌≤◌, ℕ, ◌+◌, List, drop, map, sum}
 use Rattle.amqp_frames.specs.declared.item.Item.{Item}
 use Rattle.router_core.specs.declared.counts.Counts.{Counts}
-use Rattle.router_core.specs.Counting.{with_batch}
 use Rattle.router_shared.specs.declared.kind.Kind.{Kind}
 use Rattle.router_shared.specs.declared.kind.Kind.TheVariants as kind
 
