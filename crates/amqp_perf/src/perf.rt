@@ -13,7 +13,7 @@ pub enum Perf {
     /// Begins a session.
     Begin(Begin),
     /// Attaches a link.
-    Attach(Attach),
+    Attach(Box<Attach>),
     /// Announces windows and credit.
     Flow(Flow),
     /// Carries a message, or a part of one.

@@ -118,7 +118,10 @@ fn body_of(
     match descriptor {
         Descriptor::Open => Ok(Perf::Open(open_fields(alloc, fields)?)),
         Descriptor::Begin => Ok(Perf::Begin(begin_fields(alloc, fields)?)),
-        Descriptor::Attach => Ok(Perf::Attach(attach_fields(alloc, fields)?)),
+        Descriptor::Attach => match Box::new(alloc, attach_fields(alloc, fields)?) {
+            Ok(attach) => Ok(Perf::Attach(attach)),
+            Err(_) => Err(PerfFault::Memory),
+        },
         Descriptor::Flow => Ok(Perf::Flow(flow_fields(alloc, fields)?)),
         Descriptor::Transfer => Ok(Perf::Transfer(transfer_fields(alloc, fields)?)),
         Descriptor::Disposition => Ok(Perf::Disposition(disposition_fields(alloc, fields)?)),

@@ -296,10 +296,28 @@ pub(crate) fn put_described(
     ensures { OnOk result (out.new.items ≡ out.old.items ++ texts.described_text descriptor (fields_view fields.now)) }
 {
     let given = given_of(fields);
-    out.extend_from_slice(&[0x00, 0x53, descriptor.code()])?;
+    let count = given.len();
+    if count == 0 || count >= 256 {
+        out.extend_from_slice(&[0x00, 0x53, descriptor.code()])?;
+        let start = out.len();
+        put_fields(out, given)?;
+        return close_list(out, start, count);
+    }
+    out.extend_from_slice(&[0x00, 0x53, descriptor.code(), 0xc0, 0, count as u8])?;
     let start = out.len();
     put_fields(out, given)?;
-    close_list(out, start, given.len())
+    let len = out.len() - start;
+    if len < 255 {
+        out[start - 2] = (len + 1) as u8;
+        return Ok(());
+    }
+    let size = (len + 4) as u32;
+    out.extend_from_slice(&[0; 6])?;
+    out[start..].rotate_right(6);
+    out[start - 3] = 0xd0;
+    out[start - 2..start + 2].copy_from_slice(&size.to_be_bytes());
+    out[start + 2..start + 6].copy_from_slice(&(count as u32).to_be_bytes());
+    Ok(())
 }
 
 /// The encoding of symbols, if there are any: always an array.

@@ -47,6 +47,15 @@ impl Table {
         })
     }
 
+    /// How the links of an address share its messages.
+    pub fn distribution(&self, address: &str) -> Distribution {
+        match self.addresses.longest(address) {
+            None => Distribution::Balanced,
+            Some(distribution) => *distribution,
+        }
+    }
+
+
     /// The place of an address: by the longest prefix that it equals, or that it goes on after with `.` or `/`.
     /// Balanced and without routes where none matches. It allocates nothing, and makes one look-up for each `.` and `/` of the
     /// address.

@@ -418,10 +418,14 @@ impl Claims {
         let after = unbound_handle(Some(&claim));
         let link = claim_handle(self.ids.get(conn, own, id));
         let next = claim_handle(Some(&claim));
-        self.unbound.drop_from(conn, own, before, id);
-        self.unbound.add(conn, own, after, id)?;
-        self.by_link.drop_from(conn, own, link, id);
-        self.by_link.add(conn, own, next, id)?;
+        if before != after {
+            self.unbound.drop_from(conn, own, before, id);
+            self.unbound.add(conn, own, after, id)?;
+        }
+        if link != next {
+            self.by_link.drop_from(conn, own, link, id);
+            self.by_link.add(conn, own, next, id)?;
+        }
         self.ids.insert(conn, own, id, claim)?;
         Ok(())
     }

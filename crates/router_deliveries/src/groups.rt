@@ -134,9 +134,6 @@ impl Groups {
             return;
         };
         let _ = numbers.remove(&number);
-        if numbers.is_empty() {
-            let _ = self.sets.remove(&link);
-        }
     }
 
     /// Adds a number to a link, if there is one.
@@ -191,4 +188,45 @@ fn count(numbers: &BTreeSet<u64>) -> usize
     ensures { IsCount (contains nat_cmp numbers.now) result }
 {
     numbers.len()
+}
+
+/// How many numbers each link has.
+#[derive(Debug, Drop)]
+pub(crate) struct Tallies {
+    counts: BTreeMap<u64, usize>,
+}
+
+impl Tallies {
+    pub(crate) fn new(alloc: Global) -> Tallies {
+        Tallies { counts: BTreeMap::new(alloc) }
+    }
+
+    pub(crate) fn count(&self, link: u64) -> usize {
+        match self.counts.get(&link) {
+            None => 0,
+            Some(count) => *count,
+        }
+    }
+
+    pub(crate) fn shift(&mut self, before: Option<u64>, after: Option<u64>) -> Result<(), AllocError> {
+        if before == after {
+            return Ok(());
+        }
+        if let Some(link) = before {
+            if let Some(count) = self.counts.get_mut(&link) {
+                *count = (*count).saturating_sub(1);
+            }
+        }
+        if let Some(link) = after {
+            if let Some(count) = self.counts.get_mut(&link) {
+                *count = (*count).saturating_add(1);
+                return Ok(());
+            }
+            match self.counts.insert(link, 1) {
+                Ok(_) => {}
+                Err(_) => return Err(AllocError),
+            }
+        }
+        Ok(())
+    }
 }

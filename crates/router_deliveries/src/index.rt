@@ -10,7 +10,7 @@ ghost use Rattle.amqp_session.specs.Ranges.{has};
 
 use crate::change::{Change, Gone};
 use crate::delivery::Delivery;
-use crate::groups::{Groups, add};
+use crate::groups::{Groups, Tallies, add};
 use crate::spots::{Spot, Spots};
 use router_trace::{Attachment, Origin};
 use std::alloc::{AllocError, Global};
@@ -45,9 +45,9 @@ pub(crate) struct Index {
     // those of a link of which frames remain to be sent
     pub(crate) unsent: Groups,
     // the undecided ones of a link
-    pub(crate) undecided: Groups,
+    pub(crate) undecided: Tallies,
     // those held from a producer's link
-    pub(crate) held: Groups,
+    pub(crate) held: Tallies,
     // those whose outcome must be reported to their producer
     pub(crate) to_tell: BTreeSet<u64>,
     // those changed by the end of a consumer's link, those by the end of a producer's link, and those by a producer's delivery-id
@@ -166,8 +166,8 @@ impl Index {
         Index {
             waiting: Groups::new(alloc),
             unsent: Groups::new(alloc),
-            undecided: Groups::new(alloc),
-            held: Groups::new(alloc),
+            undecided: Tallies::new(alloc),
+            held: Tallies::new(alloc),
             to_tell: BTreeSet::new(alloc),
             on: Spots::new(alloc),
             from: Spots::new(alloc),
@@ -181,10 +181,11 @@ impl Index {
     {
         self.waiting.shift(number, before.waiting, after.waiting)?;
         self.unsent.shift(number, before.unsent, after.unsent)?;
-        self.undecided
-            .shift(number, before.undecided, after.undecided)?;
-        self.held.shift(number, before.held, after.held)?;
-        mark(&mut self.to_tell, number, after.to_tell)?;
+        self.undecided.shift(before.undecided, after.undecided)?;
+        self.held.shift(before.held, after.held)?;
+        if before.to_tell != after.to_tell {
+            mark(&mut self.to_tell, number, after.to_tell)?;
+        }
         self.on.shift(number, before.on, after.on)?;
         self.from.shift(number, before.from, after.from)?;
         self.by_id.shift(number, before.by_id, after.by_id)?;

@@ -295,12 +295,26 @@ impl Store {
         ensures indexed { OnOk result (Indexed self.old → Indexed self.new) }
         ensures touches { OnOk result (StoreTouches self.old self.new) }
     {
-        let Some(mut delivery) = self.take(number) else {
+        let Some(delivery) = self.deliveries.get_mut(&number) else {
             return Ok(());
         };
-        let before = Keys::of(&delivery);
+        let before = Keys::of(delivery);
         delivery.note_frame(transfer, count)?;
-        self.keep(number, before, delivery)
+        self.changed(number, before)
+    }
+
+    fn changed(&mut self, number: u64, before: Keys) -> Result<(), AllocError> {
+        let Some(delivery) = self.deliveries.get(&number) else {
+            return Ok(());
+        };
+        if delivery.is_over() {
+            let name = delivery.name;
+            let _ = self.deliveries.remove(&number);
+            self.by_name.forget(name);
+            return self.shift(number, before, Keys::nowhere());
+        }
+        let after = Keys::of(delivery);
+        self.shift(number, before, after)
     }
 
     /// Changes the delivery with a number.
@@ -310,12 +324,12 @@ impl Store {
         ensures indexed { OnOk result (Indexed self.old → Indexed self.new) }
         ensures touches { OnOk result (StoreTouches self.old self.new) }
     {
-        let Some(mut delivery) = self.take(number) else {
+        let Some(delivery) = self.deliveries.get_mut(&number) else {
             return Ok(());
         };
-        let before = Keys::of(&delivery);
+        let before = Keys::of(delivery);
         delivery.change(change)?;
-        self.keep(number, before, delivery)
+        self.changed(number, before)
     }
 
     /// Changes the deliveries with these numbers.

@@ -72,6 +72,13 @@ impl Unbound {
         ensures { OnOk result ((c o h q : ℕ) → is_marked self.new c o h q
             ≡ (if conn == c then (if own == o then (if handle == h then (if id == q then true else is_marked self.old c o h q) else is_marked self.old c o h q) else is_marked self.old c o h q) else is_marked self.old c o h q)) }
     {
+        if let Some(sessions) = self.sets.rows.get_mut(&conn) {
+            if let Some(handles) = sessions.get_mut(&own) {
+                if let Some(ids) = handles.get_mut(&handle) {
+                    return add(ids, id);
+                }
+            }
+        }
         let mut ids = match self.sets.remove(conn, own, handle) {
             None => BTreeSet::new(self.alloc),
             Some(ids) => ids,

@@ -153,7 +153,7 @@ impl HandleTable {
     {
         match perf {
             Perf::Begin(begin) => self.hear_begin(conn, begin)?,
-            Perf::Attach(attach) => self.hear_attach(conn, attach)?,
+            Perf::Attach(attach) => self.hear_attach(conn, attach.as_ref())?,
             Perf::Detach(detach) => self.hear_detach(conn, own, detach),
             _ => {}
         }
@@ -196,7 +196,7 @@ impl HandleTable {
     {
         match perf {
             Perf::Begin(begin) => self.put_begin(conn, own, begin)?,
-            Perf::Attach(attach) => self.put_attach(conn, own, attach)?,
+            Perf::Attach(attach) => self.put_attach(conn, own, attach.as_ref())?,
             Perf::Detach(detach) => self.put_detach(conn, own, detach)?,
             Perf::End(_) => self.put_end(conn, own),
             Perf::Close(_) => self.forget(conn),

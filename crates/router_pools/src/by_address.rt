@@ -55,6 +55,10 @@ impl ByAddress {
     ) -> Result<(), AllocError>
         ensures { OnOk result ((share : List ℕ → Distribution) → distribution ≡ share address.now → (a : List ℕ) → pool_in share self.new a ≡ with_pool (pool_in share self.old) address.now (λ pool. offered (without_producer pool number) number free undecided) a) }
     {
+        if let Some(pool) = self.pools.get_mut(address) {
+            pool.drop_producer(ProducerId(number));
+            return pool.offer(ConsumerId(number), free, undecided);
+        }
         self.found(address, distribution)?;
         match self.pools.get_mut(address) {
             None => Ok(()),
@@ -76,6 +80,10 @@ impl ByAddress {
     ) -> Result<(), AllocError>
         ensures { OnOk result ((share : List ℕ → Distribution) → distribution ≡ share address.now → (a : List ℕ) → pool_in share self.new a ≡ with_pool (pool_in share self.old) address.now (λ pool. wanted (without_consumer pool number) number unused 0 held) a) }
     {
+        if let Some(pool) = self.pools.get_mut(address) {
+            pool.drop_consumer(ConsumerId(number));
+            return pool.want(ProducerId(number), unused, 0, held);
+        }
         self.found(address, distribution)?;
         match self.pools.get_mut(address) {
             None => Ok(()),

@@ -98,7 +98,7 @@ impl Pools {
     {
         let place = address.as_bytes();
         self.place(number, place)?;
-        let distribution = self.table.find(address).distribution;
+        let distribution = self.table.distribution(address);
         self.pools
             .offer(place, distribution, number, free, undecided)?;
         let _ = self.touched.remove(&number);
@@ -120,7 +120,7 @@ impl Pools {
     {
         let place = address.as_bytes();
         self.place(number, place)?;
-        let distribution = self.table.find(address).distribution;
+        let distribution = self.table.distribution(address);
         self.pools.want(place, distribution, number, unused, held)?;
         let _ = self.touched.remove(&number);
         Ok(())

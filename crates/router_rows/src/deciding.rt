@@ -110,7 +110,7 @@ fn in_turn(state: &State, conn: u64, channel: u16, perf: &Perf) -> Answer
     let place = state.place(conn, channel);
     match perf {
         Perf::Begin(begin) => begin_reply(place, state.free_channel(conn), channel, begin),
-        Perf::Attach(attach) => attach_reply(state, conn, place, attach),
+        Perf::Attach(attach) => attach_reply(state, conn, place, attach.as_ref()),
         Perf::Flow(flow) => flow_reply(state, conn, place, flow),
         Perf::Transfer(transfer) => transfer_reply(state, conn, place, transfer),
         Perf::Disposition(disposition) => disposition_reply(place, disposition),

@@ -51,10 +51,13 @@ pub fn link_flow_item(own: u16, told: FlowState, at: LinkState) -> Item
 }
 
 /// The router's attach on its channel `own`.
-pub fn attach_item(own: u16, attach: Attach) -> Item
+pub fn attach_item(alloc: Global, own: u16, attach: Attach) -> Result<Item, AllocError>
     ensures { result ≡ attach_item own attach }
 {
-    frame_on(own, Perf::Attach(attach))
+    match Box::new(alloc, attach) {
+        Ok(attach) => Ok(frame_on(own, Perf::Attach(attach))),
+        Err(_) => Err(AllocError),
+    }
 }
 
 impl RouterId {
