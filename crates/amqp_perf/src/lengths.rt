@@ -11,7 +11,7 @@ ghost use Rattle.amqp_perf.specs.TextViews.{field_view, fields_view};
 use crate::perf::Transfer;
 use crate::text::{Field, given_of};
 use crate::write_perfs::transfer_fields;
-use crate::write_states::state_text;
+use crate::write_states::boxed_state_text;
 use amqp_types::Plain;
 use std::alloc::{AllocError, Global};
 
@@ -26,7 +26,7 @@ pub fn transfer_len(alloc: Global, transfer: &Transfer) -> Result<usize, AllocEr
     ensures exact { IfOk result (λ len. len ≡ min (length (spellings.spelling (perf.Transfer transfer.now))) (2 ^ 64 - 1)) }
     ensures stateless { is_none transfer.now.state ≡ true → IsOk result }
 {
-    let state = state_text(alloc, &transfer.state)?;
+    let state = boxed_state_text(alloc, &transfer.state)?;
     Ok(described_len(&transfer_fields(transfer, &state)))
 }
 
@@ -48,7 +48,7 @@ fn described_len(fields: &[Field<'_>]) -> usize
 }
 
 /// How many bytes these fields have, one after another.
-fn fields_len(fields: &[Field<'_>]) -> usize
+pub(crate) fn fields_len(fields: &[Field<'_>]) -> usize
     ensures { result ≡ min (length (texts.joined (fields_view fields.now))) (2 ^ 64 - 1) }
 {
     let mut total = 0_usize;

@@ -1,6 +1,7 @@
 //! The performatives of AMQP 1.0: the nine of the transport, the five bodies of SASL, delivery states and termini.
 #![tactic(auto)]
 
+mod boxed;
 pub mod descriptor;
 pub mod fault;
 mod fields;
@@ -21,6 +22,7 @@ mod write_perfs;
 mod write_states;
 mod write_termini;
 
+pub use boxed::Boxed;
 pub use descriptor::Descriptor;
 pub use fault::PerfFault;
 pub use laws::{

@@ -1,19 +1,20 @@
 //! The performatives of the transport (AMQP 1.0 part 2, section 2.7) and the bodies of SASL frames (part 5, section
 //! 5.3.3), each with the fields of the standard, in its order and under its names.
+use crate::boxed::Boxed;
 use crate::leaf::{Binary, Map, Symbol, Symbols, Text};
 use crate::state::{DeliveryState, DeliveryTag, Fault, Unsettled};
 use crate::terminus::{SourceTerminus, TargetTerminus};
 use std::fmt;
 
-/// One performative or SASL body.
+/// One performative or SASL body. Those that come once for a connection, a session or a link stand in a box, so that the others are small.
 #[derive(Debug, Drop)]
 pub enum Perf {
     /// Negotiates a connection.
-    Open(Open),
+    Open(Boxed<Open>),
     /// Begins a session.
-    Begin(Begin),
+    Begin(Boxed<Begin>),
     /// Attaches a link.
-    Attach(Attach),
+    Attach(Boxed<Attach>),
     /// Announces windows and credit.
     Flow(Flow),
     /// Carries a message, or a part of one.
@@ -171,7 +172,7 @@ pub struct Transfer {
     /// The settlement that the sender asks for; absent means the link's.
     pub rcv_settle_mode: Option<u8>,
     /// The state of the delivery.
-    pub state: Option<DeliveryState>,
+    pub state: Option<Boxed<DeliveryState>>,
     /// Whether the delivery is resumed.
     pub resume: bool,
     /// Whether the delivery is aborted.
@@ -205,21 +206,21 @@ pub struct Detach {
     /// Whether it is closed for good.
     pub closed: bool,
     /// The error, if there is one.
-    pub error: Option<Fault>,
+    pub error: Option<Boxed<Fault>>,
 }
 
 /// Ends a session (AMQP 1.0 part 2, section 2.7.8).
 #[derive(Debug, Drop)]
 pub struct End {
     /// The error, if there is one.
-    pub error: Option<Fault>,
+    pub error: Option<Boxed<Fault>>,
 }
 
 /// Closes a connection (AMQP 1.0 part 2, section 2.7.9).
 #[derive(Debug, Drop)]
 pub struct Close {
     /// The error, if there is one.
-    pub error: Option<Fault>,
+    pub error: Option<Boxed<Fault>>,
 }
 
 /// The mechanisms that a server offers (AMQP 1.0 part 5, section 5.3.3.1).

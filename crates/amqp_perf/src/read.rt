@@ -4,6 +4,7 @@ ghost use Rattle.amqp_perf.specs.Contract.{Gives, GivesAs};
 ghost use Rattle.amqp_perf.specs.Places.{at_of};
 ghost use Rattle.amqp_perf.specs.Performative.{performative, performative_at, state, body, sasl_body, limit_of};
 
+use crate::boxed::Boxed;
 use crate::descriptor::Descriptor;
 use crate::fault::PerfFault;
 use crate::fields::Fields;
@@ -116,9 +117,9 @@ fn body_of(
     ensures { Gives result (body descriptor (at_of fields.old)) }
 {
     match descriptor {
-        Descriptor::Open => Ok(Perf::Open(open_fields(alloc, fields)?)),
-        Descriptor::Begin => Ok(Perf::Begin(begin_fields(alloc, fields)?)),
-        Descriptor::Attach => Ok(Perf::Attach(attach_fields(alloc, fields)?)),
+        Descriptor::Open => Ok(Perf::Open(Boxed::new(alloc, open_fields(alloc, fields)?)?)),
+        Descriptor::Begin => Ok(Perf::Begin(Boxed::new(alloc, begin_fields(alloc, fields)?)?)),
+        Descriptor::Attach => Ok(Perf::Attach(Boxed::new(alloc, attach_fields(alloc, fields)?)?)),
         Descriptor::Flow => Ok(Perf::Flow(flow_fields(alloc, fields)?)),
         Descriptor::Transfer => Ok(Perf::Transfer(transfer_fields(alloc, fields)?)),
         Descriptor::Disposition => Ok(Perf::Disposition(disposition_fields(alloc, fields)?)),

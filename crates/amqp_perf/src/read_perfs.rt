@@ -232,7 +232,7 @@ pub(crate) fn transfer_fields(alloc: Global, fields: &mut Fields<'_>) -> Result<
     let settled = fields.flag()?;
     let more = fields.flag()?;
     let rcv_settle_mode = fields.ubyte()?;
-    let state = fields.state(alloc)?;
+    let state = fields.boxed_state(alloc)?;
     let resume = fields.flag()?;
     let aborted = fields.flag()?;
     let batchable = fields.flag()?;

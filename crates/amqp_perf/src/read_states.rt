@@ -6,6 +6,7 @@ ghost use Rattle.amqp_perf.specs.Contract.{Gives, GivesAs};
 ghost use Rattle.amqp_perf.specs.Places.{Took, at_of};
 ghost use Rattle.amqp_perf.specs.States as states;
 
+use crate::boxed::Boxed;
 use crate::descriptor::Descriptor;
 use crate::fault::{PerfFault, within_list};
 use crate::fields::Fields;
@@ -75,7 +76,7 @@ pub(crate) fn error_of(
     alloc: Global,
     depth: u32,
     bytes: &[u8],
-) -> Result<(Option<Fault>, &[u8]), PerfFault>
+) -> Result<(Option<Boxed<Fault>>, &[u8]), PerfFault>
     ensures { GivesAs (λ x. (x.0, x.1.now)) result (states.error_in depth bytes.now) }
 {
     let (opening, rest) = opening_of(depth, bytes)?;
@@ -88,7 +89,8 @@ pub(crate) fn error_of(
                 PerfFault::WrongKind,
                 rest,
             )?;
-            Ok((Some(error_fields(alloc, &mut fields)?), behind))
+            let error = error_fields(alloc, &mut fields)?;
+            Ok((Some(Boxed::new(alloc, error)?), behind))
         }
         Opening::Described(_) | Opening::Other => Err(refused(depth, bytes)),
     }
@@ -149,7 +151,7 @@ pub(crate) fn state_of(
 impl<'a> Fields<'a> {
     /// An error.
     #[tactic(auto, unfolding(crate::specs::States::error_at))]
-    pub fn error(&mut self, alloc: Global) -> Result<Option<Fault>, PerfFault>
+    pub fn error(&mut self, alloc: Global) -> Result<Option<Boxed<Fault>>, PerfFault>
         ensures { Took (λ x. x) result (at_of self.new) (states.error_at (at_of self.old)) }
     {
         if self.left == 0 {
@@ -182,6 +184,16 @@ impl<'a> Fields<'a> {
                 self.rest = rest;
                 Ok(state)
             }
+        }
+    }
+
+    /// A delivery state, in a box.
+    pub fn boxed_state(&mut self, alloc: Global) -> Result<Option<Boxed<DeliveryState>>, PerfFault>
+        ensures { Took (λ x. x) result (at_of self.new) (states.state_at (at_of self.old)) }
+    {
+        match self.state(alloc)? {
+            None => Ok(None),
+            Some(state) => Ok(Some(Boxed::new(alloc, state)?)),
         }
     }
 

@@ -1,6 +1,7 @@
 //! Delivery states, errors and unsettled maps (AMQP 1.0 part 3, section 3.4; part 2, sections 2.8.14 and 2.7.3).
 ghost use Rattle.std.specs.Prelude.{◌≡◌};
 
+use crate::boxed::Boxed;
 use crate::leaf::{AnyValue, Map, Symbol, Text};
 use arrayvec::ArrayVec;
 use std::marker::Model;
@@ -74,7 +75,7 @@ pub struct Received {
 #[derive(Debug, Drop)]
 pub struct Rejected {
     /// The cause, where it is given.
-    pub error: Option<Fault>,
+    pub error: Option<Boxed<Fault>>,
 }
 
 /// The changes for the next delivery (AMQP 1.0 part 3, section 3.4.5).

@@ -1,8 +1,8 @@
 //! Writing a described list from a slice of its fields, each in its shortest encoding and without the nulls at the end.
-ghost use Rattle.std.specs.Prelude.{◌≡◌, ◌≤◌, ◌++◌, length, take, drop, is_none, option_map, IfOk, OnOk};
+ghost use Rattle.std.specs.Prelude.{◌≡◌, ◌+◌, ◌-◌, ◌^◌, ◌<◌, ◌&&◌, ◌++◌, ◌∷◌, nat_lt, ℕ, List, [], length, min, is_none, option_map, IfOk, OnOk};
 ghost use Rattle.amqp_types.specs.Data as d;
 ghost use Rattle.amqp_types.specs.View.{items_view};
-ghost use Rattle.amqp_types.specs.Spelling.{list_text};
+ghost use Rattle.amqp_types.specs.Spelling.{list_text, wide_sizes};
 ghost use Rattle.amqp_perf.specs.Texts as texts;
 ghost use Rattle.amqp_perf.specs.Spelling as spellings;
 ghost use Rattle.amqp_perf.specs.NestedViews.{nested_view};
@@ -10,6 +10,7 @@ ghost use Rattle.amqp_perf.specs.TextViews.{field_view, fields_view};
 
 use crate::descriptor::Descriptor;
 use crate::leaf::{Binary, Map, Symbol, Symbols, Text};
+use crate::lengths::fields_len;
 use crate::perf::Role;
 use crate::read_termini::SESSION_END;
 use crate::state::DeliveryTag;
@@ -258,21 +259,18 @@ fn put_fields(out: &mut Vec<u8>, fields: &[Field<'_>]) -> Result<(), AllocError>
     Ok(())
 }
 
-/// Makes the items at the end of the bytes, from `start` on, a list: what belongs before them is moved to their front.
-fn close_list(out: &mut Vec<u8>, start: usize, count: usize) -> Result<(), AllocError>
-    requires { start ≤ length out.old.items }
-    ensures { OnOk result (out.new.items ≡ take start out.old.items ++ list_text count (drop start out.old.items)) }
+/// Whether a list has the shorter constructor: one byte for its size, and one for its count.
+fn is_short_list(count: usize, len: usize) -> bool
+    ensures { result ≡ (nat_lt len 255 && nat_lt count 256) }
 {
-    let len = out.len() - start;
-    if count == 0 {
-        out.truncate(start);
-        return out.push(0x45).map_err(|_| AllocError);
-    }
-    if len < 255 && count < 256 {
-        out.extend_from_slice(&[0xc0, (len + 1) as u8, count as u8])?;
-        out[start..].rotate_right(3);
-        return Ok(());
-    }
+    len < 255 && count < 256
+}
+
+/// Appends the longer constructor of a list, its size and its count.
+fn put_long_head(out: &mut Vec<u8>, count: usize, len: usize) -> Result<(), AllocError>
+    ensures head { OnOk result (out.new.items ≡ out.old.items ++ 0xD0 ∷ wide_sizes count len) }
+    ensures small { OnOk result (len + 4 < 2 ^ 32) }
+{
     let (Some(size), Ok(count)) = (len.checked_add(4), u32::try_from(count)) else {
         return Err(AllocError);
     };
@@ -281,12 +279,23 @@ fn close_list(out: &mut Vec<u8>, start: usize, count: usize) -> Result<(), Alloc
     };
     out.push(0xd0)?;
     out.extend_from_slice(&size.to_be_bytes())?;
-    out.extend_from_slice(&count.to_be_bytes())?;
-    out[start..].rotate_right(9);
-    Ok(())
+    out.extend_from_slice(&count.to_be_bytes())
 }
 
-/// Appends the described list of these fields. It writes once, and allocates nothing but room in `out`.
+/// Appends what stands before the values of a list, of which there are `count` with `len` bytes, or `usize::MAX` if there are more.
+fn put_list_head(out: &mut Vec<u8>, count: usize, len: usize) -> Result<(), AllocError>
+    ensures { OnOk result ((values : List ℕ) → len ≡ min (length values) (2 ^ 64 - 1) → (count ≡ 0 → values ≡ []) → out.new.items ++ values ≡ out.old.items ++ list_text count values) }
+{
+    if count == 0 {
+        return out.push(0x45).map_err(|_| AllocError);
+    }
+    if is_short_list(count, len) {
+        return out.extend_from_slice(&[0xc0, (len + 1) as u8, count as u8]);
+    }
+    put_long_head(out, count, len)
+}
+
+/// Appends the described list of these fields. It allocates nothing but room in `out`.
 #[tactic(auto, unfolding(crate::specs::Texts::described_text))]
 pub(crate) fn put_described(
     out: &mut Vec<u8>,
@@ -297,9 +306,8 @@ pub(crate) fn put_described(
 {
     let given = given_of(fields);
     out.extend_from_slice(&[0x00, 0x53, descriptor.code()])?;
-    let start = out.len();
-    put_fields(out, given)?;
-    close_list(out, start, given.len())
+    put_list_head(out, given.len(), fields_len(given))?;
+    put_fields(out, given)
 }
 
 /// The encoding of symbols, if there are any: always an array.

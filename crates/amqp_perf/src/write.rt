@@ -64,9 +64,9 @@ fn put_perf(alloc: Global, out: &mut Vec<u8>, perf: &Perf) -> Result<(), AllocEr
     ensures { OnOk result (out.new.items ≡ out.old.items ++ spelling perf.now) }
 {
     match perf {
-        Perf::Open(open) => put_open(alloc, out, open),
-        Perf::Begin(begin) => put_begin(alloc, out, begin),
-        Perf::Attach(attach) => put_attach(alloc, out, attach),
+        Perf::Open(open) => put_open(alloc, out, open.as_ref()),
+        Perf::Begin(begin) => put_begin(alloc, out, begin.as_ref()),
+        Perf::Attach(attach) => put_attach(alloc, out, attach.as_ref()),
         Perf::Flow(flow) => put_flow(out, flow),
         Perf::Transfer(transfer) => put_transfer(alloc, out, transfer),
         Perf::Disposition(disposition) => put_disposition(alloc, out, disposition),

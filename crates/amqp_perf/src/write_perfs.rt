@@ -12,7 +12,7 @@ use crate::perf::{
     SaslMechanisms, SaslOutcome, SaslResponse, Transfer,
 };
 use crate::text::{Field, put_described, symbols_text};
-use crate::write_states::{Nested, error_text, state_text, unsettled_text};
+use crate::write_states::{Nested, boxed_state_text, error_text, state_text, unsettled_text};
 use crate::write_termini::{source_text, target_text};
 use amqp_types::Plain;
 use std::alloc::{AllocError, Global};
@@ -196,7 +196,7 @@ pub(crate) fn put_transfer(
 ) -> Result<(), AllocError>
     ensures { OnOk result (out.new.items ≡ out.old.items ++ texts.described_text is.Transfer (spellings.transfer_texts transfer.now)) }
 {
-    let state = state_text(alloc, &transfer.state)?;
+    let state = boxed_state_text(alloc, &transfer.state)?;
     put_transfer_with(out, transfer, &state)
 }
 

@@ -6,6 +6,7 @@ ghost use Rattle.amqp_perf.specs.Spelling as spellings;
 ghost use Rattle.amqp_types.specs.Data as d;
 ghost use Rattle.amqp_perf.specs.NestedViews.{nested_view};
 
+use crate::boxed::Boxed;
 use crate::descriptor::Descriptor;
 use crate::state::{
     DeliveryState, Fault, Modified, Received, Rejected, Unsettled, UnsettledDelivery,
@@ -66,7 +67,7 @@ fn put_modified(out: &mut Vec<u8>, modified: &Modified) -> Result<(), AllocError
 /// The encoding of an error, if there is one.
 pub(crate) fn error_text(
     alloc: Global,
-    error: &Option<Fault>,
+    error: &Option<Boxed<Fault>>,
 ) -> Result<Option<Vec<u8>>, AllocError>
     ensures { IfOk result (λ text. option_map (λ v. v.items) text ≡ spellings.error_text error.now) }
 {
@@ -74,7 +75,7 @@ pub(crate) fn error_text(
         None => Ok(None),
         Some(fault) => {
             let mut text = Vec::new(alloc);
-            put_error(&mut text, fault)?;
+            put_error(&mut text, fault.as_ref())?;
             Ok(Some(text))
         }
     }
@@ -99,24 +100,46 @@ pub(crate) fn put_state(
     }
 }
 
-/// The encoding of a delivery state, if there is one.
+/// The encoding of a delivery state by itself.
 #[tactic(auto, unfolding(crate::specs::Spelling::state_spelling, crate::specs::Texts::described_text, crate::specs::Texts::given))]
+fn nested_state(alloc: Global, state: &DeliveryState) -> Result<Nested, AllocError>
+    ensures { IfOk result (λ text. nested_view text ≡ spellings.state_spelling state.now) }
+{
+    match state {
+        DeliveryState::Accepted => Ok(Nested::Fixed([0x00, 0x53, 0x24, 0x45])),
+        DeliveryState::Released => Ok(Nested::Fixed([0x00, 0x53, 0x26, 0x45])),
+        state => {
+            let mut text = Vec::new(alloc);
+            put_state(alloc, &mut text, state)?;
+            Ok(Nested::Written(text))
+        }
+    }
+}
+
+/// The encoding of a delivery state, if there is one.
 pub(crate) fn state_text(
     alloc: Global,
     state: &Option<DeliveryState>,
+) -> Result<Option<Nested>, AllocError>
+    ensures { IfOk result (λ text. option_map nested_view text ≡ spellings.state_text state.now) }
+{
+    match state {
+        None => Ok(None),
+        Some(state) => Ok(Some(nested_state(alloc, state)?)),
+    }
+}
+
+/// The encoding of a delivery state in a box, if there is one.
+pub(crate) fn boxed_state_text(
+    alloc: Global,
+    state: &Option<Boxed<DeliveryState>>,
 ) -> Result<Option<Nested>, AllocError>
     ensures text { IfOk result (λ text. option_map nested_view text ≡ spellings.state_text state.now) }
     ensures none { is_none state.now ≡ true → IsOk result }
 {
     match state {
         None => Ok(None),
-        Some(DeliveryState::Accepted) => Ok(Some(Nested::Fixed([0x00, 0x53, 0x24, 0x45]))),
-        Some(DeliveryState::Released) => Ok(Some(Nested::Fixed([0x00, 0x53, 0x26, 0x45]))),
-        Some(state) => {
-            let mut text = Vec::new(alloc);
-            put_state(alloc, &mut text, state)?;
-            Ok(Some(Nested::Written(text)))
-        }
+        Some(state) => Ok(Some(nested_state(alloc, state.as_ref())?)),
     }
 }
 

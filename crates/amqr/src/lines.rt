@@ -1,6 +1,6 @@
 //! What is reported of connections on standard error.
 use amqp_frames::Item;
-use amqp_perf::{Fault, Perf};
+use amqp_perf::{Boxed, Fault, Perf};
 use router_core::{ConnectionId, CoreFault};
 use router_serve::{Gate, ReadEnd, Side, WriteEnd};
 use std::alloc::Global;
@@ -84,7 +84,7 @@ impl<'a, R: Wait + Eprint> Gate for Watch<'a, R> {
         match (side, item) {
             (Side::Reader, Item::Frame { perf, .. }) => {
                 if let Perf::Open(open) = perf {
-                    self.opened(conn, open.container_id.as_str());
+                    self.opened(conn, open.as_ref().container_id.as_str());
                 }
             }
             (Side::Writer, Item::Frame { perf, .. }) => {
@@ -99,12 +99,13 @@ impl<'a, R: Wait + Eprint> Gate for Watch<'a, R> {
 
 /// The error in a performative of the router, if there is one.
 fn error_in(perf: &Perf) -> Option<&Fault> {
-    match perf {
+    let error = match perf {
         Perf::Close(close) => close.error.as_ref(),
         Perf::End(end) => end.error.as_ref(),
         Perf::Detach(detach) => detach.error.as_ref(),
         _ => None,
-    }
+    };
+    error.map(Boxed::as_ref)
 }
 
 /// Why a reader ended, in words.

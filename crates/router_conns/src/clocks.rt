@@ -101,7 +101,7 @@ impl Clocks {
             → ClocksFit self.new (did (event.Item conn (item.Frame false channel perf.now payload)) ∷ t)) }
     {
         match perf {
-            Perf::Open(open) => self.hear_open(conn, open)?,
+            Perf::Open(open) => self.hear_open(conn, open.as_ref())?,
             _ => {}
         }
         Ok(())

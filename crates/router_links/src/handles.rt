@@ -152,8 +152,8 @@ impl HandleTable {
             → HandlesFit self.old t → HandlesFit self.new (did (event.Item conn (item.Frame false channel perf.now payload)) ∷ t)) }
     {
         match perf {
-            Perf::Begin(begin) => self.hear_begin(conn, begin)?,
-            Perf::Attach(attach) => self.hear_attach(conn, attach)?,
+            Perf::Begin(begin) => self.hear_begin(conn, begin.as_ref())?,
+            Perf::Attach(attach) => self.hear_attach(conn, attach.as_ref())?,
             Perf::Detach(detach) => self.hear_detach(conn, own, detach),
             _ => {}
         }
@@ -195,8 +195,8 @@ impl HandleTable {
             → HandlesFit self.new (Out conn (item.Frame sasl own perf.now payload) ∷ t)) }
     {
         match perf {
-            Perf::Begin(begin) => self.put_begin(conn, own, begin)?,
-            Perf::Attach(attach) => self.put_attach(conn, own, attach)?,
+            Perf::Begin(begin) => self.put_begin(conn, own, begin.as_ref())?,
+            Perf::Attach(attach) => self.put_attach(conn, own, attach.as_ref())?,
             Perf::Detach(detach) => self.put_detach(conn, own, detach)?,
             Perf::End(_) => self.put_end(conn, own),
             Perf::Close(_) => self.forget(conn),

@@ -292,7 +292,7 @@ impl LinkTable {
         ensures touches { OnOk result (Touched self.old self.new) }
     {
         match perf {
-            Perf::Attach(attach) => self.put_attach(conn, own, attach, key, last)?,
+            Perf::Attach(attach) => self.put_attach(conn, own, attach.as_ref(), key, last)?,
             Perf::Flow(flow) => self.put_note(conn, own, flow.handle, perf, payload)?,
             Perf::Transfer(transfer) => self.put_note(
                 conn,

@@ -68,7 +68,8 @@ fn put_answer(
 {
     let handle = answer.handle;
     let durable = is_durable(answer.role, &answer);
-    match within(id, largest, attach_item(own, answer))? {
+    let item = attach_item(id.alloc(), own, answer)?;
+    match within(id, largest, item)? {
         Some(item) => state.put(conn, item)?,
         None => write_too_large(state, id, conn, own, handle, !durable)?,
     }
@@ -158,7 +159,7 @@ fn refuse_link(
     ensures { OnOk result ((t : List Entry) → TablesFit state.old t → TablesFit state.new (puts conn (refused (largest_frame t conn) own handle error attach) t)) }
 {
     let largest = state.largest_frame(conn);
-    let refusal = attach_item(own, id.refusal_of(attach, handle));
+    let refusal = attach_item(id.alloc(), own, id.refusal_of(attach, handle))?;
     match within(id, largest, refusal)? {
         None => write_detach(state, id, conn, own, handle, error)?,
         Some(item) => {
@@ -200,7 +201,7 @@ fn answer_perf(
     ensures { OnOk result ((t : List Entry) → TablesFit state.old t → TablesFit state.new (goes (attach_put_in t conn perf answer.now) t)) }
 {
     match perf {
-        Perf::Attach(attach) => answer_attach(state, id, conn, attach, answer)?,
+        Perf::Attach(attach) => answer_attach(state, id, conn, attach.into_inner(), answer)?,
         other => drop(other),
     }
     Ok(())

@@ -58,7 +58,7 @@ fn stolen_in(state: &State, conn: u64, perf: &Perf) -> Result<Option<Attachment>
     let Perf::Attach(attach) = perf else {
         return Ok(None);
     };
-    let key = wanted_key(state, conn, attach)?;
+    let key = wanted_key(state, conn, attach.as_ref())?;
     let older = state.holder(&key);
     drop(key);
     Ok(older)

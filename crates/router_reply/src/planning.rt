@@ -109,7 +109,7 @@ fn terminus_by(
     ensures { IfOk result (λ terminus. (t : List Entry) → TablesFind state.now t → terminus ≡ terminus_by book.now t conn perf.now answer.now) }
 {
     match perf {
-        Perf::Attach(attach) => made_by(state, book, conn, attach, answer),
+        Perf::Attach(attach) => made_by(state, book, conn, attach.as_ref(), answer),
         Perf::Detach(_) => match closed_terminus(state, book, conn, answer) {
             None => Ok(None),
             Some(terminus) => Ok(Some(TerminusAct::Drop(terminus.number))),
@@ -191,7 +191,7 @@ fn perf_answer(
 {
     match perf {
         Perf::Attach(attach) => match answer {
-            Answer::Attach { own } => attach_answer(state, book, full, conn, own, attach),
+            Answer::Attach { own } => attach_answer(state, book, full, conn, own, attach.as_ref()),
             _ => Ok(answer),
         },
         Perf::Transfer(transfer) => Ok(booked_transfer(state, book, conn, transfer, answer)),

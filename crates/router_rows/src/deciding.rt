@@ -109,8 +109,8 @@ fn in_turn(state: &State, conn: u64, channel: u16, perf: &Perf) -> Answer
 {
     let place = state.place(conn, channel);
     match perf {
-        Perf::Begin(begin) => begin_reply(place, state.free_channel(conn), channel, begin),
-        Perf::Attach(attach) => attach_reply(state, conn, place, attach),
+        Perf::Begin(begin) => begin_reply(place, state.free_channel(conn), channel, begin.as_ref()),
+        Perf::Attach(attach) => attach_reply(state, conn, place, attach.as_ref()),
         Perf::Flow(flow) => flow_reply(state, conn, place, flow),
         Perf::Transfer(transfer) => transfer_reply(state, conn, place, transfer),
         Perf::Disposition(disposition) => disposition_reply(place, disposition),
@@ -138,7 +138,7 @@ fn perf_reply(state: &State, conn: u64, phase: Conn, channel: u16, perf: &Perf) 
     ensures { (t : List Entry) → TablesFind state.now t → result ≡ perf_reply phase (finds t conn) channel perf.now }
 {
     match perf {
-        Perf::Open(open) => open_reply(phase, open),
+        Perf::Open(open) => open_reply(phase, open.as_ref()),
         _ => turn_by(state, conn, phase, channel, perf),
     }
 }

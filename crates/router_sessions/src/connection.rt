@@ -148,7 +148,7 @@ impl ConnectionSessions {
         let own = mapped(&self.theirs, channel);
         hear_in(&mut self.windows, own, perf);
         match perf {
-            Perf::Begin(begin) => self.offered = Some(begin_state(begin)),
+            Perf::Begin(begin) => self.offered = Some(begin_state(begin.as_ref())),
             Perf::End(_) => {
                 let _ = self.theirs.remove(&channel);
             }

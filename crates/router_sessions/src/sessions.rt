@@ -225,7 +225,7 @@ impl Sessions {
             → SessionsFit self.new (Out conn (item.Frame sasl own perf.now payload) ∷ t)) }
     {
         match perf {
-            Perf::Begin(begin) => self.put_begin(conn, own, begin)?,
+            Perf::Begin(begin) => self.put_begin(conn, own, begin.as_ref())?,
             Perf::Flow(flow) => self.put_flow(conn, own, flow)?,
             Perf::Transfer(_) => rows::send(&mut self.rows, conn, own),
             Perf::End(_) => rows::end(&mut self.rows, conn, own),

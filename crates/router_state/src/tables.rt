@@ -631,7 +631,7 @@ fn key_in(peers: &Peers, conn: u64, perf: &Perf) -> Result<Option<LinkKey>, Allo
     ensures { IfOk result (λ key. (t : List Entry) → PeersFit peers.now t → key ≡ key_in t conn perf.now) }
 {
     match perf {
-        Perf::Attach(attach) => Ok(Some(peers.key_of(conn, attach)?)),
+        Perf::Attach(attach) => Ok(Some(peers.key_of(conn, attach.as_ref())?)),
         _ => Ok(None),
     }
 }

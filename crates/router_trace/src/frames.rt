@@ -7,7 +7,7 @@ use crate::durable::is_durable;
 use crate::router_id::{RouterId, SESSION_WINDOW, frame_on};
 use amqp_frames::Item;
 use amqp_perf::{
-    Attach, Detach, Flow, Perf, Role, SourceTerminus, Symbol, Symbols, TargetTerminus, Unsettled,
+    Attach, Boxed, Detach, Flow, Perf, Role, SourceTerminus, Symbol, Symbols, TargetTerminus, Unsettled,
 };
 use amqp_session::{FlowState, Serial};
 use std::alloc::{AllocError, Global};
@@ -51,10 +51,10 @@ pub fn link_flow_item(own: u16, told: FlowState, at: LinkState) -> Item
 }
 
 /// The router's attach on its channel `own`.
-pub fn attach_item(own: u16, attach: Attach) -> Item
-    ensures { result ≡ attach_item own attach }
+pub fn attach_item(alloc: Global, own: u16, attach: Attach) -> Result<Item, AllocError>
+    ensures { IfOk result (λ item. item ≡ attach_item own attach) }
 {
-    frame_on(own, Perf::Attach(attach))
+    Ok(frame_on(own, Perf::Attach(Boxed::new(alloc, attach)?)))
 }
 
 impl RouterId {

@@ -4,7 +4,7 @@ ghost use Rattle.router_trace.specs.Frames.{header_item, beat_item, frame_on, fr
 
 use crate::condition::Condition;
 use amqp_frames::Item;
-use amqp_perf::{Begin, Close, End, Fault, Flow, Open, Perf, Symbol, Symbols, Text};
+use amqp_perf::{Begin, Boxed, Close, End, Fault, Flow, Open, Perf, Symbol, Symbols, Text};
 use amqp_session::{FlowState, Serial};
 use bytes::Bytes;
 use std::alloc::{AllocError, Global};
@@ -115,7 +115,7 @@ impl RouterId {
         ensures { IfOk result (λ item. item ≡ open_item self.now) }
     {
         let container_id = self.text.clone()?;
-        Ok(frame_of(Perf::Open(Open {
+        let open = Open {
             container_id,
             hostname: None,
             max_frame_size: MAX_FRAME_SIZE,
@@ -126,7 +126,8 @@ impl RouterId {
             offered_capabilities: Symbols::new(Vec::new(self.alloc)),
             desired_capabilities: Symbols::new(Vec::new(self.alloc)),
             properties: None,
-        })))
+        };
+        Ok(frame_of(Perf::Open(Boxed::new(self.alloc, open)?)))
     }
 
     /// The router's close (AMQP 1.0 part 2, section 2.7.9), with or without an error.
@@ -141,22 +142,20 @@ impl RouterId {
     }
 
     /// The router's begin on its channel `own`; it answers the peer's begin on the channel `theirs` (AMQP 1.0 part 2, section 2.7.2).
-    pub fn begin_item(&self, own: u16, theirs: u16) -> Item
-        ensures { result ≡ begin_item own theirs }
+    pub fn begin_item(&self, own: u16, theirs: u16) -> Result<Item, AllocError>
+        ensures { IfOk result (λ item. item ≡ begin_item own theirs) }
     {
-        frame_on(
-            own,
-            Perf::Begin(Begin {
-                remote_channel: Some(theirs),
-                next_outgoing_id: 0,
-                incoming_window: SESSION_WINDOW,
-                outgoing_window: SESSION_WINDOW,
-                handle_max: HANDLE_MAX,
-                offered_capabilities: Symbols::new(Vec::new(self.alloc)),
-                desired_capabilities: Symbols::new(Vec::new(self.alloc)),
-                properties: None,
-            }),
-        )
+        let begin = Begin {
+            remote_channel: Some(theirs),
+            next_outgoing_id: 0,
+            incoming_window: SESSION_WINDOW,
+            outgoing_window: SESSION_WINDOW,
+            handle_max: HANDLE_MAX,
+            offered_capabilities: Symbols::new(Vec::new(self.alloc)),
+            desired_capabilities: Symbols::new(Vec::new(self.alloc)),
+            properties: None,
+        };
+        Ok(frame_on(own, Perf::Begin(Boxed::new(self.alloc, begin)?)))
     }
 
     /// The router's end on its channel `own`, with or without an error (AMQP 1.0 part 2, section 2.7.8).
@@ -171,13 +170,14 @@ impl RouterId {
     }
 
     /// An error with nothing but its condition.
-    pub(crate) fn error_of(&self, condition: Condition) -> Result<Fault, AllocError>
+    pub(crate) fn error_of(&self, condition: Condition) -> Result<Boxed<Fault>, AllocError>
         ensures { IfOk result (λ error. error ≡ error_of condition) }
     {
-        Ok(Fault {
+        let error = Fault {
             condition: Symbol::new(String::from_str(self.alloc, condition.text())?),
             description: None,
             info: None,
-        })
+        };
+        Boxed::new(self.alloc, error)
     }
 }
