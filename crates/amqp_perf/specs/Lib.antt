@@ -1,4 +1,5 @@
 pub mod Contract
+pub mod Copies
 pub mod Descriptors
 pub mod Faults
 pub mod Fields

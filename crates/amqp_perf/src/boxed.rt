@@ -41,6 +41,11 @@ impl<T> Boxed<T> {
         }
     }
 
+    /// The allocator of its box.
+    pub fn alloc(&self) -> Global {
+        *Box::allocator(&self.value)
+    }
+
     /// The value.
     pub fn as_ref(&self) -> &T
         ensures { result.now ≡ self.now }

@@ -2,6 +2,7 @@
 #![tactic(auto)]
 
 mod boxed;
+mod copy;
 pub mod descriptor;
 pub mod fault;
 mod fields;
@@ -23,6 +24,7 @@ mod write_states;
 mod write_termini;
 
 pub use boxed::Boxed;
+pub use copy::copy_state;
 pub use descriptor::Descriptor;
 pub use fault::PerfFault;
 pub use laws::{

@@ -6,68 +6,13 @@ ghost use Rattle.book_core.specs.Book.{admitted, decided, forgotten};
 use crate::act::Admission;
 use crate::row::Row;
 use crate::terminus::{LinkKey, Terminus};
-use amqp_perf::{
-    AnyValue, DeliveryState, DeliveryTag, Fault, Map, Modified, Received, Rejected, Symbol, Text,
-};
+use amqp_perf::{DeliveryState, DeliveryTag, Text, copy_state};
 use std::alloc::AllocError;
 
 pub(crate) fn text(text: &Text) -> Result<Text, AllocError>
     ensures { IfOk result (λ t. t ≡ text.now) }
 {
     text.clone()
-}
-
-fn option_text(text: &Option<Text>) -> Result<Option<Text>, AllocError>
-    ensures { IfOk result (λ t. t ≡ text.now) }
-{
-    match text {
-        None => Ok(None),
-        Some(text) => Ok(Some(text.clone()?)),
-    }
-}
-
-fn option_map(map: &Option<Map>) -> Result<Option<Map>, AllocError>
-    ensures { IfOk result (λ m. m ≡ map.now) }
-{
-    match map {
-        None => Ok(None),
-        Some(map) => Ok(Some(map.clone()?)),
-    }
-}
-
-fn error(error: &Option<Fault>) -> Result<Option<Fault>, AllocError>
-    ensures { IfOk result (λ e. e ≡ error.now) }
-{
-    match error {
-        None => Ok(None),
-        Some(error) => Ok(Some(Fault {
-            condition: error.condition.clone()?,
-            description: option_text(&error.description)?,
-            info: option_map(&error.info)?,
-        })),
-    }
-}
-
-pub(crate) fn outcome(outcome: &DeliveryState) -> Result<DeliveryState, AllocError>
-    ensures { IfOk result (λ o. o ≡ outcome.now) }
-{
-    match outcome {
-        DeliveryState::Received(received) => Ok(DeliveryState::Received(Received {
-            section_number: received.section_number,
-            section_offset: received.section_offset,
-        })),
-        DeliveryState::Accepted => Ok(DeliveryState::Accepted),
-        DeliveryState::Rejected(rejected) => Ok(DeliveryState::Rejected(Rejected {
-            error: error(&rejected.error)?,
-        })),
-        DeliveryState::Released => Ok(DeliveryState::Released),
-        DeliveryState::Modified(modified) => Ok(DeliveryState::Modified(Modified {
-            delivery_failed: modified.delivery_failed,
-            undeliverable_here: modified.undeliverable_here,
-            message_annotations: option_map(&modified.message_annotations)?,
-        })),
-        DeliveryState::Other(value) => Ok(DeliveryState::Other(value.clone()?)),
-    }
 }
 
 fn tag(tag: &DeliveryTag) -> Result<DeliveryTag, AllocError>
@@ -128,7 +73,7 @@ pub(crate) fn decided_row(row: &Row, decision: &DeliveryState) -> Result<Option<
         consumer: row.consumer,
         format: row.format,
         payload: row.payload.clone()?,
-        outcome: Some(outcome(decision)?),
+        outcome: Some(copy_state(decision)?),
         forgotten: false,
     }))
 }

@@ -6,8 +6,8 @@ ghost use Rattle.router_deliveries.specs.Deciding.{bare, changed_by};
 ghost use Rattle.router_deliveries.specs.Stepping.{is_gone, is_decided_by, comes_with_id, changed};
 
 use crate::change::{Change, Gone, comes_with_id, is_in};
-use crate::state::{copy, failed};
-use amqp_perf::{DeliveryState, Transfer};
+use crate::state::failed;
+use amqp_perf::{DeliveryState, Transfer, copy_state};
 use bytes::Bytes;
 use router_trace::{Attachment, Binding, DeliveryName, Origin};
 use std::alloc::AllocError;
@@ -250,7 +250,7 @@ impl Delivery {
                 outcome,
             } => {
                 if self.is_decided_by(*conn, *own, *first, *last) {
-                    self.outcome = Some(copy(outcome)?);
+                    self.outcome = Some(copy_state(outcome)?);
                 }
             }
         }

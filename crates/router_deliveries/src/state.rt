@@ -2,7 +2,7 @@
 ghost use Rattle.std.specs.Prelude.{◌≡◌, None, IfOk};
 ghost use Rattle.router_trace.specs.Deliveries.{failed, terminal, decision};
 
-use amqp_perf::{DeliveryState, Disposition, Fault, Modified, Received, Rejected};
+use amqp_perf::{DeliveryState, Disposition, Modified, copy_state};
 use std::alloc::AllocError;
 
 /// The outcome of a delivery that failed: modified, with delivery-failed.
@@ -24,7 +24,7 @@ pub(crate) fn decision(disposition: &Disposition) -> Result<Option<DeliveryState
         None => Ok(without_state(disposition.settled)),
         Some(DeliveryState::Received(_)) => Ok(without_state(disposition.settled)),
         Some(DeliveryState::Other(_)) => Ok(without_state(disposition.settled)),
-        Some(state) => Ok(Some(copy(state)?)),
+        Some(state) => Ok(Some(copy_state(state)?)),
     }
 }
 
@@ -33,55 +33,4 @@ fn without_state(settled: bool) -> Option<DeliveryState>
     ensures { result ≡ decision settled None }
 {
     if settled { Some(failed()) } else { None }
-}
-
-/// A copy of a delivery state.
-pub(crate) fn copy(state: &DeliveryState) -> Result<DeliveryState, AllocError>
-    ensures { IfOk result (λ copied. copied ≡ state.now) }
-{
-    Ok(match state {
-        DeliveryState::Received(received) => DeliveryState::Received(Received {
-            section_number: received.section_number,
-            section_offset: received.section_offset,
-        }),
-        DeliveryState::Accepted => DeliveryState::Accepted,
-        DeliveryState::Rejected(rejected) => DeliveryState::Rejected(copy_rejected(rejected)?),
-        DeliveryState::Released => DeliveryState::Released,
-        DeliveryState::Modified(modified) => DeliveryState::Modified(copy_modified(modified)?),
-        DeliveryState::Other(value) => DeliveryState::Other(value.clone()?),
-    })
-}
-
-/// A copy of the fields of a rejected outcome.
-fn copy_rejected(rejected: &Rejected) -> Result<Rejected, AllocError>
-    ensures { IfOk result (λ copied. copied ≡ rejected.now) }
-{
-    match &rejected.error {
-        None => Ok(Rejected { error: None }),
-        Some(fault) => Ok(Rejected {
-            error: Some(copy_fault(fault)?),
-        }),
-    }
-}
-
-/// A copy of an error.
-fn copy_fault(fault: &Fault) -> Result<Fault, AllocError>
-    ensures { IfOk result (λ copied. copied ≡ fault.now) }
-{
-    Ok(Fault {
-        condition: fault.condition.clone()?,
-        description: fault.description.clone()?,
-        info: fault.info.clone()?,
-    })
-}
-
-/// A copy of the fields of a modified outcome.
-fn copy_modified(modified: &Modified) -> Result<Modified, AllocError>
-    ensures { IfOk result (λ copied. copied ≡ modified.now) }
-{
-    Ok(Modified {
-        delivery_failed: modified.delivery_failed,
-        undeliverable_here: modified.undeliverable_here,
-        message_annotations: modified.message_annotations.clone()?,
-    })
 }

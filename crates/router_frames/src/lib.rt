@@ -4,11 +4,9 @@
 mod laws;
 mod next;
 mod outcome;
-mod state;
 mod transfer;
 
 pub use laws::{frames_are_filled, frames_have_room, outcomes_are_short};
 pub use next::{delivery_frame, next_frame};
 pub use outcome::{kept_outcome, outcome_item};
-pub use state::copy_state;
 pub use transfer::{first_transfer, later_transfer};

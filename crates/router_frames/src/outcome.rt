@@ -1,12 +1,14 @@
 //! Outcomes as the router keeps them, and the dispositions that report them.
 ghost use Rattle.std.specs.Prelude.{◌≡◌, length, option_map, true, if◌then◌else◌, IfOk, IsOk};
+ghost use Rattle.amqp_perf.specs.Copies.{is_plain};
 ghost use Rattle.amqp_perf.specs.Spelling.{state_spelling};
 ghost use Rattle.router_trace.specs.DeliveryFrames.{kept_condition, kept_error, undescribed, without_info, bare, unless_long, kept_outcome, outcome_item};
-ghost use Rattle.router_frames.specs.Outcomes.{is_plain};
 
-use crate::state::copy_state;
 use amqp_frames::Item;
-use amqp_perf::{DeliveryState, Disposition, Fault, Perf, Rejected, Role, Symbol, write_state};
+use amqp_perf::{
+    Boxed, DeliveryState, Disposition, Fault, Modified, Perf, Rejected, Role, Symbol, copy_state,
+    write_state,
+};
 use bytes::Bytes;
 use std::alloc::{AllocError, Global};
 
@@ -63,7 +65,7 @@ pub fn kept_outcome(alloc: Global, state: &DeliveryState) -> Result<DeliveryStat
 {
     let mut kept = undescribed(alloc, state)?;
     if is_long(alloc, &kept)? {
-        make_bare(&mut kept);
+        kept = made_bare(alloc, kept)?;
     }
     Ok(kept)
 }
@@ -104,12 +106,18 @@ fn undescribed(alloc: Global, state: &DeliveryState) -> Result<DeliveryState, Al
 }
 
 /// An error as the router keeps it, if there is one.
-fn kept_cause(alloc: Global, error: &Option<Fault>) -> Result<Option<Fault>, AllocError>
+fn kept_cause(
+    alloc: Global,
+    error: &Option<Boxed<Fault>>,
+) -> Result<Option<Boxed<Fault>>, AllocError>
     ensures { IfOk result (λ kept. kept ≡ option_map kept_error error.now) }
 {
     match error {
         None => Ok(None),
-        Some(fault) => Ok(Some(kept_error(alloc, fault)?)),
+        Some(fault) => {
+            let kept = kept_error(alloc, fault.as_ref())?;
+            Ok(Some(Boxed::new(alloc, kept)?))
+        }
     }
 }
 
@@ -135,17 +143,36 @@ fn kept_condition(alloc: Global, condition: &Symbol) -> Result<Symbol, AllocErro
     }
 }
 
-/// Removes the info or the annotations.
-fn make_bare(state: &mut DeliveryState)
-    ensures { state.new ≡ bare state.old }
+/// An error without its info, if there is one.
+fn without_info(
+    alloc: Global,
+    error: Option<Boxed<Fault>>,
+) -> Result<Option<Boxed<Fault>>, AllocError>
+    ensures { IfOk result (λ kept. kept ≡ option_map without_info error) }
+{
+    match error {
+        None => Ok(None),
+        Some(fault) => {
+            let mut fault = fault.into_inner();
+            fault.info = None;
+            Ok(Some(Boxed::new(alloc, fault)?))
+        }
+    }
+}
+
+/// An outcome without the info of its error or its annotations.
+fn made_bare(alloc: Global, state: DeliveryState) -> Result<DeliveryState, AllocError>
+    ensures { IfOk result (λ made. made ≡ bare state) }
 {
     match state {
-        DeliveryState::Rejected(rejected) => {
-            if let Some(fault) = &mut rejected.error {
-                fault.info = None;
-            }
-        }
-        DeliveryState::Modified(modified) => modified.message_annotations = None,
-        _ => {}
+        DeliveryState::Rejected(rejected) => Ok(DeliveryState::Rejected(Rejected {
+            error: without_info(alloc, rejected.error)?,
+        })),
+        DeliveryState::Modified(modified) => Ok(DeliveryState::Modified(Modified {
+            delivery_failed: modified.delivery_failed,
+            undeliverable_here: modified.undeliverable_here,
+            message_annotations: None,
+        })),
+        other => Ok(other),
     }
 }

@@ -1,8 +1,9 @@
 //! Copies of delivery states.
 ghost use Rattle.std.specs.Prelude.{◌≡◌, true, IfOk, IsOk};
-ghost use Rattle.router_frames.specs.Outcomes.{is_plain};
+ghost use Rattle.amqp_perf.specs.Copies.{is_plain};
 
-use amqp_perf::{DeliveryState, Fault, Modified, Received, Rejected};
+use crate::boxed::Boxed;
+use crate::state::{DeliveryState, Fault, Modified, Received, Rejected};
 use std::alloc::AllocError;
 
 /// A copy of a delivery state.
@@ -40,14 +41,16 @@ fn copy_rejected(rejected: &Rejected) -> Result<Rejected, AllocError>
 }
 
 /// A copy of an error.
-fn copy_fault(fault: &Fault) -> Result<Fault, AllocError>
+fn copy_fault(fault: &Boxed<Fault>) -> Result<Boxed<Fault>, AllocError>
     ensures { IfOk result (λ copied. copied ≡ fault.now) }
 {
-    Ok(Fault {
-        condition: fault.condition.clone()?,
-        description: fault.description.clone()?,
-        info: fault.info.clone()?,
-    })
+    let error = fault.as_ref();
+    let copied = Fault {
+        condition: error.condition.clone()?,
+        description: error.description.clone()?,
+        info: error.info.clone()?,
+    };
+    Boxed::new(fault.alloc(), copied)
 }
 
 /// A copy of the fields of a modified outcome.
