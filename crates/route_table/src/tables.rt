@@ -55,14 +55,21 @@ impl Table {
         ensures route_in { option_map (λ t. t.now) result.route_in ≡ route_in_of self.now address.now }
         ensures route_out { option_map (λ t. t.now) result.route_out ≡ route_out_of self.now address.now }
     {
-        let distribution = match self.addresses.longest(address) {
-            None => Distribution::Balanced,
-            Some(distribution) => *distribution,
-        };
         Place {
-            distribution,
+            distribution: self.distribution(address),
             route_in: route(&self.routes_in, address),
             route_out: route(&self.routes_out, address),
+        }
+    }
+
+    /// How the deliveries of an address are shared: the distribution of the place that [`Table::find`] returns, without a
+    /// search for its routes.
+    pub fn distribution(&self, address: &str) -> Distribution
+        ensures { result ≡ distribution_of self.now address.now }
+    {
+        match self.addresses.longest(address) {
+            None => Distribution::Balanced,
+            Some(distribution) => *distribution,
         }
     }
 }

@@ -1,5 +1,5 @@
 -- The pools after a change of one.
-use Rattle.std.proofs.Common.{◌≡◌, ◌∙◌, sym, ap, refl, subst, ℕ, Bool, true, false, true≢false, cond, ◌&&◌, if◌then◌else◌, Result, Ok, Err, OnOk, IfOk, Option, Some, None, is_some, List, [], ◌∷◌, length, arith}
+use Rattle.std.proofs.Common.{◌≡◌, ◌∙◌, sym, ap, refl, subst, ℕ, Bool, true, false, cond, ◌&&◌, if◌then◌else◌, Result, Ok, Err, OnOk, IfOk, Option, Some, None, List, [], ◌∷◌, length, arith}
 use Rattle.std.specs.Prelude.{◌==◌}
 use Rattle.std.specs.BTreeMap.{insert_entry}
 use Rattle.std.specs.Cmp.Lexicographic.{slice_cmp}
@@ -10,31 +10,11 @@ use Rattle.std.proofs.lemmas.Bool.{eqb-true}
 use Rattle.route_credit.specs.Pool.{has_no_links, no_links, Sharing}
 use Rattle.router_pools.specs.Addresses.{at_address, pool_or, rested, with_pool}
 use Rattle.route_table.specs.declared.sections.Distribution.{Distribution}
-use Rattle.router_pools.proofs.AtAddress.{by_test, equal_bytes, insert_at, lookup_is, removed_elsewhere, same_bytes, set_at}
+use Rattle.router_pools.proofs.AtAddress.{by_test, insert_at, lookup_is, removed_elsewhere, same_bytes, set_at}
 
 module _ {K : Type 0} (read : K → List ℕ) (es : List (K × Sharing)) (q : List ℕ) where
   abbrev found : Option Sharing
   found = lookup (λ k. is_eq (slice_cmp nat_cmp q (read k))) es
-
-  pub there : (fs : List (K × Sharing)) (k : K) (pool : Sharing) → read k ≡ q → fs ≡ insert_entry (λ x y. slice_cmp nat_cmp (read x) (read y)) es k pool → is_some (at_address fs read q) ≡ true
-  there fs k pool is set = ap (λ l. is_some (at_address l read q)) set ∙ ap is_some (insert_at read es k pool q) ∙ ap (λ b. is_some (cond b (Some pool) (at_address es read q))) (yes_is is)
-    where
-      yes_is : read k ≡ q → bytes_eq (read k) q ≡ true
-      yes_is same = equal_bytes (read k) q same
-
-  -- a test that found one, or none
-  pub present : (r : Bool) → r ≡ is_some found → r ≡ true → is_some (at_address es read q) ≡ true
-  present r test is = ap is_some (sym (lookup_is read es q)) ∙ sym test ∙ is
-
-  pub absent : (r : Bool) → r ≡ is_some found → r ≡ false → None ≡ found
-  absent r test is = by_found found (sym test ∙ is)
-    where
-      by_found : (x : Option Sharing) → is_some x ≡ false → None ≡ x
-      by_found None h = refl
-      by_found (Some x) h = absurd cc
-
-  pub missing : None ≡ found → is_some (at_address es read q) ≡ true → ⊥
-  missing none there = true≢false (sym there ∙ ap is_some (sym (lookup_is read es q) ∙ sym none))
 
 -- a pool without links has no consumer and no producer
 first : (b c : Bool) → (b && c) ≡ true → b ≡ true
@@ -101,14 +81,20 @@ module _ {K : Type 0} (read : K → List ℕ) (share : List ℕ → Distribution
       rw (e, at) (subst (λ b. no_links (share b) ≡ change (no_links (share b))) same (sym kept)))
       (λ e. rw e refl)
 
-  -- one without links was added
-  pub come : (fs : List (K × Sharing)) (k : K) (pool : Sharing) → read k ≡ q → pool ≡ no_links (share q) → None ≡ found read es q
-      → fs ≡ insert_entry (λ x y. slice_cmp nat_cmp (read x) (read y)) es k pool → (a : List ℕ) → pools_of fs a ≡ pools_of es a
-  come fs k pool is new none set a =
-      ap (λ l. pool_or (share a) (at_address l read a)) set ∙ ap (pool_or (share a)) (insert_at read es k pool a) ∙ by_test (bytes_eq (read k) a)
-      (λ e. let same : q ≡ a = sym is ∙ same_bytes (read k) a e in
+  -- one was put
+  pub put : (fs : List (K × Sharing)) (k : K) (pool : Sharing) → read k ≡ q → fs ≡ insert_entry (λ x y. slice_cmp nat_cmp (read x) (read y)) es k pool
+      → (a : List ℕ) → pools_of fs a ≡ with_pool (pools_of es) q (λ old. pool) a
+  put fs k pool is set a =
+      ap (λ l. pool_or (share a) (at_address l read a)) set ∙ ap (pool_or (share a)) (insert_at read es k pool a)
+      ∙ ap (λ at. pool_or (share a) (cond (bytes_eq at a) (Some pool) (at_address es read a))) is ∙ by_test (bytes_eq q a) (λ e. rw e refl) (λ e. rw e refl)
+
+  -- where none was there, the change was made to one without links
+  pub begun : (fs : List (K × Sharing)) → fs ≡ es → (new : Sharing) (change : Sharing → Sharing) → None ≡ found read es q → new ≡ change (no_links (share q))
+      → (a : List ℕ) → with_pool (pools_of fs) q (λ old. new) a ≡ with_pool (pools_of es) q change a
+  begun fs unchanged new change none changed a = ap (λ l. with_pool (pools_of l) q (λ old. new) a) unchanged ∙ by_test (bytes_eq q a)
+      (λ e. let same : q ≡ a = same_bytes q a e in
       let at : at_address es read a ≡ None = ap (at_address es read) (sym same) ∙ sym (lookup_is read es q) ∙ sym none in
-      rw (e, at) (new ∙ ap (λ b. no_links (share b)) same))
+      rw (e, at) (changed ∙ ap (λ b. change (no_links (share b))) same))
       (λ e. rw e refl)
 
   -- one without links was removed
@@ -129,10 +115,6 @@ module _ {K : Type 0} (read : K → List ℕ) (share : List ℕ → Distribution
       let at : at_address es read a ≡ Some pool = ap (at_address es read) (sym same) ∙ sym (lookup_is read es q) ∙ sym is in
       rw (e, at) (sym (rested_same pool some)))
       (λ e. rw e refl)
-
--- pools that are the same everywhere
-pub same_elsewhere : (one other : List ℕ → Sharing) (q : List ℕ) (change : Sharing → Sharing) → ((a : List ℕ) → one a ≡ other a) → (a : List ℕ) → with_pool one q change a ≡ with_pool other q change a
-same_elsewhere one other q change same a = ap (λ pool. if bytes_eq q a then change pool else pool) (same a)
 
 -- what a call ensures at its end
 pub on_ok_then : {T E : Type 0} (r : Result T E) (P Q : Type 0) → OnOk r P → (P → Q) → OnOk r Q

@@ -1,13 +1,14 @@
 //! Pools by the bytes of their addresses.
 ghost use Rattle.std.specs.Prelude.{◌≡◌, ℕ, List, Bool, true, false, None, Some, OnOk, IfOk, option_map, is_some};
 ghost use Rattle.route_table.specs.declared.sections.Distribution.{Distribution};
+ghost use Rattle.route_table.specs.Places.{distribution_of};
 ghost use Rattle.route_credit.specs.Granting.{all_granted, choice, grants_of};
 ghost use Rattle.route_credit.specs.Pool.{by_id, chose, has_no_links, no_links, offered, wanted, without_consumer, without_producer};
 ghost use Rattle.router_pools.specs.Addresses.{at_address, rested, with_pool, without};
 ghost use Rattle.router_pools.specs.Fits.{pool_in};
 
 use route_credit::{ConsumerId, Pool, ProducerId};
-use route_table::Distribution;
+use route_table::Table;
 use std::alloc::{AllocError, Global};
 use std::collections::BTreeMap;
 
@@ -28,61 +29,57 @@ impl ByAddress {
         }
     }
 
-    /// Makes sure that there is a pool at an address with this distribution.
-    fn found(&mut self, address: &[u8], distribution: Distribution) -> Result<(), AllocError>
-        ensures same { OnOk result ((share : List ℕ → Distribution) → distribution ≡ share address.now → (a : List ℕ) → pool_in share self.new a ≡ pool_in share self.old a) }
-        ensures there { OnOk result (is_some (at_address self.new.pools.entries (λ k. k.items) address.now) ≡ true) }
+    /// Puts a pool at an address, in place of the one that is there, if there is one.
+    fn put(&mut self, address: &[u8], pool: Pool) -> Result<(), AllocError>
+        ensures { OnOk result ((share : List ℕ → Distribution) (a : List ℕ) → pool_in share self.new a ≡ with_pool (pool_in share self.old) address.now (λ old. pool) a) }
     {
-        if self.pools.contains_key(address) {
-            return Ok(());
-        }
         let key = address.to_vec(self.alloc)?;
-        match self.pools.insert(key, Pool::new(self.alloc, distribution)) {
+        match self.pools.insert(key, pool) {
             Ok(_) => Ok(()),
             Err(_) => Err(AllocError),
         }
     }
 
-    /// Sets what a consumer offers to an address with this distribution. It is no producer there.
+    /// Sets what a consumer offers to an address, whose pool is shared as this table says. It is no producer there.
     pub(crate) fn offer(
         &mut self,
-        address: &[u8],
-        distribution: Distribution,
+        table: &Table,
+        address: &str,
         number: u64,
         free: u64,
         undecided: u64,
     ) -> Result<(), AllocError>
-        ensures { OnOk result ((share : List ℕ → Distribution) → distribution ≡ share address.now → (a : List ℕ) → pool_in share self.new a ≡ with_pool (pool_in share self.old) address.now (λ pool. offered (without_producer pool number) number free undecided) a) }
+        ensures { OnOk result ((share : List ℕ → Distribution) → distribution_of table.now address.now ≡ share address.now → (a : List ℕ) → pool_in share self.new a ≡ with_pool (pool_in share self.old) address.now (λ pool. offered (without_producer pool number) number free undecided) a) }
     {
-        self.found(address, distribution)?;
-        match self.pools.get_mut(address) {
-            None => Ok(()),
-            Some(pool) => {
-                pool.drop_producer(ProducerId(number));
-                pool.offer(ConsumerId(number), free, undecided)
-            }
+        let place = address.as_bytes();
+        if let Some(pool) = self.pools.get_mut(place) {
+            pool.drop_producer(ProducerId(number));
+            return pool.offer(ConsumerId(number), free, undecided);
         }
+        let mut pool = Pool::new(self.alloc, table.distribution(address));
+        pool.offer(ConsumerId(number), free, undecided)?;
+        self.put(place, pool)
     }
 
-    /// Sets what a producer wants of an address with this distribution. It is no consumer there.
+    /// Sets what a producer wants of an address, whose pool is shared as this table says. It is no consumer there.
     pub(crate) fn want(
         &mut self,
-        address: &[u8],
-        distribution: Distribution,
+        table: &Table,
+        address: &str,
         number: u64,
         unused: u32,
         held: u32,
     ) -> Result<(), AllocError>
-        ensures { OnOk result ((share : List ℕ → Distribution) → distribution ≡ share address.now → (a : List ℕ) → pool_in share self.new a ≡ with_pool (pool_in share self.old) address.now (λ pool. wanted (without_consumer pool number) number unused 0 held) a) }
+        ensures { OnOk result ((share : List ℕ → Distribution) → distribution_of table.now address.now ≡ share address.now → (a : List ℕ) → pool_in share self.new a ≡ with_pool (pool_in share self.old) address.now (λ pool. wanted (without_consumer pool number) number unused 0 held) a) }
     {
-        self.found(address, distribution)?;
-        match self.pools.get_mut(address) {
-            None => Ok(()),
-            Some(pool) => {
-                pool.drop_consumer(ConsumerId(number));
-                pool.want(ProducerId(number), unused, 0, held)
-            }
+        let place = address.as_bytes();
+        if let Some(pool) = self.pools.get_mut(place) {
+            pool.drop_consumer(ConsumerId(number));
+            return pool.want(ProducerId(number), unused, 0, held);
         }
+        let mut pool = Pool::new(self.alloc, table.distribution(address));
+        pool.want(ProducerId(number), unused, 0, held)?;
+        self.put(place, pool)
     }
 
     /// Removes a link from the pool of an address.

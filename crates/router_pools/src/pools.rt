@@ -63,7 +63,7 @@ impl Pools {
     pub fn distribution(&self, address: &str) -> Distribution
         ensures { (share : List ℕ → Distribution) (known actual : ℕ → Option Figure) (last : List ℕ → ℕ) → PoolsFit self.now share known actual last → result ≡ share address.now }
     {
-        self.table.find(address).distribution
+        self.table.distribution(address)
     }
 
     /// Notes that what a link has may have changed.
@@ -99,9 +99,8 @@ impl Pools {
     {
         let place = address.as_bytes();
         self.place(number, place)?;
-        let distribution = self.table.find(address).distribution;
         self.pools
-            .offer(place, distribution, number, free, undecided)?;
+            .offer(&self.table, address, number, free, undecided)?;
         let _ = self.touched.remove(&number);
         Ok(())
     }
@@ -121,8 +120,7 @@ impl Pools {
     {
         let place = address.as_bytes();
         self.place(number, place)?;
-        let distribution = self.table.find(address).distribution;
-        self.pools.want(place, distribution, number, unused, held)?;
+        self.pools.want(&self.table, address, number, unused, held)?;
         let _ = self.touched.remove(&number);
         Ok(())
     }

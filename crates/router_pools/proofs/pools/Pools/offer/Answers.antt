@@ -1,5 +1,7 @@
-use Rattle.std.proofs.Common.{◌==◌, ◌||◌, ◌∙◌, sym, ap, Some}
+use Rattle.std.proofs.Common.{◌==◌, ◌||◌, ◌∙◌, sym, ap, refl, Some}
+use Rattle.route_credit.specs.Pool.{offered, without_producer}
 use Rattle.router_pools.specs.Sharing.Figure.{consumer}
+use Rattle.router_pools.specs.Addresses.{with_pool}
 use Rattle.router_pools.specs.Fits.{is_due, is_touched, place_of, pool_at, pool_in, table_of}
 use Rattle.router_pools.proofs.Fitting.{but_one, offered_fits, offers_elsewhere, untouched, widened}
 use Rattle.router_pools.proofs.pools.Pools.offer.Goals as goal
@@ -14,5 +16,6 @@ returns-clause-fits c share known other actual last fits is really others =
     (λ a. offers_elsewhere (actual c.args.number) c.as_bytes-place.result.now a c.args.free c.args.undecided (really ∙ there)))
     (pool_in (table_of mid) c.offer.new.self) c.as_bytes-place.result.now c.args.number c.in_ok-place.ensures.there c.in_ok-place.ensures.due
     _ (untouched (is_touched mid) _ c.args.number c.remove.ensures.updates.0) other others really c.args.free c.args.undecided
-    (c.in_ok-offer.ensures (table_of mid) (c.find-distribution.ensures.distribution ∙ ap (table_of mid) (sym c.as_bytes-place.ensures.value)))
+    (λ a. c.in_ok-offer.ensures (table_of mid) refl a
+    ∙ ap (λ q. with_pool (pool_at mid) q (λ pool. offered (without_producer pool c.args.number) c.args.number c.args.free c.args.undecided) a) (sym c.as_bytes-place.ensures.value))
     there

@@ -1,5 +1,7 @@
-use Rattle.std.proofs.Common.{◌==◌, ◌||◌, ◌∙◌, sym, ap, Some}
+use Rattle.std.proofs.Common.{◌==◌, ◌||◌, ◌∙◌, sym, ap, refl, Some}
+use Rattle.route_credit.specs.Pool.{wanted, without_consumer}
 use Rattle.router_pools.specs.Sharing.Figure.{producer}
+use Rattle.router_pools.specs.Addresses.{with_pool}
 use Rattle.router_pools.specs.Fits.{is_due, is_touched, place_of, pool_at, pool_in, table_of}
 use Rattle.router_pools.proofs.Fitting.{but_one, offers_none, wanted_fits, untouched, widened}
 use Rattle.router_pools.proofs.pools.Pools.want.Goals as goal
@@ -13,5 +15,6 @@ returns-clause-fits c share known other actual last fits is really others =
     (λ a elsewhere. offers_none (actual c.args.number) a c.args.address.now c.args.unused c.args.held (really ∙ is)))
     (pool_in (table_of mid) c.want.new.self) c.as_bytes-place.result.now c.args.number c.in_ok-place.ensures.there c.in_ok-place.ensures.due
     _ (untouched (is_touched mid) _ c.args.number c.remove.ensures.updates.0) other others really c.args.unused c.args.held
-    (c.in_ok-want.ensures (table_of mid) (c.find-distribution.ensures.distribution ∙ ap (table_of mid) (sym c.as_bytes-place.ensures.value)))
+    (λ a. c.in_ok-want.ensures (table_of mid) refl a
+    ∙ ap (λ q. with_pool (pool_at mid) q (λ pool. wanted (without_consumer pool c.args.number) c.args.number c.args.unused 0 c.args.held) a) (sym c.as_bytes-place.ensures.value))
     (is ∙ ap (λ a. Some (producer a c.args.unused c.args.held)) (sym c.as_bytes-place.ensures.value))
