@@ -5,3 +5,4 @@ mod Longer
 mod Short
 mod Small
 mod Tags
+pub mod Plain

@@ -1,13 +1,12 @@
 //! Outcomes as the router keeps them, and the dispositions that report them.
-ghost use Rattle.std.specs.Prelude.{◌≡◌, length, option_map, true, if◌then◌else◌, IfOk, IsOk};
+ghost use Rattle.std.specs.Prelude.{◌≡◌, length, option_map, true, if◌then◌else◌, IfOk, IsOk, OnOk};
 ghost use Rattle.amqp_perf.specs.Copies.{is_plain};
 ghost use Rattle.amqp_perf.specs.Spelling.{state_spelling};
 ghost use Rattle.router_trace.specs.DeliveryFrames.{kept_condition, kept_error, undescribed, without_info, bare, unless_long, kept_outcome, outcome_item};
 
 use amqp_frames::Item;
 use amqp_perf::{
-    Boxed, DeliveryState, Disposition, Fault, Modified, Perf, Rejected, Role, Symbol, copy_state,
-    write_state,
+    Boxed, DeliveryState, Disposition, Fault, Perf, Rejected, Role, Symbol, copy_state, write_state,
 };
 use bytes::Bytes;
 use std::alloc::{AllocError, Global};
@@ -59,13 +58,14 @@ pub fn outcome_item(
 /// # Errors
 ///
 /// `AllocError` if memory was refused; an outcome that holds no memory takes none.
+#[tactic(auto, using(crate::proofs::Plain::plain_undescribed))]
 pub fn kept_outcome(alloc: Global, state: &DeliveryState) -> Result<DeliveryState, AllocError>
     ensures kept { IfOk result (λ kept. kept ≡ kept_outcome state.now) }
     ensures plain { is_plain state.now ≡ true → IsOk result }
 {
     let mut kept = undescribed(alloc, state)?;
     if is_long(alloc, &kept)? {
-        kept = made_bare(alloc, kept)?;
+        make_bare(alloc, &mut kept)?;
     }
     Ok(kept)
 }
@@ -160,19 +160,17 @@ fn without_info(
     }
 }
 
-/// An outcome without the info of its error or its annotations.
-fn made_bare(alloc: Global, state: DeliveryState) -> Result<DeliveryState, AllocError>
-    ensures { IfOk result (λ made. made ≡ bare state) }
+/// Removes the info of an outcome's error, or its annotations.
+fn make_bare(alloc: Global, state: &mut DeliveryState) -> Result<(), AllocError>
+    ensures bare { OnOk result (state.new ≡ bare state.old) }
+    ensures plain { is_plain state.old ≡ true → IsOk result }
 {
     match state {
-        DeliveryState::Rejected(rejected) => Ok(DeliveryState::Rejected(Rejected {
-            error: without_info(alloc, rejected.error)?,
-        })),
-        DeliveryState::Modified(modified) => Ok(DeliveryState::Modified(Modified {
-            delivery_failed: modified.delivery_failed,
-            undeliverable_here: modified.undeliverable_here,
-            message_annotations: None,
-        })),
-        other => Ok(other),
+        DeliveryState::Rejected(rejected) => {
+            rejected.error = without_info(alloc, rejected.error.take())?;
+        }
+        DeliveryState::Modified(modified) => modified.message_annotations = None,
+        _ => {}
     }
+    Ok(())
 }
