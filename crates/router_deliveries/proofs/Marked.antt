@@ -91,6 +91,26 @@ marked_put handle_of test agree conn own id claim stood handle after known next 
     (added c o h q ∙ ap (λ v. set_mark (conn == c) (own == o) (is_number v h) (id == q) true (mid c o h q)) behind)
     ∙ ap (test h) (sym (set c o q))
 
+-- the same where marks are only moved
+pub marked_moved : (handle_of : Handles) (test : Tests) → Agree handle_of test → (conn own id : ℕ) (claim stood : Option Claim) (before after : Option ℕ)
+    (known next : ℕ → ℕ → ℕ → Option Claim) (first last : ℕ → ℕ → ℕ → ℕ → Bool)
+    → stood ≡ known conn own id → before ≡ handle_of stood → after ≡ handle_of claim
+    → ((c o h q : ℕ) → first c o h q ≡ test h (known c o q))
+    → (((h : ℕ) → first conn own h id ≡ is_number before h) → (c o h q : ℕ) → last c o h q
+    ≡ (if conn == c then (if own == o then (if id == q then is_number after h else first c o h q) else first c o h q) else first c o h q))
+    → ((c o q : ℕ) → next c o q ≡ set_claim (conn == c) (own == o) (id == q) claim (known c o q))
+    → (c o h q : ℕ) → last c o h q ≡ test h (next c o q)
+marked_moved handle_of test agree conn own id claim stood before after known next first last is was now marked moved set c o h q =
+    moved (λ j. marked conn own j id ∙ ap (test j) (sym is) ∙ agree j stood ∙ ap (λ v. is_number v j) (sym was)) c o h q
+    ∙ by_tests (conn == c) (own == o) (id == q) (first c o h q) (known c o q) (marked c o h q) ∙ ap (test h) (sym (set c o q))
+  where
+    by_tests : (here mine same : Bool) (mark : Bool) (old : Option Claim) → mark ≡ test h old
+        → (if here then (if mine then (if same then is_number after h else mark) else mark) else mark) ≡ test h (set_claim here mine same claim old)
+    by_tests true true true mark old e = ap (λ v. is_number v h) now ∙ sym (agree h claim)
+    by_tests true true false mark old e = e
+    by_tests true false same mark old e = e
+    by_tests false mine same mark old e = e
+
 -- what an id gets, told by the claim that it had
 pub put_there : (known : ℕ → ℕ → ℕ → Option Claim) (f : Option Claim → Option Claim) (conn own id c o q : ℕ) (v : Option Claim) → v ≡ f (known conn own id)
     → set_claim (conn == c) (own == o) (id == q) v (known c o q) ≡ set_claim (conn == c) (own == o) (id == q) (f (known c o q)) (known c o q)

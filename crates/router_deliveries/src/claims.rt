@@ -406,8 +406,9 @@ impl Claims {
             ≡ (if conn == c then (if own == o then (if id == q then None else at_id self.old.ids c o q) else at_id self.old.ids c o q) else at_id self.old.ids c o q) }
         ensures marked { AreMarked self.old → AreMarked self.new }
     {
-        let handle = unbound_handle(self.ids.get(conn, own, id));
-        let link = claim_handle(self.ids.get(conn, own, id));
+        let old = self.ids.get(conn, own, id);
+        let handle = unbound_handle(old);
+        let link = claim_handle(old);
         self.unbound.drop_from(conn, own, handle, id);
         self.by_link.drop_from(conn, own, link, id);
         self.ids.remove(conn, own, id);
@@ -419,14 +420,13 @@ impl Claims {
             ≡ (if conn == c then (if own == o then (if id == q then Some claim else at_id self.old.ids c o q) else at_id self.old.ids c o q) else at_id self.old.ids c o q)) }
         ensures marked { OnOk result (AreMarked self.old → AreMarked self.new) }
     {
-        let before = unbound_handle(self.ids.get(conn, own, id));
+        let old = self.ids.get(conn, own, id);
+        let before = unbound_handle(old);
         let after = unbound_handle(Some(&claim));
-        let link = claim_handle(self.ids.get(conn, own, id));
+        let link = claim_handle(old);
         let next = claim_handle(Some(&claim));
-        self.unbound.drop_from(conn, own, before, id);
-        self.unbound.add(conn, own, after, id)?;
-        self.by_link.drop_from(conn, own, link, id);
-        self.by_link.add(conn, own, next, id)?;
+        self.unbound.shift(conn, own, before, after, id)?;
+        self.by_link.shift(conn, own, link, next, id)?;
         self.ids.insert(conn, own, id, claim)?;
         Ok(())
     }
