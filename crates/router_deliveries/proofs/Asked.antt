@@ -4,15 +4,16 @@ use Rattle.std.specs.Ordering.{nat_cmp}
 use Rattle.std.specs.BTreeMap.{get}
 use Rattle.std.specs.BTreeSet.{contains}
 use Rattle.router_trace.specs.Trace.{Trace}
-use Rattle.router_trace.specs.Deliveries.{delivery, waits_on, undecided_on, held_from, is_to_tell}
+use Rattle.router_trace.specs.Deliveries.{delivery, is_number, waits_on, undecided_on, held_from, is_to_tell}
 use Rattle.router_trace.specs.Following.{is_unsent_on}
 use Rattle.router_deliveries.specs.declared.store.Store.{Store}
-use Rattle.router_deliveries.specs.Finding.{IsFirstLink}
+use Rattle.router_deliveries.specs.Finding.{IsCount, IsFirstLink}
 use Rattle.router_deliveries.specs.Fits.{StoreFit}
-use Rattle.router_deliveries.specs.Indexing.{in_group}
+use Rattle.router_deliveries.specs.Indexing.{in_group, standing}
+use Rattle.router_deliveries.specs.Tallying.{tally}
 use Rattle.router_deliveries.specs.Calling.{NumbersFit}
 use Rattle.router_deliveries.proofs.Called.{called_same, numbers_fit}
-use Rattle.router_deliveries.proofs.Found.{waits_is, unsent_is, undecided_is, held_is, to_tell_is}
+use Rattle.router_deliveries.proofs.Found.{count_same, waits_is, unsent_is, undecided_is, held_is, to_tell_is}
 
 pub waits_in : (s : Store) (t : Trace) → StoreFit s t → (k n : ℕ) → in_group s.index.waiting k n ≡ waits_on k (delivery t n)
 waits_in s t fit k n = fit.indexed.indexes.waiting k n ∙ waits_is k (get nat_cmp s.deliveries n) ∙ ap (waits_on k) (fit.deliveries n)
@@ -20,11 +21,13 @@ waits_in s t fit k n = fit.indexed.indexes.waiting k n ∙ waits_is k (get nat_c
 pub unsent_in : (s : Store) (t : Trace) → StoreFit s t → (k n : ℕ) → in_group s.index.unsent k n ≡ is_unsent_on k (delivery t n)
 unsent_in s t fit k n = fit.indexed.indexes.unsent k n ∙ unsent_is k (get nat_cmp s.deliveries n) ∙ ap (is_unsent_on k) (fit.deliveries n)
 
-pub undecided_in : (s : Store) (t : Trace) → StoreFit s t → (k n : ℕ) → in_group s.index.undecided k n ≡ undecided_on k (delivery t n)
-undecided_in s t fit k n = fit.indexed.indexes.undecided k n ∙ undecided_is k (get nat_cmp s.deliveries n) ∙ ap (undecided_on k) (fit.deliveries n)
+pub undecided_in : (s : Store) (t : Trace) → StoreFit s t → (k : ℕ) → IsCount (λ n. undecided_on k (delivery t n)) (tally s.index.undecided k)
+undecided_in s t fit k = count_same (λ n. is_number (standing (get nat_cmp s.deliveries n)).undecided k) (λ n. undecided_on k (delivery t n))
+    (λ n. undecided_is k (get nat_cmp s.deliveries n) ∙ ap (undecided_on k) (fit.deliveries n)) (tally s.index.undecided k) (fit.indexed.indexes.undecided k)
 
-pub held_in : (s : Store) (t : Trace) → StoreFit s t → (k n : ℕ) → in_group s.index.held k n ≡ held_from k (delivery t n)
-held_in s t fit k n = fit.indexed.indexes.held k n ∙ held_is k (get nat_cmp s.deliveries n) ∙ ap (held_from k) (fit.deliveries n)
+pub held_in : (s : Store) (t : Trace) → StoreFit s t → (k : ℕ) → IsCount (λ n. held_from k (delivery t n)) (tally s.index.held k)
+held_in s t fit k = count_same (λ n. is_number (standing (get nat_cmp s.deliveries n)).held k) (λ n. held_from k (delivery t n))
+    (λ n. held_is k (get nat_cmp s.deliveries n) ∙ ap (held_from k) (fit.deliveries n)) (tally s.index.held k) (fit.indexed.indexes.held k)
 
 pub to_tell_in : (s : Store) (t : Trace) → StoreFit s t → (n : ℕ) → contains nat_cmp s.index.to_tell n ≡ is_to_tell (delivery t n)
 to_tell_in s t fit n = fit.indexed.indexes.to_tell n ∙ to_tell_is (get nat_cmp s.deliveries n) ∙ ap is_to_tell (fit.deliveries n)

@@ -228,28 +228,25 @@ numbers_fit s t called name = by_number (at_name s name) refl
 pub called_same : (s : ByName) (f g : ℕ → Option Delivery) → ((n : ℕ) → f n ≡ g n) → AreCalled s f → AreCalled s g
 called_same s f g same called = λ name n. called name n ∙ ap (is_called name) (same n)
 
--- a delivery was taken out, changed and put back, under the same name
-pub called_back : (s next : ByName) (m : ℕ) (d e : Delivery) (old middle new : ℕ → Option Delivery) → e.name ≡ d.name → old m ≡ Some d
-    → ((n : ℕ) → middle n ≡ (if m == n then None else old n)) → ((n : ℕ) → new n ≡ (if m == n then unless_over e else middle n))
+-- a delivery was changed in its place, under the same name, and removed if it is over
+pub called_at : (s next : ByName) (m : ℕ) (d e : Delivery) (old new : ℕ → Option Delivery) → e.name ≡ d.name → old m ≡ Some d
+    → ((n : ℕ) → new n ≡ (if m == n then unless_over e else old n))
     → ((name : DeliveryName) → at_name next name ≡ (if is_over e && same_name e.name name then None else at_name s name))
     → AreCalled s old → AreCalled next new
-called_back s next m d e old middle new same was out back is called = λ name n.
+called_at s next m d e old new same was back is called = λ name n.
     ap (λ v. is_number v n) (is name) ∙ by_tests name n (m == n) (is_over e) refl refl (same_name d.name name) refl ∙ ap (is_called name) (sym (back n))
   where
     by_tests : (name : DeliveryName) (n : ℕ) (here over : Bool) → (m == n) ≡ here → is_over e ≡ over → (q : Bool) → same_name d.name name ≡ q
-        → is_number (if is_over e && same_name e.name name then None else at_name s name) n ≡ is_called name (if m == n then unless_over e else middle n)
+        → is_number (if is_over e && same_name e.name name then None else at_name s name) n ≡ is_called name (if m == n then unless_over e else old n)
     by_tests name n here over g h q f =
         ap (λ x. is_number (if x && same_name e.name name then None else at_name s name) n) h
         ∙ ap (λ x. is_number (if over && same_name x name then None else at_name s name) n) same
         ∙ ap (λ x. is_number (if over && x then None else at_name s name) n) f
         ∙ cases here over q g h f
-        ∙ sym (ap (λ x. is_called name (if x then unless_over e else middle n)) g)
+        ∙ sym (ap (λ x. is_called name (if x then unless_over e else old n)) g)
       where
         stood : (q : Bool) → same_name d.name name ≡ q → m ≡ n → is_number (at_name s name) n ≡ q
         stood q f i = called name n ∙ ap (λ k. is_called name (old k)) (sym i) ∙ ap (is_called name) was ∙ f
-
-        elsewhere : (m == n) ≡ false → is_called name (middle n) ≡ is_number (at_name s name) n
-        elsewhere g = ap (is_called name) (out n ∙ ap (λ b. if b then None else old n) g) ∙ sym (called name n)
 
         not_here : (m == n) ≡ false → same_name d.name name ≡ true → is_number (at_name s name) n ≡ false
         not_here g f = by (at_name s name) (called name m ∙ ap (is_called name) was ∙ f)
@@ -266,13 +263,13 @@ called_back s next m d e old middle new same was out back is called = λ name n.
             by false = ap (λ x. same_name x name) same
 
         cases : (here over q : Bool) → (m == n) ≡ here → is_over e ≡ over → same_name d.name name ≡ q
-            → is_number (if over && q then None else at_name s name) n ≡ is_called name (if here then unless_over e else middle n)
+            → is_number (if over && q then None else at_name s name) n ≡ is_called name (if here then unless_over e else old n)
         cases true true true g h f = sym (kept true h)
         cases true true false g h f = stood false f (eqb-true m n g) ∙ sym (kept true h)
         cases true false q g h f = stood q f (eqb-true m n g) ∙ sym (kept false h ∙ f)
-        cases false true true g h f = sym (elsewhere g ∙ not_here g f)
-        cases false true false g h f = sym (elsewhere g)
-        cases false false q g h f = sym (elsewhere g)
+        cases false true true g h f = sym (sym (called name n) ∙ not_here g f)
+        cases false true false g h f = called name n
+        cases false false q g h f = called name n
 
 -- a delivery was removed
 pub called_out : (s next : ByName) (m : ℕ) (d : Delivery) (old new : ℕ → Option Delivery) → old m ≡ Some d
@@ -314,22 +311,21 @@ none_called name (Some d) = by_test (same_name d.name name) refl
     by_test false e = e
 
 -- a delivery was added, under a name that no other has
-pub called_more : (s next : ByName) (m : ℕ) (newest : DeliveryName) (b : Binding) (old middle new : ℕ → Option Delivery) → old m ≡ None → ((n : ℕ) → is_called newest (old n) ≡ false)
-    → ((n : ℕ) → middle n ≡ (if m == n then None else old n)) → ((n : ℕ) → new n ≡ (if m == n then Some (bound newest b) else middle n))
+pub called_more : (s next : ByName) (m : ℕ) (newest : DeliveryName) (b : Binding) (old new : ℕ → Option Delivery) → old m ≡ None → ((n : ℕ) → is_called newest (old n) ≡ false)
+    → ((n : ℕ) → new n ≡ (if m == n then Some (bound newest b) else old n))
     → ((name : DeliveryName) → at_name next name ≡ (if same_name newest name then Some m else at_name s name))
     → AreCalled s old → AreCalled next new
-called_more s next m newest b old middle new none alone out back is called = λ name n.
+called_more s next m newest b old new none alone back is called = λ name n.
     ap (λ v. is_number v n) (is name) ∙ by_tests name n (m == n) (same_name newest name) refl refl ∙ ap (is_called name) (sym (back n))
   where
     cases : (name : DeliveryName) (n : ℕ) (here q : Bool) → (m == n) ≡ here → same_name newest name ≡ q
-        → is_number (if q then Some m else at_name s name) n ≡ is_called name (if here then Some (bound newest b) else middle n)
+        → is_number (if q then Some m else at_name s name) n ≡ is_called name (if here then Some (bound newest b) else old n)
     cases name n true true g f = g ∙ sym f
     cases name n true false g f = called name n ∙ ap (λ k. is_called name (old k)) (sym (eqb-true m n g)) ∙ ap (is_called name) none ∙ sym f
-    cases name n false true g f =
-        g ∙ sym (alone n) ∙ ap (λ x. is_called x (old n)) (same_is newest name f) ∙ sym (ap (is_called name) (out n ∙ ap (λ x. if x then None else old n) g))
-    cases name n false false g f = called name n ∙ sym (ap (is_called name) (out n ∙ ap (λ x. if x then None else old n) g))
+    cases name n false true g f = g ∙ sym (alone n) ∙ ap (λ x. is_called x (old n)) (same_is newest name f)
+    cases name n false false g f = called name n
 
     by_tests : (name : DeliveryName) (n : ℕ) (here q : Bool) → (m == n) ≡ here → same_name newest name ≡ q
-        → is_number (if same_name newest name then Some m else at_name s name) n ≡ is_called name (if m == n then Some (bound newest b) else middle n)
+        → is_number (if same_name newest name then Some m else at_name s name) n ≡ is_called name (if m == n then Some (bound newest b) else old n)
     by_tests name n here q g f =
-        ap (λ x. is_number (if x then Some m else at_name s name) n) f ∙ cases name n here q g f ∙ sym (ap (λ x. is_called name (if x then Some (bound newest b) else middle n)) g)
+        ap (λ x. is_number (if x then Some m else at_name s name) n) f ∙ cases name n here q g f ∙ sym (ap (λ x. is_called name (if x then Some (bound newest b) else old n)) g)

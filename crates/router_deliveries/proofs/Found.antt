@@ -15,7 +15,7 @@ use Rattle.router_deliveries.specs.Places.{at}
 use Rattle.router_deliveries.specs.Finding.{IsFirst, IsCount}
 use Rattle.router_deliveries.specs.Indexing.{in_set, in_group, standing, from_link, on_link}
 
-no_rise : IsStrictlySortedBy nat_cmp []
+pub no_rise : IsStrictlySortedBy nat_cmp []
 unfolding IsStrictlySortedBy
 no_rise = tt
 

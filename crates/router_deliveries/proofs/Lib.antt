@@ -11,7 +11,9 @@ mod Bound
 mod Picked
 mod Heard
 mod Reindexed
+mod Settled
 mod Found
+mod Tallied
 mod Claimed
 pub mod Numbers
 mod Asked

@@ -1,10 +1,11 @@
 -- The unbound claims stay marked at their links.
 use Rattle.std.proofs.Common.{◌≡◌, ◌∙◌, ◌<◌, ◌^◌, ℕ, Bool, true, false, refl, sym, ap, arith, Option, Some, None}
 use Rattle.std.specs.Prelude.{◌==◌, if◌then◌else◌}
+use Rattle.std.specs.Option.{option_map}
 use Rattle.std.proofs.lemmas.Bool.{eqb-true}
 use Rattle.std.proofs.lemmas.Bool.Decides.{nat_tests}
 use Rattle.amqp_perf.specs.declared.perf.Transfer.{Transfer}
-use Rattle.router_trace.specs.Claims.{Claim, claims, claim, claimed_later}
+use Rattle.router_trace.specs.Claims.{Claim, claims, claim, bound_claim, claimed_later}
 use Rattle.router_trace.specs.Deliveries.{is_number}
 use Rattle.router_trace.specs.Settling.{is_unbound_on, is_of_link, unbound}
 use Rattle.router_trace.specs.Trace.{Trace}
@@ -44,52 +45,54 @@ Tests = ℕ → Option Claim → Bool
 abbrev pub Agree : Handles → Tests → Type 0
 Agree handle_of test = (h : ℕ) (v : Option Claim) → test h v ≡ is_number (handle_of v) h
 
--- the claim of an id changes
-row : (handle_of : Handles) (test : Tests) → Agree handle_of test → (here own same : Bool) (h : ℕ) (stood claim old : Option Claim) (first mid last : Bool)
-    → (here ≡ true → own ≡ true → same ≡ true → stood ≡ old)
-    → first ≡ test h old
-    → mid ≡ set_mark here own (is_number (handle_of stood) h) same false first
-    → last ≡ set_mark here own (is_number (handle_of claim) h) same true mid
-    → last ≡ test h (set_claim here own same claim old)
-row handle_of test agree true true true h stood claim old first mid last is marked dropped added =
-    added ∙ ap (λ b. if is_number (handle_of claim) h then true else b) (dropped ∙ gone (is_number (handle_of stood) h) first (marked ∙ ap (test h) (sym (is refl refl refl)) ∙ agree h stood))
-    ∙ truth (is_number (handle_of claim) h) ∙ sym (agree h claim)
-  where
-    gone : (b first : Bool) → first ≡ b → (if b then false else first) ≡ false
-    gone true first e = refl
-    gone false first e = e
-
-    truth : (b : Bool) → (if b then true else false) ≡ b
-    truth true = refl
-    truth false = refl
-row handle_of test agree true true false h stood claim old first mid last is marked dropped added =
-    added ∙ same_either (is_number (handle_of claim) h) mid ∙ dropped ∙ same_either (is_number (handle_of stood) h) first ∙ marked
-  where
-    same_either : (b v : Bool) → (if b then v else v) ≡ v
-    same_either true v = refl
-    same_either false v = refl
-row handle_of test agree true false same h stood claim old first mid last is marked dropped added = added ∙ dropped ∙ marked
-row handle_of test agree false own same h stood claim old first mid last is marked dropped added = added ∙ dropped ∙ marked
-
 here_same : (known : ℕ → ℕ → ℕ → Option Claim) (conn own id c o q : ℕ) (stood : Option Claim) → stood ≡ known conn own id → (conn == c) ≡ true → (own == o) ≡ true → (id == q) ≡ true → stood ≡ known c o q
 here_same known conn own id c o q stood is e f g =
     is ∙ ap (λ k. known k own id) (eqb-true conn c e) ∙ ap (λ k. known c k id) (eqb-true own o f) ∙ ap (λ k. known c o k) (eqb-true id q g)
 
--- an id gets this claim, or none
-pub marked_put : (handle_of : Handles) (test : Tests) → Agree handle_of test → (conn own id : ℕ) (claim stood : Option Claim) (handle after : Option ℕ)
-    (known next : ℕ → ℕ → ℕ → Option Claim) (first mid last : ℕ → ℕ → ℕ → ℕ → Bool)
-    → stood ≡ known conn own id → handle ≡ handle_of stood → after ≡ handle_of claim
+-- an id gets this claim, and its mark moves
+pub marked_moved : (handle_of : Handles) (test : Tests) → Agree handle_of test → (conn own id : ℕ) (claim stood : Option Claim) (before after : Option ℕ)
+    (known next : ℕ → ℕ → ℕ → Option Claim) (first last : ℕ → ℕ → ℕ → ℕ → Bool)
+    → stood ≡ known conn own id → before ≡ handle_of stood → after ≡ handle_of claim
     → ((c o h q : ℕ) → first c o h q ≡ test h (known c o q))
-    → ((c o h q : ℕ) → mid c o h q ≡ set_mark (conn == c) (own == o) (is_number handle h) (id == q) false (first c o h q))
-    → ((c o h q : ℕ) → last c o h q ≡ set_mark (conn == c) (own == o) (is_number after h) (id == q) true (mid c o h q))
+    → (((h : ℕ) → first conn own h id ≡ is_number before h) → (c o h q : ℕ) → last c o h q
+    ≡ (if conn == c then (if own == o then (if id == q then is_number after h else first c o h q) else first c o h q) else first c o h q))
     → ((c o q : ℕ) → next c o q ≡ set_claim (conn == c) (own == o) (id == q) claim (known c o q))
     → (c o h q : ℕ) → last c o h q ≡ test h (next c o q)
-marked_put handle_of test agree conn own id claim stood handle after known next first mid last is before behind marked dropped added set c o h q =
-    row handle_of test agree (conn == c) (own == o) (id == q) h stood claim (known c o q) (first c o h q) (mid c o h q) (last c o h q)
-    (here_same known conn own id c o q stood is) (marked c o h q)
-    (dropped c o h q ∙ ap (λ v. set_mark (conn == c) (own == o) (is_number v h) (id == q) false (first c o h q)) before)
-    (added c o h q ∙ ap (λ v. set_mark (conn == c) (own == o) (is_number v h) (id == q) true (mid c o h q)) behind)
-    ∙ ap (test h) (sym (set c o q))
+marked_moved handle_of test agree conn own id claim stood before after known next first last is was now marked moved set c o h q =
+    moved (λ j. marked conn own j id ∙ ap (test j) (sym is) ∙ agree j stood ∙ ap (λ v. is_number v j) (sym was)) c o h q
+    ∙ by_tests (conn == c) (own == o) (id == q) (first c o h q) (known c o q) (marked c o h q) ∙ ap (test h) (sym (set c o q))
+  where
+    by_tests : (here mine same : Bool) (mark : Bool) (old : Option Claim) → mark ≡ test h old
+        → (if here then (if mine then (if same then is_number after h else mark) else mark) else mark) ≡ test h (set_claim here mine same claim old)
+    by_tests true true true mark old e = ap (λ v. is_number v h) now ∙ sym (agree h claim)
+    by_tests true true false mark old e = e
+    by_tests true false same mark old e = e
+    by_tests false mine same mark old e = e
+
+-- an id gets a claim that isn't marked, or none
+pub marked_dropped : (handle_of : Handles) (test : Tests) → Agree handle_of test → (conn own id : ℕ) (claim stood : Option Claim) (before : Option ℕ)
+    (known next : ℕ → ℕ → ℕ → Option Claim) (first last : ℕ → ℕ → ℕ → ℕ → Bool)
+    → stood ≡ known conn own id → before ≡ handle_of stood → None ≡ handle_of claim
+    → ((c o h q : ℕ) → first c o h q ≡ test h (known c o q))
+    → ((c o h q : ℕ) → last c o h q ≡ set_mark (conn == c) (own == o) (is_number before h) (id == q) false (first c o h q))
+    → ((c o q : ℕ) → next c o q ≡ set_claim (conn == c) (own == o) (id == q) claim (known c o q))
+    → (c o h q : ℕ) → last c o h q ≡ test h (next c o q)
+marked_dropped handle_of test agree conn own id claim stood before known next first last is was none marked dropped set =
+    marked_moved handle_of test agree conn own id claim stood before None known next first last is was none marked
+    (λ stands c o h q. dropped c o h q ∙ by_tests c o h q (conn == c) (own == o) (id == q) (is_number before h) refl refl refl refl (stands h)) set
+  where
+    here : (c o h q : ℕ) → (conn == c) ≡ true → (own == o) ≡ true → (id == q) ≡ true → first conn own h id ≡ first c o h q
+    here c o h q e f g =
+        ap (λ k. first k own h id) (eqb-true conn c e) ∙ ap (λ k. first c k h id) (eqb-true own o f) ∙ ap (λ k. first c o h k) (eqb-true id q g)
+
+    by_tests : (c o h q : ℕ) (a b e m : Bool) → (conn == c) ≡ a → (own == o) ≡ b → (id == q) ≡ e → is_number before h ≡ m → first conn own h id ≡ is_number before h
+        → set_mark a b m e false (first c o h q) ≡ (if a then (if b then (if e then false else first c o h q) else first c o h q) else first c o h q)
+    by_tests c o h q true true true true i j k l x = refl
+    by_tests c o h q true true true false i j k l x = sym (here c o h q i j k) ∙ x ∙ l
+    by_tests c o h q true true false true i j k l x = refl
+    by_tests c o h q true true false false i j k l x = refl
+    by_tests c o h q true false e m i j k l x = refl
+    by_tests c o h q false b e m i j k l x = refl
 
 -- what an id gets, told by the claim that it had
 pub put_there : (known : ℕ → ℕ → ℕ → Option Claim) (f : Option Claim → Option Claim) (conn own id c o q : ℕ) (v : Option Claim) → v ≡ f (known conn own id)
@@ -108,21 +111,23 @@ same_handle a b e = grind (arith, nat_tests, e)
 pub later_is : (h : ℕ) (x : Transfer) (w : Claim) (now v : Option Claim) → Some w ≡ now → (w.handle == h) ≡ true → v ≡ claim h w.tag x → v ≡ claimed_later h x now
 later_is h x w now v is same made = made ∙ sym (ap (λ b. if b then claim h w.tag x else Some w) same) ∙ ap (claimed_later h x) is
 
-no_mark : (here own same mid : Bool) → set_mark here own false same true mid ≡ mid
-no_mark true true same mid = refl
-no_mark true false same mid = refl
-no_mark false own same mid = refl
+-- a delivery that is bound stays on its link, and is unbound no more
+pub bound_unmarked : (v : Option Claim) → None ≡ unbound_handle (option_map bound_claim v)
+bound_unmarked None = refl
+bound_unmarked (Some v) = refl
 
-pub marked_clear : (handle_of : Handles) (test : Tests) → Agree handle_of test → None ≡ handle_of None → (conn own id : ℕ) (stood : Option Claim) (handle : Option ℕ)
-    (known next : ℕ → ℕ → ℕ → Option Claim) (first last : ℕ → ℕ → ℕ → ℕ → Bool)
-    → stood ≡ known conn own id → handle ≡ handle_of stood
-    → ((c o h q : ℕ) → first c o h q ≡ test h (known c o q))
-    → ((c o h q : ℕ) → last c o h q ≡ set_mark (conn == c) (own == o) (is_number handle h) (id == q) false (first c o h q))
-    → ((c o q : ℕ) → next c o q ≡ set_claim (conn == c) (own == o) (id == q) None (known c o q))
-    → (c o h q : ℕ) → last c o h q ≡ test h (next c o q)
-marked_clear handle_of test agree none conn own id stood handle known next first last is before marked dropped set =
-    marked_put handle_of test agree conn own id None stood handle None known next first last last is before none marked dropped
-    (λ c o h q. sym (no_mark (conn == c) (own == o) (id == q) (last c o h q))) set
+pub link_stays : (here own same : Bool) (h : ℕ) (v next : Option Claim) → next ≡ set_claim here own same (option_map bound_claim v) v → is_of_link h v ≡ is_of_link h next
+link_stays here own same h v next is = by_tests here own same v ∙ sym (ap (is_of_link h) is)
+  where
+    by_claim : (v : Option Claim) → is_of_link h v ≡ is_of_link h (option_map bound_claim v)
+    by_claim None = refl
+    by_claim (Some w) = refl
+
+    by_tests : (here own same : Bool) (v : Option Claim) → is_of_link h v ≡ is_of_link h (set_claim here own same (option_map bound_claim v) v)
+    by_tests true true true v = by_claim v
+    by_tests true true false v = refl
+    by_tests true false same v = refl
+    by_tests false own same v = refl
 
 -- all claims of a session or of a connection are gone
 pub marked_end : (test : Tests) → ((h : ℕ) → false ≡ test h None) → (here own : Bool) (h : ℕ) (old next : Option Claim) (first last : Bool) → first ≡ test h old

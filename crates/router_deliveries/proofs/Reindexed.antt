@@ -1,48 +1,79 @@
 -- A table's indexes after a change.
-use Rattle.std.proofs.Common.{◌≡◌, ◌∙◌, ℕ, Bool, true, false, refl, sym, ap, Option, None}
+use Rattle.std.proofs.Common.{◌≡◌, ◌∙◌, ℕ, Bool, true, false, refl, sym, ap, Option}
 use Rattle.std.specs.Prelude.{◌==◌, if◌then◌else◌}
 use Rattle.std.proofs.lemmas.Bool.{eqb-true}
 use Rattle.router_trace.specs.Deliveries.{Delivery, is_number}
+use Rattle.std.specs.Ordering.{nat_cmp}
+use Rattle.std.specs.BTreeSet.{contains}
+use Rattle.router_deliveries.specs.declared.groups.Groups.{Groups}
 use Rattle.router_deliveries.specs.declared.index.Index.{Index}
 use Rattle.router_deliveries.specs.declared.index.Keys.{Keys}
-use Rattle.router_deliveries.specs.Indexing.{Indexes, standing}
+use Rattle.router_deliveries.specs.declared.spots.Spot.{Spot}
+use Rattle.router_deliveries.specs.declared.spots.Spots.{Spots}
+use Rattle.router_deliveries.specs.declared.tallies.Tallies.{Tallies}
+use Rattle.router_deliveries.specs.Indexing.{Indexes, standing, in_group}
+use Rattle.router_deliveries.specs.Placing.{SpotsFit}
+use Rattle.router_deliveries.specs.Tallying.{IsTallied}
 use Rattle.router_deliveries.proofs.Placed.{fits_same}
+use Rattle.router_deliveries.proofs.Tallied.{tallied_same}
 
 pub indexes_same : (s : Index) (f g : ℕ → Keys) → ((n : ℕ) → f n ≡ g n) → Indexes s f → Indexes s g
 indexes_same s f g same x = record {
   waiting = λ k n. x.waiting k n ∙ ap (λ (q : Keys). is_number q.waiting k) (same n);
   unsent = λ k n. x.unsent k n ∙ ap (λ (q : Keys). is_number q.unsent k) (same n);
-  undecided = λ k n. x.undecided k n ∙ ap (λ (q : Keys). is_number q.undecided k) (same n);
-  held = λ k n. x.held k n ∙ ap (λ (q : Keys). is_number q.held k) (same n);
+  undecided = tallied_same s.undecided (λ n. (f n).undecided) (λ n. (g n).undecided) (λ n. ap (λ (q : Keys). q.undecided) (same n)) x.undecided;
+  held = tallied_same s.held (λ n. (f n).held) (λ n. (g n).held) (λ n. ap (λ (q : Keys). q.held) (same n)) x.held;
   to_tell = λ n. x.to_tell n ∙ ap (λ (q : Keys). q.to_tell) (same n);
   on = fits_same s.on (λ n. (f n).on) (λ n. (g n).on) (λ n. ap (λ (q : Keys). q.on) (same n)) x.on;
   from = fits_same s.from (λ n. (f n).from) (λ n. (g n).from) (λ n. ap (λ (q : Keys). q.from) (same n)) x.from;
   by_id = fits_same s.by_id (λ n. (f n).by_id) (λ n. (g n).by_id) (λ n. ap (λ (q : Keys). q.by_id) (same n)) x.by_id;
 }
 
--- one delivery was taken out, changed and put back
-pub put_back : (s : Index) (m : ℕ) (w : Option Delivery) (old middle new : ℕ → Option Delivery) → ((n : ℕ) → middle n ≡ (if m == n then None else old n))
-    → ((n : ℕ) → new n ≡ (if m == n then w else middle n)) → Indexes s (λ n. if m == n then standing w else standing (old n)) → Indexes s (λ n. standing (new n))
-put_back s m w old middle new out back x = indexes_same s (λ n. if m == n then standing w else standing (old n)) (λ n. standing (new n))
-    (λ n. by_test (m == n) n (middle n) (out n) ∙ ap standing (sym (back n))) x
-  where
-    by_test : (b : Bool) (n : ℕ) (mid : Option Delivery) → mid ≡ (if b then None else old n) → (if b then standing w else standing (old n)) ≡ standing (if b then w else mid)
-    by_test true n mid e = refl
-    by_test false n mid e = ap standing (sym e)
+-- a number's entries change
+by_key : {A : Type 0} (part : Keys → A) (b : Bool) (after old : Keys) → (if b then part after else part old) ≡ part (if b then after else old)
+by_key part true after old = refl
+by_key part false after old = refl
 
--- one that was taken out stays so
-pub none_back : (m : ℕ) (old middle : ℕ → Option Delivery) → ((n : ℕ) → middle n ≡ (if m == n then None else old n)) → (n : ℕ) → middle n ≡ (if m == n then None else middle n)
-none_back m old middle out n = by_test (m == n) refl
-  where
-    by_test : (b : Bool) → (m == n) ≡ b → middle n ≡ (if m == n then None else middle n)
-    by_test true e = out n ∙ ap (λ b. if b then None else old n) e ∙ sym (ap (λ b. if b then None else middle n) e)
-    by_test false e = sym (ap (λ b. if b then None else middle n) e)
+abbrev GroupMoves : Groups → Groups → ℕ → Option ℕ → Option ℕ → Type 0
+GroupMoves s t m before after = ((k : ℕ) → in_group s k m ≡ is_number before k) → (k n : ℕ) → in_group t k n ≡ (if m == n then is_number after k else in_group s k n)
 
--- if there was none, nothing was taken out
-pub none_out : (s : Index) (m : ℕ) (old new : ℕ → Option Delivery) → None ≡ old m → ((n : ℕ) → new n ≡ (if m == n then None else old n))
-    → Indexes s (λ n. standing (old n)) → Indexes s (λ n. standing (new n))
-none_out s m old new none out x = indexes_same s (λ n. standing (old n)) (λ n. standing (new n)) (λ n. by_test (m == n) n refl ∙ ap standing (sym (out n))) x
+abbrev TallyMoves : Tallies → Tallies → Option ℕ → Option ℕ → Type 0
+TallyMoves s t before after = (m : ℕ) (known : ℕ → Option ℕ) → known m ≡ before → IsTallied s known → IsTallied t (λ n. if m == n then after else known n)
+
+abbrev SpotMoves : Spots → Spots → ℕ → Option Spot → Option Spot → Type 0
+SpotMoves s t m before after = (known : ℕ → Option Spot) → known m ≡ before → SpotsFit s known → SpotsFit t (λ n. if m == n then after else known n)
+
+pub indexes_moved : (s t : Index) (m : ℕ) (before after : Keys) (known : ℕ → Keys)
+    → GroupMoves s.waiting t.waiting m before.waiting after.waiting → GroupMoves s.unsent t.unsent m before.unsent after.unsent
+    → TallyMoves s.undecided t.undecided before.undecided after.undecided → TallyMoves s.held t.held before.held after.held
+    → (contains nat_cmp s.to_tell m ≡ before.to_tell → (n : ℕ) → contains nat_cmp t.to_tell n ≡ (if m == n then after.to_tell else contains nat_cmp s.to_tell n))
+    → SpotMoves s.on t.on m before.on after.on → SpotMoves s.from t.from m before.from after.from → SpotMoves s.by_id t.by_id m before.by_id after.by_id
+    → known m ≡ before → Indexes s known → Indexes t (λ n. if m == n then after else known n)
+indexes_moved s t m before after known waiting unsent undecided held to_tell on from by_id is x = record {
+  waiting = λ k n. waiting (λ j. x.waiting j m ∙ ap (λ (q : Keys). is_number q.waiting j) is) k n
+      ∙ ap (λ b. if m == n then is_number after.waiting k else b) (x.waiting k n) ∙ by_key (λ q. is_number q.waiting k) (m == n) after (known n);
+  unsent = λ k n. unsent (λ j. x.unsent j m ∙ ap (λ (q : Keys). is_number q.unsent j) is) k n
+      ∙ ap (λ b. if m == n then is_number after.unsent k else b) (x.unsent k n) ∙ by_key (λ q. is_number q.unsent k) (m == n) after (known n);
+  undecided = tallied_same t.undecided (λ n. if m == n then after.undecided else (known n).undecided) (λ n. (if m == n then after else known n).undecided)
+      (λ n. by_key (λ q. q.undecided) (m == n) after (known n)) (undecided m (λ n. (known n).undecided) (ap (λ (q : Keys). q.undecided) is) x.undecided);
+  held = tallied_same t.held (λ n. if m == n then after.held else (known n).held) (λ n. (if m == n then after else known n).held)
+      (λ n. by_key (λ q. q.held) (m == n) after (known n)) (held m (λ n. (known n).held) (ap (λ (q : Keys). q.held) is) x.held);
+  to_tell = λ n. to_tell (x.to_tell m ∙ ap (λ (q : Keys). q.to_tell) is) n
+      ∙ ap (λ b. if m == n then after.to_tell else b) (x.to_tell n) ∙ by_key (λ q. q.to_tell) (m == n) after (known n);
+  on = fits_same t.on (λ n. if m == n then after.on else (known n).on) (λ n. (if m == n then after else known n).on)
+      (λ n. by_key (λ q. q.on) (m == n) after (known n)) (on (λ n. (known n).on) (ap (λ (q : Keys). q.on) is) x.on);
+  from = fits_same t.from (λ n. if m == n then after.from else (known n).from) (λ n. (if m == n then after else known n).from)
+      (λ n. by_key (λ q. q.from) (m == n) after (known n)) (from (λ n. (known n).from) (ap (λ (q : Keys). q.from) is) x.from);
+  by_id = fits_same t.by_id (λ n. if m == n then after.by_id else (known n).by_id) (λ n. (if m == n then after else known n).by_id)
+      (λ n. by_key (λ q. q.by_id) (m == n) after (known n)) (by_id (λ n. (known n).by_id) (ap (λ (q : Keys). q.by_id) is) x.by_id);
+}
+
+-- one delivery was changed in its place, added or removed
+pub put_at : (s : Index) (m : ℕ) (g : Option Delivery → Option Delivery) (old new : ℕ → Option Delivery) → ((n : ℕ) → new n ≡ (if m == n then g (old n) else old n))
+    → Indexes s (λ n. if m == n then standing (g (old m)) else standing (old n)) → Indexes s (λ n. standing (new n))
+put_at s m g old new at x = indexes_same s (λ n. if m == n then standing (g (old m)) else standing (old n)) (λ n. standing (new n))
+    (λ n. by_test (m == n) n refl ∙ ap standing (sym (at n))) x
   where
-    by_test : (b : Bool) (n : ℕ) → (m == n) ≡ b → standing (old n) ≡ standing (if b then None else old n)
-    by_test true n e = ap (λ k. standing (old k)) (sym (eqb-true m n e)) ∙ ap standing (sym none)
+    by_test : (b : Bool) (n : ℕ) → (m == n) ≡ b → (if b then standing (g (old m)) else standing (old n)) ≡ standing (if b then g (old n) else old n)
+    by_test true n e = ap (λ k. standing (g (old k))) (eqb-true m n e)
     by_test false n e = refl

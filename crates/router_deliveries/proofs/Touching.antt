@@ -1,5 +1,5 @@
 -- What is touched after changes of a store.
-use Rattle.std.proofs.Common.{◌≡◌, ◌∙◌, ℕ, Bool, true, false, refl, sym, ap, subst, Option, None}
+use Rattle.std.proofs.Common.{◌≡◌, ◌∙◌, ℕ, Bool, true, false, refl, sym, ap, subst, Option}
 use Rattle.std.specs.Prelude.{◌==◌, if◌then◌else◌}
 use Rattle.std.specs.Ordering.{nat_cmp}
 use Rattle.std.specs.BTreeMap.{get}
@@ -38,32 +38,24 @@ touches_then old middle new x y = record {
   same = λ k n f. let a = x.same k n (y.before k f) in let b = y.same k n f in record { waits = a.waits ∙ b.waits; undecided = a.undecided ∙ b.undecided; held = a.held ∙ b.held };
 }
 
--- one delivery was taken out, changed and put back
-pub touches_one : (old middle new : Store) (m : ℕ) (w : Option Delivery) (stood : Keys) → stood ≡ standing (get nat_cmp old.deliveries m) → middle.touched ≡ old.touched
-    → ((n : ℕ) → get nat_cmp middle.deliveries n ≡ (if m == n then None else get nat_cmp old.deliveries n))
-    → ((n : ℕ) → get nat_cmp new.deliveries n ≡ (if m == n then w else get nat_cmp middle.deliveries n))
-    → ((k : ℕ) → is_touched_in new.touched k ≡ false → (is_touched_in middle.touched k ≡ false) × StandsSame k stood (standing w))
+-- one delivery was changed in its place, added or removed
+pub touches_at : (old new : Store) (m : ℕ) (g : Option Delivery → Option Delivery) (stood stands : Keys)
+    → stood ≡ standing (get nat_cmp old.deliveries m) → stands ≡ standing (g (get nat_cmp old.deliveries m))
+    → ((n : ℕ) → get nat_cmp new.deliveries n ≡ (if m == n then g (get nat_cmp old.deliveries n) else get nat_cmp old.deliveries n))
+    → ((k : ℕ) → is_touched_in new.touched k ≡ false → (is_touched_in old.touched k ≡ false) × StandsSame k stood stands)
     → StoreTouches old new
-touches_one old middle new m w stood is same out back noted = record {
-  before = λ k f. ap (λ s. is_touched_in s k) (sym same) ∙ (noted k f).0;
-  same = λ k n f. by_test k n (m == n) refl (get nat_cmp middle.deliveries n) (out n) (get nat_cmp new.deliveries n) (back n) (noted k f).1;
+touches_at old new m g stood stands was is at noted = record {
+  before = λ k f. (noted k f).0;
+  same = λ k n f. by_test k n (m == n) refl (noted k f).1;
 }
   where
-    by_test : (k n : ℕ) (b : Bool) → (m == n) ≡ b → (mid : Option Delivery) → mid ≡ (if m == n then None else get nat_cmp old.deliveries n)
-        → (v : Option Delivery) → v ≡ (if m == n then w else mid) → StandsSame k stood (standing w) → IsSameOn k (get nat_cmp old.deliveries n) v
-    by_test k n true e mid x v y stands =
+    by_test : (k n : ℕ) (b : Bool) → (m == n) ≡ b → StandsSame k stood stands → IsSameOn k (get nat_cmp old.deliveries n) (get nat_cmp new.deliveries n)
+    by_test k n true e x =
         let here : get nat_cmp old.deliveries m ≡ get nat_cmp old.deliveries n = ap (get nat_cmp old.deliveries) (eqb-true m n e) in
-        let is_w : v ≡ w = y ∙ ap (λ b. if b then w else mid) e in
-        subst (λ u. IsSameOn k u v) here (subst (λ u. IsSameOn k (get nat_cmp old.deliveries m) u) (sym is_w)
-        (on_standing k (get nat_cmp old.deliveries m) w (subst (λ (a : Keys). StandsSame k a (standing w)) is stands)))
-    by_test k n false e mid x v y stands =
-        same_on k (get nat_cmp old.deliveries n) v (sym (y ∙ ap (λ b. if b then w else mid) e ∙ x ∙ ap (λ b. if b then None else get nat_cmp old.deliveries n) e))
-
--- if there was none, nothing was taken out
-pub touches_none : (old new : Store) (m : ℕ) → None ≡ get nat_cmp old.deliveries m → new.touched ≡ old.touched
-    → ((n : ℕ) → get nat_cmp new.deliveries n ≡ (if m == n then None else get nat_cmp old.deliveries n)) → StoreTouches old new
-touches_none old new m none same out = touches_nothing old new same (λ n. out n ∙ by_test n (m == n) refl)
-  where
-    by_test : (n : ℕ) (b : Bool) → (m == n) ≡ b → (if b then None else get nat_cmp old.deliveries n) ≡ get nat_cmp old.deliveries n
-    by_test n true e = none ∙ ap (get nat_cmp old.deliveries) (eqb-true m n e)
-    by_test n false e = refl
+        let now : get nat_cmp new.deliveries n ≡ g (get nat_cmp old.deliveries n) = at n ∙ ap (λ b. if b then g (get nat_cmp old.deliveries n) else get nat_cmp old.deliveries n) e in
+        let first : StandsSame k (standing (get nat_cmp old.deliveries n)) stands = subst (λ (a : Keys). StandsSame k a stands) (was ∙ ap standing here) x in
+        let both : StandsSame k (standing (get nat_cmp old.deliveries n)) (standing (get nat_cmp new.deliveries n)) =
+        subst (λ (a : Keys). StandsSame k (standing (get nat_cmp old.deliveries n)) a) (is ∙ ap (λ v. standing (g v)) here ∙ ap standing (sym now)) first in
+        on_standing k (get nat_cmp old.deliveries n) (get nat_cmp new.deliveries n) both
+    by_test k n false e x = same_on k (get nat_cmp old.deliveries n) (get nat_cmp new.deliveries n)
+        (sym (at n ∙ ap (λ b. if b then g (get nat_cmp old.deliveries n) else get nat_cmp old.deliveries n) e))

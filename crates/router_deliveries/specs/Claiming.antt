@@ -19,6 +19,7 @@ use Rattle.router_trace.specs.Trace.{Trace}
 use Rattle.router_trace.specs.Claims.{Claim, claims, claimed_first, claimed_later, is_named}
 use Rattle.router_trace.specs.Settling.{is_unbound_on, is_of_link}
 use Rattle.router_deliveries.specs.declared.claims.Claims.{Claims}
+use Rattle.router_deliveries.specs.declared.claims.Marks.{Marks}
 use Rattle.router_deliveries.specs.declared.claims.Middle.{Middle}
 use Rattle.router_deliveries.specs.declared.claims.Receiving.{Receiving}
 use Rattle.router_deliveries.specs.declared.unbound.Unbound.{Unbound}
@@ -41,6 +42,9 @@ claim_handle (Some v) = Some v.handle
 abbrev pub unbound_handle : Option Claim → Option ℕ
 unbound_handle None = None
 unbound_handle (Some v) = if v.unbound then Some v.handle else None
+
+abbrev pub marks_of : Option Claim → Marks
+marks_of v = record { unbound = unbound_handle v; link = claim_handle v }
 
 abbrev pub is_marked : Unbound → ℕ → ℕ → ℕ → ℕ → Bool
 is_marked s c o h id = in_set (at s.sets c o h) id

@@ -4,14 +4,16 @@ use Rattle.std.specs.Ordering.{nat_cmp}
 use Rattle.std.specs.BTreeMap.{get}
 use Rattle.std.specs.BTreeSet.{BTreeSet, contains}
 use Rattle.router_trace.specs.declared.binding.Origin.{Origin}
-use Rattle.router_trace.specs.Deliveries.{Delivery, has_row, source, sender, holder, is_number}
+use Rattle.router_trace.specs.Deliveries.{Delivery, has_row, source, sender, holder, is_over, unless_over, is_number}
 use Rattle.router_deliveries.specs.declared.change.Change.{Change}
 use Rattle.router_deliveries.specs.declared.change.Change.TheVariants as change
 use Rattle.router_deliveries.specs.declared.change.Gone.TheVariants as gone
 use Rattle.router_deliveries.specs.declared.groups.Groups.{Groups}
 use Rattle.router_deliveries.specs.declared.index.Index.{Index}
 use Rattle.router_deliveries.specs.declared.index.Keys.{Keys}
+use Rattle.router_deliveries.specs.declared.index.Moved.{Moved}
 use Rattle.router_deliveries.specs.Placing.{SpotsFit, spot_of, on_spot, from_spot, id_spot, is_gone_there, is_id_there}
+use Rattle.router_deliveries.specs.Tallying.{IsTallied}
 
 abbrev pub in_set : Option (BTreeSet ℕ) → ℕ → Bool
 in_set None n = false
@@ -48,12 +50,16 @@ abbrev pub standing : Option Delivery → Keys
 standing None = nowhere
 standing (Some d) = keys d
 
--- each number has the entries that it should have
+-- what the indexes have to know of a delivery that was changed and had these entries before
+abbrev pub moved : Keys → Delivery → Moved
+moved before d = record { name = d.name; over = is_over d; before = before; after = standing (unless_over d) }
+
+-- each number has the entries that it should have, and links have the counts
 pub record Indexes (s : Index) (known : ℕ → Keys) : Type 0 where
   pub waiting : (k n : ℕ) → in_group s.waiting k n ≡ is_number (known n).waiting k
   pub unsent : (k n : ℕ) → in_group s.unsent k n ≡ is_number (known n).unsent k
-  pub undecided : (k n : ℕ) → in_group s.undecided k n ≡ is_number (known n).undecided k
-  pub held : (k n : ℕ) → in_group s.held k n ≡ is_number (known n).held k
+  pub undecided : IsTallied s.undecided (λ n. (known n).undecided)
+  pub held : IsTallied s.held (λ n. (known n).held)
   pub to_tell : (n : ℕ) → contains nat_cmp s.to_tell n ≡ (known n).to_tell
   pub on : SpotsFit s.on (λ n. (known n).on)
   pub from : SpotsFit s.from (λ n. (known n).from)

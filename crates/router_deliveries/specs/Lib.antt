@@ -4,6 +4,7 @@ pub mod Hearing
 pub mod Placing
 pub mod Indexing
 pub mod Finding
+pub mod Tallying
 pub mod Calling
 pub mod Claiming
 pub mod Fits

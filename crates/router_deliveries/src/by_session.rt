@@ -14,7 +14,7 @@ use std::collections::BTreeMap;
 #[derive(Debug, Drop)]
 pub(crate) struct BySession<V> {
     alloc: Global,
-    rows: BTreeMap<u64, BTreeMap<u16, DeliveryIds<V>>>,
+    pub(crate) rows: BTreeMap<u64, BTreeMap<u16, DeliveryIds<V>>>,
 }
 
 impl<V: Drop> BySession<V> {

@@ -2,6 +2,8 @@
 ghost use Rattle.std.specs.Prelude.{◌≡◌, ◌==◌, ◌∷◌, List, ℕ, Some, None, true, if◌then◌else◌, OnOk, IfOk};
 ghost use Rattle.std.specs.List.{list_any};
 ghost use Rattle.std.specs.Option.{option_map};
+ghost use Rattle.std.specs.Ordering.{nat_cmp};
+ghost use Rattle.std.specs.BTreeMap.{get};
 ghost use Rattle.router_trace.specs.Trace.{Beginning};
 ghost use Rattle.router_trace.specs.Configuration.{beginning};
 ghost use Rattle.router_trace.specs.Trace.{Entry, Out, Bound, did};
@@ -14,17 +16,18 @@ ghost use Rattle.router_trace.specs.Links.{their_handle, link};
 ghost use Rattle.router_deliveries.specs.Fits.{channel_of};
 ghost use Rattle.router_trace.specs.declared.event.Event.TheVariants as event;
 ghost use Rattle.amqp_session.specs.Ranges.{in_range};
-ghost use Rattle.router_deliveries.specs.Claiming.{ClaimsFit, AreSmall, AreMarked, claim_handle, unbound_handle, claimed_at, heard_claim, settled_at, found_by, let_go_at, is_on};
-ghost use Rattle.router_deliveries.specs.Places.{at_id};
+ghost use Rattle.router_deliveries.specs.Claiming.{ClaimsFit, AreSmall, AreMarked, claim_handle, unbound_handle, marks_of, claimed_at, heard_claim, settled_at, found_by, let_go_at, is_on};
+ghost use Rattle.router_deliveries.specs.Places.{at_id, in_ids};
 
 use crate::by_session::BySession;
 use crate::names::HALF;
 use crate::unbound::Unbound;
 use amqp_frames::Item;
 use amqp_perf::{DeliveryTag, Disposition, Perf, Role, Transfer};
+use amqp_session::{DeliveryIds, Serial};
 use router_trace::{ConnectionId, Origin};
 use std::alloc::{AllocError, Global};
-use std::collections::BTreeSet;
+use std::collections::{BTreeMap, BTreeSet};
 use std::marker::Model;
 
 /// An unsettled delivery of a peer.
@@ -72,6 +75,15 @@ pub struct Claims {
     // the ids of unbound claims, and those of all, by link
     unbound: Unbound,
     by_link: Unbound,
+}
+
+/// The handles of the router at which an id is marked.
+#[derive(Clone, Copy, Debug)]
+struct Marks {
+    // among the unbound claims
+    unbound: Option<u32>,
+    // among all claims
+    link: Option<u32>,
 }
 
 impl Claims {
@@ -132,21 +144,19 @@ impl Claims {
         let Some(origin) = origin else {
             return Ok(());
         };
-        self.bind_id(origin.link.conn.0, origin.link.channel, origin.id)?;
+        self.bind_id(origin.link.conn.0, origin.link.channel, origin.id);
         Ok(())
     }
 
     /// The delivery with an id is bound.
-    fn bind_id(&mut self, conn: u64, own: u16, id: u32) -> Result<(), AllocError>
-        ensures claims { OnOk result ((c o q : ℕ) → at_id self.new.ids c o q
-            ≡ (if conn == c then (if own == o then (if id == q then option_map bound_claim (at_id self.old.ids c o q) else at_id self.old.ids c o q) else at_id self.old.ids c o q) else at_id self.old.ids c o q)) }
-        ensures marked { OnOk result (AreMarked self.old → AreMarked self.new) }
+    fn bind_id(&mut self, conn: u64, own: u16, id: u32)
+        ensures claims { (c o q : ℕ) → at_id self.new.ids c o q
+            ≡ (if conn == c then (if own == o then (if id == q then option_map bound_claim (at_id self.old.ids c o q) else at_id self.old.ids c o q) else at_id self.old.ids c o q) else at_id self.old.ids c o q) }
+        ensures marked { AreMarked self.old → AreMarked self.new }
     {
-        let Some(claim) = self.ids.get(conn, own, id) else {
-            return Ok(());
-        };
-        let claim = bound_claim(claim)?;
-        self.put_claim(conn, own, id, claim)
+        let handle = unbound_handle(self.ids.get(conn, own, id));
+        self.unbound.drop_from(conn, own, handle, id);
+        bind_in(&mut self.ids, conn, own, id);
     }
 
     /// A connection is lost.
@@ -320,7 +330,8 @@ impl Claims {
             Some(_) => Ok(()),
             None => {
                 let tag = copy_of(&transfer.delivery_tag)?;
-                self.set(conn, own, id, claimed(handle, tag, transfer))
+                let stood = marks_of(None);
+                self.set(conn, own, id, stood, claimed(handle, tag, transfer))
             }
         }
     }
@@ -345,8 +356,9 @@ impl Claims {
         if claim.handle != handle {
             return Ok(());
         }
+        let stood = marks_of(Some(claim));
         let tag = copy_of(&claim.tag)?;
-        self.set(conn, own, id, claimed(handle, tag, transfer))
+        self.set(conn, own, id, stood, claimed(handle, tag, transfer))
     }
 
     /// Frees the ids of a range on a session: those claimed on this link of the router, or all.
@@ -375,8 +387,10 @@ impl Claims {
         ensures claims { (c o q : ℕ) → at_id self.new.ids c o q ≡ let_go_at (conn == c) (own == o) (id == q) link (at_id self.old.ids c o q) }
         ensures marked { AreMarked self.old → AreMarked self.new }
     {
-        if is_on(self.ids.get(conn, own, id), link) {
-            self.clear(conn, own, id);
+        let old = self.ids.get(conn, own, id);
+        if is_on(old, link) {
+            let stood = marks_of(old);
+            self.clear(conn, own, id, stood);
         }
     }
 
@@ -400,47 +414,55 @@ impl Claims {
         self.by_link.forget(conn);
     }
 
-    /// Removes the claim to an id.
-    fn clear(&mut self, conn: u64, own: u16, id: u32)
+    /// Removes the claim to an id, which stands at these marks.
+    fn clear(&mut self, conn: u64, own: u16, id: u32, stood: Marks)
         ensures claims { (c o q : ℕ) → at_id self.new.ids c o q
             ≡ (if conn == c then (if own == o then (if id == q then None else at_id self.old.ids c o q) else at_id self.old.ids c o q) else at_id self.old.ids c o q) }
-        ensures marked { AreMarked self.old → AreMarked self.new }
+        ensures marked { stood ≡ marks_of (at_id self.old.ids conn own id) → AreMarked self.old → AreMarked self.new }
     {
-        let handle = unbound_handle(self.ids.get(conn, own, id));
-        let link = claim_handle(self.ids.get(conn, own, id));
-        self.unbound.drop_from(conn, own, handle, id);
-        self.by_link.drop_from(conn, own, link, id);
+        self.unbound.drop_from(conn, own, stood.unbound, id);
+        self.by_link.drop_from(conn, own, stood.link, id);
         self.ids.remove(conn, own, id);
     }
 
-    /// Gives an id this claim and replaces the one that it had.
-    fn put_claim(&mut self, conn: u64, own: u16, id: u32, claim: Claim) -> Result<(), AllocError>
+    /// Gives an id this claim and replaces the one that it had, which stands at these marks.
+    fn put_claim(
+        &mut self,
+        conn: u64,
+        own: u16,
+        id: u32,
+        stood: Marks,
+        claim: Claim,
+    ) -> Result<(), AllocError>
         ensures claims { OnOk result ((c o q : ℕ) → at_id self.new.ids c o q
             ≡ (if conn == c then (if own == o then (if id == q then Some claim else at_id self.old.ids c o q) else at_id self.old.ids c o q) else at_id self.old.ids c o q)) }
-        ensures marked { OnOk result (AreMarked self.old → AreMarked self.new) }
+        ensures marked { OnOk result (stood ≡ marks_of (at_id self.old.ids conn own id) → AreMarked self.old → AreMarked self.new) }
     {
-        let before = unbound_handle(self.ids.get(conn, own, id));
-        let after = unbound_handle(Some(&claim));
-        let link = claim_handle(self.ids.get(conn, own, id));
-        let next = claim_handle(Some(&claim));
-        self.unbound.drop_from(conn, own, before, id);
-        self.unbound.add(conn, own, after, id)?;
-        self.by_link.drop_from(conn, own, link, id);
-        self.by_link.add(conn, own, next, id)?;
+        let stands = marks_of(Some(&claim));
+        self.unbound
+            .shift(conn, own, stood.unbound, stands.unbound, id)?;
+        self.by_link.shift(conn, own, stood.link, stands.link, id)?;
         self.ids.insert(conn, own, id, claim)?;
         Ok(())
     }
 
-    /// Gives an id this claim, or removes it.
-    fn set(&mut self, conn: u64, own: u16, id: u32, claim: Option<Claim>) -> Result<(), AllocError>
+    /// Gives an id this claim in place of the one that it had, which stands at these marks, or removes that.
+    fn set(
+        &mut self,
+        conn: u64,
+        own: u16,
+        id: u32,
+        stood: Marks,
+        claim: Option<Claim>,
+    ) -> Result<(), AllocError>
         ensures claims { OnOk result ((c o q : ℕ) → at_id self.new.ids c o q
             ≡ (if conn == c then (if own == o then (if id == q then claim else at_id self.old.ids c o q) else at_id self.old.ids c o q) else at_id self.old.ids c o q)) }
         ensures small { OnOk result (AreSmall (at_id self.old.ids) → AreSmall (at_id self.new.ids)) }
-        ensures marked { OnOk result (AreMarked self.old → AreMarked self.new) }
+        ensures marked { OnOk result (stood ≡ marks_of (at_id self.old.ids conn own id) → AreMarked self.old → AreMarked self.new) }
     {
         match claim {
-            None => self.clear(conn, own, id),
-            Some(claim) => self.put_claim(conn, own, id, claim)?,
+            None => self.clear(conn, own, id, stood),
+            Some(claim) => self.put_claim(conn, own, id, stood, claim)?,
         }
         Ok(())
     }
@@ -460,15 +482,33 @@ fn claimed(handle: u32, tag: Option<DeliveryTag>, transfer: &Transfer) -> Option
     })
 }
 
-/// A claim whose delivery is bound.
-fn bound_claim(claim: &Claim) -> Result<Claim, AllocError>
-    ensures { IfOk result (λ bound. bound ≡ bound_claim claim.now) }
+/// The delivery with an id is bound, on a session of a connection.
+fn bind_in(ids: &mut BySession<Claim>, conn: u64, own: u16, id: u32)
+    ensures { (c o q : ℕ) → at_id ids.new c o q
+        ≡ (if conn == c then (if own == o then (if id == q then option_map bound_claim (at_id ids.old c o q) else at_id ids.old c o q) else at_id ids.old c o q) else at_id ids.old c o q) }
 {
-    Ok(Claim {
-        handle: claim.handle,
-        unbound: false,
-        tag: copy_of(&claim.tag)?,
-    })
+    if let Some(sessions) = ids.rows.get_mut(&conn) {
+        bind_in_connection(sessions, own, id);
+    }
+}
+
+/// The same on the sessions of a connection.
+fn bind_in_connection(sessions: &mut BTreeMap<u16, DeliveryIds<Claim>>, own: u16, id: u32)
+    ensures { (o q : ℕ) → in_ids (get nat_cmp sessions.new o) q
+        ≡ (if own == o then (if id == q then option_map bound_claim (in_ids (get nat_cmp sessions.old o) q) else in_ids (get nat_cmp sessions.old o) q) else in_ids (get nat_cmp sessions.old o) q) }
+{
+    if let Some(ids) = sessions.get_mut(&own) {
+        bind_in_session(ids, id);
+    }
+}
+
+/// The same on a session.
+fn bind_in_session(ids: &mut DeliveryIds<Claim>, id: u32)
+    ensures { (q : ℕ) → get nat_cmp ids.new.deliveries q ≡ (if id == q then option_map bound_claim (get nat_cmp ids.old.deliveries q) else get nat_cmp ids.old.deliveries q) }
+{
+    if let Some(claim) = ids.get_mut(Serial::new(id)) {
+        claim.unbound = false;
+    }
 }
 
 /// A copy of a tag.
@@ -479,6 +519,16 @@ fn copy_of(tag: &Option<DeliveryTag>) -> Result<Option<DeliveryTag>, AllocError>
     match tag {
         None => Ok(None),
         Some(tag) => Ok(Some(tag.clone()?)),
+    }
+}
+
+/// Where the id of a claim is marked.
+fn marks_of(claim: Option<&Claim>) -> Marks
+    ensures { result ≡ marks_of (option_map (λ c. c.now) claim.entry) }
+{
+    Marks {
+        unbound: unbound_handle(claim),
+        link: claim_handle(claim),
     }
 }
 

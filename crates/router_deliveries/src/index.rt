@@ -4,7 +4,8 @@ ghost use Rattle.std.specs.Ordering.{nat_cmp};
 ghost use Rattle.std.specs.BTreeSet.{contains};
 ghost use Rattle.router_deliveries.specs.declared.index.Keys.{Keys as TheKeys};
 ghost use Rattle.router_deliveries.specs.Deciding.{concerned_by};
-ghost use Rattle.router_deliveries.specs.Indexing.{Indexes, nowhere, keys, standing, on_link, concerns};
+ghost use Rattle.router_trace.specs.Deliveries.{unless_over};
+ghost use Rattle.router_deliveries.specs.Indexing.{Indexes, nowhere, keys, standing, moved, on_link, concerns};
 ghost use Rattle.router_deliveries.specs.Placing.{spot_of, on_spot, from_spot, id_spot, is_gone_there};
 ghost use Rattle.amqp_session.specs.Ranges.{has};
 
@@ -12,7 +13,8 @@ use crate::change::{Change, Gone};
 use crate::delivery::Delivery;
 use crate::groups::{Groups, add};
 use crate::spots::{Spot, Spots};
-use router_trace::{Attachment, Origin};
+use crate::tallies::Tallies;
+use router_trace::{Attachment, DeliveryName, Origin};
 use std::alloc::{AllocError, Global};
 use std::collections::BTreeSet;
 
@@ -37,6 +39,19 @@ pub(crate) struct Keys {
     pub(crate) by_id: Option<Spot>,
 }
 
+/// What the indexes have to know of a delivery that was changed in its place.
+#[derive(Clone, Copy, Debug)]
+pub(crate) struct Moved {
+    /// Its name.
+    pub(crate) name: DeliveryName,
+    /// Whether it is over.
+    pub(crate) over: bool,
+    /// Its entries before.
+    pub(crate) before: Keys,
+    /// Its entries now; none if it is over.
+    pub(crate) after: Keys,
+}
+
 /// Indexes of deliveries.
 #[derive(Debug, Drop)]
 pub(crate) struct Index {
@@ -44,10 +59,10 @@ pub(crate) struct Index {
     pub(crate) waiting: Groups,
     // those of a link of which frames remain to be sent
     pub(crate) unsent: Groups,
-    // the undecided ones of a link
-    pub(crate) undecided: Groups,
-    // those held from a producer's link
-    pub(crate) held: Groups,
+    // how many of a link are undecided
+    pub(crate) undecided: Tallies,
+    // how many are held from a producer's link
+    pub(crate) held: Tallies,
     // those whose outcome must be reported to their producer
     pub(crate) to_tell: BTreeSet<u64>,
     // those changed by the end of a consumer's link, those by the end of a producer's link, and those by a producer's delivery-id
@@ -109,6 +124,30 @@ impl Keys {
     }
 }
 
+impl Moved {
+    /// A delivery that was changed and had these entries before.
+    pub(crate) fn of(delivery: &Delivery, before: Keys) -> Moved
+        ensures { result ≡ moved before delivery.now }
+    {
+        Moved {
+            name: delivery.name,
+            over: delivery.is_over(),
+            before,
+            after: kept_keys(delivery),
+        }
+    }
+}
+
+/// The entries of a delivery, unless it is over.
+fn kept_keys(delivery: &Delivery) -> Keys
+    ensures { result ≡ standing (unless_over delivery.now) }
+{
+    if delivery.is_over() {
+        return Keys::nowhere();
+    }
+    Keys::of(delivery)
+}
+
 /// The link, if `holds`.
 fn on_link(link: u64, holds: bool) -> Option<u64>
     ensures { result ≡ on_link link holds }
@@ -166,8 +205,8 @@ impl Index {
         Index {
             waiting: Groups::new(alloc),
             unsent: Groups::new(alloc),
-            undecided: Groups::new(alloc),
-            held: Groups::new(alloc),
+            undecided: Tallies::new(alloc),
+            held: Tallies::new(alloc),
             to_tell: BTreeSet::new(alloc),
             on: Spots::new(alloc),
             from: Spots::new(alloc),
@@ -181,10 +220,9 @@ impl Index {
     {
         self.waiting.shift(number, before.waiting, after.waiting)?;
         self.unsent.shift(number, before.unsent, after.unsent)?;
-        self.undecided
-            .shift(number, before.undecided, after.undecided)?;
-        self.held.shift(number, before.held, after.held)?;
-        mark(&mut self.to_tell, number, after.to_tell)?;
+        self.undecided.shift(before.undecided, after.undecided)?;
+        self.held.shift(before.held, after.held)?;
+        mark(&mut self.to_tell, number, before.to_tell, after.to_tell)?;
         self.on.shift(number, before.on, after.on)?;
         self.from.shift(number, before.from, after.from)?;
         self.by_id.shift(number, before.by_id, after.by_id)?;
@@ -276,11 +314,20 @@ fn add_all(numbers: &mut BTreeSet<u64>, more: &[u64]) -> Result<(), AllocError>
     Ok(())
 }
 
-/// Puts a number into a set, or removes it.
-fn mark(numbers: &mut BTreeSet<u64>, number: u64, holds: bool) -> Result<(), AllocError>
-    ensures { OnOk result ((n : ℕ) → contains nat_cmp numbers.new n ≡ (if number == n then holds else contains nat_cmp numbers.old n)) }
+/// Puts a number into a set or removes it, where it isn't there or is.
+fn mark(
+    numbers: &mut BTreeSet<u64>,
+    number: u64,
+    before: bool,
+    after: bool,
+) -> Result<(), AllocError>
+    ensures { OnOk result (contains nat_cmp numbers.old number ≡ before
+        → (n : ℕ) → contains nat_cmp numbers.new n ≡ (if number == n then after else contains nat_cmp numbers.old n)) }
 {
-    if holds {
+    if before == after {
+        return Ok(());
+    }
+    if after {
         return add(numbers, number);
     }
     let _ = numbers.remove(&number);

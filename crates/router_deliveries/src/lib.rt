@@ -29,6 +29,7 @@ mod spots;
 mod state;
 mod store;
 mod tag;
+mod tallies;
 mod touched;
 mod unbound;
 

@@ -6,7 +6,7 @@ ghost use Rattle.std.specs.Map.{keys_of};
 ghost use Rattle.std.specs.BTreeMap.{get};
 ghost use Rattle.amqp_session.specs.Ranges.{has};
 ghost use Rattle.router_trace.specs.declared.binding.DeliveryName.{DeliveryName as Name};
-ghost use Rattle.router_trace.specs.Deliveries.{unless_over, unless_called, is_over, same_name, bound, behind_frame, is_number, is_id, delivery, number_named, sending};
+ghost use Rattle.router_trace.specs.Deliveries.{unless_over, unless_called, same_name, bound, behind_frame, is_number, is_id, delivery, number_named, sending};
 ghost use Rattle.router_trace.specs.Settling.{is_open_as};
 ghost use Rattle.router_trace.specs.Trace.{Entry, Out, did};
 ghost use Rattle.amqp_frames.specs.declared.item.Item.TheVariants as item;
@@ -15,20 +15,21 @@ ghost use Rattle.router_deliveries.specs.Calling.{at_name, is_called, Knows};
 ghost use Rattle.router_deliveries.specs.Deciding.{concerned_by};
 ghost use Rattle.router_deliveries.specs.Fits.{Indexed, StoreFit, carried_in, carried_by};
 ghost use Rattle.router_deliveries.specs.declared.index.Keys.{Keys as TheKeys};
-ghost use Rattle.router_deliveries.specs.Indexing.{Indexes, standing, in_group, concerns};
+ghost use Rattle.router_deliveries.specs.Indexing.{Indexes, keys, moved, standing, in_group, concerns};
 ghost use Rattle.router_deliveries.specs.Placing.{is_id_there};
 ghost use Rattle.std.specs.BTreeSet.{contains};
 ghost use Rattle.router_deliveries.specs.Finding.{IsFirst, IsCount, IsFirstLink, is_above};
 ghost use Rattle.router_deliveries.specs.Touching.{is_touched_in, StandsSame, StoreTouches};
 ghost use Rattle.router_deliveries.specs.Hearing.{id_of};
 ghost use Rattle.router_deliveries.specs.Naming.{is_open, is_detached, is_detached_in};
-ghost use Rattle.router_deliveries.specs.Stepping.{behind, behind_any, IsKept};
+ghost use Rattle.router_deliveries.specs.Stepping.{behind, behind_any, changed, IsKept};
+ghost use Rattle.router_deliveries.specs.Tallying.{tally};
 
 use crate::by_name::ByName;
 use crate::change::{Change, Gone, behind_put};
 use crate::delivery::Delivery;
 use crate::groups::{behind, first};
-use crate::index::{Index, Keys};
+use crate::index::{Index, Keys, Moved};
 use crate::touched::Touched;
 use amqp_frames::Item;
 use amqp_perf::{Perf, Transfer};
@@ -78,14 +79,14 @@ impl Store {
 
     /// How many deliveries of a link are undecided.
     pub(crate) fn undecided(&self, link: u64) -> usize
-        ensures { IsCount (in_group self.now.index.undecided link) result }
+        ensures { result ≡ tally self.now.index.undecided link }
     {
         self.index.undecided.count(link)
     }
 
     /// How many deliveries of a producer's link are undecided.
     pub(crate) fn held(&self, link: u64) -> usize
-        ensures { IsCount (in_group self.now.index.held link) result }
+        ensures { result ≡ tally self.now.index.held link }
     {
         self.index.held.count(link)
     }
@@ -193,25 +194,22 @@ impl Store {
         self.deliveries.remove(&number)
     }
 
-    /// Gives a number this delivery, unless it is over; `before` are the number's old index entries.
-    fn keep(&mut self, number: u64, before: Keys, delivery: Delivery) -> Result<(), AllocError>
-        ensures deliveries { OnOk result ((n : ℕ) → get nat_cmp self.new.deliveries n ≡ (if number == n then unless_over delivery else get nat_cmp self.old.deliveries n)) }
-        ensures indexed { OnOk result ((known : ℕ → TheKeys) → known number ≡ before → Indexes self.old.index known
-            → Indexes self.new.index (λ n. if number == n then standing (unless_over delivery) else known n)) }
+    /// Replaces the index entries of the delivery with a number, which was changed in its place; if it is over, removes it.
+    fn settle(&mut self, number: u64, moved: Moved) -> Result<(), AllocError>
+        ensures deliveries { OnOk result ((n : ℕ) → get nat_cmp self.new.deliveries n
+            ≡ (if moved.over then (if number == n then None else get nat_cmp self.old.deliveries n) else get nat_cmp self.old.deliveries n)) }
+        ensures indexed { OnOk result ((known : ℕ → TheKeys) → known number ≡ moved.before → Indexes self.old.index known
+            → Indexes self.new.index (λ n. if number == n then moved.after else known n)) }
         ensures touched { OnOk result ((k : ℕ) → is_touched_in self.new.touched k ≡ false
-            → (is_touched_in self.old.touched k ≡ false) × StandsSame k before (standing (unless_over delivery))) }
-        ensures called { OnOk result ((m : Name) → at_name self.new.by_name m ≡ (if is_over delivery && same_name delivery.name m then None else at_name self.old.by_name m)) }
+            → (is_touched_in self.old.touched k ≡ false) × StandsSame k moved.before moved.after) }
+        ensures called { OnOk result ((m : Name) → at_name self.new.by_name m ≡ (if moved.over && same_name moved.name m then None else at_name self.old.by_name m)) }
     {
-        if delivery.is_over() {
+        if moved.over {
             let _ = self.deliveries.remove(&number);
-            self.by_name.forget(delivery.name);
-            return self.shift(number, before, Keys::nowhere());
+            self.by_name.forget(moved.name);
+            return self.shift(number, moved.before, moved.after);
         }
-        self.shift(number, before, Keys::of(&delivery))?;
-        match self.deliveries.insert(number, delivery) {
-            Ok(_) => Ok(()),
-            Err(_) => Err(AllocError),
-        }
+        self.shift(number, moved.before, moved.after)
     }
 
     /// Replaces a delivery's index entries.
@@ -251,9 +249,11 @@ impl Store {
         ensures touches { OnOk result (StoreTouches self.old self.new) }
     {
         self.by_name.set(name, number)?;
-        let taken = self.take(number);
-        let before = Keys::standing(&taken);
-        self.keep(number, before, Delivery::bound(name, binding))
+        let delivery = Delivery::bound(name, binding);
+        let after = Keys::of(&delivery);
+        let before = put(&mut self.deliveries, number, delivery)?;
+        self.shift(number, before, after)?;
+        Ok(())
     }
 
     /// Removes the delivery with a name.
@@ -295,12 +295,12 @@ impl Store {
         ensures indexed { OnOk result (Indexed self.old → Indexed self.new) }
         ensures touches { OnOk result (StoreTouches self.old self.new) }
     {
-        let Some(mut delivery) = self.take(number) else {
+        let found = note_in(&mut self.deliveries, number, transfer, count)?;
+        let Some(moved) = found else {
             return Ok(());
         };
-        let before = Keys::of(&delivery);
-        delivery.note_frame(transfer, count)?;
-        self.keep(number, before, delivery)
+        self.settle(number, moved)?;
+        Ok(())
     }
 
     /// Changes the delivery with a number.
@@ -310,12 +310,12 @@ impl Store {
         ensures indexed { OnOk result (Indexed self.old → Indexed self.new) }
         ensures touches { OnOk result (StoreTouches self.old self.new) }
     {
-        let Some(mut delivery) = self.take(number) else {
+        let found = change_in(&mut self.deliveries, number, change)?;
+        let Some(moved) = found else {
             return Ok(());
         };
-        let before = Keys::of(&delivery);
-        delivery.change(change)?;
-        self.keep(number, before, delivery)
+        self.settle(number, moved)?;
+        Ok(())
     }
 
     /// Changes the deliveries with these numbers.
@@ -503,6 +503,58 @@ impl Store {
             _ => self.apply_any(behind_put(conn, own, perf)),
         }
     }
+}
+
+/// Gives a number this delivery; the result are the index entries of the one that it had.
+fn put(
+    deliveries: &mut BTreeMap<u64, Delivery>,
+    number: u64,
+    delivery: Delivery,
+) -> Result<Keys, AllocError>
+    ensures deliveries { OnOk result ((n : ℕ) → get nat_cmp deliveries.new n ≡ (if number == n then Some delivery else get nat_cmp deliveries.old n)) }
+    ensures before { IfOk result (λ before. before ≡ standing (get nat_cmp deliveries.old number)) }
+{
+    match deliveries.insert(number, delivery) {
+        Ok(before) => Ok(Keys::standing(&before)),
+        Err(_) => Err(AllocError),
+    }
+}
+
+/// Changes the delivery with a number in its place.
+fn change_in(
+    deliveries: &mut BTreeMap<u64, Delivery>,
+    number: u64,
+    change: &Change,
+) -> Result<Option<Moved>, AllocError>
+    ensures deliveries { OnOk result ((n : ℕ) → get nat_cmp deliveries.new n
+        ≡ (if number == n then option_map (changed change.now) (get nat_cmp deliveries.old n) else get nat_cmp deliveries.old n)) }
+    ensures found { IfOk result (λ found. found ≡ option_map (λ d. moved (keys d) (changed change.now d)) (get nat_cmp deliveries.old number)) }
+{
+    let Some(delivery) = deliveries.get_mut(&number) else {
+        return Ok(None);
+    };
+    let before = Keys::of(delivery);
+    delivery.change(change)?;
+    Ok(Some(Moved::of(delivery, before)))
+}
+
+/// Notes a transfer that carries `count` bytes of the delivery with a number, in its place.
+fn note_in(
+    deliveries: &mut BTreeMap<u64, Delivery>,
+    number: u64,
+    transfer: &Transfer,
+    count: u64,
+) -> Result<Option<Moved>, AllocError>
+    ensures deliveries { OnOk result ((n : ℕ) → get nat_cmp deliveries.new n
+        ≡ (if number == n then option_map (behind_frame transfer.now count) (get nat_cmp deliveries.old n) else get nat_cmp deliveries.old n)) }
+    ensures found { IfOk result (λ found. found ≡ option_map (λ d. moved (keys d) (behind_frame transfer.now count d)) (get nat_cmp deliveries.old number)) }
+{
+    let Some(delivery) = deliveries.get_mut(&number) else {
+        return Ok(None);
+    };
+    let before = Keys::of(delivery);
+    delivery.note_frame(transfer, count)?;
+    Ok(Some(Moved::of(delivery, before)))
 }
 
 /// Appends the id of a delivery, if it has one.

@@ -12,7 +12,7 @@ ghost use Rattle.router_deliveries.specs.Places.{in_map, at};
 
 use crate::by_handle::{ByHandle, InConnection, InSession};
 use std::alloc::{AllocError, Global};
-use std::collections::BTreeSet;
+use std::collections::{BTreeMap, BTreeSet};
 
 /// Delivery-ids by the router's handles; a link without any takes no room.
 #[derive(Debug, Drop)]
@@ -50,14 +50,27 @@ impl Unbound {
         self.sets.get(conn, own, handle)
     }
 
-    /// Adds an id to a link, if there is one.
-    pub(crate) fn add(
+    /// Moves an id from one link to another.
+    pub(crate) fn shift(
         &mut self,
         conn: u64,
         own: u16,
-        handle: Option<u32>,
+        before: Option<u32>,
+        after: Option<u32>,
         id: u32,
     ) -> Result<(), AllocError>
+        ensures { OnOk result (((h : ℕ) → is_marked self.old conn own h id ≡ is_number before h) → (c o h q : ℕ) → is_marked self.new c o h q
+            ≡ (if conn == c then (if own == o then (if id == q then is_number after h else is_marked self.old c o h q) else is_marked self.old c o h q) else is_marked self.old c o h q)) }
+    {
+        if before == after {
+            return Ok(());
+        }
+        self.drop_from(conn, own, before, id);
+        self.add(conn, own, after, id)
+    }
+
+    /// Adds an id to a link, if there is one.
+    fn add(&mut self, conn: u64, own: u16, handle: Option<u32>, id: u32) -> Result<(), AllocError>
         ensures { OnOk result ((c o h q : ℕ) → is_marked self.new c o h q
             ≡ (if conn == c then (if own == o then (if is_number handle h then (if id == q then true else is_marked self.old c o h q) else is_marked self.old c o h q) else is_marked self.old c o h q) else is_marked self.old c o h q)) }
     {
@@ -72,10 +85,11 @@ impl Unbound {
         ensures { OnOk result ((c o h q : ℕ) → is_marked self.new c o h q
             ≡ (if conn == c then (if own == o then (if handle == h then (if id == q then true else is_marked self.old c o h q) else is_marked self.old c o h q) else is_marked self.old c o h q) else is_marked self.old c o h q)) }
     {
-        let mut ids = match self.sets.remove(conn, own, handle) {
-            None => BTreeSet::new(self.alloc),
-            Some(ids) => ids,
-        };
+        let alloc = self.alloc;
+        if let Some(sessions) = self.sets.rows.get_mut(&conn) {
+            return add_in_connection(alloc, sessions, own, handle, id);
+        }
+        let mut ids = BTreeSet::new(alloc);
         add(&mut ids, id)?;
         self.sets.insert(conn, own, handle, ids)
     }
@@ -105,6 +119,49 @@ impl Unbound {
         ensures { (c o h q : ℕ) → is_marked self.new c o h q ≡ (if conn == c then false else is_marked self.old c o h q) }
     {
         let _ = self.sets.forget(conn);
+    }
+}
+
+/// Adds an id to a link of a connection.
+fn add_in_connection(
+    alloc: Global,
+    sessions: &mut InConnection<BTreeSet<u32>>,
+    own: u16,
+    handle: u32,
+    id: u32,
+) -> Result<(), AllocError>
+    ensures { OnOk result ((o h q : ℕ) → in_set (in_map (get nat_cmp sessions.new o) h) q
+        ≡ (if own == o then (if handle == h then (if id == q then true else in_set (in_map (get nat_cmp sessions.old o) h) q) else in_set (in_map (get nat_cmp sessions.old o) h) q) else in_set (in_map (get nat_cmp sessions.old o) h) q)) }
+{
+    if let Some(handles) = sessions.get_mut(&own) {
+        return add_in_session(alloc, handles, handle, id);
+    }
+    let mut handles = BTreeMap::new(alloc);
+    add_in_session(alloc, &mut handles, handle, id)?;
+    match sessions.insert(own, handles) {
+        Ok(_) => Ok(()),
+        Err(_) => Err(AllocError),
+    }
+}
+
+/// Adds an id to a link of a session.
+fn add_in_session(
+    alloc: Global,
+    handles: &mut InSession<BTreeSet<u32>>,
+    handle: u32,
+    id: u32,
+) -> Result<(), AllocError>
+    ensures { OnOk result ((h q : ℕ) → in_set (get nat_cmp handles.new h) q
+        ≡ (if handle == h then (if id == q then true else in_set (get nat_cmp handles.old h) q) else in_set (get nat_cmp handles.old h) q)) }
+{
+    if let Some(ids) = handles.get_mut(&handle) {
+        return add(ids, id);
+    }
+    let mut ids = BTreeSet::new(alloc);
+    add(&mut ids, id)?;
+    match handles.insert(handle, ids) {
+        Ok(_) => Ok(()),
+        Err(_) => Err(AllocError),
     }
 }
 

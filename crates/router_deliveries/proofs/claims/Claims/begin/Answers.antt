@@ -2,6 +2,7 @@ use Rattle.std.proofs.Common.{◌∙◌, ap, ℕ, List}
 use Rattle.std.specs.Prelude.{Option}
 use Rattle.router_trace.specs.Claims.{Claim, unless_claimed, claim}
 use Rattle.router_trace.specs.Deliveries.{tag_in}
+use Rattle.router_deliveries.specs.Claiming.{marks_of}
 use Rattle.router_deliveries.specs.Places.{at_id}
 use Rattle.router_deliveries.proofs.Marked.{put_there}
 use Rattle.router_deliveries.proofs.Puts.{on_ok}
@@ -17,3 +18,6 @@ returns-in_ok-tag-in-None-clause-claims c = on_ok c.set.result
     ∙ put_there (at_id c.args.self.now.ids) (λ (v : Option Claim). unless_claimed v new) c.args.conn c.args.own c.args.id d o q c.claimed.result
     (c.claimed.ensures ∙ ap (λ (g : Option (List ℕ)). claim h g x) c.in_ok-tag-in-None.ensures.text ∙ ap (λ (v : Option Claim). unless_claimed v new) c.in-None.ensures))
     c.set.ensures.claims
+
+pub returns-in_ok-tag-in-None-clause-marked : goal.returns-in_ok-tag-in-None-clause-marked
+returns-in_ok-tag-in-None-clause-marked c = on_ok c.set.result (λ marked. marked (c.marks_of-stood.ensures ∙ ap marks_of c.in-None.ensures)) c.set.ensures.marked

@@ -1,6 +1,7 @@
 use Rattle.std.proofs.Common.{◌∙◌, ap, sym, ℕ, List}
 use Rattle.std.specs.Prelude.{◌==◌, Option}
 use Rattle.router_trace.specs.Claims.{Claim, claim, claimed_later}
+use Rattle.router_deliveries.specs.Claiming.{marks_of}
 use Rattle.router_deliveries.specs.Places.{at_id}
 use Rattle.router_deliveries.proofs.Marked.{put_there, later_is, same_handle}
 use Rattle.router_deliveries.proofs.Puts.{on_ok}
@@ -17,3 +18,6 @@ returns-clause-claims c = on_ok c.set.result
     (sym (ap (λ (w : Claim). w.handle == h) c.claim.view_is) ∙ same_handle c.claim.inside.handle h c.if-claim-handle.false)
     (c.claimed.ensures ∙ ap (λ (g : Option (List ℕ)). claim h g x) c.in_ok-tag.ensures.text ∙ ap (λ (w : Claim). claim h w.tag x) c.claim.view_is)))
     c.set.ensures.claims
+
+pub returns-clause-marked : goal.returns-clause-marked
+returns-clause-marked c = on_ok c.set.result (λ marked. marked (c.marks_of-stood.ensures ∙ ap marks_of c.in-Some.ensures)) c.set.ensures.marked

@@ -1,18 +1,22 @@
-use Rattle.std.proofs.Common.{Some}
+use Rattle.std.proofs.Common.{ap, refl, Some}
 use Rattle.router_trace.specs.Settling.{is_unbound_on, is_of_link}
+use Rattle.router_deliveries.specs.declared.claims.Marks.{Marks}
 use Rattle.router_deliveries.specs.Claiming.{is_marked, claim_handle, unbound_handle}
 use Rattle.router_deliveries.specs.Places.{at_id}
-use Rattle.router_deliveries.proofs.Marked.{marked_put, unbound_is, link_is}
+use Rattle.router_deliveries.proofs.Marked.{marked_moved, unbound_is, link_is}
 use Rattle.router_deliveries.proofs.claims.Claims.put_claim.Goals as goal
 
 pub returns-clause-marked : goal.returns-clause-marked
-returns-clause-marked c = λ marked. record {
-  unbound =
-      marked_put unbound_handle is_unbound_on unbound_is c.args.conn c.args.own c.args.id (Some c.args.claim) _ c.unbound_handle-before.result c.unbound_handle-after.result
-      (at_id c.args.self.now.ids) (at_id c.insert.new.self) (is_marked c.args.self.now.unbound) (is_marked c.drop_from.new.self) (is_marked c.add.new.self)
-      c.get.ensures c.unbound_handle-before.ensures c.unbound_handle-after.ensures marked.unbound c.drop_from.ensures c.in_ok-add.ensures c.in_ok-insert.ensures;
-  by_link =
-      marked_put claim_handle is_of_link link_is c.args.conn c.args.own c.args.id (Some c.args.claim) _ c.claim_handle-link.result c.claim_handle-next.result
-      (at_id c.args.self.now.ids) (at_id c.insert.new.self) (is_marked c.args.self.now.by_link) (is_marked c.drop_from-2.new.self) (is_marked c.add-2.new.self)
-      c.get-2.ensures c.claim_handle-link.ensures c.claim_handle-next.ensures marked.by_link c.drop_from-2.ensures c.in_ok-add-2.ensures c.in_ok-insert.ensures;
-}
+returns-clause-marked c = λ stood marked.
+    let known = at_id c.args.self.now.ids in
+    let stands = c.marks_of-stands.ensures in
+    record {
+      unbound =
+          marked_moved unbound_handle is_unbound_on unbound_is c.args.conn c.args.own c.args.id (Some c.args.claim) (known c.args.conn c.args.own c.args.id) c.args.stood.unbound c.marks_of-stands.result.unbound
+          known (at_id c.insert.new.self) (is_marked c.args.self.now.unbound) (is_marked c.shift.new.self)
+          refl (ap (λ (m : Marks). m.unbound) stood) (ap (λ (m : Marks). m.unbound) stands) marked.unbound c.in_ok-shift.ensures c.in_ok-insert.ensures;
+      by_link =
+          marked_moved claim_handle is_of_link link_is c.args.conn c.args.own c.args.id (Some c.args.claim) (known c.args.conn c.args.own c.args.id) c.args.stood.link c.marks_of-stands.result.link
+          known (at_id c.insert.new.self) (is_marked c.args.self.now.by_link) (is_marked c.shift-2.new.self)
+          refl (ap (λ (m : Marks). m.link) stood) (ap (λ (m : Marks). m.link) stands) marked.by_link c.in_ok-shift-2.ensures c.in_ok-insert.ensures;
+    }

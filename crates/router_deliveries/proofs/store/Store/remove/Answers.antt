@@ -8,23 +8,22 @@ use Rattle.router_deliveries.specs.declared.index.Index.{Index}
 use Rattle.router_deliveries.specs.declared.index.Keys.{Keys}
 use Rattle.router_deliveries.specs.Calling.{at_name, AreCalled}
 use Rattle.router_deliveries.specs.Indexing.{Indexes, standing}
-use Rattle.router_deliveries.specs.Touching.{StandsSame}
+use Rattle.router_deliveries.specs.Touching.{is_touched_in}
 use Rattle.router_deliveries.proofs.Called.{called_out}
 use Rattle.router_deliveries.proofs.Puts.{on_ok}
-use Rattle.router_deliveries.proofs.Reindexed.{put_back, none_back}
-use Rattle.router_deliveries.proofs.Touching.{touches_one}
+use Rattle.router_deliveries.proofs.Reindexed.{put_at}
+use Rattle.router_deliveries.proofs.Touching.{touches_at}
 use Rattle.router_deliveries.proofs.store.Store.remove.Goals as goal
 
 pub returns-clause-indexed : goal.returns-clause-indexed
 returns-clause-indexed c =
     let old = get nat_cmp c.args.self.now.deliveries in
-    let middle = get nat_cmp c.take.new.self.deliveries in
     let stood : ℕ → Keys = λ n. standing (old n) in
     let was : old c.args.number ≡ Some c.in-Some.delivery = sym c.take.ensures.gives ∙ c.in-Some.is in
     on_ok c.shift.result
     (λ indexed before. record {
-      indexes = put_back _ c.args.number None old middle _ c.take.ensures.gone
-          (λ n. ap (λ m. get nat_cmp m n) c.shift.ensures.deliveries ∙ none_back c.args.number old middle c.take.ensures.gone n)
+      indexes = put_at c.shift.new.self.index c.args.number (λ v. None) old (get nat_cmp c.shift.new.self.deliveries)
+          (λ n. ap (λ m. get nat_cmp m n) c.shift.ensures.deliveries ∙ c.take.ensures.gone n)
           (subst (λ (k : Keys). Indexes c.shift.new.self.index (λ n. if c.args.number == n then k else stood n)) c.nowhere.ensures
           (indexed stood (ap standing was ∙ sym c.of-before.ensures) (subst (λ (x : Index). Indexes x stood) (sym c.take.ensures.index) before.indexes)));
       called = called_out c.take.new.self.by_name c.shift.new.self.by_name c.args.number c.in-Some.delivery old _ was
@@ -36,11 +35,9 @@ returns-clause-indexed c =
     c.shift.ensures.indexed
 
 pub returns-clause-touches : goal.returns-clause-touches
-returns-clause-touches c =
-    let old = get nat_cmp c.args.self.now.deliveries in
-    let middle = get nat_cmp c.take.new.self.deliveries in
-    on_ok c.shift.result
-    (λ touched. touches_one c.args.self.now c.take.new.self _ c.args.number None c.of-before.result (c.of-before.ensures ∙ ap standing (sym c.in-Some.is ∙ c.take.ensures.gives)) c.take.ensures.touched c.take.ensures.gone
-    (λ n. ap (λ m. get nat_cmp m n) c.shift.ensures.deliveries ∙ none_back c.args.number old middle c.take.ensures.gone n)
-    (λ k f. let noted = touched k f in (noted.0, subst (λ (a : Keys). StandsSame k c.of-before.result a) c.nowhere.ensures noted.1)))
+returns-clause-touches c = on_ok c.shift.result
+    (λ touched. touches_at c.args.self.now c.shift.new.self c.args.number (λ v. None) c.of-before.result c.nowhere.result
+    (c.of-before.ensures ∙ ap standing (sym c.in-Some.is ∙ c.take.ensures.gives)) c.nowhere.ensures
+    (λ n. ap (λ m. get nat_cmp m n) c.shift.ensures.deliveries ∙ c.take.ensures.gone n)
+    (λ k f. let noted = touched k f in (ap (λ s. is_touched_in s k) (sym c.take.ensures.touched) ∙ noted.0, noted.1)))
     c.shift.ensures.touched

@@ -1,0 +1,14 @@
+-- How many deliveries a link has.
+use Rattle.std.specs.Prelude.{ℕ, Option, unwrap_or}
+use Rattle.std.specs.Ordering.{nat_cmp}
+use Rattle.std.specs.BTreeMap.{get}
+use Rattle.router_trace.specs.Deliveries.{is_number}
+use Rattle.router_deliveries.specs.declared.tallies.Tallies.{Tallies}
+use Rattle.router_deliveries.specs.Finding.{IsCount}
+
+abbrev pub tally : Tallies → ℕ → ℕ
+tally s k = unwrap_or (get nat_cmp s.counts k) 0
+
+-- of each link it is the number of those known to be on it
+abbrev pub IsTallied : Tallies → (ℕ → Option ℕ) → Type 0
+IsTallied s known = (k : ℕ) → IsCount (λ n. is_number (known n) k) (tally s k)
