@@ -1,9 +1,11 @@
 -- What readers' seats count.
-use Rattle.std.proofs.Common.{◌≡◌, ◌∙◌, sym, ap, refl, ℕ, ◌+◌, true, false, Result, Ok, Err, OnOk, OnErr, arith}
+use Rattle.std.proofs.Common.{◌≡◌, ◌∙◌, sym, ap, refl, ℕ, ◌+◌, ◌-◌, true, false, Result, Ok, Err, OnOk, OnErr, List, [], ◌∷◌, ◌++◌, length, arith}
+use Rattle.std.proofs.lemmas.List.{length-append, length-drop}
+use Rattle.amqp_frames.specs.declared.item.Item.{Item}
 use Rattle.router_core.specs.declared.counts.Counts.{Counts}
 use Rattle.router_serve.specs.declared.end.ReadEnd.{ReadEnd}
-use Rattle.router_shared.specs.Adding.{with_items}
-use Rattle.router_serve.specs.Submitting.{with_downs, needs_down, Submitted}
+use Rattle.router_shared.specs.Adding.{Handled, with_items}
+use Rattle.router_serve.specs.Submitting.{CountsGone, with_downs, needs_down, Submitted}
 
 -- items, then more of them
 abbrev pub HasItems : Counts → Counts → Type 0
@@ -47,3 +49,37 @@ untold old new e items = record {
   not_again = λ isnt. refl;
   counted = items.1 ∙ no_downs (with_items items.0 old);
 }
+
+-- items left a queue, then more of them
+pub gone_joined : (a b c : Counts) (xs ys zs : List Item) → CountsGone a b xs ys → CountsGone b c ys zs → CountsGone a c xs zs
+unfolding items_joined
+gone_joined a b c xs ys zs first more = record {
+  items = first.items + more.items;
+  gone = omega (arith, first.gone, more.gone);
+  counted = (items_joined a b c (first.items, first.counted) (more.items, more.counted)).1;
+}
+
+pub none_gone : (n : Counts) (xs : List Item) → CountsGone n n xs xs
+unfolding no_items
+none_gone n xs = record { items = 0; gone = omega arith; counted = (no_items n).1 }
+
+-- those that were handed in have left it
+pub handed_gone : (old new : Counts) (before behind : List Item) → Handled 0 old new before behind → CountsGone old new before behind
+handed_gone old new before behind h = record {
+  items = h.items;
+  gone = let left : length behind ≡ length before - (h.items + 0) = ap length h.left ∙ length-drop (h.items + 0) before in omega (arith, h.there, left);
+  counted = h.counted;
+}
+
+-- one came to it
+pub one_came : (old new : Counts) (came passed : List Item) (item : Item) → CountsGone old new came passed → CountsGone old new (came ++ item ∷ []) (passed ++ item ∷ [])
+one_came old new came passed item so_far = record {
+  items = so_far.items;
+  gone = omega (arith, so_far.gone, length-append came (item ∷ []), length-append passed (item ∷ []));
+  counted = so_far.counted;
+}
+
+-- all have left it
+pub all_gone : (old new : Counts) (before behind : List Item) → CountsGone old new before behind → behind ≡ [] → new ≡ with_items (length before) old
+all_gone old new before behind all none = all.counted
+    ∙ ap (λ k. with_items k old) (let empty : length behind ≡ 0 = ap length none in let same : all.items ≡ length before = omega (arith, all.gone, empty) in same)

@@ -1,10 +1,17 @@
 -- What a reader submits.
-use Rattle.std.specs.Prelude.{◌≡◌, ◌≤◌, ℕ, ◌+◌, Bool, true, false}
+use Rattle.std.specs.Prelude.{◌≡◌, ◌≤◌, ℕ, ◌+◌, Bool, true, false, List, length}
+use Rattle.amqp_frames.specs.declared.item.Item.{Item}
 use Rattle.router_core.specs.declared.counts.Counts.{Counts}
 use Rattle.router_core.specs.declared.fault.CoreFault.TheVariants.{Failed, NoConnection}
 use Rattle.router_shared.specs.Adding.{with_items}
 use Rattle.router_serve.specs.declared.end.ReadEnd.{ReadEnd}
 use Rattle.router_serve.specs.declared.end.ReadEnd.TheVariants as end
+
+-- each item that left a queue is counted
+pub record CountsGone (old new : Counts) (before behind : List Item) : Type 0 where
+  pub items : ℕ
+  pub gone : items + length behind ≡ length before
+  pub counted : new ≡ with_items items old
 
 -- this many more losses
 abbrev pub with_downs : ℕ → Counts → Counts

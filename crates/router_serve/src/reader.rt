@@ -1,9 +1,9 @@
 //! The thread that reads what a peer sends and submits it to the router.
-ghost use Rattle.std.specs.Prelude.{◌≡◌, ℕ, List, length, IfOk, IfErr};
+ghost use Rattle.std.specs.Prelude.{◌≡◌, ℕ, List, [], length, OnOk, IfOk, IfErr};
 ghost use Rattle.std.specs.Io.KnownBytes.{Consumes};
 ghost use Rattle.router_serve.specs.Greeting.{Gives, Stops};
 ghost use Rattle.router_shared.specs.Adding.{with_items};
-ghost use Rattle.router_serve.specs.Submitting.{needs_down, Submitted};
+ghost use Rattle.router_serve.specs.Submitting.{CountsGone, needs_down, Submitted};
 
 use crate::end::ReadEnd;
 use crate::gate::{Gate, Side};
@@ -86,7 +86,7 @@ fn hand_in_all<D: Disk, L: Log, G: Ledgers, R: Wait, I: Read, P: Gate>(
     ReadEnd::ReadFailed
 }
 
-/// Submits items, each after it passes the gate: several at once where the gate holds nothing.
+/// Submits items, each after it passes the gate: several at once where the gate holds nothing. Where it answers Ok, all of them were handled.
 ///
 /// # Errors
 ///
@@ -101,7 +101,8 @@ fn hand_in<D: Disk, L: Log, G: Ledgers, R: Wait, P: Gate>(
     number: &mut u64,
     gate: &P,
 ) -> Result<(), ReadEnd>
-    ensures { (k : ℕ) × (seat.new ≡ with_items k seat.old) }
+    ensures some { (k : ℕ) × (seat.new ≡ with_items k seat.old) }
+    ensures all { OnOk result (seat.new ≡ with_items (length items.items) seat.old) }
 {
     let last = ends_in_bad(items.as_slice());
     let mut passed = VecDeque::new(alloc);
@@ -119,7 +120,7 @@ fn hand_in<D: Disk, L: Log, G: Ledgers, R: Wait, P: Gate>(
     if last { Err(ReadEnd::End) } else { Ok(()) }
 }
 
-/// Submits the items that passed the gate, if it may hold the next one.
+/// Submits the items that passed the gate, if it may hold the next one. What is left of them is not counted yet.
 ///
 /// # Errors
 ///
@@ -132,7 +133,8 @@ fn make_way<D: Disk, L: Log, G: Ledgers, R: Wait, P: Gate>(
     passed: &mut VecDeque<Item>,
     gate: &P,
 ) -> Result<(), ReadEnd>
-    ensures { (k : ℕ) × (seat.new ≡ with_items k seat.old) }
+    ensures some { (k : ℕ) × (seat.new ≡ with_items k seat.old) }
+    ensures all { OnOk result (CountsGone seat.old seat.new passed.old.items passed.new.items) }
 {
     if gate.holds(Side::Reader) {
         return submit_all(rt, shared, seat, conn, passed);
@@ -140,7 +142,7 @@ fn make_way<D: Disk, L: Log, G: Ledgers, R: Wait, P: Gate>(
     Ok(())
 }
 
-/// Submits the items that passed the gate, up to 64 at once.
+/// Submits all of the items that passed the gate, up to 64 at once.
 ///
 /// # Errors
 ///
@@ -152,12 +154,11 @@ fn submit_all<D: Disk, L: Log, G: Ledgers, R: Wait>(
     conn: ConnectionId,
     items: &mut VecDeque<Item>,
 ) -> Result<(), ReadEnd>
-    ensures { (k : ℕ) × (seat.new ≡ with_items k seat.old) }
+    ensures some { (k : ℕ) × (seat.new ≡ with_items k seat.old) }
+    ensures none_left { OnOk result (items.new.items ≡ []) }
+    ensures all { OnOk result (CountsGone seat.old seat.new items.old.items items.new.items) }
 {
-    for _turn in 0..u64::MAX {
-        if items.is_empty() {
-            break;
-        }
+    while !items.is_empty() {
         match shared.submit_items(rt, seat, conn, items) {
             Ok(()) => {}
             Err(fault) => return Err(ReadEnd::Core(fault)),

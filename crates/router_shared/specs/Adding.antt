@@ -1,5 +1,5 @@
 -- Counts of several seats, added up, and of several items.
-use Rattle.std.specs.Prelude.{◌≡◌, ◌≤◌, ℕ, ◌+◌, List, drop, map, sum}
+use Rattle.std.specs.Prelude.{◌≡◌, ◌≤◌, ℕ, ◌+◌, List, drop, length, map, sum}
 use Rattle.amqp_frames.specs.declared.item.Item.{Item}
 use Rattle.router_core.specs.declared.counts.Counts.{Counts}
 use Rattle.router_shared.specs.declared.kind.Kind.{Kind}
@@ -21,6 +21,7 @@ with_items k n = record n { items = n.items + k }
 pub record Handled (refused : ℕ) (old new : Counts) (before behind : List Item) : Type 0 where
   pub items : ℕ
   pub most : items + refused ≤ 64
+  pub there : items + refused ≤ length before
   pub counted : new ≡ with_items items old
   pub left : behind ≡ drop (items + refused) before
 

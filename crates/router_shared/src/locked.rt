@@ -1,10 +1,13 @@
 //! The data under the lock.
-ghost use Rattle.std.specs.Prelude.{◌≡◌, ◌≤◌, [], true, length, OnOk, OnErr, IfOk, IfSome};
+ghost use Rattle.std.specs.Prelude.{◌≡◌, ◌≤◌, ◌<◌, ◌+◌, if◌then◌else◌, [], true, length, OnOk, OnErr, IfOk, IfSome};
 ghost use Rattle.gate_journal.specs.Journal.{batch_count};
 ghost use Rattle.router_store.specs.Store.{journal_of};
-ghost use Rattle.router_core.specs.Handling.{counts_of, store_of};
+ghost use Rattle.router_trace.specs.Trace.{Trace, step_of};
+ghost use Rattle.router_core.specs.Handling.{Fits, counts_of, id_of, store_of};
+ghost use Rattle.router_core.specs.Replies.{handled};
 ghost use Rattle.router_core.specs.Counting.{uncounted, with_event, with_batch};
 ghost use Rattle.router_shared.specs.Adding.{sums, Handled};
+ghost use Rattle.router_shared.specs.Handing.{Enough, Stopped, batches_of, gone, handed};
 ghost use Rattle.router_shared.specs.History.{HasHistory};
 
 use crate::bells::{BELLS, Bells, bell_of};
@@ -93,6 +96,9 @@ impl<D: Disk, L: Log, G: Ledgers> Locked<D, L, G> {
     pub fn handle(&mut self, seat: &mut Seat<G>, event: Event) -> Result<bool, CoreFault>
         ensures counted { OnOk result (seat.new ≡ with_event event seat.old) }
         ensures uncounted { OnErr result (seat.new ≡ seat.old) }
+        ensures fits { OnOk result ((t : Trace) → Fits self.old.router.core t → Fits self.new.router.core (handled (id_of self.old.router.core) t (step_of event))) }
+        ensures wrote { IfOk result (λ wrote. (t : Trace) → Fits self.old.router.core t → batches_of self.new.router.core ≡ batches_of self.old.router.core + (if wrote then 1 else 0)) }
+        ensures named { id_of self.new.router.core ≡ id_of self.old.router.core }
     {
         let kind = Kind::of(&event);
         let wrote = self.router.handle(event)?;
@@ -100,8 +106,8 @@ impl<D: Disk, L: Log, G: Ledgers> Locked<D, L, G> {
         Ok(wrote)
     }
 
-    /// Handles the items at the front of a queue, in order: up to 64 of them, and none behind one that is refused or the eighth that
-    /// wrote to the journal. One that is refused is dropped.
+    /// Handles the items at the front of a queue, in order, each as an event of its own: all of them, but at most 64, and none behind
+    /// one that is refused or the eighth that wrote to the journal. One that is refused is dropped.
     pub fn handle_items(
         &mut self,
         seat: &mut Seat<G>,
@@ -110,6 +116,12 @@ impl<D: Disk, L: Log, G: Ledgers> Locked<D, L, G> {
     ) -> Result<(), CoreFault>
         ensures handled { OnOk result (Handled 0 seat.old seat.new items.old.items items.new.items) }
         ensures refused { OnErr result (Handled 1 seat.old seat.new items.old.items items.new.items) }
+        ensures enough { OnOk result (Enough items.old.items items.new.items) }
+
+        // Exactly the items that left the queue were handled; and none is left without a reason.
+        ensures fits { OnOk result ((t : Trace) → Fits self.old.router.core t → Fits self.new.router.core (handed (id_of self.old.router.core) conn (gone items.old.items items.new.items) t)) }
+        ensures stopped { OnOk result ((t : Trace) → Fits self.old.router.core t → Stopped items.old.items items.new.items (batches_of self.old.router.core) (batches_of self.new.router.core)) }
+        ensures writes { OnOk result ((t : Trace) → Fits self.old.router.core t → batches_of self.new.router.core ≤ batches_of self.old.router.core + 8) }
     {
         let mut writes = WRITES;
         for _turn in 0..MOST {
@@ -119,9 +131,8 @@ impl<D: Disk, L: Log, G: Ledgers> Locked<D, L, G> {
             let Some(item) = items.pop_front() else {
                 return Ok(());
             };
-            if self.handle(seat, Event::Item(conn, item))? {
-                writes = writes.saturating_sub(1);
-            }
+            let wrote = self.handle(seat, Event::Item(conn, item))?;
+            writes = left_of(writes, wrote);
         }
         Ok(())
     }
@@ -217,5 +228,16 @@ impl<D: Disk, L: Log, G: Ledgers> Locked<D, L, G> {
             core: router.into_core(),
             log,
         }
+    }
+}
+
+/// How many more items may write to the journal, after one that wrote, or didn't.
+fn left_of(writes: usize, wrote: bool) -> usize
+    ensures { 0 < writes → writes ≡ result + (if wrote then 1 else 0) }
+{
+    if wrote {
+        writes.saturating_sub(1)
+    } else {
+        writes
     }
 }

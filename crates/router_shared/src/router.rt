@@ -1,9 +1,10 @@
 //! The router with its history: the data under the lock.
-ghost use Rattle.std.specs.Prelude.{◌≡◌, ◌≤◌, length, OnOk, OnErr, IfOk};
-ghost use Rattle.gate_journal.specs.Journal.{batch_count};
-ghost use Rattle.router_store.specs.Store.{journal_of};
-ghost use Rattle.router_core.specs.Handling.{counts_of, is_failed, store_of};
+ghost use Rattle.std.specs.Prelude.{◌≡◌, ◌≤◌, ◌+◌, if◌then◌else◌, length, OnOk, OnErr, IfOk};
+ghost use Rattle.router_trace.specs.Trace.{Trace, step_of};
+ghost use Rattle.router_core.specs.Handling.{Fits, counts_of, id_of, is_failed};
+ghost use Rattle.router_core.specs.Replies.{handled};
 ghost use Rattle.router_core.specs.Counting.{uncounted, with_event, with_batch};
+ghost use Rattle.router_shared.specs.Handing.{batches_of};
 ghost use Rattle.router_shared.specs.History.{IsOpened, HasHistory};
 
 use disk_core::Disk;
@@ -34,12 +35,15 @@ impl<D: Disk> Router<D> {
     pub fn handle(&mut self, event: Event) -> Result<bool, CoreFault>
         ensures counted { OnOk result (counts_of self.new.core ≡ with_event event (counts_of self.old.core)) }
         ensures uncounted { OnErr result (counts_of self.new.core ≡ counts_of self.old.core) }
+        ensures fits { OnOk result ((t : Trace) → Fits self.old.core t → Fits self.new.core (handled (id_of self.old.core) t (step_of event))) }
+        ensures wrote { IfOk result (λ wrote. (t : Trace) → Fits self.old.core t → batches_of self.new.core ≡ batches_of self.old.core + (if wrote then 1 else 0)) }
+        ensures named { id_of self.new.core ≡ id_of self.old.core }
     {
+        let before = self.core.batch();
         match self.core.handle(event) {
             Ok(done) => {
-                let wrote = done.journal.is_some();
                 drop(done);
-                Ok(wrote)
+                Ok(self.core.batch() != before)
             }
             Err(fault) => Err(fault),
         }
@@ -92,7 +96,7 @@ impl<D: Disk> Router<D> {
 
     /// The number of the last batch in its journal; 0 where there is none.
     pub fn batch(&self) -> u64
-        ensures { result ≡ batch_count (journal_of (store_of self.now.core)) }
+        ensures { result ≡ batches_of self.now.core }
     {
         self.core.batch()
     }

@@ -5,6 +5,7 @@ ghost use Rattle.router_store.specs.Store.{journal_of};
 ghost use Rattle.router_core.specs.Handling.{counts_of, store_of};
 ghost use Rattle.router_core.specs.Counting.{uncounted, with_event, with_batch};
 ghost use Rattle.router_shared.specs.Adding.{sums, Handled};
+ghost use Rattle.router_shared.specs.Handing.{Enough};
 ghost use Rattle.router_shared.specs.History.{IsOpened, HasHistory};
 
 use crate::bells::{BELLS, Bells, bell_of};
@@ -102,6 +103,7 @@ impl<D: Disk, L: Log, G: Ledgers> Shared<D, L, G> {
     ) -> Result<(), CoreFault>
         ensures handled { OnOk result (Handled 0 seat.old seat.new items.old.items items.new.items) }
         ensures refused { OnErr result (Handled 1 seat.old seat.new items.old.items items.new.items) }
+        ensures enough { OnOk result (Enough items.old.items items.new.items) }
     {
         let mut locked = self.state.lock(rt);
         let done = locked.handle_items(seat, conn, items);

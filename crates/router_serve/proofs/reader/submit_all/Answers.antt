@@ -1,8 +1,13 @@
-use Rattle.router_serve.proofs.Submits.{items_joined}
+use Rattle.router_serve.proofs.Submits.{gone_joined, handed_gone, items_joined, none_gone}
 use Rattle.router_serve.proofs.reader.submit_all.Goals as goal
 
-pub returns-in-Err : goal.returns-in-Err
-returns-in-Err g c = items_joined _ _ _ c.loop-turn.invariant (c.in-Err.ensures.refused.items, c.in-Err.ensures.refused.counted)
+pub loop-conn-init : goal.loop-conn-init
+loop-conn-init g c = none_gone c.args.seat.now c.args.items.now.items
 
-pub loop-turn-preserved : goal.loop-turn-preserved
-loop-turn-preserved g c = items_joined _ _ _ c.loop-turn.invariant (c.in-Ok.ensures.handled.items, c.in-Ok.ensures.handled.counted)
+pub loop-conn-preserved : goal.loop-conn-preserved
+loop-conn-preserved g c =
+    gone_joined _ _ _ _ _ _ c.loop-conn.invariant (handed_gone _ _ _ _ c.in-Ok.ensures.handled)
+
+pub returns-in-Err-clause-some : goal.returns-in-Err-clause-some
+returns-in-Err-clause-some g c =
+    items_joined _ _ _ (c.loop-conn.invariant.items, c.loop-conn.invariant.counted) (c.in-Err.ensures.refused.items, c.in-Err.ensures.refused.counted)

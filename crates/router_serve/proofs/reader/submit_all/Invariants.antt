@@ -1,6 +1,9 @@
-use Rattle.std.proofs.Common.{◌≡◌, ℕ}
-use Rattle.router_shared.specs.Adding.{with_items}
+use Rattle.std.proofs.Common.{length}
+use Rattle.router_serve.specs.Submitting.{CountsGone}
 use Rattle.router_serve.proofs.reader.submit_all.Given as goal
 
-abbrev pub invariant-loop-turn : goal.invariant-loop-turn
-invariant-loop-turn g l = (k : ℕ) × (l.seat ≡ with_items k l.fn.seat)
+abbrev pub invariant-loop-conn : goal.invariant-loop-conn
+invariant-loop-conn g l = CountsGone l.fn.seat l.seat l.fn.items.items l.items.items
+
+abbrev pub decreases-loop-conn : goal.decreases-loop-conn
+decreases-loop-conn g l = length l.items.items
