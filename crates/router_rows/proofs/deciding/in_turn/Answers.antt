@@ -16,7 +16,7 @@ returns-in-Begin c = λ t at.
 
 pub returns-in-Attach : goal.returns-in-Attach
 returns-in-Attach c = λ t at.
-    let is : c.args.perf.now ≡ perf.Attach c.as_ref.result.now = c.in-Attach.is ∙ ap (λ a. perf.Attach a) (sym c.as_ref.ensures) in
+    let is : c.args.perf.now ≡ perf.Attach c.as_ref-in-Attach.result.now = c.in-Attach.is ∙ ap (λ a. perf.Attach a) (sym c.as_ref-in-Attach.ensures) in
     c.attach_reply.ensures t (place t c.args.conn c.args.channel) at (c.place-place.ensures t at)
     ∙ ap (λ (p : Perf). in_turn (finds t c.args.conn) c.args.channel p) (sym is)
 
