@@ -23,11 +23,11 @@ unsent_in s t fit k n = fit.indexed.indexes.unsent k n ∙ unsent_is k (get nat_
 
 pub undecided_in : (s : Store) (t : Trace) → StoreFit s t → (k : ℕ) → IsCount (λ n. undecided_on k (delivery t n)) (tally s.index.undecided k)
 undecided_in s t fit k = count_same (λ n. is_number (standing (get nat_cmp s.deliveries n)).undecided k) (λ n. undecided_on k (delivery t n))
-    (λ n. undecided_is k (get nat_cmp s.deliveries n) ∙ ap (undecided_on k) (fit.deliveries n)) (tally s.index.undecided k) (fit.indexed.indexes.undecided k)
+    (λ n. undecided_is k (get nat_cmp s.deliveries n) ∙ ap (undecided_on k) (fit.deliveries n)) (tally s.index.undecided k) (fit.indexed.indexes.undecided.counts k)
 
 pub held_in : (s : Store) (t : Trace) → StoreFit s t → (k : ℕ) → IsCount (λ n. held_from k (delivery t n)) (tally s.index.held k)
 held_in s t fit k = count_same (λ n. is_number (standing (get nat_cmp s.deliveries n)).held k) (λ n. held_from k (delivery t n))
-    (λ n. held_is k (get nat_cmp s.deliveries n) ∙ ap (held_from k) (fit.deliveries n)) (tally s.index.held k) (fit.indexed.indexes.held k)
+    (λ n. held_is k (get nat_cmp s.deliveries n) ∙ ap (held_from k) (fit.deliveries n)) (tally s.index.held k) (fit.indexed.indexes.held.counts k)
 
 pub to_tell_in : (s : Store) (t : Trace) → StoreFit s t → (n : ℕ) → contains nat_cmp s.index.to_tell n ≡ is_to_tell (delivery t n)
 to_tell_in s t fit n = fit.indexed.indexes.to_tell n ∙ to_tell_is (get nat_cmp s.deliveries n) ∙ ap is_to_tell (fit.deliveries n)

@@ -99,7 +99,7 @@ count_more (suc b) x p q l yes_x no_x same = by_test (x == b) refl (λ k. count_
 differ : (a b : ℕ) → nat_cmp a b ≡ Less → (a == b) ≡ false
 differ a b h = grind (arith, nat_tests, h)
 
-not_behind : (x : ℕ) (xs : List ℕ) → AllByRecursion (λ y. nat_cmp x y ≡ Less) xs → has x xs ≡ false
+pub not_behind : (x : ℕ) (xs : List ℕ) → AllByRecursion (λ y. nat_cmp x y ≡ Less) xs → has x xs ≡ false
 not_behind x [] above = refl
 not_behind x (y ∷ ys) above = rw (differ x y above.0) (not_behind x ys above.1)
 

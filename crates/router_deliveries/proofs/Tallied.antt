@@ -12,8 +12,9 @@ use Rattle.amqp_session.specs.Ranges.{has}
 use Rattle.router_trace.specs.Deliveries.{is_number}
 use Rattle.router_deliveries.specs.declared.tallies.Tallies.{Tallies}
 use Rattle.router_deliveries.specs.Finding.{IsCount}
-use Rattle.router_deliveries.specs.Tallying.{tally, IsTallied}
+use Rattle.router_deliveries.specs.Tallying.{tally, is_zero, IsTallied}
 use Rattle.router_deliveries.proofs.Found.{no_rise, count_same}
+use Rattle.router_deliveries.proofs.Numbers.{not_behind}
 
 -- a rising list with one number more
 abbrev with_one : ℕ → List ℕ → List ℕ
@@ -102,13 +103,6 @@ abbrev without : ℕ → List ℕ → List ℕ
 without m [] = []
 without m (x ∷ xs) = if m == x then xs else (x ∷ without m xs)
 
-not_behind : (m : ℕ) (xs : List ℕ) → AllByRecursion (λ z. nat_cmp m z ≡ Less) xs → has m xs ≡ false
-not_behind m [] above = refl
-not_behind m (x ∷ xs) above = ap (λ t. t || has m xs) (differ m x above.0) ∙ not_behind m xs above.1
-  where
-    differ : (a b : ℕ) → nat_cmp a b ≡ Less → (a == b) ≡ false
-    differ a b h = grind (arith, nat_tests, h)
-
 has_without : (m n : ℕ) (xs : List ℕ) → IsStrictlySortedBy nat_cmp xs → has n (without m xs) ≡ (if m == n then false else has n xs)
 unfolding IsStrictlySortedBy
 has_without m n [] rise = either (m == n)
@@ -195,34 +189,40 @@ count_without p m k false there x = count_with p m k false there x
 
 -- the tallies of links, of which one number moves from one to another
 pub none_tallied : (s : Tallies) → ((k : ℕ) → get nat_cmp s.counts k ≡ None) → IsTallied s (λ n. None)
-none_tallied s none k = record { numbers = []; rise = no_rise; pass = λ n. refl; are = sym (ap (λ v. unwrap_or v 0) (none k)) }
+none_tallied s none = record {
+  counts = λ k. record { numbers = []; rise = no_rise; pass = λ n. refl; are = sym (ap (λ v. unwrap_or v 0) (none k)) };
+  needed = λ k. ap is_zero (none k);
+}
 
 pub tallied_same : (s : Tallies) (f g : ℕ → Option ℕ) → ((n : ℕ) → f n ≡ g n) → IsTallied s f → IsTallied s g
-tallied_same s f g same x k = count_same (λ n. is_number (f n) k) (λ n. is_number (g n) k) (λ n. ap (λ v. is_number v k) (same n)) (tally s k) (x k)
-
-pub tallied_still : (s : Tallies) (m : ℕ) (before after : Option ℕ) (known : ℕ → Option ℕ) → before ≡ after → known m ≡ before → IsTallied s known
-    → IsTallied s (λ n. if m == n then after else known n)
-tallied_still s m before after known e is x = tallied_same s known (λ n. if m == n then after else known n) (λ n. by_test n (m == n) refl) x
-  where
-    by_test : (n : ℕ) (t : Bool) → (m == n) ≡ t → known n ≡ (if t then after else known n)
-    by_test n true f = ap known (sym (eqb-true m n f)) ∙ is ∙ e
-    by_test n false f = refl
+tallied_same s f g same x = record {
+  counts = λ k. count_same (λ n. is_number (f n) k) (λ n. is_number (g n) k) (λ n. ap (λ v. is_number v k) (same n)) (tally s k) (x.counts k);
+  needed = x.needed;
+}
 
 pub tallied_moved : (s mid new : Tallies) (m : ℕ) (before after : Option ℕ) (known : ℕ → Option ℕ)
     → ((k : ℕ) → tally mid k ≡ (if is_number before k then tally s k - 1 else tally s k))
+    → ((k : ℕ) → is_zero (get nat_cmp s.counts k) ≡ false → is_zero (get nat_cmp mid.counts k) ≡ false)
     → ((k : ℕ) → tally new k ≡ (if is_number after k then tally mid k + 1 else tally mid k))
+    → ((k : ℕ) → is_zero (get nat_cmp mid.counts k) ≡ false → is_zero (get nat_cmp new.counts k) ≡ false)
     → known m ≡ before → IsTallied s known → IsTallied new (λ n. if m == n then after else known n)
-tallied_moved s mid new m before after known out back is x k =
-    let rest : ℕ → Bool = λ n. if m == n then false else is_number (known n) k in
-    let none : rest m ≡ false = ap (λ t. if t then false else is_number (known m) k) (itself m) in
-    let fewer : IsCount rest (tally mid k) =
-    subst (IsCount rest) (sym (out k)) (count_without (λ n. is_number (known n) k) m (tally s k) (is_number before k) (ap (λ v. is_number v k) is) (x k)) in
-    count_same (λ n. if m == n then is_number after k else rest n) (λ n. is_number (if m == n then after else known n) k) (λ n. by_test n (m == n)) (tally new k)
-    (subst (IsCount (λ n. if m == n then is_number after k else rest n)) (sym (back k)) (count_with rest m (tally mid k) (is_number after k) none fewer))
+tallied_moved s mid new m before after known out left back kept is x = record {
+  counts = counts;
+  needed = λ k. kept k (left k (x.needed k));
+}
   where
     itself : (m : ℕ) → (m == m) ≡ true
     itself m = grind (arith, nat_tests)
 
-    by_test : (n : ℕ) (t : Bool) → (if t then is_number after k else (if t then false else is_number (known n) k)) ≡ is_number (if t then after else known n) k
-    by_test n true = refl
-    by_test n false = refl
+    by_test : (k n : ℕ) (t : Bool) → (if t then is_number after k else (if t then false else is_number (known n) k)) ≡ is_number (if t then after else known n) k
+    by_test k n true = refl
+    by_test k n false = refl
+
+    counts : (k : ℕ) → IsCount (λ n. is_number (if m == n then after else known n) k) (tally new k)
+    counts k =
+        let rest : ℕ → Bool = λ n. if m == n then false else is_number (known n) k in
+        let none : rest m ≡ false = ap (λ t. if t then false else is_number (known m) k) (itself m) in
+        let fewer : IsCount rest (tally mid k) =
+        subst (IsCount rest) (sym (out k)) (count_without (λ n. is_number (known n) k) m (tally s k) (is_number before k) (ap (λ v. is_number v k) is) (x.counts k)) in
+        count_same (λ n. if m == n then is_number after k else rest n) (λ n. is_number (if m == n then after else known n) k) (λ n. by_test k n (m == n)) (tally new k)
+        (subst (IsCount (λ n. if m == n then is_number after k else rest n)) (sym (back k)) (count_with rest m (tally mid k) (is_number after k) none fewer))

@@ -1,5 +1,5 @@
 -- How many deliveries a link has.
-use Rattle.std.specs.Prelude.{ℕ, Option, unwrap_or}
+use Rattle.std.specs.Prelude.{◌≡◌, ◌==◌, ℕ, Bool, false, Option, Some, None, unwrap_or}
 use Rattle.std.specs.Ordering.{nat_cmp}
 use Rattle.std.specs.BTreeMap.{get}
 use Rattle.router_trace.specs.Deliveries.{is_number}
@@ -9,6 +9,11 @@ use Rattle.router_deliveries.specs.Finding.{IsCount}
 abbrev pub tally : Tallies → ℕ → ℕ
 tally s k = unwrap_or (get nat_cmp s.counts k) 0
 
--- of each link it is the number of those known to be on it
-abbrev pub IsTallied : Tallies → (ℕ → Option ℕ) → Type 0
-IsTallied s known = (k : ℕ) → IsCount (λ n. is_number (known n) k) (tally s k)
+abbrev pub is_zero : Option ℕ → Bool
+is_zero None = false
+is_zero (Some n) = n == 0
+
+-- of each link it is the number of those known to be on it, and no link without any has an entry
+pub record IsTallied (s : Tallies) (known : ℕ → Option ℕ) : Type 0 where
+  pub counts : (k : ℕ) → IsCount (λ n. is_number (known n) k) (tally s k)
+  pub needed : (k : ℕ) → is_zero (get nat_cmp s.counts k) ≡ false

@@ -56,10 +56,26 @@ impl<V: Drop> BySession<V> {
         ensures exact { IfOk result (λ ids. (id : ℕ) → id < 2 ^ 32 → has id ids.items ≡ (in_range first last id && is_some (at_id self.now conn own id))) }
         ensures rising { IfOk result (λ ids. IsRising first ids.items) }
     {
+        if first == last {
+            return self.one(conn, own, first);
+        }
         match self.session(conn, own) {
             None => Ok(Vec::new(self.alloc)),
             Some(ids) => ids.in_range(self.alloc, Serial::new(first), Serial::new(last)),
         }
+    }
+
+    /// This id, if it has a value.
+    fn one(&self, conn: u64, own: u16, id: u32) -> Result<Vec<Serial>, AllocError>
+        ensures exact { IfOk result (λ ids. (q : ℕ) → q < 2 ^ 32 → has q ids.items ≡ (in_range id id q && is_some (at_id self.now conn own q))) }
+        ensures rising { IfOk result (λ ids. IsRising id ids.items) }
+    {
+        let mut ids = Vec::new(self.alloc);
+        if self.get(conn, own, id).is_none() {
+            return Ok(ids);
+        }
+        ids.push(Serial::new(id))?;
+        Ok(ids)
     }
 
     /// Gives an id this value and replaces the one that it had.

@@ -1,7 +1,9 @@
 //! How many deliveries each link has.
-ghost use Rattle.std.specs.Prelude.{◌≡◌, ◌==◌, ◌+◌, ◌-◌, ℕ, Option, None, if◌then◌else◌, OnOk};
+ghost use Rattle.std.specs.Prelude.{◌≡◌, ◌==◌, ◌+◌, ◌-◌, ℕ, Option, None, false, if◌then◌else◌, OnOk};
+ghost use Rattle.std.specs.Ordering.{nat_cmp};
+ghost use Rattle.std.specs.BTreeMap.{get};
 ghost use Rattle.router_trace.specs.Deliveries.{is_number};
-ghost use Rattle.router_deliveries.specs.Tallying.{tally, IsTallied};
+ghost use Rattle.router_deliveries.specs.Tallying.{tally, is_zero, IsTallied};
 
 use std::alloc::{AllocError, Global};
 use std::collections::BTreeMap;
@@ -49,7 +51,8 @@ impl Tallies {
 
     /// A link has one less, if there is one.
     fn drop_from(&mut self, link: Option<u64>)
-        ensures { (k : ℕ) → tally self.new k ≡ (if is_number link k then tally self.old k - 1 else tally self.old k) }
+        ensures counts { (k : ℕ) → tally self.new k ≡ (if is_number link k then tally self.old k - 1 else tally self.old k) }
+        ensures needed { (k : ℕ) → is_zero (get nat_cmp self.old.counts k) ≡ false → is_zero (get nat_cmp self.new.counts k) ≡ false }
     {
         let Some(link) = link else {
             return;
@@ -66,7 +69,8 @@ impl Tallies {
 
     /// A link has one more, if there is one.
     fn add_to(&mut self, link: Option<u64>) -> Result<(), AllocError>
-        ensures { OnOk result ((k : ℕ) → tally self.new k ≡ (if is_number link k then tally self.old k + 1 else tally self.old k)) }
+        ensures counts { OnOk result ((k : ℕ) → tally self.new k ≡ (if is_number link k then tally self.old k + 1 else tally self.old k)) }
+        ensures needed { OnOk result ((k : ℕ) → is_zero (get nat_cmp self.old.counts k) ≡ false → is_zero (get nat_cmp self.new.counts k) ≡ false) }
     {
         let Some(link) = link else {
             return Ok(());
