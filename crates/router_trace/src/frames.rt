@@ -7,7 +7,8 @@ use crate::durable::is_durable;
 use crate::router_id::{RouterId, SESSION_WINDOW, frame_on};
 use amqp_frames::Item;
 use amqp_perf::{
-    Attach, Boxed, Detach, Flow, Perf, Role, SourceTerminus, Symbol, Symbols, TargetTerminus, Unsettled,
+    Attach, Boxed, Detach, Flow, Perf, Role, SourceTerminus, Symbol, Symbols, TargetTerminus,
+    Unsettled,
 };
 use amqp_session::{FlowState, Serial};
 use std::alloc::{AllocError, Global};
