@@ -1,6 +1,6 @@
 //! What is reported of connections on standard error.
 use amqp_frames::Item;
-use amqp_perf::{Boxed, Fault, Perf};
+use amqp_perf::{Fault, Perf};
 use router_core::{ConnectionId, CoreFault};
 use router_serve::{Gate, ReadEnd, Side, WriteEnd};
 use std::alloc::Global;
@@ -105,7 +105,10 @@ fn error_in(perf: &Perf) -> Option<&Fault> {
         Perf::Detach(detach) => detach.error.as_ref(),
         _ => None,
     };
-    error.map(Boxed::as_ref)
+    match error {
+        None => None,
+        Some(error) => Some(error.as_ref()),
+    }
 }
 
 /// Why a reader ended, in words.
