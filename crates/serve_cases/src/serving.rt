@@ -1,0 +1,98 @@
+//! A router with ledgers of its own for each row.
+ghost use Rattle.std.specs.Prelude.{◌≡◌, ◌^◌, IfOk};
+ghost use Rattle.router_core.specs.Handling.{counts_of};
+ghost use Rattle.router_core.specs.Counting.{uncounted};
+ghost use Rattle.router_shared.specs.History.{IsOpened};
+
+use crate::hub::{Hub, Left};
+use crate::row::Row;
+use crate::threads::serve_all;
+use disk_core::{DiskFault, MemDisk};
+use gate_journal::{OpenFault, format};
+use route_table::Config;
+use router_core::Core;
+use router_serve::{Blanks, Hall, NoLog, SEATS, Shared, Six};
+use std::alloc::{AllocError, Global};
+use std::marker::Brand;
+use std::sync::Wait;
+use std::sync::ledger::Blank;
+use std::thread::Threads;
+
+/// A new journal in memory.
+fn new_journal(alloc: Global) -> Result<MemDisk, DiskFault> {
+    let mut disk = MemDisk::new(alloc);
+    format(&mut disk)?;
+    Ok(disk)
+}
+
+/// A router over a new journal in memory, with the standard configuration.
+fn opened(alloc: Global) -> Result<Core<MemDisk>, OpenFault>
+    ensures opened { IfOk result IsOpened }
+    ensures counts { IfOk result (λ core. counts_of core ≡ uncounted) }
+{
+    let Ok(config) = Config::standard(alloc) else {
+        return Err(OpenFault::Memory);
+    };
+    let Ok(disk) = new_journal(alloc) else {
+        drop(config);
+        return Err(OpenFault::Memory);
+    };
+    match Core::open(alloc, disk, &config) {
+        Ok(core) => Ok(core),
+        Err(fault) => Err(fault),
+    }
+}
+
+/// Serves the connections of a row with a router of its own, whose ledgers are made for it.
+pub fn serve_row<R: Threads + Wait + Sync>(
+    rt: &R,
+    alloc: Global,
+    row: &Row,
+) -> Result<Left, AllocError> {
+    let Ok(core) = opened(alloc) else {
+        return Err(AllocError);
+    };
+    let blanks = Blanks {
+        ups: Blank::new(SEATS),
+        items: Blank::new(SEATS),
+        downs: Blank::new(SEATS),
+        ticks: Blank::new(SEATS),
+        starts: Blank::new(SEATS),
+        batches: Blank::new(SEATS),
+    };
+    counted::<Brand, Brand, Brand, Brand, Brand, Brand, R>(rt, alloc, row, core, blanks)
+}
+
+/// Serves a row, and adds up what the seats counted.
+fn counted<
+    U: Hall + Send + Sync,
+    I: Hall + Send + Sync,
+    D: Hall + Send + Sync,
+    T: Hall + Send + Sync,
+    S: Hall + Send + Sync,
+    B: Hall + Send + Sync,
+    R: Threads + Wait + Sync,
+>(rt: &R, alloc: Global, row: &Row, core: Core<MemDisk>, blanks: Blanks) -> Result<Left, AllocError>
+    requires opened { IsOpened core }
+    requires counts { counts_of core ≡ uncounted }
+    requires ups { (blanks.ups.name ≡ U.name) × (blanks.ups.parts ≡ U.parts) × (U.seats ≡ U.parts) × (U.seats ≡ 4611686018427387904) }
+    requires items { (blanks.items.name ≡ I.name) × (blanks.items.parts ≡ I.parts) × (I.seats ≡ I.parts) × (I.seats ≡ 4611686018427387904) }
+    requires downs { (blanks.downs.name ≡ D.name) × (blanks.downs.parts ≡ D.parts) × (D.seats ≡ D.parts) × (D.seats ≡ 4611686018427387904) }
+    requires ticks { (blanks.ticks.name ≡ T.name) × (blanks.ticks.parts ≡ T.parts) × (T.seats ≡ T.parts) × (T.seats ≡ 4611686018427387904) }
+    requires starts { (blanks.starts.name ≡ S.name) × (blanks.starts.parts ≡ S.parts) × (S.seats ≡ S.parts) × (S.seats ≡ 4611686018427387904) }
+    requires batches { (blanks.batches.name ≡ B.name) × (blanks.batches.parts ≡ B.parts) × (B.seats ≡ B.parts) × (B.seats ≡ 4611686018427387904) }
+{
+    let made: Result<Shared<MemDisk, NoLog, Six<U, I, D, T, S, B>>, AllocError> = Shared::new(
+        alloc,
+        core,
+        NoLog {},
+        blanks,
+        SEATS,
+    );
+    let Ok(shared) = made else {
+        return Err(AllocError);
+    };
+    let hub = Hub::new(alloc, shared);
+    serve_all(rt, &hub, row);
+    Ok(hub.close())
+}

@@ -1,0 +1,177 @@
+//! The threads of a row: for each connection one that greets and reads, and one that writes.
+use crate::gate::InOrder;
+use crate::hub::Hub;
+use crate::row::Row;
+use crate::wire::{Ends, Input, Output, Wire};
+use amqp_frames::{FrameReader, Item};
+use route_table::{Config, Listener, Role};
+use router_core::{ConnectionId, Door, Peer};
+use router_serve::{
+    Greeted, Hall, Ledgers, Seat, Six, WriteEnd, greet, serve_reader, serve_writer,
+};
+use std::alloc::{AllocError, Global};
+use std::sync::Wait;
+use std::thread;
+use std::thread::Threads;
+
+/// Serves all connections of a row at once, until they have ended.
+pub fn serve_all<
+    U: Hall + Send + Sync,
+    I: Hall + Send + Sync,
+    D: Hall + Send + Sync,
+    T: Hall + Send + Sync,
+    S: Hall + Send + Sync,
+    B: Hall + Send + Sync,
+    R: Threads + Wait + Sync,
+>(rt: &R, hub: &Hub<Six<U, I, D, T, S, B>>, row: &Row) {
+    hub.start(rt);
+    thread::scope(thread::scope_env(), rt, |scope| {
+        for wire in &row.wires {
+            let _ = scope.spawn(move || connection(rt, hub, row, wire));
+        }
+    });
+}
+
+/// The door of a connection at the standard listener.
+fn door(alloc: Global) -> Result<Door, AllocError> {
+    let config = Config::standard(alloc)?;
+    let listener = Listener::standard(alloc, Role::Normal);
+    let made = match &listener {
+        Ok(listener) => Door::new(alloc, &config, listener),
+        Err(AllocError) => Err(AllocError),
+    };
+    drop(config);
+    drop(listener);
+    made
+}
+
+/// Serves a connection until it ends.
+fn connection<
+    U: Hall + Send + Sync,
+    I: Hall + Send + Sync,
+    D: Hall + Send + Sync,
+    T: Hall + Send + Sync,
+    S: Hall + Send + Sync,
+    B: Hall + Send + Sync,
+    R: Threads + Wait + Sync,
+>(rt: &R, hub: &Hub<Six<U, I, D, T, S, B>>, row: &Row, wire: &Wire) {
+    let Ok(mut door) = door(hub.alloc) else {
+        return;
+    };
+    let role = door.role();
+    let mut frames = FrameReader::new(hub.alloc);
+    let mut input = wire.reader();
+    let mut output = Output { rt, wire };
+    match greet(hub.alloc, &mut input, &mut output, &mut frames, &mut door) {
+        Greeted::Up(user, items) => {
+            let who = Peer { user, role };
+            enter(rt, hub, row, wire, who, items, &mut frames, &mut input);
+        }
+        Greeted::Ended(read) => {
+            *wire.ends.lock(rt) = Some(Ends {
+                read,
+                written: None,
+            });
+        }
+    }
+}
+
+/// Serves a connection after its door.
+fn enter<
+    U: Hall + Send + Sync,
+    I: Hall + Send + Sync,
+    D: Hall + Send + Sync,
+    T: Hall + Send + Sync,
+    S: Hall + Send + Sync,
+    B: Hall + Send + Sync,
+    R: Threads + Wait + Sync,
+>(
+    rt: &R,
+    hub: &Hub<Six<U, I, D, T, S, B>>,
+    row: &Row,
+    wire: &Wire,
+    who: Peer,
+    items: Vec<Item>,
+    frames: &mut FrameReader,
+    input: &mut Input<'_>,
+) {
+    let Some(mut seat) = hub.shared.seat(rt) else {
+        drop(who);
+        drop(items);
+        return;
+    };
+    match hub.up(rt, &mut seat, who) {
+        Some(conn) => {
+            let seat = both(rt, hub, row, wire, conn, seat, items, frames, input);
+            hub.put_back(rt, seat);
+        }
+        None => {
+            drop(items);
+            hub.put_back(rt, seat);
+        }
+    }
+}
+
+/// Reads in this thread and writes in another, until both have ended.
+fn both<
+    U: Hall + Send + Sync,
+    I: Hall + Send + Sync,
+    D: Hall + Send + Sync,
+    T: Hall + Send + Sync,
+    S: Hall + Send + Sync,
+    B: Hall + Send + Sync,
+    R: Threads + Wait + Sync,
+>(
+    rt: &R,
+    hub: &Hub<Six<U, I, D, T, S, B>>,
+    row: &Row,
+    wire: &Wire,
+    conn: ConnectionId,
+    seat: Seat<Six<U, I, D, T, S, B>>,
+    items: Vec<Item>,
+    frames: &mut FrameReader,
+    input: &mut Input<'_>,
+) -> Seat<Six<U, I, D, T, S, B>> {
+    thread::scope(
+        thread::scope_env(),
+        rt,
+        |scope| -> Seat<Six<U, I, D, T, S, B>> {
+            let writer = scope.spawn(move || write(rt, hub, row, wire, conn));
+            let gate = InOrder { row, wire };
+            let (mut seat, _, read) = serve_reader(
+                rt,
+                hub.alloc,
+                &hub.shared,
+                seat,
+                conn,
+                items,
+                frames,
+                input,
+                &gate,
+            );
+            hub.lose(rt, &mut seat, conn);
+            let written = match writer {
+                Ok(writer) => writer.join(rt),
+                Err(_) => None,
+            };
+            *wire.ends.lock(rt) = Some(Ends { read, written });
+            seat
+        },
+    )
+}
+
+/// Writes the router's output.
+fn write<G: Ledgers, R: Wait>(
+    rt: &R,
+    hub: &Hub<G>,
+    row: &Row,
+    wire: &Wire,
+    conn: ConnectionId,
+) -> Option<WriteEnd> {
+    let seat = hub.shared.seat(rt)?;
+    let gate = InOrder { row, wire };
+    let mut output = Output { rt, wire };
+    let (seat, end) = serve_writer(rt, hub.alloc, &hub.shared, seat, conn, &mut output, &gate);
+    hub.put_back(rt, seat);
+    Some(end)
+}
