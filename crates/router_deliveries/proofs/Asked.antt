@@ -15,8 +15,9 @@ use Rattle.router_deliveries.specs.Calling.{NumbersFit}
 use Rattle.router_deliveries.proofs.Called.{called_same, numbers_fit}
 use Rattle.router_deliveries.proofs.Found.{count_same, waits_is, unsent_is, undecided_is, held_is, to_tell_is}
 
-pub waits_in : (s : Store) (t : Trace) → StoreFit s t → (k n : ℕ) → in_group s.index.waiting k n ≡ waits_on k (delivery t n)
-waits_in s t fit k n = fit.indexed.indexes.waiting k n ∙ waits_is k (get nat_cmp s.deliveries n) ∙ ap (waits_on k) (fit.deliveries n)
+pub waits_in : (s : Store) (t : Trace) → StoreFit s t → (k : ℕ) → IsCount (λ n. waits_on k (delivery t n)) (tally s.index.waiting k)
+waits_in s t fit k = count_same (λ n. is_number (standing (get nat_cmp s.deliveries n)).waiting k) (λ n. waits_on k (delivery t n))
+    (λ n. waits_is k (get nat_cmp s.deliveries n) ∙ ap (waits_on k) (fit.deliveries n)) (tally s.index.waiting k) (fit.indexed.indexes.waiting.counts k)
 
 pub unsent_in : (s : Store) (t : Trace) → StoreFit s t → (k n : ℕ) → in_group s.index.unsent k n ≡ is_unsent_on k (delivery t n)
 unsent_in s t fit k n = fit.indexed.indexes.unsent k n ∙ unsent_is k (get nat_cmp s.deliveries n) ∙ ap (is_unsent_on k) (fit.deliveries n)

@@ -5,7 +5,7 @@ use Rattle.std.proofs.lemmas.Bool.{eqb-true}
 use Rattle.router_trace.specs.Deliveries.{Delivery, is_number}
 use Rattle.std.specs.Ordering.{nat_cmp}
 use Rattle.std.specs.BTreeSet.{contains}
-use Rattle.router_deliveries.specs.declared.groups.Groups.{Groups}
+use Rattle.router_deliveries.specs.declared.by_link.ByLink.{ByLink}
 use Rattle.router_deliveries.specs.declared.index.Index.{Index}
 use Rattle.router_deliveries.specs.declared.index.Keys.{Keys}
 use Rattle.router_deliveries.specs.declared.spots.Spot.{Spot}
@@ -19,7 +19,7 @@ use Rattle.router_deliveries.proofs.Tallied.{tallied_same}
 
 pub indexes_same : (s : Index) (f g : ℕ → Keys) → ((n : ℕ) → f n ≡ g n) → Indexes s f → Indexes s g
 indexes_same s f g same x = record {
-  waiting = λ k n. x.waiting k n ∙ ap (λ (q : Keys). is_number q.waiting k) (same n);
+  waiting = tallied_same s.waiting (λ n. (f n).waiting) (λ n. (g n).waiting) (λ n. ap (λ (q : Keys). q.waiting) (same n)) x.waiting;
   unsent = λ k n. x.unsent k n ∙ ap (λ (q : Keys). is_number q.unsent k) (same n);
   undecided = tallied_same s.undecided (λ n. (f n).undecided) (λ n. (g n).undecided) (λ n. ap (λ (q : Keys). q.undecided) (same n)) x.undecided;
   held = tallied_same s.held (λ n. (f n).held) (λ n. (g n).held) (λ n. ap (λ (q : Keys). q.held) (same n)) x.held;
@@ -34,7 +34,7 @@ by_key : {A : Type 0} (part : Keys → A) (b : Bool) (after old : Keys) → (if 
 by_key part true after old = refl
 by_key part false after old = refl
 
-abbrev GroupMoves : Groups → Groups → ℕ → Option ℕ → Option ℕ → Type 0
+abbrev GroupMoves : ByLink → ByLink → ℕ → Option ℕ → Option ℕ → Type 0
 GroupMoves s t m before after = ((k : ℕ) → in_group s k m ≡ is_number before k) → (k n : ℕ) → in_group t k n ≡ (if m == n then is_number after k else in_group s k n)
 
 abbrev TallyMoves : Tallies → Tallies → Option ℕ → Option ℕ → Type 0
@@ -44,14 +44,14 @@ abbrev SpotMoves : Spots → Spots → ℕ → Option Spot → Option Spot → T
 SpotMoves s t m before after = (known : ℕ → Option Spot) → known m ≡ before → SpotsFit s known → SpotsFit t (λ n. if m == n then after else known n)
 
 pub indexes_moved : (s t : Index) (m : ℕ) (before after : Keys) (known : ℕ → Keys)
-    → GroupMoves s.waiting t.waiting m before.waiting after.waiting → GroupMoves s.unsent t.unsent m before.unsent after.unsent
+    → TallyMoves s.waiting t.waiting before.waiting after.waiting → GroupMoves s.unsent t.unsent m before.unsent after.unsent
     → TallyMoves s.undecided t.undecided before.undecided after.undecided → TallyMoves s.held t.held before.held after.held
     → (contains nat_cmp s.to_tell m ≡ before.to_tell → (n : ℕ) → contains nat_cmp t.to_tell n ≡ (if m == n then after.to_tell else contains nat_cmp s.to_tell n))
     → SpotMoves s.on t.on m before.on after.on → SpotMoves s.from t.from m before.from after.from → SpotMoves s.by_id t.by_id m before.by_id after.by_id
     → known m ≡ before → Indexes s known → Indexes t (λ n. if m == n then after else known n)
 indexes_moved s t m before after known waiting unsent undecided held to_tell on from by_id is x = record {
-  waiting = λ k n. waiting (λ j. x.waiting j m ∙ ap (λ (q : Keys). is_number q.waiting j) is) k n
-      ∙ ap (λ b. if m == n then is_number after.waiting k else b) (x.waiting k n) ∙ by_key (λ q. is_number q.waiting k) (m == n) after (known n);
+  waiting = tallied_same t.waiting (λ n. if m == n then after.waiting else (known n).waiting) (λ n. (if m == n then after else known n).waiting)
+      (λ n. by_key (λ q. q.waiting) (m == n) after (known n)) (waiting m (λ n. (known n).waiting) (ap (λ (q : Keys). q.waiting) is) x.waiting);
   unsent = λ k n. unsent (λ j. x.unsent j m ∙ ap (λ (q : Keys). is_number q.unsent j) is) k n
       ∙ ap (λ b. if m == n then is_number after.unsent k else b) (x.unsent k n) ∙ by_key (λ q. is_number q.unsent k) (m == n) after (known n);
   undecided = tallied_same t.undecided (λ n. if m == n then after.undecided else (known n).undecided) (λ n. (if m == n then after else known n).undecided)

@@ -1,14 +1,17 @@
 -- The indexes of a table of deliveries.
-use Rattle.std.specs.Prelude.{◌≡◌, ℕ, Bool, false, not, ◌&&◌, ◌||◌, if◌then◌else◌, is_none, is_some, Option, Some, None}
-use Rattle.std.specs.Ordering.{nat_cmp}
-use Rattle.std.specs.BTreeMap.{get}
+use Rattle.std.specs.Prelude.{◌≡◌, ◌==◌, ℕ, Bool, true, false, not, ◌&&◌, ◌||◌, if◌then◌else◌, is_none, is_some, Option, Some, None}
+use Rattle.std.specs.Ordering.{nat_cmp, ordering_then, is_gt}
+use Rattle.std.specs.declared.cmp.Ordering.{Ordering}
+use Rattle.std.specs.declared.ops.Bound.{Bound}
+use Rattle.std.specs.declared.ops.Bound.TheVariants.{Excluded, Unbounded}
+use Rattle.std.specs.BTreeMap.Range.{IsFromStart}
 use Rattle.std.specs.BTreeSet.{BTreeSet, contains}
 use Rattle.router_trace.specs.declared.binding.Origin.{Origin}
 use Rattle.router_trace.specs.Deliveries.{Delivery, has_row, source, sender, holder, is_over, unless_over, is_number}
+use Rattle.router_deliveries.specs.declared.by_link.ByLink.{ByLink}
 use Rattle.router_deliveries.specs.declared.change.Change.{Change}
 use Rattle.router_deliveries.specs.declared.change.Change.TheVariants as change
 use Rattle.router_deliveries.specs.declared.change.Gone.TheVariants as gone
-use Rattle.router_deliveries.specs.declared.groups.Groups.{Groups}
 use Rattle.router_deliveries.specs.declared.index.Index.{Index}
 use Rattle.router_deliveries.specs.declared.index.Keys.{Keys}
 use Rattle.router_deliveries.specs.declared.index.Moved.{Moved}
@@ -19,9 +22,32 @@ abbrev pub in_set : Option (BTreeSet ℕ) → ℕ → Bool
 in_set None n = false
 in_set (Some s) n = contains nat_cmp s n
 
+-- a link and a number; ordered by link, then by number
+abbrev pub Pair : Type 0
+Pair = ℕ × ℕ
+
+abbrev pub pair_cmp : Pair → Pair → Ordering
+pair_cmp p q = ordering_then (nat_cmp p.0 q.0) (nat_cmp p.1 q.1)
+
 -- a number belongs to a link
-abbrev pub in_group : Groups → ℕ → ℕ → Bool
-in_group g k n = in_set (get nat_cmp g.sets k) n
+abbrev pub in_group : ByLink → ℕ → ℕ → Bool
+in_group g k n = contains pair_cmp g.pairs (k, n)
+
+-- the first pair that a set has from a bound on, if it has any
+abbrev pub IsFirstPair : BTreeSet Pair → Bound Pair → Option Pair → Type 0
+IsFirstPair s low None = (q : Pair) → IsFromStart pair_cmp low q → contains pair_cmp s q ≡ false
+IsFirstPair s low (Some p) = IsFromStart pair_cmp low p × (contains pair_cmp s p ≡ true)
+    × ((q : Pair) → IsFromStart pair_cmp low q → contains pair_cmp s q ≡ true → is_gt (pair_cmp p q) ≡ false)
+
+-- the number of a pair of this link
+abbrev pub number_on : ℕ → Option Pair → Option ℕ
+number_on k None = None
+number_on k (Some p) = if p.0 == k then Some p.1 else None
+
+-- where the pairs of the links above this one begin, or those of all
+abbrev pub behind_link : Option ℕ → Bound Pair
+behind_link None = Unbounded
+behind_link (Some k) = Excluded (k, 18446744073709551615)
 
 -- the entries of a delivery in the indexes
 abbrev pub on_link : ℕ → Bool → Option ℕ
@@ -56,7 +82,7 @@ moved before d = record { name = d.name; over = is_over d; before = before; afte
 
 -- each number has the entries that it should have, and links have the counts
 pub record Indexes (s : Index) (known : ℕ → Keys) : Type 0 where
-  pub waiting : (k n : ℕ) → in_group s.waiting k n ≡ is_number (known n).waiting k
+  pub waiting : IsTallied s.waiting (λ n. (known n).waiting)
   pub unsent : (k n : ℕ) → in_group s.unsent k n ≡ is_number (known n).unsent k
   pub undecided : IsTallied s.undecided (λ n. (known n).undecided)
   pub held : IsTallied s.held (λ n. (known n).held)

@@ -81,14 +81,6 @@ impl Deliveries {
         self.sending.on(conn, own, handle)
     }
 
-    /// The first delivery, by number, that waits to start on the link with this number.
-    pub fn next_waiting(&self, link: u64) -> Option<u64>
-        ensures found { (t : List Entry) → DeliveriesFit self.now t → IsFirst (λ n. waits_on link (delivery t n)) result }
-        ensures first { (t : List Entry) → DeliveriesFit self.now t → result ≡ first_delivery t (waits_on link) }
-    {
-        self.store.next_waiting(link)
-    }
-
     /// How many deliveries wait to start on the link with this number.
     pub fn waiting(&self, link: u64) -> usize
         ensures found { (t : List Entry) → DeliveriesFit self.now t → IsCount (λ n. waits_on link (delivery t n)) result }
@@ -148,14 +140,6 @@ impl Deliveries {
         ensures count { (t : List Entry) → DeliveriesFit self.now t → result ≡ count_deliveries t (held_from link) }
     {
         self.store.held(link)
-    }
-
-    /// The first delivery, by number, whose outcome must be reported to its producer.
-    pub fn first_to_tell(&self) -> Option<u64>
-        ensures found { (t : List Entry) → DeliveriesFit self.now t → IsFirst (λ n. is_to_tell (delivery t n)) result }
-        ensures first { (t : List Entry) → DeliveriesFit self.now t → result ≡ first_delivery t is_to_tell }
-    {
-        self.store.first_to_tell()
     }
 
     /// The lowest number of a delivery, above this one or of all, whose outcome must be reported to its producer.

@@ -9,9 +9,10 @@ ghost use Rattle.router_deliveries.specs.Indexing.{Indexes, nowhere, keys, stand
 ghost use Rattle.router_deliveries.specs.Placing.{spot_of, on_spot, from_spot, id_spot, is_gone_there};
 ghost use Rattle.amqp_session.specs.Ranges.{has};
 
+use crate::by_link::ByLink;
 use crate::change::{Change, Gone};
 use crate::delivery::Delivery;
-use crate::groups::{Groups, add};
+use crate::sets::add;
 use crate::spots::{Spot, Spots};
 use crate::tallies::Tallies;
 use router_trace::{Attachment, DeliveryName, Origin};
@@ -55,10 +56,10 @@ pub(crate) struct Moved {
 /// Indexes of deliveries.
 #[derive(Debug, Drop)]
 pub(crate) struct Index {
-    // those that wait to start on a link
-    pub(crate) waiting: Groups,
+    // how many wait to start on a link
+    pub(crate) waiting: Tallies,
     // those of a link of which frames remain to be sent
-    pub(crate) unsent: Groups,
+    pub(crate) unsent: ByLink,
     // how many of a link are undecided
     pub(crate) undecided: Tallies,
     // how many are held from a producer's link
@@ -203,8 +204,8 @@ impl Index {
         ensures { Indexes result (λ n. nowhere) }
     {
         Index {
-            waiting: Groups::new(alloc),
-            unsent: Groups::new(alloc),
+            waiting: Tallies::new(alloc),
+            unsent: ByLink::new(alloc),
             undecided: Tallies::new(alloc),
             held: Tallies::new(alloc),
             to_tell: BTreeSet::new(alloc),
@@ -218,7 +219,7 @@ impl Index {
     pub(crate) fn shift(&mut self, number: u64, before: Keys, after: Keys) -> Result<(), AllocError>
         ensures { OnOk result ((known : ℕ → TheKeys) → known number ≡ before → Indexes self.old known → Indexes self.new (λ n. if number == n then after else known n)) }
     {
-        self.waiting.shift(number, before.waiting, after.waiting)?;
+        self.waiting.shift(before.waiting, after.waiting)?;
         self.unsent.shift(number, before.unsent, after.unsent)?;
         self.undecided.shift(before.undecided, after.undecided)?;
         self.held.shift(before.held, after.held)?;

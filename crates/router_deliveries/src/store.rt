@@ -18,7 +18,7 @@ ghost use Rattle.router_deliveries.specs.declared.index.Keys.{Keys as TheKeys};
 ghost use Rattle.router_deliveries.specs.Indexing.{Indexes, keys, moved, standing, in_group, concerns};
 ghost use Rattle.router_deliveries.specs.Placing.{is_id_there};
 ghost use Rattle.std.specs.BTreeSet.{contains};
-ghost use Rattle.router_deliveries.specs.Finding.{IsFirst, IsCount, IsFirstLink, is_above};
+ghost use Rattle.router_deliveries.specs.Finding.{IsFirst, IsFirstLink, is_above};
 ghost use Rattle.router_deliveries.specs.Touching.{is_touched_in, StandsSame, StoreTouches};
 ghost use Rattle.router_deliveries.specs.Hearing.{id_of};
 ghost use Rattle.router_deliveries.specs.Naming.{is_open, is_detached, is_detached_in};
@@ -28,8 +28,8 @@ ghost use Rattle.router_deliveries.specs.Tallying.{tally};
 use crate::by_name::ByName;
 use crate::change::{Change, Gone, behind_put};
 use crate::delivery::Delivery;
-use crate::groups::{behind, first};
 use crate::index::{Index, Keys, Moved};
+use crate::sets::{behind, first};
 use crate::touched::Touched;
 use amqp_frames::Item;
 use amqp_perf::{Perf, Transfer};
@@ -70,13 +70,6 @@ impl Store {
         self.deliveries.get(&number)
     }
 
-    /// The first delivery that waits to start on a link.
-    pub(crate) fn next_waiting(&self, link: u64) -> Option<u64>
-        ensures { IsFirst (in_group self.now.index.waiting link) result }
-    {
-        self.index.waiting.first(link)
-    }
-
     /// How many deliveries of a link are undecided.
     pub(crate) fn undecided(&self, link: u64) -> usize
         ensures { result ≡ tally self.now.index.undecided link }
@@ -93,7 +86,7 @@ impl Store {
 
     /// How many deliveries wait to start on a link.
     pub(crate) fn waiting(&self, link: u64) -> usize
-        ensures { IsCount (in_group self.now.index.waiting link) result }
+        ensures { result ≡ tally self.now.index.waiting link }
     {
         self.index.waiting.count(link)
     }
@@ -134,13 +127,6 @@ impl Store {
         ensures touched { (k : ℕ) → is_touched_in self.new.touched k ≡ (if link == k then false else is_touched_in self.old.touched k) }
     {
         self.touched.forget(link);
-    }
-
-    /// The first delivery whose outcome must be reported to its producer.
-    pub(crate) fn first_to_tell(&self) -> Option<u64>
-        ensures { IsFirst (contains nat_cmp self.now.index.to_tell) result }
-    {
-        first(&self.index.to_tell)
     }
 
     /// The lowest delivery, above this one or of all, whose outcome must be reported to its producer.

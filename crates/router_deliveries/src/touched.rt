@@ -6,8 +6,8 @@ ghost use Rattle.router_trace.specs.Deliveries.{is_number};
 ghost use Rattle.router_deliveries.specs.Finding.{IsFirst};
 ghost use Rattle.router_deliveries.specs.Touching.{is_touched_in, StandsSame};
 
-use crate::groups::{add, first};
 use crate::index::Keys;
+use crate::sets::{add, first};
 use std::alloc::{AllocError, Global};
 use std::collections::BTreeSet;
 
@@ -45,9 +45,21 @@ impl Touched {
     pub(crate) fn note(&mut self, before: Keys, after: Keys) -> Result<(), AllocError>
         ensures { OnOk result ((k : ℕ) → is_touched_in self.new k ≡ false → (is_touched_in self.old k ≡ false) × StandsSame k before after) }
     {
-        self.note_moved(before.waiting, after.waiting)?;
-        self.note_moved(before.undecided, after.undecided)?;
+        self.note_consumer(before, after)?;
         self.note_moved(before.held, after.held)?;
+        Ok(())
+    }
+
+    /// Notes the link on which a delivery waits or is undecided, if that changes; once, where both change there.
+    fn note_consumer(&mut self, before: Keys, after: Keys) -> Result<(), AllocError>
+        ensures { OnOk result ((k : ℕ) → is_touched_in self.new k ≡ false → (is_touched_in self.old k ≡ false)
+            × (is_number before.waiting k ≡ is_number after.waiting k) × (is_number before.undecided k ≡ is_number after.undecided k)) }
+    {
+        self.note_moved(before.waiting, after.waiting)?;
+        if before.undecided == before.waiting && after.undecided == after.waiting {
+            return Ok(());
+        }
+        self.note_moved(before.undecided, after.undecided)?;
         Ok(())
     }
 

@@ -1,0 +1,141 @@
+//! Delivery numbers by link number.
+ghost use Rattle.std.specs.Prelude.{◌≡◌, ◌==◌, ℕ, false, true, if◌then◌else◌, OnOk, ◌&&◌, nat_lt};
+ghost use Rattle.std.specs.BTreeMap.{is_at};
+ghost use Rattle.std.specs.BTreeSet.{contains};
+ghost use Rattle.router_trace.specs.Deliveries.{is_number};
+ghost use Rattle.router_deliveries.specs.Finding.{IsFirst, IsFirstLink};
+ghost use Rattle.router_deliveries.specs.Indexing.{Pair as ThePair, pair_cmp, IsFirstPair, number_on, behind_link, in_group};
+
+use std::alloc::{AllocError, Global};
+use std::collections::BTreeSet;
+use std::ops::Bound;
+
+/// A link, and the number of a delivery.
+type Pair = (u64, u64);
+
+/// Delivery numbers by link number. The numbers of a link are adjacent, and the first of them is found by one look-up.
+#[derive(Debug, Drop)]
+pub(crate) struct ByLink {
+    pairs: BTreeSet<Pair>,
+}
+
+impl ByLink {
+    /// An empty table.
+    pub(crate) fn new(alloc: Global) -> ByLink
+        ensures { (k n : ℕ) → in_group result k n ≡ false }
+    {
+        ByLink {
+            pairs: BTreeSet::new(alloc),
+        }
+    }
+
+    /// The lowest number of a link.
+    pub(crate) fn first(&self, link: u64) -> Option<u64>
+        ensures { IsFirst (in_group self.now link) result }
+    {
+        let found = first_pair(&self.pairs, Bound::Included((link, 0)));
+        number_on(link, found)
+    }
+
+    /// The lowest number of a link above `number`.
+    pub(crate) fn first_behind(&self, link: u64, number: u64) -> Option<u64>
+        ensures { IsFirst (λ n. nat_lt number n && in_group self.now link n) result }
+    {
+        let found = first_pair(&self.pairs, Bound::Excluded((link, number)));
+        number_on(link, found)
+    }
+
+    /// The lowest link, above `link` or of all, that has numbers.
+    pub(crate) fn link_behind(&self, link: Option<u64>) -> Option<u64>
+        ensures { IsFirstLink (in_group self.now) link result }
+    {
+        match first_pair(&self.pairs, behind_link(link)) {
+            None => None,
+            Some(pair) => Some(pair.0),
+        }
+    }
+
+    /// Moves a number from one link to another.
+    pub(crate) fn shift(
+        &mut self,
+        number: u64,
+        before: Option<u64>,
+        after: Option<u64>,
+    ) -> Result<(), AllocError>
+        ensures { OnOk result (((k : ℕ) → in_group self.old k number ≡ is_number before k)
+            → (k n : ℕ) → in_group self.new k n ≡ (if number == n then is_number after k else in_group self.old k n)) }
+    {
+        if before == after {
+            return Ok(());
+        }
+        self.drop_from(number, before);
+        self.add_to(number, after)
+    }
+
+    /// Removes a number from a link, if there is one.
+    fn drop_from(&mut self, number: u64, link: Option<u64>)
+        ensures { (k n : ℕ) → in_group self.new k n ≡ (if is_number link k then (if number == n then false else in_group self.old k n) else in_group self.old k n) }
+    {
+        if let Some(link) = link {
+            take_out(&mut self.pairs, (link, number));
+        }
+    }
+
+    /// Adds a number to a link, if there is one.
+    fn add_to(&mut self, number: u64, link: Option<u64>) -> Result<(), AllocError>
+        ensures { OnOk result ((k n : ℕ) → in_group self.new k n ≡ (if is_number link k then (if number == n then true else in_group self.old k n) else in_group self.old k n)) }
+    {
+        if let Some(link) = link {
+            put_in(&mut self.pairs, (link, number))?;
+        }
+        Ok(())
+    }
+}
+
+/// The first pair of a set from a bound on.
+fn first_pair(pairs: &BTreeSet<Pair>, low: Bound<Pair>) -> Option<Pair>
+    ensures { IsFirstPair pairs.now low result }
+{
+    let mut above = pairs.range((low, Bound::Unbounded));
+    match above.next() {
+        None => None,
+        Some(next) => Some(*next),
+    }
+}
+
+/// The number of a pair, if it is of this link.
+fn number_on(link: u64, pair: Option<Pair>) -> Option<u64>
+    ensures { result ≡ number_on link pair }
+{
+    match pair {
+        None => None,
+        Some(pair) => { if pair.0 == link { Some(pair.1) } else { None } }
+    }
+}
+
+/// The bound from which the pairs of the links above this one begin, or those of all.
+fn behind_link(link: Option<u64>) -> Bound<Pair>
+    ensures { result ≡ behind_link link }
+{
+    match link {
+        None => Bound::Unbounded,
+        Some(link) => Bound::Excluded((link, u64::MAX)),
+    }
+}
+
+/// Puts a pair into a set.
+fn put_in(pairs: &mut BTreeSet<Pair>, pair: Pair) -> Result<(), AllocError>
+    ensures { OnOk result ((q : ThePair) → contains pair_cmp pairs.new q ≡ (if is_at (pair_cmp pair) q then true else contains pair_cmp pairs.old q)) }
+{
+    match pairs.insert(pair) {
+        Ok(_) => Ok(()),
+        Err(_) => Err(AllocError),
+    }
+}
+
+/// Removes a pair from a set.
+fn take_out(pairs: &mut BTreeSet<Pair>, pair: Pair)
+    ensures { (q : ThePair) → contains pair_cmp pairs.new q ≡ (if is_at (pair_cmp pair) q then false else contains pair_cmp pairs.old q) }
+{
+    let _ = pairs.remove(&pair);
+}
