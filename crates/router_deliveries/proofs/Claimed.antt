@@ -62,6 +62,24 @@ all_gone conn own c o q first last ids link known small exact = by_places (conn 
     by_places true false e f = refl
     by_places false w e f = refl
 
+-- a range of one id
+alone : (first q : ℕ) → first < 2 ^ 32 → q < 2 ^ 32 → (first == q) ≡ in_range first first q
+alone first q f l = grind (arith, nat_tests)
+
+pub one_gone : (here own : Bool) (first last q : ℕ) (link : Option ℕ) (v : Option Claim) → first < 2 ^ 32 → first ≡ last → IsSmall q v
+    → let_go_at here own (first == q) link v ≡ let_go_at here own (in_range first last q) link v
+one_gone here own first last q link None f is small = none_here here own (first == q) (in_range first last q)
+  where
+    none_here : (h o a b : Bool) → let_go_at h o a link None ≡ let_go_at h o b link None
+    none_here true true true true = refl
+    none_here true true true false = refl
+    none_here true true false true = refl
+    none_here true true false false = refl
+    none_here true false a b = refl
+    none_here false o a b = refl
+one_gone here own first last q link (Some v) f is small =
+    ap (λ b. let_go_at here own b link (Some v)) (alone first q f small ∙ ap (λ k. in_range first k q) is)
+
 -- a small id stays small
 pub small_gone : (here own among : Bool) (link : Option ℕ) (q : ℕ) (old new : Option Claim) → new ≡ let_go_at here own among link old → IsSmall q old → IsSmall q new
 small_gone here own among link q old new is x = rw is (by_tests here own among)

@@ -7,18 +7,12 @@ use Rattle.amqp_perf.specs.declared.state.DeliveryState.{DeliveryState}
 use Rattle.router_trace.specs.declared.binding.Origin.{Origin}
 use Rattle.router_trace.specs.Deliveries.{Delivery, has_row, is_number, is_of, waits_on, undecided_on, held_from, is_to_tell, holder}
 use Rattle.router_trace.specs.Following.{is_unsent_on}
-use Rattle.router_deliveries.specs.declared.unbound.Unbound.{Unbound}
-use Rattle.router_deliveries.specs.Claiming.{is_marked}
-use Rattle.router_deliveries.specs.Places.{at}
 use Rattle.router_deliveries.specs.Finding.{IsFirst, IsCount}
 use Rattle.router_deliveries.specs.Indexing.{in_set, standing, from_link, on_link}
 
 pub no_rise : IsStrictlySortedBy nat_cmp []
 unfolding IsStrictlySortedBy
 no_rise = tt
-
-pub no_ids : (s : Unbound) (c o h : ℕ) → at s.sets c o h ≡ None → IsCount (is_marked s c o h) 0
-no_ids s c o h none = record { numbers = []; rise = no_rise; pass = λ n. sym (ap (λ s. in_set s n) none); are = refl }
 
 pub first_same : (p q : ℕ → Bool) → ((n : ℕ) → p n ≡ q n) → (r : Option ℕ) → IsFirst p r → IsFirst q r
 first_same p q same None x = λ n. sym (same n) ∙ x n

@@ -14,6 +14,7 @@ mod Reindexed
 mod Settled
 mod Found
 mod Tallied
+mod Counted
 mod Claimed
 pub mod Numbers
 mod Asked

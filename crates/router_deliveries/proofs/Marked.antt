@@ -1,4 +1,4 @@
--- The unbound claims stay marked at their links.
+-- The claims stay marked at their links, and the unbound ones counted.
 use Rattle.std.proofs.Common.{◌≡◌, ◌∙◌, ◌<◌, ◌^◌, ℕ, Bool, true, false, refl, sym, ap, arith, Option, Some, None}
 use Rattle.std.specs.Prelude.{◌==◌, if◌then◌else◌}
 use Rattle.std.specs.Option.{option_map}
@@ -10,8 +10,8 @@ use Rattle.router_trace.specs.Deliveries.{is_number}
 use Rattle.router_trace.specs.Settling.{is_unbound_on, is_of_link, unbound}
 use Rattle.router_trace.specs.Trace.{Trace}
 use Rattle.router_deliveries.specs.declared.claims.Claims.{Claims}
-use Rattle.router_deliveries.specs.Claiming.{ClaimsFit, IsSmall, claim_handle, unbound_handle, is_marked}
-use Rattle.router_deliveries.specs.Finding.{IsCount}
+use Rattle.router_deliveries.specs.Claiming.{ClaimsFit, IsSmall, claim_handle, unbound_handle}
+use Rattle.router_deliveries.specs.Counting.{count_at}
 use Rattle.router_deliveries.specs.Places.{at_id}
 use Rattle.router_deliveries.proofs.Numbers.{count_is}
 use Rattle.router_deliveries.proofs.Found.{count_same}
@@ -138,10 +138,10 @@ marked_end test none true false h old next first last marked ended gone = ended 
 marked_end test none false own h old next first last marked ended gone = ended ∙ marked ∙ ap (test h) (sym gone)
 
 -- how many there are
-pub unbound_count : (s : Claims) (t : Trace) (c o h k : ℕ) → ClaimsFit s t → IsCount (is_marked s.unbound c o h) k → k ≡ unbound t c o h
-unbound_count s t c o h k fit count =
-    count_is (2 ^ 32) (λ id. is_unbound_on h (claims t c o id)) (λ id e. low id (at_id s.ids c o id) (fit.small c o id) (ap (is_unbound_on h) (fit.ids c o id) ∙ e)) k
-    (count_same (is_marked s.unbound c o h) (λ id. is_unbound_on h (claims t c o id)) (λ id. fit.marked.unbound c o h id ∙ ap (is_unbound_on h) (fit.ids c o id)) k count)
+pub unbound_count : (s : Claims) (t : Trace) (c o h : ℕ) → ClaimsFit s t → count_at s.unbound c o h ≡ unbound t c o h
+unbound_count s t c o h fit =
+    count_is (2 ^ 32) (λ id. is_unbound_on h (claims t c o id)) (λ id e. low id (at_id s.ids c o id) (fit.small c o id) (ap (is_unbound_on h) (fit.ids c o id) ∙ e)) (count_at s.unbound c o h)
+    (count_same (λ id. is_unbound_on h (at_id s.ids c o id)) (λ id. is_unbound_on h (claims t c o id)) (λ id. ap (is_unbound_on h) (fit.ids c o id)) (count_at s.unbound c o h) (fit.marked.unbound c o h))
   where
     low : (id : ℕ) (v : Option Claim) → IsSmall id v → is_unbound_on h v ≡ true → id < 2 ^ 32
     low id None small e = absurd cc

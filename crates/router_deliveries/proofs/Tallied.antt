@@ -165,7 +165,7 @@ rise_without m (x ∷ xs) rise = by_test (m == x) (rise_without m xs rise.1)
     by_test false rest = (above_without x m xs rise.0, rest)
 
 -- so a count follows
-count_with : (p : ℕ → Bool) (m k : ℕ) (b : Bool) → p m ≡ false → IsCount p k → IsCount (λ n. if m == n then b else p n) (if b then k + 1 else k)
+pub count_with : (p : ℕ → Bool) (m k : ℕ) (b : Bool) → p m ≡ false → IsCount p k → IsCount (λ n. if m == n then b else p n) (if b then k + 1 else k)
 count_with p m k true new x = record {
   numbers = with_one m x.numbers;
   rise = rise_with m x.numbers x.rise (x.pass m ∙ new);
@@ -178,7 +178,7 @@ count_with p m k false new x = count_same p (λ n. if m == n then false else p n
     by_test n true e = ap p (sym (eqb-true m n e)) ∙ new
     by_test n false e = refl
 
-count_without : (p : ℕ → Bool) (m k : ℕ) (b : Bool) → p m ≡ b → IsCount p k → IsCount (λ n. if m == n then false else p n) (if b then k - 1 else k)
+pub count_without : (p : ℕ → Bool) (m k : ℕ) (b : Bool) → p m ≡ b → IsCount p k → IsCount (λ n. if m == n then false else p n) (if b then k - 1 else k)
 count_without p m k true there x = record {
   numbers = without m x.numbers;
   rise = rise_without m x.numbers x.rise;

@@ -22,7 +22,9 @@ use Rattle.router_deliveries.specs.declared.claims.Claims.{Claims}
 use Rattle.router_deliveries.specs.declared.claims.Marks.{Marks}
 use Rattle.router_deliveries.specs.declared.claims.Middle.{Middle}
 use Rattle.router_deliveries.specs.declared.claims.Receiving.{Receiving}
-use Rattle.router_deliveries.specs.declared.unbound.Unbound.{Unbound}
+use Rattle.router_deliveries.specs.declared.link_ids.LinkIds.{LinkIds}
+use Rattle.router_deliveries.specs.Counting.{count_at}
+use Rattle.router_deliveries.specs.Finding.{IsCount}
 use Rattle.router_deliveries.specs.Indexing.{in_set}
 use Rattle.router_deliveries.specs.Places.{at, at_id}
 
@@ -34,7 +36,7 @@ IsSmall id (Some c) = id < 2 ^ 32
 abbrev pub AreSmall : (ℕ → ℕ → ℕ → Option Claim) → Type 0
 AreSmall known = (c o id : ℕ) → IsSmall id (known c o id)
 
--- the ids of all claims and those of unbound ones are kept by link
+-- the ids of all claims are kept by link, and unbound ones are counted
 abbrev pub claim_handle : Option Claim → Option ℕ
 claim_handle None = None
 claim_handle (Some v) = Some v.handle
@@ -46,11 +48,11 @@ unbound_handle (Some v) = if v.unbound then Some v.handle else None
 abbrev pub marks_of : Option Claim → Marks
 marks_of v = record { unbound = unbound_handle v; link = claim_handle v }
 
-abbrev pub is_marked : Unbound → ℕ → ℕ → ℕ → ℕ → Bool
+abbrev pub is_marked : LinkIds → ℕ → ℕ → ℕ → ℕ → Bool
 is_marked s c o h id = in_set (at s.sets c o h) id
 
 pub record AreMarked (s : Claims) : Type 0 where
-  pub unbound : (c o h id : ℕ) → is_marked s.unbound c o h id ≡ is_unbound_on h (at_id s.ids c o id)
+  pub unbound : (c o h : ℕ) → IsCount (λ id. is_unbound_on h (at_id s.ids c o id)) (count_at s.unbound c o h)
   pub by_link : (c o h id : ℕ) → is_marked s.by_link c o h id ≡ is_of_link h (at_id s.ids c o id)
 
 pub record ClaimsFit (s : Claims) (t : Trace) : Type 0 where

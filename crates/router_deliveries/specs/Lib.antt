@@ -5,6 +5,7 @@ pub mod Placing
 pub mod Indexing
 pub mod Finding
 pub mod Tallying
+pub mod Counting
 pub mod Calling
 pub mod Claiming
 pub mod Fits

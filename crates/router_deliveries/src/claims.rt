@@ -20,8 +20,9 @@ ghost use Rattle.router_deliveries.specs.Claiming.{ClaimsFit, AreSmall, AreMarke
 ghost use Rattle.router_deliveries.specs.Places.{at_id, in_ids};
 
 use crate::by_session::BySession;
+use crate::counts::Counts;
+use crate::link_ids::LinkIds;
 use crate::names::HALF;
-use crate::unbound::Unbound;
 use amqp_frames::Item;
 use amqp_perf::{DeliveryTag, Disposition, Perf, Role, Transfer};
 use amqp_session::{DeliveryIds, Serial};
@@ -72,29 +73,31 @@ pub struct Receiving {
 #[derive(Debug, Drop)]
 pub struct Claims {
     ids: BySession<Claim>,
-    // the ids of unbound claims, and those of all, by link
-    unbound: Unbound,
-    by_link: Unbound,
+    // how many unbound claims each link has
+    unbound: Counts,
+    // the ids of all claims by link
+    by_link: LinkIds,
 }
 
-/// The handles of the router at which an id is marked.
+/// The handles of the router at which a claim stands.
 #[derive(Clone, Copy, Debug)]
 struct Marks {
-    // among the unbound claims
+    // that of the link whose unbound claims count it
     unbound: Option<u32>,
-    // among all claims
+    // that of its link
     link: Option<u32>,
 }
 
 impl Claims {
     /// An empty table.
+    #[tactic(auto, using(crate::proofs::Counted::counted_none))]
     pub fn new(alloc: Global) -> Claims
         ensures { (g : Beginning) → ClaimsFit result (beginning g) }
     {
         Claims {
             ids: BySession::new(alloc),
-            unbound: Unbound::new(alloc),
-            by_link: Unbound::new(alloc),
+            unbound: Counts::new(alloc),
+            by_link: LinkIds::new(alloc),
         }
     }
 
@@ -154,9 +157,8 @@ impl Claims {
             ≡ (if conn == c then (if own == o then (if id == q then option_map bound_claim (at_id self.old.ids c o q) else at_id self.old.ids c o q) else at_id self.old.ids c o q) else at_id self.old.ids c o q) }
         ensures marked { AreMarked self.old → AreMarked self.new }
     {
-        let handle = unbound_handle(self.ids.get(conn, own, id));
-        self.unbound.drop_from(conn, own, handle, id);
-        bind_in(&mut self.ids, conn, own, id);
+        let handle = bind_in(&mut self.ids, conn, own, id);
+        self.unbound.drop_from(conn, own, handle);
     }
 
     /// A connection is lost.
@@ -267,7 +269,7 @@ impl Claims {
             return Ok(());
         }
         let last = disposition.last.unwrap_or(disposition.first);
-        self.let_go(conn, own, disposition.first, last, None)?;
+        self.let_go_ids(conn, own, disposition.first, last)?;
         Ok(())
     }
 
@@ -361,6 +363,21 @@ impl Claims {
         self.set(conn, own, id, stood, claimed(handle, tag, transfer))
     }
 
+    /// Frees the ids of a range on a session. One id alone is looked up, and no list of ids is made.
+    fn let_go_ids(&mut self, conn: u64, own: u16, first: u32, last: u32) -> Result<(), AllocError>
+        ensures claims { OnOk result (AreSmall (at_id self.old.ids) → (c o q : ℕ) → at_id self.new.ids c o q
+            ≡ let_go_at (conn == c) (own == o) (in_range first last q) None (at_id self.old.ids c o q)) }
+        ensures small { OnOk result (AreSmall (at_id self.old.ids) → AreSmall (at_id self.new.ids)) }
+        ensures marked { OnOk result (AreMarked self.old → AreMarked self.new) }
+    {
+        if first == last {
+            self.let_go_one(conn, own, first, None);
+            return Ok(());
+        }
+        self.let_go(conn, own, first, last, None)?;
+        Ok(())
+    }
+
     /// Frees the ids of a range on a session: those claimed on this link of the router, or all.
     fn let_go(
         &mut self,
@@ -420,7 +437,7 @@ impl Claims {
             ≡ (if conn == c then (if own == o then (if id == q then None else at_id self.old.ids c o q) else at_id self.old.ids c o q) else at_id self.old.ids c o q) }
         ensures marked { stood ≡ marks_of (at_id self.old.ids conn own id) → AreMarked self.old → AreMarked self.new }
     {
-        self.unbound.drop_from(conn, own, stood.unbound, id);
+        self.unbound.drop_from(conn, own, stood.unbound);
         self.by_link.drop_from(conn, own, stood.link, id);
         self.ids.remove(conn, own, id);
     }
@@ -440,7 +457,7 @@ impl Claims {
     {
         let stands = marks_of(Some(&claim));
         self.unbound
-            .shift(conn, own, stood.unbound, stands.unbound, id)?;
+            .shift(conn, own, stood.unbound, stands.unbound)?;
         self.by_link.shift(conn, own, stood.link, stands.link, id)?;
         self.ids.insert(conn, own, id, claim)?;
         Ok(())
@@ -482,33 +499,53 @@ fn claimed(handle: u32, tag: Option<DeliveryTag>, transfer: &Transfer) -> Option
     })
 }
 
-/// The delivery with an id is bound, on a session of a connection.
-fn bind_in(ids: &mut BySession<Claim>, conn: u64, own: u16, id: u32)
-    ensures { (c o q : ℕ) → at_id ids.new c o q
+/// The delivery with an id is bound, on a session of a connection. Returns the router's handle of its link if it was unbound.
+fn bind_in(ids: &mut BySession<Claim>, conn: u64, own: u16, id: u32) -> Option<u32>
+    ensures gives { result ≡ unbound_handle (at_id ids.old conn own id) }
+    ensures claims { (c o q : ℕ) → at_id ids.new c o q
         ≡ (if conn == c then (if own == o then (if id == q then option_map bound_claim (at_id ids.old c o q) else at_id ids.old c o q) else at_id ids.old c o q) else at_id ids.old c o q) }
 {
-    if let Some(sessions) = ids.rows.get_mut(&conn) {
-        bind_in_connection(sessions, own, id);
+    match ids.rows.get_mut(&conn) {
+        None => None,
+        Some(sessions) => bind_in_connection(sessions, own, id),
     }
 }
 
 /// The same on the sessions of a connection.
-fn bind_in_connection(sessions: &mut BTreeMap<u16, DeliveryIds<Claim>>, own: u16, id: u32)
-    ensures { (o q : ℕ) → in_ids (get nat_cmp sessions.new o) q
+fn bind_in_connection(
+    sessions: &mut BTreeMap<u16, DeliveryIds<Claim>>,
+    own: u16,
+    id: u32,
+) -> Option<u32>
+    ensures gives { result ≡ unbound_handle (in_ids (get nat_cmp sessions.old own) id) }
+    ensures claims { (o q : ℕ) → in_ids (get nat_cmp sessions.new o) q
         ≡ (if own == o then (if id == q then option_map bound_claim (in_ids (get nat_cmp sessions.old o) q) else in_ids (get nat_cmp sessions.old o) q) else in_ids (get nat_cmp sessions.old o) q) }
 {
-    if let Some(ids) = sessions.get_mut(&own) {
-        bind_in_session(ids, id);
+    match sessions.get_mut(&own) {
+        None => None,
+        Some(ids) => bind_in_session(ids, id),
     }
 }
 
 /// The same on a session.
-fn bind_in_session(ids: &mut DeliveryIds<Claim>, id: u32)
-    ensures { (q : ℕ) → get nat_cmp ids.new.deliveries q ≡ (if id == q then option_map bound_claim (get nat_cmp ids.old.deliveries q) else get nat_cmp ids.old.deliveries q) }
+fn bind_in_session(ids: &mut DeliveryIds<Claim>, id: u32) -> Option<u32>
+    ensures gives { result ≡ unbound_handle (get nat_cmp ids.old.deliveries id) }
+    ensures claims { (q : ℕ) → get nat_cmp ids.new.deliveries q ≡ (if id == q then option_map bound_claim (get nat_cmp ids.old.deliveries q) else get nat_cmp ids.old.deliveries q) }
 {
-    if let Some(claim) = ids.get_mut(Serial::new(id)) {
-        claim.unbound = false;
+    match ids.get_mut(Serial::new(id)) {
+        None => None,
+        Some(claim) => bind_claim(claim),
     }
+}
+
+/// A claim is bound. Returns the router's handle of its link if it was unbound.
+fn bind_claim(claim: &mut Claim) -> Option<u32>
+    ensures gives { result ≡ unbound_handle (Some claim.old) }
+    ensures claims { claim.new ≡ bound_claim claim.old }
+{
+    let handle = unbound_handle(Some(&*claim));
+    claim.unbound = false;
+    handle
 }
 
 /// A copy of a tag.

@@ -1,4 +1,4 @@
-//! Delivery-ids by link: those of unbound claims, and those of all.
+//! Delivery-ids by link.
 ghost use Rattle.std.specs.Prelude.{◌≡◌, ◌==◌, ℕ, Bool, true, false, if◌then◌else◌, OnOk};
 ghost use Rattle.std.specs.Option.{option_map};
 ghost use Rattle.std.specs.Ordering.{nat_cmp};
@@ -6,7 +6,6 @@ ghost use Rattle.std.specs.BTreeMap.{get};
 ghost use Rattle.std.specs.BTreeSet.{contains};
 ghost use Rattle.router_trace.specs.Deliveries.{is_number};
 ghost use Rattle.router_deliveries.specs.Claiming.{is_marked};
-ghost use Rattle.router_deliveries.specs.Finding.{IsCount};
 ghost use Rattle.router_deliveries.specs.Indexing.{in_set};
 ghost use Rattle.router_deliveries.specs.Places.{in_map, at};
 
@@ -16,30 +15,19 @@ use std::collections::{BTreeMap, BTreeSet};
 
 /// Delivery-ids by the router's handles; a link without any takes no room.
 #[derive(Debug, Drop)]
-pub(crate) struct Unbound {
+pub(crate) struct LinkIds {
     alloc: Global,
     sets: ByHandle<BTreeSet<u32>>,
 }
 
-impl Unbound {
+impl LinkIds {
     /// An empty table.
-    pub(crate) fn new(alloc: Global) -> Unbound
+    pub(crate) fn new(alloc: Global) -> LinkIds
         ensures { (c o h id : ℕ) → is_marked result c o h id ≡ false }
     {
-        Unbound {
+        LinkIds {
             alloc,
             sets: ByHandle::new(alloc),
-        }
-    }
-
-    /// How many ids a link has.
-    #[tactic(auto, using(crate::proofs::Found::no_ids))]
-    pub(crate) fn count(&self, conn: u64, own: u16, handle: u32) -> usize
-        ensures { IsCount (is_marked self.now conn own handle) result }
-    {
-        match self.sets.get(conn, own, handle) {
-            None => 0,
-            Some(ids) => count(ids),
         }
     }
 
@@ -197,11 +185,4 @@ fn add(ids: &mut BTreeSet<u32>, id: u32) -> Result<(), AllocError>
         Ok(_) => Ok(()),
         Err(_) => Err(AllocError),
     }
-}
-
-/// How many ids a set has.
-fn count(ids: &BTreeSet<u32>) -> usize
-    ensures { IsCount (contains nat_cmp ids.now) result }
-{
-    ids.len()
 }
