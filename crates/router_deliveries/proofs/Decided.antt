@@ -1,4 +1,4 @@
--- Which rows changes would decide: only deliveries that one of them concerns, by a copy without the message.
+-- Which rows changes would decide: only those of deliveries that one of them may decide, by a copy without the message.
 use Rattle.std.proofs.Common.{◌≡◌, ◌∙◌, ◌≤◌, ◌<◌, ◌+◌, ℕ, zero, suc, Bool, true, false, refl, sym, ap, arith, List, [], ◌∷◌, ◌++◌, append_assoc, append-nil, Option, Some, None}
 use Rattle.std.specs.Prelude.{◌==◌, ◌&&◌, ◌||◌, not, if◌then◌else◌, is_none}
 use Rattle.std.specs.List.{list_any, flat_map, AllByRecursion}
@@ -12,17 +12,20 @@ use Rattle.std.proofs.lemmas.Bool.Decides.{nat_tests}
 use Rattle.amqp_perf.specs.declared.state.DeliveryState.{DeliveryState}
 use Rattle.amqp_session.specs.Ranges.{has}
 use Rattle.book_core.specs.declared.row.RowNumber.{RowNumber}
+use Rattle.router_trace.specs.declared.binding.DeliveryName.{DeliveryName}
+use Rattle.router_trace.specs.declared.binding.DeliveryName.TheVariants.{Row, Counter}
 use Rattle.router_trace.specs.declared.handle.Attachment.{Attachment}
 use Rattle.router_trace.specs.Trace.{Trace}
-use Rattle.router_trace.specs.Deliveries.{Delivery, source, is_undecided, bindings, delivery, behind_ends, behind_origin, is_gone_with, ended, untold, unsettled, sender, forsaken}
+use Rattle.router_trace.specs.Deliveries.{Delivery, source, is_undecided, has_row, stands_on, bindings, delivery, behind_ends, behind_origin, is_gone_with, ended, untold, unsettled, sender, forsaken}
 use Rattle.router_deliveries.specs.declared.change.Change.{Change}
 use Rattle.router_deliveries.specs.declared.change.Change.TheVariants as change
+use Rattle.router_deliveries.specs.declared.index.Keys.{Keys}
 use Rattle.router_deliveries.specs.declared.store.Store.{Store}
-use Rattle.router_deliveries.specs.Deciding.{gathered_below, changed_by, bare, row_of, open_row, outcome_of_row, outcome_of, decision_of, decided_rows, listed_row, row_from, rows_from, concerned_by}
+use Rattle.router_deliveries.specs.Deciding.{gathered_below, changed_by, bare, row_of, open_row, outcome_of_row, outcome_of, decision_of, decided_rows, listed_row, row_from, rows_from, decides, decide}
 use Rattle.router_deliveries.specs.Fits.{StoreFit}
-use Rattle.router_deliveries.specs.Indexing.{standing, concerns}
-use Rattle.router_deliveries.specs.Placing.{is_id_there}
-use Rattle.router_deliveries.specs.Stepping.{is_gone, comes_with_id, is_decided_by, changed}
+use Rattle.router_deliveries.specs.Indexing.{standing, concerns, durable_spot}
+use Rattle.router_deliveries.specs.Placing.{own_spot, is_id_there}
+use Rattle.router_deliveries.specs.Stepping.{is_gone, comes_with_id, is_in, is_decided_by, changed}
 use Rattle.router_deliveries.proofs.Keys.{changes_nothing, untells_nothing}
 use Rattle.router_deliveries.proofs.Numbers.{none_beyond}
 
@@ -155,15 +158,40 @@ or_second : (a b : Bool) → (a || b) ≡ false → b ≡ false
 or_second true b e = absurd cc
 or_second false b e = e
 
-stays : (xs : List Change) (d : Delivery) → concerned_by xs (standing (Some d)) ≡ false → changed_by xs d ≡ d
-stays [] d e = refl
-stays (x ∷ xs) d e =
-    ap (changed_by xs) (changes_nothing x d (or_first (concerns x (standing (Some d))) (concerned_by xs (standing (Some d))) e))
-    ∙ stays xs d (or_second (concerns x (standing (Some d))) (concerned_by xs (standing (Some d))) e)
+-- a change that isn't a consumer's disposition may decide those that it concerns
+pub decides_others : (x : Change) (k : Keys) → ((c o first last : ℕ) (made : DeliveryState) → x ≡ change.Decided c o first last made → ⊥) → decides x k ≡ concerns x k
+decides_others (change.Decided c o first last made) k other = absurd (other c o first last made refl)
+decides_others (change.Ends g closed) k other = refl
+decides_others (change.Untold c o first last) k other = refl
+decides_others (change.Told c o first last) k other = refl
 
-nothing_made : (r : Option RowNumber) → outcome_of r None ≡ []
-nothing_made None = refl
-nothing_made (Some r) = refl
+and_none : (b : Bool) → (b && false) ≡ false
+and_none true = refl
+and_none false = refl
+
+-- and an undecided delivery with a row is decided only by its id
+by_own_id : (a : Attachment) (c o first last : ℕ) (id : Option ℕ) → is_id_there c o first last (own_spot a id) ≡ false → (stands_on a c o && is_in id first last) ≡ false
+by_own_id a c o first last None e = and_none (stands_on a c o)
+by_own_id a c o first last (Some id) e = e
+
+not_decided : (d : Delivery) (c o first last : ℕ) → is_undecided d ≡ true → has_row d.name ≡ true → is_id_there c o first last (durable_spot d) ≡ false → is_decided_by d c o first last ≡ false
+not_decided d c o first last undecided row e =
+    let there : is_id_there c o first last (own_spot d.link d.id) ≡ false
+    = sym (ap (λ b. is_id_there c o first last (if b && has_row d.name then own_spot d.link d.id else None)) undecided
+    ∙ ap (λ b. is_id_there c o first last (if b then own_spot d.link d.id else None)) row) ∙ e
+    in ap (λ b. is_undecided d && b) (by_own_id d.link c o first last d.id there) ∙ and_none (is_undecided d)
+
+stays_by : (x : Change) (d : Delivery) → is_undecided d ≡ true → has_row d.name ≡ true → decides x (standing (Some d)) ≡ false → changed x d ≡ d
+stays_by (change.Ends g closed) d undecided row e = changes_nothing (change.Ends g closed) d e
+stays_by (change.Untold c o first last) d undecided row e = changes_nothing (change.Untold c o first last) d e
+stays_by (change.Told c o first last) d undecided row e = changes_nothing (change.Told c o first last) d e
+stays_by (change.Decided c o first last made) d undecided row e = ap (λ b. if b then record d { outcome = Some made } else d) (not_decided d c o first last undecided row e)
+
+stays : (xs : List Change) (d : Delivery) → is_undecided d ≡ true → has_row d.name ≡ true → decide xs (standing (Some d)) ≡ false → changed_by xs d ≡ d
+stays [] d undecided row e = refl
+stays (x ∷ xs) d undecided row e =
+    ap (changed_by xs) (stays_by x d undecided row (or_first (decides x (standing (Some d))) (decide xs (standing (Some d))) e))
+    ∙ stays xs d undecided row (or_second (decides x (standing (Some d))) (decide xs (standing (Some d))) e)
 
 no_outcome : (d : Delivery) → is_undecided d ≡ true → d.outcome ≡ None
 no_outcome d undecided = none_of d.outcome undecided
@@ -172,23 +200,27 @@ no_outcome d undecided = none_of d.outcome undecided
     none_of None e = refl
     none_of (Some s) e = absurd cc
 
-no_decision : (xs : List Change) (v : Option Delivery) → concerned_by xs (standing v) ≡ false → decision_of xs v ≡ []
+no_decision : (xs : List Change) (v : Option Delivery) → decide xs (standing v) ≡ false → decision_of xs v ≡ []
 no_decision xs None e = refl
 no_decision xs (Some d) e = by_test (is_undecided d) refl
   where
-    by_test : (b : Bool) → is_undecided d ≡ b → outcome_of (if b then row_of d.name else None) (changed_by xs d).outcome ≡ []
-    by_test true u = ap (λ (w : Delivery). outcome_of (row_of d.name) w.outcome) (stays xs d e) ∙ ap (outcome_of (row_of d.name)) (no_outcome d u) ∙ nothing_made (row_of d.name)
-    by_test false u = refl
+    by_name : (n : DeliveryName) → d.name ≡ n → is_undecided d ≡ true → outcome_of (row_of n) (changed_by xs d).outcome ≡ []
+    by_name (Counter k) is undecided = refl
+    by_name (Row r) is undecided = ap (λ (w : Delivery). outcome_of (Some r) w.outcome) (stays xs d undecided (ap has_row is) e) ∙ ap (outcome_of (Some r)) (no_outcome d undecided)
 
--- so the decisions of the deliveries that changes concern are all of them
+    by_test : (b : Bool) → is_undecided d ≡ b → outcome_of (if b then row_of d.name else None) (changed_by xs d).outcome ≡ []
+    by_test true undecided = by_name d.name refl undecided
+    by_test false undecided = refl
+
+-- so the decisions of the deliveries that changes may decide are all of them
 pub decided_is : (s : Store) (t : Trace) (xs : List Change) (ns : BTreeSet ℕ) → StoreFit s t → IsStrictlySortedBy nat_cmp ns.keys
-    → ((n : ℕ) → concerned_by xs (standing (get nat_cmp s.deliveries n)) ≡ true → contains nat_cmp ns n ≡ true)
+    → ((n : ℕ) → decide xs (standing (get nat_cmp s.deliveries n)) ≡ true → contains nat_cmp ns n ≡ true)
     → flat_map (λ n. decision_of xs (get nat_cmp s.deliveries n)) ns.keys ≡ decided_rows t xs
 decided_is s t xs ns fit rise there =
     gathered (bindings t + 1) (λ n. decision_of xs (get nat_cmp s.deliveries n)) (λ n. decision_of xs (delivery t n)) ns.keys rise (λ n. ap (decision_of xs) (fit.deliveries n))
     (λ n e.
     ap (decision_of xs) (sym (fit.deliveries n))
-    ∙ no_decision xs (get nat_cmp s.deliveries n) (none_there ns n (concerned_by xs (standing (get nat_cmp s.deliveries n))) (there n) e))
+    ∙ no_decision xs (get nat_cmp s.deliveries n) (none_there ns n (decide xs (standing (get nat_cmp s.deliveries n))) (there n) e))
     (λ n l. ap (decision_of xs) (none_beyond t n (above_bindings (bindings t) n l)))
 
 -- and so are the rows of the deliveries that the index of ids gives

@@ -8,7 +8,7 @@ use Rattle.router_trace.specs.declared.binding.Origin.{Origin}
 use Rattle.router_trace.specs.Deliveries.{Delivery, has_row, is_number, is_of, waits_on, undecided_on, held_from, is_to_tell, holder}
 use Rattle.router_trace.specs.Following.{is_unsent_on}
 use Rattle.router_deliveries.specs.Finding.{IsFirst, IsCount}
-use Rattle.router_deliveries.specs.Indexing.{in_set, standing, from_link, on_link}
+use Rattle.router_deliveries.specs.Indexing.{standing, from_link, on_link}
 
 pub no_rise : IsStrictlySortedBy nat_cmp []
 unfolding IsStrictlySortedBy

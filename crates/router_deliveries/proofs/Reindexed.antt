@@ -27,6 +27,7 @@ indexes_same s f g same x = record {
   on = fits_same s.on (λ n. (f n).on) (λ n. (g n).on) (λ n. ap (λ (q : Keys). q.on) (same n)) x.on;
   from = fits_same s.from (λ n. (f n).from) (λ n. (g n).from) (λ n. ap (λ (q : Keys). q.from) (same n)) x.from;
   by_id = fits_same s.by_id (λ n. (f n).by_id) (λ n. (g n).by_id) (λ n. ap (λ (q : Keys). q.by_id) (same n)) x.by_id;
+  durable = fits_same s.durable (λ n. (f n).durable) (λ n. (g n).durable) (λ n. ap (λ (q : Keys). q.durable) (same n)) x.durable;
 }
 
 -- a number's entries change
@@ -48,8 +49,9 @@ pub indexes_moved : (s t : Index) (m : ℕ) (before after : Keys) (known : ℕ �
     → TallyMoves s.undecided t.undecided before.undecided after.undecided → TallyMoves s.held t.held before.held after.held
     → (contains nat_cmp s.to_tell m ≡ before.to_tell → (n : ℕ) → contains nat_cmp t.to_tell n ≡ (if m == n then after.to_tell else contains nat_cmp s.to_tell n))
     → SpotMoves s.on t.on m before.on after.on → SpotMoves s.from t.from m before.from after.from → SpotMoves s.by_id t.by_id m before.by_id after.by_id
+    → SpotMoves s.durable t.durable m before.durable after.durable
     → known m ≡ before → Indexes s known → Indexes t (λ n. if m == n then after else known n)
-indexes_moved s t m before after known waiting unsent undecided held to_tell on from by_id is x = record {
+indexes_moved s t m before after known waiting unsent undecided held to_tell on from by_id durable is x = record {
   waiting = tallied_same t.waiting (λ n. if m == n then after.waiting else (known n).waiting) (λ n. (if m == n then after else known n).waiting)
       (λ n. by_key (λ q. q.waiting) (m == n) after (known n)) (waiting m (λ n. (known n).waiting) (ap (λ (q : Keys). q.waiting) is) x.waiting);
   unsent = λ k n. unsent (λ j. x.unsent j m ∙ ap (λ (q : Keys). is_number q.unsent j) is) k n
@@ -66,6 +68,8 @@ indexes_moved s t m before after known waiting unsent undecided held to_tell on 
       (λ n. by_key (λ q. q.from) (m == n) after (known n)) (from (λ n. (known n).from) (ap (λ (q : Keys). q.from) is) x.from);
   by_id = fits_same t.by_id (λ n. if m == n then after.by_id else (known n).by_id) (λ n. (if m == n then after else known n).by_id)
       (λ n. by_key (λ q. q.by_id) (m == n) after (known n)) (by_id (λ n. (known n).by_id) (ap (λ (q : Keys). q.by_id) is) x.by_id);
+  durable = fits_same t.durable (λ n. if m == n then after.durable else (known n).durable) (λ n. (if m == n then after else known n).durable)
+      (λ n. by_key (λ q. q.durable) (m == n) after (known n)) (durable (λ n. (known n).durable) (ap (λ (q : Keys). q.durable) is) x.durable);
 }
 
 -- one delivery was changed in its place, added or removed

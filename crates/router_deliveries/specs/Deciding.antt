@@ -8,8 +8,10 @@ use Rattle.router_trace.specs.declared.binding.DeliveryName.TheVariants.{Row, Co
 use Rattle.router_trace.specs.Trace.{Trace}
 use Rattle.router_trace.specs.Deliveries.{Delivery, source, is_undecided, bindings, delivery}
 use Rattle.router_deliveries.specs.declared.change.Change.{Change}
+use Rattle.router_deliveries.specs.declared.change.Change.TheVariants as change
 use Rattle.router_deliveries.specs.declared.index.Keys.{Keys}
 use Rattle.router_deliveries.specs.Indexing.{concerns}
+use Rattle.router_deliveries.specs.Placing.{is_id_there}
 use Rattle.router_deliveries.specs.Stepping.{changed, comes_with_id}
 
 -- what each number below this one gives, in order of the numbers
@@ -66,7 +68,14 @@ row_from c o first last (Some d) = if comes_with_id (source d) c o first last th
 abbrev pub rows_from : Trace → ℕ → ℕ → ℕ → ℕ → List RowNumber
 rows_from t c o first last = gathered_below (bindings t + 1) (λ n. row_from c o first last (delivery t n))
 
--- one of these changes may change a delivery with these entries
-abbrev pub concerned_by : List Change → Keys → Bool
-concerned_by [] k = false
-concerned_by (x ∷ xs) k = concerns x k || concerned_by xs k
+-- a change may decide the row of a delivery with these entries
+abbrev pub decides : Change → Keys → Bool
+decides (change.Ends g closed) k = concerns (change.Ends g closed) k
+decides (change.Untold c o first last) k = concerns (change.Untold c o first last) k
+decides (change.Told c o first last) k = concerns (change.Told c o first last) k
+decides (change.Decided c o first last made) k = is_id_there c o first last k.durable
+
+-- one of these changes may decide it
+abbrev pub decide : List Change → Keys → Bool
+decide [] k = false
+decide (x ∷ xs) k = decides x k || decide xs k

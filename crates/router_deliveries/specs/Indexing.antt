@@ -7,7 +7,7 @@ use Rattle.std.specs.declared.ops.Bound.TheVariants.{Excluded, Unbounded}
 use Rattle.std.specs.BTreeMap.Range.{IsFromStart}
 use Rattle.std.specs.BTreeSet.{BTreeSet, contains}
 use Rattle.router_trace.specs.declared.binding.Origin.{Origin}
-use Rattle.router_trace.specs.Deliveries.{Delivery, has_row, source, sender, holder, is_over, unless_over, is_number}
+use Rattle.router_trace.specs.Deliveries.{Delivery, has_row, source, sender, holder, is_over, is_undecided, unless_over, is_number}
 use Rattle.router_deliveries.specs.declared.by_link.ByLink.{ByLink}
 use Rattle.router_deliveries.specs.declared.change.Change.{Change}
 use Rattle.router_deliveries.specs.declared.change.Change.TheVariants as change
@@ -15,7 +15,8 @@ use Rattle.router_deliveries.specs.declared.change.Gone.TheVariants as gone
 use Rattle.router_deliveries.specs.declared.index.Index.{Index}
 use Rattle.router_deliveries.specs.declared.index.Keys.{Keys}
 use Rattle.router_deliveries.specs.declared.index.Moved.{Moved}
-use Rattle.router_deliveries.specs.Placing.{SpotsFit, spot_of, on_spot, from_spot, id_spot, is_gone_there, is_id_there}
+use Rattle.router_deliveries.specs.declared.spots.Spot.{Spot}
+use Rattle.router_deliveries.specs.Placing.{SpotsFit, spot_of, on_spot, from_spot, id_spot, own_spot, is_gone_there, is_id_there}
 use Rattle.router_deliveries.specs.Tallying.{IsTallied}
 
 abbrev pub in_set : Option (BTreeSet ℕ) → ℕ → Bool
@@ -57,6 +58,10 @@ abbrev pub from_link : Option Origin → Bool → Option ℕ
 from_link None holds = None
 from_link (Some p) holds = on_link p.link.number holds
 
+-- the place of the id that the router gave, of an undecided delivery with a row
+abbrev pub durable_spot : Delivery → Option Spot
+durable_spot d = if is_undecided d && has_row d.name then own_spot d.link d.id else None
+
 abbrev pub keys : Delivery → Keys
 keys d = record {
   waiting = on_link d.link.number (is_none d.id && d.going_on);
@@ -67,10 +72,11 @@ keys d = record {
   on = on_spot (spot_of d.link) (d.going_on || (is_none d.outcome && not d.suspended));
   from = from_spot (sender d);
   by_id = id_spot (source d);
+  durable = durable_spot d;
 }
 
 abbrev pub nowhere : Keys
-nowhere = record { waiting = None; unsent = None; undecided = None; held = None; to_tell = false; on = None; from = None; by_id = None }
+nowhere = record { waiting = None; unsent = None; undecided = None; held = None; to_tell = false; on = None; from = None; by_id = None; durable = None }
 
 abbrev pub standing : Option Delivery → Keys
 standing None = nowhere
@@ -90,6 +96,7 @@ pub record Indexes (s : Index) (known : ℕ → Keys) : Type 0 where
   pub on : SpotsFit s.on (λ n. (known n).on)
   pub from : SpotsFit s.from (λ n. (known n).from)
   pub by_id : SpotsFit s.by_id (λ n. (known n).by_id)
+  pub durable : SpotsFit s.durable (λ n. (known n).durable)
 
 -- a change may change a delivery with these entries
 abbrev pub concerns : Change → Keys → Bool

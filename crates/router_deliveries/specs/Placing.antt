@@ -75,6 +75,11 @@ abbrev pub id_spot : Option Origin → Option Spot
 id_spot None = None
 id_spot (Some p) = Some (record { conn = p.link.conn.0; own = p.link.channel; at = p.id })
 
+-- the place of an id that the router gave on a link's session
+abbrev pub own_spot : Attachment → Option ℕ → Option Spot
+own_spot a None = None
+own_spot a (Some id) = Some (record { conn = a.conn.0; own = a.channel; at = id })
+
 -- a place is that of a link that ends
 abbrev pub is_gone_at : Gone → Spot → Bool
 is_gone_at (gone.Link c o h) p = (p.conn == c) && ((o == p.own) && (h == p.at))

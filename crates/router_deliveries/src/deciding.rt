@@ -27,7 +27,7 @@ pub(crate) fn decided_rows(
 ) -> Result<Vec<Decision>, AllocError>
     ensures { IfOk result (λ rows. (t : List Entry) → StoreFit store.now t → rows.items ≡ decided_rows t changes.now) }
 {
-    let numbers = store.concerned_by(changes)?;
+    let numbers = store.deciding_by(changes)?;
     let mut rows = Vec::new(alloc);
     append_decisions(&mut rows, store, &numbers, changes)?;
     Ok(rows)

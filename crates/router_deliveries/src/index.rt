@@ -3,10 +3,10 @@ ghost use Rattle.std.specs.Prelude.{◌≡◌, ◌==◌, ℕ, Bool, None, true, 
 ghost use Rattle.std.specs.Ordering.{nat_cmp};
 ghost use Rattle.std.specs.BTreeSet.{contains};
 ghost use Rattle.router_deliveries.specs.declared.index.Keys.{Keys as TheKeys};
-ghost use Rattle.router_deliveries.specs.Deciding.{concerned_by};
+ghost use Rattle.router_deliveries.specs.Deciding.{decides, decide};
 ghost use Rattle.router_trace.specs.Deliveries.{unless_over};
-ghost use Rattle.router_deliveries.specs.Indexing.{Indexes, nowhere, keys, standing, moved, on_link, concerns};
-ghost use Rattle.router_deliveries.specs.Placing.{spot_of, on_spot, from_spot, id_spot, is_gone_there};
+ghost use Rattle.router_deliveries.specs.Indexing.{Indexes, nowhere, keys, standing, moved, on_link, durable_spot, concerns};
+ghost use Rattle.router_deliveries.specs.Placing.{spot_of, on_spot, from_spot, id_spot, own_spot, is_gone_there};
 ghost use Rattle.amqp_session.specs.Ranges.{has};
 
 use crate::by_link::ByLink;
@@ -38,6 +38,8 @@ pub(crate) struct Keys {
     pub(crate) from: Option<Spot>,
     /// The place of the id that its producer gave it, if the producer still needs its outcome.
     pub(crate) by_id: Option<Spot>,
+    /// The place of the id that the router gave it, if it is undecided and has a row in the journal.
+    pub(crate) durable: Option<Spot>,
 }
 
 /// What the indexes have to know of a delivery that was changed in its place.
@@ -70,6 +72,8 @@ pub(crate) struct Index {
     on: Spots,
     from: Spots,
     by_id: Spots,
+    // those whose row a consumer's disposition may decide, by the router's delivery-id
+    durable: Spots,
 }
 
 impl Keys {
@@ -86,6 +90,7 @@ impl Keys {
             on: None,
             from: None,
             by_id: None,
+            durable: None,
         }
     }
 
@@ -121,6 +126,7 @@ impl Keys {
             on: on_spot(spot_of(delivery.link), delivery.going_on || open),
             from: from_spot(delivery.sender()),
             by_id: id_spot(source),
+            durable: durable_spot(delivery),
         }
     }
 }
@@ -198,6 +204,30 @@ fn id_spot(origin: Option<Origin>) -> Option<Spot>
     }
 }
 
+/// The place of the id that the router gave to an undecided delivery with a row, if it gave it one.
+fn durable_spot(delivery: &Delivery) -> Option<Spot>
+    ensures { result ≡ durable_spot delivery.now }
+{
+    if delivery.is_undecided() && delivery.name.has_row() {
+        return own_spot(delivery.link, delivery.id);
+    }
+    None
+}
+
+/// The place of an id that the router gave on a link's session, if it gave one.
+fn own_spot(link: Attachment, id: Option<u32>) -> Option<Spot>
+    ensures { result ≡ own_spot link id }
+{
+    match id {
+        None => None,
+        Some(id) => Some(Spot {
+            conn: link.conn.0,
+            own: link.channel,
+            at: id,
+        }),
+    }
+}
+
 impl Index {
     /// Empty indexes.
     pub(crate) fn new(alloc: Global) -> Index
@@ -212,6 +242,7 @@ impl Index {
             on: Spots::new(alloc),
             from: Spots::new(alloc),
             by_id: Spots::new(alloc),
+            durable: Spots::new(alloc),
         }
     }
 
@@ -227,6 +258,7 @@ impl Index {
         self.on.shift(number, before.on, after.on)?;
         self.from.shift(number, before.from, after.from)?;
         self.by_id.shift(number, before.by_id, after.by_id)?;
+        self.durable.shift(number, before.durable, after.durable)?;
         Ok(())
     }
 
@@ -239,19 +271,55 @@ impl Index {
         Ok(numbers)
     }
 
-    /// The numbers of the deliveries that one of these changes may change.
-    pub(crate) fn concerned_by(
+    /// The numbers of the deliveries whose rows one of these changes may decide.
+    pub(crate) fn deciding_by(
         &self,
         alloc: Global,
         changes: &[Change],
     ) -> Result<BTreeSet<u64>, AllocError>
-        ensures { IfOk result (λ numbers. (known : ℕ → TheKeys) → Indexes self.now known → (n : ℕ) → concerned_by changes.now (known n) ≡ true → contains nat_cmp numbers n ≡ true) }
+        ensures { IfOk result (λ numbers. (known : ℕ → TheKeys) → Indexes self.now known → (n : ℕ) → decide changes.now (known n) ≡ true → contains nat_cmp numbers n ≡ true) }
     {
         let mut numbers = BTreeSet::new(alloc);
         for change in changes {
-            self.add_concerned(alloc, change, &mut numbers)?;
+            self.add_deciding(alloc, change, &mut numbers)?;
         }
         Ok(numbers)
+    }
+
+    /// Adds the numbers of the deliveries whose rows a change may decide.
+    fn add_deciding(
+        &self,
+        alloc: Global,
+        change: &Change,
+        numbers: &mut BTreeSet<u64>,
+    ) -> Result<(), AllocError>
+        ensures more { OnOk result ((n : ℕ) → contains nat_cmp numbers.old n ≡ true → contains nat_cmp numbers.new n ≡ true) }
+        ensures found { OnOk result ((known : ℕ → TheKeys) → Indexes self.now known → (n : ℕ) → decides change.now (known n) ≡ true → contains nat_cmp numbers.new n ≡ true) }
+    {
+        let mut found = Vec::new(alloc);
+        self.append_deciding(change, &mut found)?;
+        add_all(numbers, found.as_slice())?;
+        Ok(())
+    }
+
+    /// Appends the numbers of the deliveries whose rows a change may decide: a disposition only those with ids in its range.
+    fn append_deciding(&self, change: &Change, numbers: &mut Vec<u64>) -> Result<(), AllocError>
+        ensures { OnOk result ((known : ℕ → TheKeys) → Indexes self.now known → (n : ℕ) → decides change.now (known n) ≡ true → has n numbers.new.items ≡ true) }
+    {
+        match change {
+            Change::Decided {
+                conn,
+                own,
+                first,
+                last,
+                ..
+            } => {
+                self.durable
+                    .append_ids(*conn, *own, *first, *last, numbers)?
+            }
+            _ => self.append_concerned(change, numbers)?,
+        }
+        Ok(())
     }
 
     /// Adds the numbers of the deliveries that a change may change.

@@ -12,7 +12,7 @@ ghost use Rattle.router_trace.specs.Trace.{Entry, Out, did};
 ghost use Rattle.amqp_frames.specs.declared.item.Item.TheVariants as item;
 ghost use Rattle.router_trace.specs.declared.event.Event.TheVariants as event;
 ghost use Rattle.router_deliveries.specs.Calling.{at_name, is_called, Knows};
-ghost use Rattle.router_deliveries.specs.Deciding.{concerned_by};
+ghost use Rattle.router_deliveries.specs.Deciding.{decide};
 ghost use Rattle.router_deliveries.specs.Fits.{Indexed, StoreFit, carried_in, carried_by};
 ghost use Rattle.router_deliveries.specs.declared.index.Keys.{Keys as TheKeys};
 ghost use Rattle.router_deliveries.specs.Indexing.{Indexes, keys, moved, standing, in_group, concerns};
@@ -418,12 +418,12 @@ impl Store {
         Ok(ids)
     }
 
-    /// The numbers of the deliveries that one of these changes may change.
-    pub(crate) fn concerned_by(&self, changes: &[Change]) -> Result<BTreeSet<u64>, AllocError>
-        ensures { IfOk result (λ numbers. Indexed self.now → (n : ℕ) → concerned_by changes.now (standing (get nat_cmp self.now.deliveries n)) ≡ true
+    /// The numbers of the deliveries whose rows one of these changes may decide.
+    pub(crate) fn deciding_by(&self, changes: &[Change]) -> Result<BTreeSet<u64>, AllocError>
+        ensures { IfOk result (λ numbers. Indexed self.now → (n : ℕ) → decide changes.now (standing (get nat_cmp self.now.deliveries n)) ≡ true
             → contains nat_cmp numbers n ≡ true) }
     {
-        Ok(self.index.concerned_by(self.alloc, changes)?)
+        Ok(self.index.deciding_by(self.alloc, changes)?)
     }
 
     /// The numbers of the deliveries to which a producer gave an id in this range, on a session.
