@@ -25,7 +25,7 @@ second : (b c : Bool) → (b && c) ≡ true → c ≡ true
 second true c h = h
 second false c h = absurd cc
 
-none : {X : Type 0} (xs : List X) → (length xs == 0) ≡ true → xs ≡ []
+pub none : {X : Type 0} (xs : List X) → (length xs == 0) ≡ true → xs ≡ []
 none [] h = refl
 none (x ∷ xs) h = absurd (omega (arith, eqb-true (length (x ∷ xs)) 0 h))
 

@@ -14,12 +14,30 @@ use Rattle.router_pools.specs.Addresses.{among, at_address, pool_or}
 use Rattle.route_table.specs.declared.sections.Distribution.{Distribution}
 use Rattle.route_table.specs.Places.{distribution_of}
 use Rattle.router_pools.specs.Sharing.{demand_at, Figure, offer_at}
+use Rattle.router_pools.specs.Digest.{digest_of}
 use Rattle.router_pools.specs.declared.by_address.ByAddress.{ByAddress}
+use Rattle.router_pools.specs.declared.row.Row.{Row}
 use Rattle.router_pools.specs.declared.pools.Pools.{Pools}
+
+-- the pool of an address in a row, with this distribution of addresses
+abbrev pub pool_in_row : (List ℕ → Distribution) → Row → List ℕ → Sharing
+pool_in_row share row address = pool_or (share address) (at_address row.pools.entries (λ k. k.items) address)
+
+abbrev pub has_no_pools : Row → Bool
+has_no_pools row = length row.pools.entries == 0
+
+-- what is at an address in a row, if there is one
+abbrev pub in_row : Option Row → List ℕ → Option Sharing
+in_row None address = None
+in_row (Some row) address = at_address row.pools.entries (λ k. k.items) address
+
+-- the row of the digest of an address
+abbrev pub row_of : ByAddress → List ℕ → Option Row
+row_of pools address = get nat_cmp pools.rows (digest_of address)
 
 -- the pool of an address, with this distribution of addresses
 abbrev pub pool_in : (List ℕ → Distribution) → ByAddress → List ℕ → Sharing
-pool_in share pools address = pool_or (share address) (at_address pools.pools.entries (λ k. k.items) address)
+pool_in share pools address = pool_or (share address) (in_row (row_of pools address) address)
 
 -- the distribution that the table of prefixes gives each address
 abbrev pub table_of : Pools → List ℕ → Distribution

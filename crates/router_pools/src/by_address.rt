@@ -1,22 +1,27 @@
-//! Pools by the bytes of their addresses.
-ghost use Rattle.std.specs.Prelude.{◌≡◌, ℕ, List, Bool, true, false, None, Some, OnOk, IfOk, option_map, is_some};
+//! Pools by address.
+ghost use Rattle.std.specs.Prelude.{◌≡◌, ◌==◌, ℕ, List, Bool, true, false, if◌then◌else◌, None, Some, OnOk, IfOk, IfSome, option_map, is_some};
+ghost use Rattle.std.specs.BTreeMap.{get};
+ghost use Rattle.std.specs.Ordering.{nat_cmp};
 ghost use Rattle.route_table.specs.declared.sections.Distribution.{Distribution};
 ghost use Rattle.route_table.specs.Places.{distribution_of};
 ghost use Rattle.route_credit.specs.Granting.{all_granted, choice, grants_of};
 ghost use Rattle.route_credit.specs.Pool.{by_id, chose, has_no_links, no_links, offered, wanted, without_consumer, without_producer};
-ghost use Rattle.router_pools.specs.Addresses.{at_address, rested, with_pool, without};
-ghost use Rattle.router_pools.specs.Fits.{pool_in};
+ghost use Rattle.router_pools.specs.Addresses.{rested, with_pool, without};
+ghost use Rattle.router_pools.specs.Fits.{has_no_pools, in_row, pool_in, row_of};
 
-use route_credit::{ConsumerId, Pool, ProducerId};
+use crate::digest::digest;
+use crate::row::Row;
+use route_credit::{ConsumerId, ProducerId};
 use route_table::Table;
 use std::alloc::{AllocError, Global};
 use std::collections::BTreeMap;
 
-/// Pools by the bytes of their addresses. A pool without links is removed.
+/// Pools by address: first by the address's digest, then by its bytes. So a look-up compares bytes about once, and addresses that were
+/// chosen to have one digest cost no more than a map by bytes does. A pool without links is removed, and a row without pools.
 #[derive(Debug, Drop)]
 pub(crate) struct ByAddress {
     alloc: Global,
-    pools: BTreeMap<Vec<u8>, Pool>,
+    rows: BTreeMap<u64, Row>,
 }
 
 impl ByAddress {
@@ -25,16 +30,15 @@ impl ByAddress {
     {
         ByAddress {
             alloc,
-            pools: BTreeMap::new(alloc),
+            rows: BTreeMap::new(alloc),
         }
     }
 
-    /// Puts a pool at an address, in place of the one that is there, if there is one.
-    fn put(&mut self, address: &[u8], pool: Pool) -> Result<(), AllocError>
-        ensures { OnOk result ((share : List ℕ → Distribution) (a : List ℕ) → pool_in share self.new a ≡ with_pool (pool_in share self.old) address.now (λ old. pool) a) }
+    /// Puts the row of a digest.
+    fn put(&mut self, digest: u64, row: Row) -> Result<(), AllocError>
+        ensures { OnOk result ((d : ℕ) → get nat_cmp self.new.rows d ≡ (if digest == d then Some row else get nat_cmp self.old.rows d)) }
     {
-        let key = address.to_vec(self.alloc)?;
-        match self.pools.insert(key, pool) {
+        match self.rows.insert(digest, row) {
             Ok(_) => Ok(()),
             Err(_) => Err(AllocError),
         }
@@ -51,14 +55,13 @@ impl ByAddress {
     ) -> Result<(), AllocError>
         ensures { OnOk result ((share : List ℕ → Distribution) → distribution_of table.now address.now ≡ share address.now → (a : List ℕ) → pool_in share self.new a ≡ with_pool (pool_in share self.old) address.now (λ pool. offered (without_producer pool number) number free undecided) a) }
     {
-        let place = address.as_bytes();
-        if let Some(pool) = self.pools.get_mut(place) {
-            pool.drop_producer(ProducerId(number));
-            return pool.offer(ConsumerId(number), free, undecided);
+        let place = digest(address.as_bytes());
+        if let Some(row) = self.rows.get_mut(&place) {
+            return row.offer(table, address, number, free, undecided);
         }
-        let mut pool = Pool::new(self.alloc, table.distribution(address));
-        pool.offer(ConsumerId(number), free, undecided)?;
-        self.put(place, pool)
+        let mut row = Row::new(self.alloc);
+        row.offer(table, address, number, free, undecided)?;
+        self.put(place, row)
     }
 
     /// Sets what a producer wants of an address, whose pool is shared as this table says. It is no consumer there.
@@ -72,34 +75,36 @@ impl ByAddress {
     ) -> Result<(), AllocError>
         ensures { OnOk result ((share : List ℕ → Distribution) → distribution_of table.now address.now ≡ share address.now → (a : List ℕ) → pool_in share self.new a ≡ with_pool (pool_in share self.old) address.now (λ pool. wanted (without_consumer pool number) number unused 0 held) a) }
     {
-        let place = address.as_bytes();
-        if let Some(pool) = self.pools.get_mut(place) {
-            pool.drop_consumer(ConsumerId(number));
-            return pool.want(ProducerId(number), unused, 0, held);
+        let place = digest(address.as_bytes());
+        if let Some(row) = self.rows.get_mut(&place) {
+            return row.want(table, address, number, unused, held);
         }
-        let mut pool = Pool::new(self.alloc, table.distribution(address));
-        pool.want(ProducerId(number), unused, 0, held)?;
-        self.put(place, pool)
+        let mut row = Row::new(self.alloc);
+        row.want(table, address, number, unused, held)?;
+        self.put(place, row)
     }
 
     /// Removes a link from the pool of an address.
     pub(crate) fn leave(&mut self, address: &[u8], number: u64)
         ensures { (share : List ℕ → Distribution) (a : List ℕ) → pool_in share self.new a ≡ with_pool (pool_in share self.old) address.now (λ pool. without pool number) a }
     {
-        if let Some(pool) = self.pools.get_mut(address) {
-            pool.drop_consumer(ConsumerId(number));
-            pool.drop_producer(ProducerId(number));
+        let place = digest(address);
+        if let Some(row) = self.rows.get_mut(&place) {
+            row.leave(address, number);
         }
     }
 
-    /// Removes the pool of an address if it has no links.
+    /// Removes the pool of an address if it has no links, and its row if no other pool is there.
     pub(crate) fn forget(&mut self, address: &[u8])
         ensures rested { (share : List ℕ → Distribution) → (pool_in share self.old address.now).distribution ≡ share address.now → (a : List ℕ) → pool_in share self.new a ≡ with_pool (pool_in share self.old) address.now rested a }
-        ensures gone { (share : List ℕ → Distribution) → has_no_links (pool_in share self.old address.now) ≡ true → is_some (at_address self.new.pools.entries (λ k. k.items) address.now) ≡ false }
+        ensures gone { (share : List ℕ → Distribution) → has_no_links (pool_in share self.old address.now) ≡ true → is_some (in_row (row_of self.new address.now) address.now) ≡ false }
+        ensures swept { IfSome (row_of self.new address.now) (λ row. has_no_pools row ≡ false) }
     {
-        if let Some(pool) = self.pools.get(address) {
-            if pool.is_empty() {
-                let _ = self.pools.remove(address);
+        let place = digest(address);
+        if let Some(row) = self.rows.get_mut(&place) {
+            row.forget(address);
+            if row.is_empty() {
+                let _ = self.rows.remove(&place);
             }
         }
     }
@@ -108,9 +113,10 @@ impl ByAddress {
     pub(crate) fn peek(&self, address: &[u8]) -> Option<ConsumerId>
         ensures { (share : List ℕ → Distribution) → option_map (λ c. c.0) result ≡ choice (pool_in share self.now address.now) }
     {
-        match self.pools.get(address) {
+        let place = digest(address);
+        match self.rows.get(&place) {
             None => None,
-            Some(pool) => pool.peek(),
+            Some(row) => row.peek(address),
         }
     }
 
@@ -119,9 +125,10 @@ impl ByAddress {
         ensures chosen { (share : List ℕ → Distribution) → option_map (λ c. c.0) result ≡ choice (pool_in share self.old address.now) }
         ensures noted { (share : List ℕ → Distribution) (a : List ℕ) → pool_in share self.new a ≡ with_pool (pool_in share self.old) address.now (λ pool. chose pool (option_map (λ c. c.0) result)) a }
     {
-        match self.pools.get_mut(address) {
+        let place = digest(address);
+        match self.rows.get_mut(&place) {
             None => None,
-            Some(pool) => pool.choose(),
+            Some(row) => row.choose(address),
         }
     }
 
@@ -130,9 +137,10 @@ impl ByAddress {
         ensures sums { IfOk result (λ sums. (share : List ℕ → Distribution) → by_id sums.items ≡ grants_of (pool_in share self.old address.now)) }
         ensures filled { OnOk result ((share : List ℕ → Distribution) (a : List ℕ) → pool_in share self.new a ≡ with_pool (pool_in share self.old) address.now all_granted a) }
     {
-        match self.pools.get_mut(address) {
+        let place = digest(address);
+        match self.rows.get_mut(&place) {
             None => Ok(Vec::new(self.alloc)),
-            Some(pool) => pool.grants(),
+            Some(row) => row.grants(address),
         }
     }
 }

@@ -7,7 +7,9 @@
 
 mod addresses;
 mod by_address;
+mod digest;
 pub mod laws;
 mod pools;
+mod row;
 
 pub use pools::{Grants, Pools};

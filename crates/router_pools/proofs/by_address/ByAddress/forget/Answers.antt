@@ -1,31 +1,79 @@
-use Rattle.std.proofs.Common.{◌∙◌, sym, ap, true≢false, is_some}
+use Rattle.std.proofs.Common.{◌≡◌, ◌∙◌, sym, ap, subst, false, None, Some, IfSome, is_some}
+use Rattle.std.specs.BTreeMap.{get}
+use Rattle.std.specs.Ordering.{nat_cmp}
 use Rattle.route_credit.specs.Pool.{has_no_links}
 use Rattle.router_pools.specs.Addresses.{rested}
-use Rattle.router_pools.proofs.AtAddress.{lookup_is}
-use Rattle.router_pools.proofs.Written.{forgotten, here, rested_new, stayed, unwritten}
+use Rattle.router_pools.specs.Digest.{digest_of}
+use Rattle.router_pools.specs.Fits.{has_no_pools, in_row}
+use Rattle.router_pools.proofs.Rows.{changed, emptied, found, lent, swept, there, unchanged}
+use Rattle.router_pools.proofs.Written.{rested_new}
 use Rattle.router_pools.proofs.by_address.ByAddress.forget.Goals as goal
 
 pub returns-then-is_empty-clause-rested : goal.returns-then-is_empty-clause-rested
 returns-then-is_empty-clause-rested c share shared =
-    let es = c.args.self.now.pools.entries in
-    let is_there = here (λ k. k.items) share es c.args.address.now c.in-Some.pool.now c.in-Some.ensures.value in
-    forgotten (λ k. k.items) share es c.args.address.now c.remove.new.self.entries c.in-Some.pool.now c.in-Some.ensures.value (sym c.is_empty.ensures ∙ c.if-is_empty.true)
-    (sym (ap (λ p. p.distribution) is_there) ∙ shared) c.remove.ensures.entries c.remove.ensures.updates.1
+    let rows = c.args.self.now.rows in
+    let q = c.args.address.now in
+    let key = c.digest-place.result in
+    let is_row = found share (get nat_cmp rows) q key c.digest-place.ensures (Some c.in-Some.row.now) c.in-Some.ensures.value in
+    changed share (get nat_cmp rows) q key c.digest-place.ensures (get nat_cmp c.remove.new.self) (Some c.in-Some.row.now) None rested c.in-Some.ensures.value
+    (swept rows (c.get_mut.follows.lender c.forget.new.self) c.remove.new.self key c.in-Some.row.now c.forget.new.self c.in-Some.ensures.value (c.get_mut.follows.holds c.forget.new.self) c.remove.ensures.updates)
+    (emptied share c.in-Some.row.now c.forget.new.self q rested (sym c.is_empty.ensures ∙ c.if-is_empty.true) (c.forget.ensures.rested share (ap (λ p. p.distribution) is_row ∙ shared)))
 
 pub returns-else-is_empty-clause-rested : goal.returns-else-is_empty-clause-rested
 returns-else-is_empty-clause-rested c share shared =
-    stayed (λ k. k.items) share c.args.self.now.pools.entries c.args.address.now c.in-Some.pool.now c.in-Some.ensures.value (sym c.is_empty.ensures ∙ c.if-is_empty.false)
+    let rows = c.args.self.now.rows in
+    let rows' = c.get_mut.follows.lender c.forget.new.self in
+    let q = c.args.address.now in
+    let key = c.digest-place.result in
+    let is_row = found share (get nat_cmp rows) q key c.digest-place.ensures (Some c.in-Some.row.now) c.in-Some.ensures.value in
+    changed share (get nat_cmp rows) q key c.digest-place.ensures (get nat_cmp rows') (Some c.in-Some.row.now) (Some c.forget.new.self) rested c.in-Some.ensures.value
+    (lent rows rows' key c.in-Some.row.now c.forget.new.self c.in-Some.ensures.value (c.get_mut.follows.holds c.forget.new.self))
+    (c.forget.ensures.rested share (ap (λ p. p.distribution) is_row ∙ shared))
 
 pub returns-in_default-clause-rested : goal.returns-in_default-clause-rested
 returns-in_default-clause-rested c share shared =
-    unwritten (λ k. k.items) share c.args.self.now.pools.entries c.args.address.now c.args.self.now.pools.entries (λ i. c.args.self.now.pools.entries) rested (rested_new (share c.args.address.now)) c.in_default.ensures.value
+    unchanged share (get nat_cmp c.args.self.now.rows) c.args.address.now c.digest-place.result c.digest-place.ensures (get nat_cmp c.get_mut.follows.lender-at-none) (ap (λ m. get nat_cmp m) c.get_mut.follows.holds-at-none)
+    rested (rested_new (share c.args.address.now)) c.in_default.ensures.value
 
 pub returns-then-is_empty-clause-gone : goal.returns-then-is_empty-clause-gone
-returns-then-is_empty-clause-gone c share empty = ap is_some (sym (lookup_is (λ k. k.items) c.remove.new.self.entries c.args.address.now) ∙ c.remove.ensures.updates.1)
+returns-then-is_empty-clause-gone c share empty =
+    let rows = c.args.self.now.rows in
+    let key = c.digest-place.result in
+    ap (λ r. is_some (in_row r c.args.address.now)) (there (get nat_cmp rows) (get nat_cmp c.remove.new.self) key None c.args.address.now c.digest-place.ensures
+    (swept rows (c.get_mut.follows.lender c.forget.new.self) c.remove.new.self key c.in-Some.row.now c.forget.new.self c.in-Some.ensures.value (c.get_mut.follows.holds c.forget.new.self) c.remove.ensures.updates))
 
 pub returns-else-is_empty-clause-gone : goal.returns-else-is_empty-clause-gone
 returns-else-is_empty-clause-gone c share empty =
-    absurd (true≢false (sym empty ∙ ap has_no_links (here (λ k. k.items) share c.args.self.now.pools.entries c.args.address.now c.in-Some.pool.now c.in-Some.ensures.value) ∙ sym c.is_empty.ensures ∙ c.if-is_empty.false))
+    let rows = c.args.self.now.rows in
+    let rows' = c.get_mut.follows.lender c.forget.new.self in
+    let q = c.args.address.now in
+    let key = c.digest-place.result in
+    let is_row = found share (get nat_cmp rows) q key c.digest-place.ensures (Some c.in-Some.row.now) c.in-Some.ensures.value in
+    ap (λ r. is_some (in_row r q)) (there (get nat_cmp rows) (get nat_cmp rows') key (Some c.forget.new.self) q c.digest-place.ensures
+    (lent rows rows' key c.in-Some.row.now c.forget.new.self c.in-Some.ensures.value (c.get_mut.follows.holds c.forget.new.self)))
+    ∙ c.forget.ensures.gone share (ap has_no_links is_row ∙ empty)
 
 pub returns-in_default-clause-gone : goal.returns-in_default-clause-gone
-returns-in_default-clause-gone c share empty = ap is_some (sym (lookup_is (λ k. k.items) c.args.self.now.pools.entries c.args.address.now) ∙ sym c.in_default.ensures.value)
+returns-in_default-clause-gone c share empty =
+    ap (λ m. is_some (in_row (get nat_cmp m (digest_of c.args.address.now)) c.args.address.now)) c.get_mut.follows.holds-at-none
+    ∙ ap (λ r. is_some (in_row r c.args.address.now)) (ap (get nat_cmp c.args.self.now.rows) (sym c.digest-place.ensures) ∙ sym c.in_default.ensures.value)
+
+pub returns-then-is_empty-clause-swept : goal.returns-then-is_empty-clause-swept
+returns-then-is_empty-clause-swept c =
+    let rows = c.args.self.now.rows in
+    let key = c.digest-place.result in
+    subst (λ r. IfSome r (λ row. has_no_pools row ≡ false)) (sym (there (get nat_cmp rows) (get nat_cmp c.remove.new.self) key None c.args.address.now c.digest-place.ensures
+    (swept rows (c.get_mut.follows.lender c.forget.new.self) c.remove.new.self key c.in-Some.row.now c.forget.new.self c.in-Some.ensures.value (c.get_mut.follows.holds c.forget.new.self) c.remove.ensures.updates))) tt
+
+pub returns-else-is_empty-clause-swept : goal.returns-else-is_empty-clause-swept
+returns-else-is_empty-clause-swept c =
+    let rows = c.args.self.now.rows in
+    let rows' = c.get_mut.follows.lender c.forget.new.self in
+    let key = c.digest-place.result in
+    subst (λ r. IfSome r (λ row. has_no_pools row ≡ false)) (sym (there (get nat_cmp rows) (get nat_cmp rows') key (Some c.forget.new.self) c.args.address.now c.digest-place.ensures
+    (lent rows rows' key c.in-Some.row.now c.forget.new.self c.in-Some.ensures.value (c.get_mut.follows.holds c.forget.new.self)))) (sym c.is_empty.ensures ∙ c.if-is_empty.false)
+
+pub returns-in_default-clause-swept : goal.returns-in_default-clause-swept
+returns-in_default-clause-swept c =
+    subst (λ r. IfSome r (λ row. has_no_pools row ≡ false))
+    (sym (ap (λ m. get nat_cmp m (digest_of c.args.address.now)) c.get_mut.follows.holds-at-none ∙ ap (get nat_cmp c.args.self.now.rows) (sym c.digest-place.ensures) ∙ sym c.in_default.ensures.value)) tt

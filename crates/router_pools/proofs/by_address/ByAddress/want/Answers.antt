@@ -1,24 +1,25 @@
-use Rattle.std.proofs.Common.{◌∙◌, sym, ap}
-use Rattle.route_credit.specs.Pool.{no_links, wanted, Sharing, without_consumer}
-use Rattle.router_pools.specs.Addresses.{with_pool}
-use Rattle.router_pools.specs.Fits.{pool_in}
-use Rattle.router_pools.proofs.Written.{begun, on_ok_then, written}
+use Rattle.std.proofs.Common.{◌∙◌, ap, cond, None, Some}
+use Rattle.std.specs.Prelude.{◌==◌}
+use Rattle.std.specs.BTreeMap.{get}
+use Rattle.std.specs.Ordering.{nat_cmp}
+use Rattle.route_credit.specs.Pool.{wanted, Sharing, without_consumer}
+use Rattle.router_pools.specs.Digest.{digest_of}
+use Rattle.router_pools.proofs.Rows.{changed, first_pool, lent}
+use Rattle.router_pools.proofs.Written.{on_ok_then}
 use Rattle.router_pools.proofs.by_address.ByAddress.want.Goals as goal
 
 pub returns-in-Some : goal.returns-in-Some
-returns-in-Some c =
-    on_ok_then c.want.result _ _ c.want.ensures.wanted (λ is share same a.
-    let change : Sharing → Sharing = λ pool. wanted (without_consumer pool c.args.number) c.args.number c.args.unused 0 c.args.held in
-    written (λ k. k.items) share c.args.self.now.pools.entries c.as_bytes-place.result.now (c.get_mut.follows.lender c.want.new.self).entries c.in-Some.pool.now c.want.new.self change c.in-Some.ensures.value
-    (c.get_mut.follows.holds c.want.new.self).0 (is ∙ ap (λ pool. wanted pool c.args.number c.args.unused 0 c.args.held) c.drop_consumer.ensures) a
-    ∙ ap (λ q. with_pool (pool_in share c.args.self.now) q change a) c.as_bytes-place.ensures.value)
+returns-in-Some c = on_ok_then c.want.result _ _ c.want.ensures (λ is share same a.
+    let rows = c.args.self.now.rows in
+    let rows' = c.get_mut.follows.lender c.want.new.self in
+    changed share (get nat_cmp rows) c.args.address.now c.digest-place.result (c.digest-place.ensures ∙ ap digest_of c.as_bytes.ensures.value) (get nat_cmp rows') (Some c.in-Some.row.now) (Some c.want.new.self)
+    (λ pool. wanted (without_consumer pool c.args.number) c.args.number c.args.unused 0 c.args.held) c.in-Some.ensures.value
+    (lent rows rows' c.digest-place.result c.in-Some.row.now c.want.new.self c.in-Some.ensures.value (c.get_mut.follows.holds c.want.new.self)) (is share same) a)
 
 pub returns : goal.returns
-returns c =
-    on_ok_then c.put.result _ _ c.put.ensures (λ is share same a.
+returns c = on_ok_then c.put.result _ _ c.put.ensures (λ is share same a.
+    let key = c.digest-place.result in
     let change : Sharing → Sharing = λ pool. wanted (without_consumer pool c.args.number) c.args.number c.args.unused 0 c.args.held in
-    let new = c.new-pool.ensures ∙ ap no_links (c.distribution.ensures ∙ same ∙ ap share (sym c.as_bytes-place.ensures.value)) in
-    is share a
-    ∙ begun (λ k. k.items) share c.args.self.now.pools.entries c.as_bytes-place.result.now c.get_mut.follows.lender-at-none.entries (ap (λ m. m.entries) c.get_mut.follows.holds-at-none) c.want-2.new.self change c.in_default.ensures.value
-    (c.in_ok-want.ensures.wanted ∙ ap (λ pool. wanted pool c.args.number c.args.unused 0 c.args.held) new) a
-    ∙ ap (λ q. with_pool (pool_in share c.args.self.now) q change a) c.as_bytes-place.ensures.value)
+    changed share (get nat_cmp c.args.self.now.rows) c.args.address.now key (c.digest-place.ensures ∙ ap digest_of c.as_bytes.ensures.value) (get nat_cmp c.put.new.self.rows) None (Some c.want-2.new.self) change c.in_default.ensures.value
+    (λ d. is d ∙ ap (λ m. cond (key == d) (Some c.want-2.new.self) (get nat_cmp m d)) c.get_mut.follows.holds-at-none)
+    (first_pool share c.new-row.result c.want-2.new.self c.args.address.now change (c.new-row.ensures share) (c.in_ok-want.ensures share same)) a)

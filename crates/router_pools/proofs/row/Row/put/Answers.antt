@@ -1,5 +1,5 @@
 use Rattle.router_pools.proofs.Written.{put}
-use Rattle.router_pools.proofs.by_address.ByAddress.put.Goals as goal
+use Rattle.router_pools.proofs.row.Row.put.Goals as goal
 
 pub returns-in-Ok : goal.returns-in-Ok
 returns-in-Ok c share =

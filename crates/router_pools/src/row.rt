@@ -1,0 +1,145 @@
+//! The pools of the addresses of one digest, by the bytes of the addresses.
+ghost use Rattle.std.specs.Prelude.{◌≡◌, ℕ, List, Bool, true, false, None, Some, OnOk, IfOk, option_map, is_some};
+ghost use Rattle.route_table.specs.declared.sections.Distribution.{Distribution};
+ghost use Rattle.route_table.specs.Places.{distribution_of};
+ghost use Rattle.route_credit.specs.Granting.{all_granted, choice, grants_of};
+ghost use Rattle.route_credit.specs.Pool.{by_id, chose, has_no_links, no_links, offered, wanted, without_consumer, without_producer};
+ghost use Rattle.router_pools.specs.Addresses.{at_address, rested, with_pool, without};
+ghost use Rattle.router_pools.specs.Fits.{has_no_pools, pool_in_row};
+
+use route_credit::{ConsumerId, Pool, ProducerId};
+use route_table::Table;
+use std::alloc::{AllocError, Global};
+use std::collections::BTreeMap;
+
+/// Pools by the bytes of their addresses, which have the same digest. A pool without links is removed.
+#[derive(Debug, Drop)]
+pub(crate) struct Row {
+    alloc: Global,
+    pools: BTreeMap<Vec<u8>, Pool>,
+}
+
+impl Row {
+    pub(crate) fn new(alloc: Global) -> Row
+        ensures { (share : List ℕ → Distribution) (a : List ℕ) → pool_in_row share result a ≡ no_links (share a) }
+    {
+        Row {
+            alloc,
+            pools: BTreeMap::new(alloc),
+        }
+    }
+
+    /// Puts a pool at an address, in place of the one that is there, if there is one.
+    fn put(&mut self, address: &[u8], pool: Pool) -> Result<(), AllocError>
+        ensures { OnOk result ((share : List ℕ → Distribution) (a : List ℕ) → pool_in_row share self.new a ≡ with_pool (pool_in_row share self.old) address.now (λ old. pool) a) }
+    {
+        let key = address.to_vec(self.alloc)?;
+        match self.pools.insert(key, pool) {
+            Ok(_) => Ok(()),
+            Err(_) => Err(AllocError),
+        }
+    }
+
+    /// Sets what a consumer offers to an address, whose pool is shared as this table says. It is no producer there.
+    pub(crate) fn offer(
+        &mut self,
+        table: &Table,
+        address: &str,
+        number: u64,
+        free: u64,
+        undecided: u64,
+    ) -> Result<(), AllocError>
+        ensures { OnOk result ((share : List ℕ → Distribution) → distribution_of table.now address.now ≡ share address.now → (a : List ℕ) → pool_in_row share self.new a ≡ with_pool (pool_in_row share self.old) address.now (λ pool. offered (without_producer pool number) number free undecided) a) }
+    {
+        let place = address.as_bytes();
+        if let Some(pool) = self.pools.get_mut(place) {
+            pool.drop_producer(ProducerId(number));
+            return pool.offer(ConsumerId(number), free, undecided);
+        }
+        let mut pool = Pool::new(self.alloc, table.distribution(address));
+        pool.offer(ConsumerId(number), free, undecided)?;
+        self.put(place, pool)
+    }
+
+    /// Sets what a producer wants of an address, whose pool is shared as this table says. It is no consumer there.
+    pub(crate) fn want(
+        &mut self,
+        table: &Table,
+        address: &str,
+        number: u64,
+        unused: u32,
+        held: u32,
+    ) -> Result<(), AllocError>
+        ensures { OnOk result ((share : List ℕ → Distribution) → distribution_of table.now address.now ≡ share address.now → (a : List ℕ) → pool_in_row share self.new a ≡ with_pool (pool_in_row share self.old) address.now (λ pool. wanted (without_consumer pool number) number unused 0 held) a) }
+    {
+        let place = address.as_bytes();
+        if let Some(pool) = self.pools.get_mut(place) {
+            pool.drop_consumer(ConsumerId(number));
+            return pool.want(ProducerId(number), unused, 0, held);
+        }
+        let mut pool = Pool::new(self.alloc, table.distribution(address));
+        pool.want(ProducerId(number), unused, 0, held)?;
+        self.put(place, pool)
+    }
+
+    /// Removes a link from the pool of an address.
+    pub(crate) fn leave(&mut self, address: &[u8], number: u64)
+        ensures { (share : List ℕ → Distribution) (a : List ℕ) → pool_in_row share self.new a ≡ with_pool (pool_in_row share self.old) address.now (λ pool. without pool number) a }
+    {
+        if let Some(pool) = self.pools.get_mut(address) {
+            pool.drop_consumer(ConsumerId(number));
+            pool.drop_producer(ProducerId(number));
+        }
+    }
+
+    /// Removes the pool of an address if it has no links.
+    pub(crate) fn forget(&mut self, address: &[u8])
+        ensures rested { (share : List ℕ → Distribution) → (pool_in_row share self.old address.now).distribution ≡ share address.now → (a : List ℕ) → pool_in_row share self.new a ≡ with_pool (pool_in_row share self.old) address.now rested a }
+        ensures gone { (share : List ℕ → Distribution) → has_no_links (pool_in_row share self.old address.now) ≡ true → is_some (at_address self.new.pools.entries (λ k. k.items) address.now) ≡ false }
+    {
+        if let Some(pool) = self.pools.get(address) {
+            if pool.is_empty() {
+                let _ = self.pools.remove(address);
+            }
+        }
+    }
+
+    /// Whether it has no pool.
+    pub(crate) fn is_empty(&self) -> bool
+        ensures { result ≡ has_no_pools self.now }
+    {
+        self.pools.is_empty()
+    }
+
+    /// The consumer that would be chosen for the next delivery of an address.
+    pub(crate) fn peek(&self, address: &[u8]) -> Option<ConsumerId>
+        ensures { (share : List ℕ → Distribution) → option_map (λ c. c.0) result ≡ choice (pool_in_row share self.now address.now) }
+    {
+        match self.pools.get(address) {
+            None => None,
+            Some(pool) => pool.peek(),
+        }
+    }
+
+    /// Chooses the consumer of the next delivery of an address.
+    pub(crate) fn choose(&mut self, address: &[u8]) -> Option<ConsumerId>
+        ensures chosen { (share : List ℕ → Distribution) → option_map (λ c. c.0) result ≡ choice (pool_in_row share self.old address.now) }
+        ensures noted { (share : List ℕ → Distribution) (a : List ℕ) → pool_in_row share self.new a ≡ with_pool (pool_in_row share self.old) address.now (λ pool. chose pool (option_map (λ c. c.0) result)) a }
+    {
+        match self.pools.get_mut(address) {
+            None => None,
+            Some(pool) => pool.choose(),
+        }
+    }
+
+    /// The grants of an address.
+    pub(crate) fn grants(&mut self, address: &[u8]) -> Result<Vec<(ProducerId, u32)>, AllocError>
+        ensures sums { IfOk result (λ sums. (share : List ℕ → Distribution) → by_id sums.items ≡ grants_of (pool_in_row share self.old address.now)) }
+        ensures filled { OnOk result ((share : List ℕ → Distribution) (a : List ℕ) → pool_in_row share self.new a ≡ with_pool (pool_in_row share self.old) address.now all_granted a) }
+    {
+        match self.pools.get_mut(address) {
+            None => Ok(Vec::new(self.alloc)),
+            Some(pool) => pool.grants(),
+        }
+    }
+}
