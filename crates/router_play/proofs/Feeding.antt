@@ -1,7 +1,8 @@
 -- The bytes of a step, read in pieces, have the effect that they have as a whole.
-use Rattle.std.proofs.Common.{◌≡◌, ◌∙◌, sym, ap, refl, subst, true≢false, ℕ, Bool, true, false, List, [], ◌∷◌, ◌++◌, append_assoc, append-nil}
+use Rattle.std.proofs.Common.{◌≡◌, ◌∙◌, sym, ap, refl, subst, ℕ, Bool, true, false, List, [], ◌∷◌, ◌++◌, length, append_assoc, arith}
 use Rattle.std.specs.Prelude.{◌==◌, map, Option, Some, None, option_map, if◌then◌else◌}
 use Rattle.std.proofs.lemmas.Bool.{eqb-true}
+use Rattle.std.proofs.lemmas.Bool.Decides.{nat_tests}
 use Rattle.amqp_frames.specs.declared.item.Item.{Item}
 use Rattle.amqp_frames.specs.Cuts.{Cuts}
 use Rattle.amqp_frames.proofs.Streams.{cuts_append}
@@ -229,6 +230,10 @@ reads_over p c a b s v k is h silent follows = by_socket (v.sockets c.0) refl si
           ),
           ended_follows p c h.2 (h.2 ++ b) q (subst (λ (u : Scene). Follows p u) after follows),
         )
+
+pub nothing_left : (bytes : List ℕ) → (length bytes == 0) ≡ true → bytes ≡ []
+nothing_left [] is = refl
+nothing_left (x ∷ bytes) is = absurd (grind (arith, nat_tests, is))
 
 -- nothing more comes
 pub reads_all : (c : ConnectionId) (a b : List ℕ) (s v : Scene) (k : Socket) → a ≡ b → Reads c a s k false v → Reads c b s k false v
