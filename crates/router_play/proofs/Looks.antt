@@ -10,13 +10,9 @@ use Rattle.router_core.specs.Handling.{Fits, id_of}
 use Rattle.router_conns.proofs.Lists.{by_test}
 use Rattle.disk_core.specs.declared.fuse.FuseDisk.{FuseDisk}
 use Rattle.disk_core.specs.declared.memory.MemDisk.{MemDisk}
-use Rattle.route_table.specs.Settings.{Settings}
-use Rattle.router_trace.specs.declared.event.ConnectionId.{ConnectionId}
-use Rattle.router_trace.specs.declared.event.PeerRole.{PeerRole}
 use Rattle.router_play.specs.declared.socket.Socket.{Socket}
 use Rattle.router_play.specs.declared.player.Player.{Player}
-use Rattle.router_play.specs.Script.{Scene, new_socket, made, with_socket}
-use Rattle.router_play.specs.Listening.{door_for}
+use Rattle.router_play.specs.Script.{Scene}
 use Rattle.router_play.specs.Playing.{Follows, Look, look_at, seen}
 
 -- what a socket with this door and these waiting bytes shows
@@ -69,24 +65,3 @@ table_follows p q s f r sockets follows = record {
   lines = r.lines ∙ follows.lines;
 }
 
-
--- a connection was made
-pub made_follows : (p q : Player) (c : ConnectionId) (role : PeerRole) (d : DoorState) (s : Scene) → q.core ≡ p.core → q.config ≡ p.config → q.newest ≡ Some c.0 → q.lines.items ≡ p.lines.items
-    → d ≡ door_for p.config.now role → ((n : ℕ) → get nat_cmp q.sockets n ≡ (if c.0 == n then Some (new_socket d) else get nat_cmp p.sockets n)) → Follows p s → Follows q (made c role s)
-made_follows p q c role d s core config last lines door rows follows = record {
-  core = subst (λ (k : Core (FuseDisk MemDisk)). Fits k s.trace) (sym core) follows.core;
-  started = follows.started;
-  named = ap id_of core ∙ follows.named;
-  config = ap (λ r. r.now) config ∙ follows.config;
-  last = last;
-  sockets = changed c.0 (get nat_cmp p.sockets) (get nat_cmp q.sockets) s.sockets (Some (new_socket d)) (Some (new_socket (door_for s.config role))) follows.sockets rows
-      (ap (λ (x : DoorState). seen (Some (new_socket x))) (door ∙ ap (λ (k : Settings). door_for k role) follows.config));
-  lines = lines ∙ follows.lines;
-}
-
--- a connection was closed
-pub closed_follows : (p q : Player) (c : ConnectionId) (s : Scene) → q.core ≡ p.core → q.config ≡ p.config → q.newest ≡ p.newest → q.lines.items ≡ p.lines.items
-    → ((n : ℕ) → get nat_cmp q.sockets n ≡ (if c.0 == n then None else get nat_cmp p.sockets n)) → Follows p s → Follows q (with_socket c None s)
-closed_follows p q c s core config last lines rows follows =
-    table_follows p q s (with_socket c None s).sockets (elsewhere p q core config last lines)
-    (changed c.0 (get nat_cmp p.sockets) (get nat_cmp q.sockets) s.sockets None None follows.sockets rows refl) follows

@@ -1,12 +1,12 @@
 use Rattle.std.proofs.Common.{rules, ◌≡◌, ◌∙◌, ap, sym, ◌++◌, [], append_assoc, append-nil}
 use Rattle.router_core.specs.Handling.{is_failed}
-use Rattle.router_play.proofs.Scenes.{back, not_false}
+use Rattle.router_play.proofs.Scenes.{back}
 use Rattle.router_play.proofs.Feeding.{nothing_left, silent_read, reads_over, reads_all, next_piece}
 use Rattle.router_play.proofs.player.Player.more_bytes.Goals as goal
 
 pub returns-clause-continues : goal.returns-clause-continues
 returns-clause-continues c = λ works s v k before is h f.
-    let none : c.loop-behind.behind.now ≡ [] = nothing_left c.loop-behind.behind.now (sym c.is_empty.ensures ∙ not_false c.is_empty.result c.loop-behind-test.false)
+    let none : c.loop-behind.behind.now ≡ [] = nothing_left c.loop-behind.behind.now (sym c.is_empty.ensures ∙ c.loop-behind-test.false)
     in let a = c.loop-behind.invariant.continues works s v k before is h f
     in (a.0, reads_all c.args.conn a.1 (before ++ c.args.bytes.now) s a.0 k (sym (append-nil a.1) ∙ ap (λ bs. a.1 ++ bs) (sym none) ∙ a.2) a.3, a.4)
 
