@@ -64,4 +64,3 @@ table_follows p q s f r sockets follows = record {
   sockets = sockets;
   lines = r.lines ∙ follows.lines;
 }
-
