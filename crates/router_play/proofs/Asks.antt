@@ -1,7 +1,6 @@
 -- The effect of a door's answer on a script's scene.
 use Rattle.std.proofs.Common.{◌≡◌, ◌∙◌, sym, ap, refl, subst, ℕ, Bool, true, false}
 use Rattle.std.specs.Prelude.{◌==◌, map, Option, Some, None, if◌then◌else◌}
-use Rattle.std.proofs.lemmas.Bool.{eqb-true}
 use Rattle.std.specs.Ordering.{nat_cmp}
 use Rattle.std.specs.BTreeMap.{get}
 use Rattle.amqp_frames.specs.declared.item.Item.{Item}
@@ -23,8 +22,8 @@ use Rattle.disk_core.specs.declared.fuse.FuseDisk.{FuseDisk}
 use Rattle.disk_core.specs.declared.memory.MemDisk.{MemDisk}
 use Rattle.router_core.specs.Turns.{is_started}
 use Rattle.router_core.specs.Handling.{Fits, id_of}
-use Rattle.router_play.specs.Playing.{Follows}
-use Rattle.router_conns.proofs.Lists.{by_test}
+use Rattle.router_play.specs.Playing.{Follows, Look, look_at, seen}
+use Rattle.router_play.proofs.Looks.{look, alike, not_none, changed, unchanged}
 
 -- a scene with this table of connections, from which the answer leads to another
 record Asks (c : ConnectionId) (i : Item) (new : ℕ → Option Socket) (a : Asked) (s goal : Scene) : Type 0 where
@@ -34,41 +33,41 @@ record Asks (c : ConnectionId) (i : Item) (new : ℕ → Option Socket) (a : Ask
   pub trace : after.trace ≡ s.trace
   pub last : after.last ≡ s.last
   pub lines : after.lines ≡ s.lines
-  pub sockets : (n : ℕ) → new n ≡ after.sockets n
+  pub sockets : (n : ℕ) → seen (new n) ≡ seen (after.sockets n)
   pub leads : follow c i a after ≡ goal
 
-changed : (c : ℕ) (old new : ℕ → Option Socket) (f : ℕ → Option Socket) (k l : Option Socket) → ((n : ℕ) → old n ≡ f n)
-    → ((n : ℕ) → new n ≡ (if c == n then k else old n)) → k ≡ l → (n : ℕ) → new n ≡ (if c == n then l else f n)
-changed c old new f k l same up e n = up n ∙ two (c == n) k l (old n) (f n) e (same n)
-  where
-    two : (b : Bool) (x y v w : Option Socket) → x ≡ y → v ≡ w → (if b then x else v) ≡ (if b then y else w)
-    two true x y v w e f = e
-    two false x y v w e f = f
+-- a socket whose door changed looks like another with that door and the same stream
+with_door : (after l k : Socket) (d : Option DoorState) → after ≡ record { door = d; reader = l.reader } → look_at l ≡ look_at k
+    → seen (Some after) ≡ seen (Some (record { door = d; reader = k.reader }))
+with_door after l k d is same =
+    ap (λ (x : Socket). seen (Some x)) is
+    ∙ ap (λ (w : Look). Some (look d w.stream)) same
 
-judged : (c : ConnectionId) (i : Item) (old new : ℕ → Option Socket) (a : Asked) (s : Scene) (k after : Socket) (d : DoorState) (v : Verdict)
-    → ((n : ℕ) → old n ≡ s.sockets n) → IsVerdict i k d v after a → ((n : ℕ) → new n ≡ (if c.0 == n then behind a after else old n))
+-- k is the connection's socket in the scene, and l the one that is asked
+judged : (c : ConnectionId) (i : Item) (old new : ℕ → Option Socket) (a : Asked) (s : Scene) (k l after : Socket) (d : DoorState) (v : Verdict)
+    → ((n : ℕ) → seen (old n) ≡ seen (s.sockets n)) → look_at l ≡ look_at k → IsVerdict i l d v after a → ((n : ℕ) → new n ≡ (if c.0 == n then behind a after else old n))
     → Asks c i new a s (judged_by c i k d s v)
-judged c i old new (asked.Say ys) s k after d (says items) same is up = record {
+judged c i old new (asked.Say ys) s k l after d (says items) same one is up = record {
   after = with_socket c (Some (record { door = Some (door_behind d i); reader = k.reader })) s;
   id = refl;
   config = refl;
   trace = refl;
   last = refl;
   lines = refl;
-  sockets = changed c.0 old new s.sockets (Some after) _ same up (ap Some is.1);
+  sockets = changed c.0 old new s.sockets (Some after) _ same up (with_door after l k (Some (door_behind d i)) is.1 one);
   leads = ap (λ zs. say_all (map (out_line c) zs) (with_socket c (Some (record { door = Some (door_behind d i); reader = k.reader })) s)) is.0;
 }
-judged c i old new (asked.Pass peer) s k after d (passes user) same is up = record {
+judged c i old new (asked.Pass peer) s k l after d (passes user) same one is up = record {
   after = with_socket c (Some (record { door = None; reader = k.reader })) s;
   id = refl;
   config = refl;
   trace = refl;
   last = refl;
   lines = refl;
-  sockets = changed c.0 old new s.sockets (Some after) _ same up (ap Some is.1);
+  sockets = changed c.0 old new s.sockets (Some after) _ same up (with_door after l k None is.1 one);
   leads = ap (λ (q : Peer). hand (event.Item c i) (hand (event.Up c q) (with_socket c (Some (record { door = None; reader = k.reader })) s))) is.0;
 }
-judged c i old new (asked.End ys) s k after d (ends items) same is up = record {
+judged c i old new (asked.End ys) s k l after d (ends items) same one is up = record {
   after = with_socket c None s;
   id = refl;
   config = refl;
@@ -78,52 +77,54 @@ judged c i old new (asked.End ys) s k after d (ends items) same is up = record {
   sockets = changed c.0 old new s.sockets None None same up refl;
   leads = ap (λ zs. say (line.End c) (say_all (map (out_line c) zs) (with_socket c None s))) is;
 }
-judged c i old new asked.Nobody s k after d (says items) same is up = absurd is
-judged c i old new asked.Nobody s k after d (passes user) same is up = absurd is
-judged c i old new asked.Nobody s k after d (ends items) same is up = absurd is
-judged c i old new asked.Router s k after d (says items) same is up = absurd is
-judged c i old new asked.Router s k after d (passes user) same is up = absurd is
-judged c i old new asked.Router s k after d (ends items) same is up = absurd is
-judged c i old new (asked.Say ys) s k after d (passes user) same is up = absurd is
-judged c i old new (asked.Say ys) s k after d (ends items) same is up = absurd is
-judged c i old new (asked.Pass peer) s k after d (says items) same is up = absurd is
-judged c i old new (asked.Pass peer) s k after d (ends items) same is up = absurd is
-judged c i old new (asked.End ys) s k after d (says items) same is up = absurd is
-judged c i old new (asked.End ys) s k after d (passes user) same is up = absurd is
+judged c i old new asked.Nobody s k l after d (says items) same one is up = absurd is
+judged c i old new asked.Nobody s k l after d (passes user) same one is up = absurd is
+judged c i old new asked.Nobody s k l after d (ends items) same one is up = absurd is
+judged c i old new asked.Router s k l after d (says items) same one is up = absurd is
+judged c i old new asked.Router s k l after d (passes user) same one is up = absurd is
+judged c i old new asked.Router s k l after d (ends items) same one is up = absurd is
+judged c i old new (asked.Say ys) s k l after d (passes user) same one is up = absurd is
+judged c i old new (asked.Say ys) s k l after d (ends items) same one is up = absurd is
+judged c i old new (asked.Pass peer) s k l after d (says items) same one is up = absurd is
+judged c i old new (asked.Pass peer) s k l after d (ends items) same one is up = absurd is
+judged c i old new (asked.End ys) s k l after d (says items) same one is up = absurd is
+judged c i old new (asked.End ys) s k l after d (passes user) same one is up = absurd is
 
-asked_at : (c : ConnectionId) (i : Item) (old new : ℕ → Option Socket) (a : Asked) (s : Scene) (k after : Socket) (d : Option DoorState)
-    → s.sockets c.0 ≡ Some k → ((n : ℕ) → old n ≡ s.sockets n) → IsAskedAt i k d after a → ((n : ℕ) → new n ≡ (if c.0 == n then behind a after else old n))
-    → Asks c i new a s (enter_at c i k s d)
-asked_at c i old new a s k after (Some d) here same is up = judged c i old new a s k after d (door d i) same is up
-asked_at c i old new asked.Router s k after None here same is up = record {
+asked_at : (c : ConnectionId) (i : Item) (old new : ℕ → Option Socket) (a : Asked) (s : Scene) (k l after : Socket) (d : Option DoorState)
+    → s.sockets c.0 ≡ Some k → ((n : ℕ) → seen (old n) ≡ seen (s.sockets n)) → look_at l ≡ look_at k → IsAskedAt i l d after a
+    → ((n : ℕ) → new n ≡ (if c.0 == n then behind a after else old n)) → Asks c i new a s (enter_at c i k s d)
+asked_at c i old new a s k l after (Some d) here same one is up = judged c i old new a s k l after d (door d i) same one is up
+asked_at c i old new asked.Router s k l after None here same one is up = record {
   after = s;
   id = refl;
   config = refl;
   trace = refl;
   last = refl;
   lines = refl;
-  sockets = λ n. changed c.0 old new s.sockets (Some after) (Some k) same up (ap Some is) n ∙ unchanged c.0 s.sockets k here n;
+  sockets = λ n. changed c.0 old new s.sockets (Some after) (Some k) same up (ap (λ (x : Socket). seen (Some x)) is ∙ ap Some one) n ∙ ap seen (unchanged c.0 s.sockets k here n);
   leads = refl;
 }
-  where
-    unchanged : (c : ℕ) (f : ℕ → Option Socket) (k : Socket) → f c ≡ Some k → (n : ℕ) → (if c == n then Some k else f n) ≡ f n
-    unchanged c f k e n = by_test (c == n) (λ h. rw h (sym e ∙ ap f (eqb-true c n h))) (λ h. rw h refl)
-asked_at c i old new asked.Nobody s k after None here same is up = absurd is
-asked_at c i old new (asked.Say ys) s k after None here same is up = absurd is
-asked_at c i old new (asked.Pass peer) s k after None here same is up = absurd is
-asked_at c i old new (asked.End ys) s k after None here same is up = absurd is
+asked_at c i old new asked.Nobody s k l after None here same one is up = absurd is
+asked_at c i old new (asked.Say ys) s k l after None here same one is up = absurd is
+asked_at c i old new (asked.Pass peer) s k l after None here same one is up = absurd is
+asked_at c i old new (asked.End ys) s k l after None here same one is up = absurd is
 
-asked_by : (c : ConnectionId) (i : Item) (old new : ℕ → Option Socket) (a : Asked) (s : Scene) (o : Option Socket)
-    → s.sockets c.0 ≡ o → ((n : ℕ) → old n ≡ s.sockets n) → AsksAt c.0 i old o new a → Asks c i new a s (enter_by c i s o)
-asked_by c i old new a s (Some k) here same asks = asked_at c i old new a s k asks.0 k.door here same asks.1 asks.2
-asked_by c i old new a s None here same asks = record {
+asked_by : (c : ConnectionId) (i : Item) (old new : ℕ → Option Socket) (a : Asked) (s : Scene) (o q : Option Socket)
+    → s.sockets c.0 ≡ o → seen q ≡ seen o → ((n : ℕ) → seen (old n) ≡ seen (s.sockets n)) → AsksAt c.0 i old q new a → Asks c i new a s (enter_by c i s o)
+asked_by c i old new a s (Some k) (Some l) here alikes same asks =
+    let one : look_at l ≡ look_at k = alike l k alikes
+    in asked_at c i old new a s k l asks.0 k.door here same one
+    (subst (λ (d : Option DoorState). IsAskedAt i l d asks.0 a) (ap (λ (w : Look). w.door) one) asks.1) asks.2
+asked_by c i old new a s (Some k) None here alikes same asks = absurd (not_none (look_at k) (sym alikes))
+asked_by c i old new a s None (Some l) here alikes same asks = absurd (not_none (look_at l) alikes)
+asked_by c i old new a s None None here alikes same asks = record {
   after = s;
   id = refl;
   config = refl;
   trace = refl;
   last = refl;
   lines = refl;
-  sockets = λ n. asks.1 n ∙ same n;
+  sockets = λ n. ap seen (asks.1 n) ∙ same n;
   leads = ap (λ (b : Asked). follow c i b s) asks.0;
 }
 
@@ -133,10 +134,8 @@ pub asked_scene : (p q : Player) (c : ConnectionId) (i : Item) (a : Asked) (s : 
     → q.core ≡ p.core → q.config ≡ p.config → q.newest ≡ p.newest → q.lines.items ≡ p.lines.items → Follows p s
     → (after : Scene) × Follows q after × (follow c i a after ≡ enter c i s)
 asked_scene p q c i a s asks core config newest lines follows =
-    let found : AsksAt c.0 i (get nat_cmp p.sockets) (s.sockets c.0) (get nat_cmp q.sockets) a
-    = subst (λ (o : Option Socket). AsksAt c.0 i (get nat_cmp p.sockets) o (get nat_cmp q.sockets) a) (follows.sockets c.0) asks
-    in let w : Asks c i (get nat_cmp q.sockets) a s (enter_by c i s (s.sockets c.0))
-    = asked_by c i (get nat_cmp p.sockets) (get nat_cmp q.sockets) a s (s.sockets c.0) refl follows.sockets found
+    let w : Asks c i (get nat_cmp q.sockets) a s (enter_by c i s (s.sockets c.0))
+    = asked_by c i (get nat_cmp p.sockets) (get nat_cmp q.sockets) a s (s.sockets c.0) (get nat_cmp p.sockets c.0) refl (follows.sockets c.0) follows.sockets asks
     in (
       w.after,
       record {

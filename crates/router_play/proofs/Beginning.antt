@@ -23,7 +23,7 @@ use Rattle.router_core.proofs.Following.{due_keeps}
 use Rattle.router_core.proofs.Moves.{Leads, leads_event}
 use Rattle.router_play.specs.declared.line.Line.TheVariants as line
 use Rattle.router_play.specs.declared.player.Player.{Player}
-use Rattle.router_play.specs.Playing.{Begun, Follows, Said}
+use Rattle.router_play.specs.Playing.{Begun, Follows, Said, seen}
 use Rattle.router_play.specs.Script.{opening}
 
 -- nothing is due
@@ -78,7 +78,7 @@ start_follows p q config fits named config_same newest sockets lines b =
       named = named ∙ b.named;
       config = subst (λ k. k.now ≡ config) (sym config_same) b.config_is;
       last = newest ∙ b.last;
-      sockets = λ c. ap (λ k. get nat_cmp k c) sockets ∙ b.sockets c;
+      sockets = λ c. ap (λ k. seen (get nat_cmp k c)) sockets ∙ ap seen (b.sockets c);
       lines = ap (λ l. l.items) lines ∙ b.lines;
     }
 

@@ -15,7 +15,7 @@ use Rattle.router_trace.specs.Refusing.{refuses}
 use Rattle.router_trace.specs.Trace.{Trace, step_of}
 use Rattle.router_play.specs.declared.line.Line.TheVariants as line
 use Rattle.router_play.specs.declared.player.Player.{Player}
-use Rattle.router_play.specs.Playing.{Follows, Said}
+use Rattle.router_play.specs.Playing.{Follows, Said, seen}
 use Rattle.router_play.specs.Script.{Scene, hand, refused, say, with_trace}
 
 -- the player with one more line for a refusal
@@ -27,7 +27,7 @@ refused_follows p q r s core config newest sockets lines said f = record {
   named = ap id_of (said.core ∙ core) ∙ f.named;
   config = subst (λ k. k.now ≡ s.config) (sym (said.config ∙ config)) f.config;
   last = said.last ∙ newest ∙ f.last;
-  sockets = λ c. ap (λ k. get nat_cmp k c) (said.sockets ∙ sockets) ∙ f.sockets c;
+  sockets = λ c. ap (λ k. seen (get nat_cmp k c)) (said.sockets ∙ sockets) ∙ f.sockets c;
   lines = said.lines ∙ ap (λ l. l.items ++ refused ∷ []) lines ∙ ap (λ l. l ++ refused ∷ []) f.lines;
 }
 
@@ -53,7 +53,7 @@ handled_follows p q e s fits taken named config newest sockets lines f =
       named = named ∙ f.named;
       config = subst (λ k. k.now ≡ s.config) (sym config) f.config;
       last = newest ∙ f.last;
-      sockets = λ c. ap (λ k. get nat_cmp k c) sockets ∙ f.sockets c;
+      sockets = λ c. ap (λ k. seen (get nat_cmp k c)) sockets ∙ f.sockets c;
       lines = ap (λ l. l.items) lines ∙ f.lines;
     })
 
@@ -84,6 +84,6 @@ fused_follows p q s fits named config newest sockets lines f = record {
   named = named ∙ f.named;
   config = subst (λ k. k.now ≡ s.config) (sym config) f.config;
   last = newest ∙ f.last;
-  sockets = λ c. ap (λ k. get nat_cmp k c) sockets ∙ f.sockets c;
+  sockets = λ c. ap (λ k. seen (get nat_cmp k c)) sockets ∙ f.sockets c;
   lines = ap (λ l. l.items) lines ∙ f.lines;
 }

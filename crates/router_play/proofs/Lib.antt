@@ -1,5 +1,7 @@
+mod Looks
 mod Asks
 mod Bytes
+mod Feeding
 mod Scenes
 mod NewJournal
 mod Beginning

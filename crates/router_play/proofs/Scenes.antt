@@ -28,7 +28,8 @@ use Rattle.router_core.specs.Turns.{is_started}
 use Rattle.router_core.specs.Handling.{Fits, id_of, IsBatchOf}
 use Rattle.router_core.specs.Runs.{Taking, IsNext, taking, took_one, waiting_of}
 use Rattle.router_play.specs.Script.{Scene, with_socket, with_trace, say_all, out_line, lose, lose_by, told, is_last, close_if, take_one, take_all, AllInTurn, opening, Takes, Flushes, Plays, PlaysAll, no_book, book_line}
-use Rattle.router_play.specs.Playing.{Follows, PartsAt, part_by}
+use Rattle.router_play.specs.Playing.{Follows, Look, look_at, seen, PartsAt, part_by}
+use Rattle.router_play.proofs.Looks.{alike, not_none}
 use Rattle.router_conns.proofs.Lists.{by_test}
 
 -- what holds only of a failed router doesn't hold of one that works
@@ -44,11 +45,11 @@ record Parts (c : ConnectionId) (new : ℕ → Option Socket) (r : Parted) (s go
   pub trace : after.trace ≡ s.trace
   pub last : after.last ≡ s.last
   pub lines : after.lines ≡ s.lines
-  pub sockets : (n : ℕ) → new n ≡ after.sockets n
+  pub sockets : (n : ℕ) → seen (new n) ≡ seen (after.sockets n)
   pub leads : part_by c r after ≡ goal
 
 parted_at : (c : ConnectionId) (old new : ℕ → Option Socket) (r : Parted) (s : Scene) (o : Option Socket)
-    → s.sockets c.0 ≡ o → ((n : ℕ) → old n ≡ s.sockets n) → PartsAt o r → ((n : ℕ) → new n ≡ (if c.0 == n then None else old n))
+    → s.sockets c.0 ≡ o → ((n : ℕ) → seen (old n) ≡ seen (s.sockets n)) → PartsAt o r → ((n : ℕ) → new n ≡ (if c.0 == n then None else old n))
     → Parts c new r s (lose_by c s o)
 parted_at c old new r s None here same is up = record {
   after = s;
@@ -57,12 +58,12 @@ parted_at c old new r s None here same is up = record {
   trace = refl;
   last = refl;
   lines = refl;
-  sockets = λ n. up n ∙ unchanged c.0 s.sockets (old n) here n (same n);
+  sockets = λ n. ap seen (up n) ∙ unchanged c.0 s.sockets (old n) here n (same n);
   leads = ap (λ (q : Parted). part_by c q s) is;
 }
   where
-    unchanged : (c : ℕ) (f : ℕ → Option Socket) (v : Option Socket) → f c ≡ None → (n : ℕ) → v ≡ f n → (if c == n then None else v) ≡ f n
-    unchanged c f v e n h = by_test (c == n) (λ x. rw x (sym e ∙ ap f (eqb-true c n x))) (λ x. rw x h)
+    unchanged : (c : ℕ) (f : ℕ → Option Socket) (v : Option Socket) → f c ≡ None → (n : ℕ) → seen v ≡ seen (f n) → seen (if c == n then None else v) ≡ seen (f n)
+    unchanged c f v e n h = by_test (c == n) (λ x. rw x (ap seen (sym e ∙ ap f (eqb-true c n x)))) (λ x. rw x h)
 parted_at c old new r s (Some k) here same is up = record {
   after = with_socket c None s;
   id = refl;
@@ -70,11 +71,11 @@ parted_at c old new r s (Some k) here same is up = record {
   trace = refl;
   last = refl;
   lines = refl;
-  sockets = λ n. up n ∙ two (c.0 == n) (old n) (s.sockets n) (same n);
+  sockets = λ n. ap seen (up n) ∙ two (c.0 == n) (old n) (s.sockets n) (same n);
   leads = ap (λ (q : Parted). part_by c q (with_socket c None s)) is ∙ by_door k.door;
 }
   where
-    two : (b : Bool) (v w : Option Socket) → v ≡ w → (if b then None else v) ≡ (if b then None else w)
+    two : (b : Bool) (v w : Option Socket) → seen v ≡ seen w → seen (if b then None else v) ≡ seen (if b then None else w)
     two true v w e = refl
     two false v w e = e
 
@@ -82,12 +83,18 @@ parted_at c old new r s (Some k) here same is up = record {
     by_door None = refl
     by_door (Some d) = refl
 
+parts_alike : (r : Parted) (o q : Option Socket) → seen o ≡ seen q → PartsAt o r → PartsAt q r
+parts_alike r None None e is = is
+parts_alike r None (Some l) e is = absurd (not_none (look_at l) (sym e))
+parts_alike r (Some k) None e is = absurd (not_none (look_at k) e)
+parts_alike r (Some k) (Some l) e is = is ∙ ap (λ (w : Look). if is_none w.door then parted.Passed else parted.AtDoor) (alike k l e)
+
 pub parted_scene : (p q : Player) (c : ConnectionId) (r : Parted) (s : Scene)
     → PartsAt (get nat_cmp p.sockets c.0) r → ((n : ℕ) → get nat_cmp q.sockets n ≡ (if c.0 == n then None else get nat_cmp p.sockets n))
     → q.core ≡ p.core → q.config ≡ p.config → q.newest ≡ p.newest → q.lines.items ≡ p.lines.items → Follows p s
     → (after : Scene) × Follows q after × (part_by c r after ≡ lose c s)
 parted_scene p q c r s parts rows core config newest lines follows =
-    let found : PartsAt (s.sockets c.0) r = subst (λ (o : Option Socket). PartsAt o r) (follows.sockets c.0) parts
+    let found : PartsAt (s.sockets c.0) r = parts_alike r (get nat_cmp p.sockets c.0) (s.sockets c.0) (follows.sockets c.0) parts
     in let w : Parts c (get nat_cmp q.sockets) r s (lose_by c s (s.sockets c.0))
     = parted_at c (get nat_cmp p.sockets) (get nat_cmp q.sockets) r s (s.sockets c.0) refl follows.sockets found rows
     in (
@@ -123,7 +130,7 @@ taken_follows p q c b s follows fits is named config sockets newest lines = reco
   named = named ∙ follows.named;
   config = ap (λ r. r.now) config ∙ follows.config;
   last = newest ∙ follows.last;
-  sockets = λ n. ap (λ m. get nat_cmp m n) sockets ∙ follows.sockets n;
+  sockets = λ n. ap (λ m. seen (get nat_cmp m n)) sockets ∙ follows.sockets n;
   lines = lines ∙ follows.lines;
 }
 

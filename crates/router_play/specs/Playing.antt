@@ -1,8 +1,9 @@
 -- When a player agrees with a script's scene.
-use Rattle.std.specs.Prelude.{◌≡◌, ◌++◌, ℕ, Bool, true, false, is_none, if◌then◌else◌, List, [], Option, Some, None}
+use Rattle.std.specs.Prelude.{◌≡◌, ◌++◌, ℕ, Bool, true, false, is_none, if◌then◌else◌, List, [], Option, Some, None, option_map}
 use Rattle.amqp_frames.specs.declared.item.Item.{Item}
 use Rattle.amqp_frames.specs.Cuts.{Cuts}
 use Rattle.router_trace.specs.declared.event.ConnectionId.{ConnectionId}
+use Rattle.router_core.specs.declared.door.Door.{Door as DoorState}
 use Rattle.router_play.specs.declared.socket.Socket.{Socket}
 use Rattle.std.specs.Ordering.{nat_cmp}
 use Rattle.std.specs.BTreeMap.{get}
@@ -16,8 +17,24 @@ use Rattle.router_play.specs.Script.{new_router}
 use Rattle.router_trace.specs.Configuration.{beginning}
 use Rattle.router_core.specs.Turns.{is_started}
 use Rattle.router_core.specs.Handling.{Fits, id_of, is_failed}
-use Rattle.router_play.specs.Script.{Scene, refused, say, hand, with_socket, stream_of}
+use Rattle.router_play.specs.Script.{Scene, refused, say, hand, with_socket, stream_of, Reads}
 use Rattle.router_play.specs.Ending.{TellsOf}
+
+-- what counts of a connection's socket: its door, and the bytes that wait for the rest of an item, until its stream ended. What a
+-- reader keeps behind that depends on the pieces in which the bytes came, and nothing reads it
+pub record Look : Type 0 where
+  pub door : Option DoorState
+  pub stream : Option (List ℕ)
+
+abbrev pub waiting : Bool → List ℕ → Option (List ℕ)
+waiting true rest = None
+waiting false rest = Some rest
+
+abbrev pub look_at : Socket → Look
+look_at k = record { door = k.door; stream = waiting k.reader.failed k.reader.rest }
+
+abbrev pub seen : Option Socket → Option Look
+seen o = option_map look_at o
 
 -- its router is started
 pub record Follows (p : Player) (s : Scene) : Type 0 where
@@ -26,7 +43,7 @@ pub record Follows (p : Player) (s : Scene) : Type 0 where
   pub named : id_of p.core ≡ s.id
   pub config : p.config.now ≡ s.config
   pub last : p.newest ≡ s.last
-  pub sockets : (c : ℕ) → get nat_cmp p.sockets c ≡ s.sockets c
+  pub sockets : (c : ℕ) → seen (get nat_cmp p.sockets c) ≡ seen (s.sockets c)
   pub lines : p.lines.items ≡ s.lines
 
 -- a player whose router is opened with a configuration, and not started yet
@@ -62,6 +79,11 @@ abbrev pub IsRead : ConnectionId → List ℕ → Scene → Option Socket → Pl
 IsRead c bytes s None p None = Follows p s
 IsRead c bytes s None p (Some items) = ⊥
 IsRead c bytes s (Some k) p read = IsReadOne c bytes s k k.reader.failed p read
+
+-- bytes were read behind others of the same step: where the player agreed with what those lead to, it agrees now with what both lead to
+abbrev pub Continues : ConnectionId → List ℕ → Player → Player → Type 0
+Continues c bytes old new =
+    (s v : Scene) (k : Socket) (before : List ℕ) → s.sockets c.0 ≡ Some k → Reads c before s k false v → Follows old v → (u : Scene) × Reads c (before ++ bytes) s k false u × Follows new u
 
 -- where a connection was when it was closed
 abbrev pub PartsAt : Option Socket → Parted → Type 0

@@ -15,7 +15,7 @@ ghost use Rattle.router_play.specs.Asking.{follow};
 ghost use Rattle.router_trace.specs.declared.event.Event.TheVariants as event;
 ghost use Rattle.router_play.specs.declared.line.Line.TheVariants as line;
 ghost use Rattle.router_play.specs.declared.line.Line.{Line as ALine};
-ghost use Rattle.router_play.specs.Playing.{Begun, Follows, Said, Tells, IsRead, part_by};
+ghost use Rattle.router_play.specs.Playing.{Begun, Follows, Said, Tells, IsRead, Continues, part_by};
 ghost use Rattle.router_play.specs.Ending.{TellsOf, fault_behind, size_line};
 
 use crate::finish::{Ended, Size, graver};
@@ -35,6 +35,9 @@ use std::collections::BTreeMap;
 
 /// The number of items taken at a time.
 const MOST: usize = 64;
+
+/// The most bytes of a step that are cut at a time, in bytes: the items of one such piece are held at once.
+const PIECE: usize = 65_536;
 
 /// The state of a script that is being played.
 #[derive(Drop)]
@@ -311,16 +314,39 @@ impl<'a> Player<'a> {
         Ok(())
     }
 
-    /// Bytes were received on a connection.
+    /// Bytes were received on a connection. They are cut in pieces, and the items of one are handled before the next is cut.
     fn bytes(&mut self, conn: ConnectionId, bytes: &[u8]) -> Result<(), AllocError>
         ensures follows { OnOk result (is_failed self.new.core ≡ false → (s : Scene) → Follows self.old s → (u : Scene) × BytesCome conn bytes.now s (s.sockets conn.0) u × Follows self.new u) }
         ensures stays { is_failed self.old.core ≡ true → is_failed self.new.core ≡ true }
         ensures tells { OnOk result (Tells self.old → Tells self.new) }
     {
-        match self.read(conn, bytes)? {
+        let (piece, others) = bytes.split_at(bytes.len().min(PIECE));
+        match self.read(conn, piece)? {
             None => self.refuse(),
-            Some(items) => self.enter_all(conn, items),
+            Some(items) => {
+                self.enter_all(conn, items)?;
+                self.more_bytes(conn, others)
+            }
         }
+    }
+
+    /// The further bytes of a step, cut in pieces. Where the connection was closed by what came before them, or its stream
+    /// ended, they are dropped.
+    fn more_bytes(&mut self, conn: ConnectionId, bytes: &[u8]) -> Result<(), AllocError>
+        ensures continues { OnOk result (is_failed self.new.core ≡ false → Continues conn bytes.now self.old self.new) }
+        ensures stays { is_failed self.old.core ≡ true → is_failed self.new.core ≡ true }
+        ensures tells { OnOk result (Tells self.old → Tells self.new) }
+    {
+        let mut behind = bytes;
+        while !behind.is_empty() {
+            let (piece, others) = behind.split_at(behind.len().min(PIECE));
+            match self.read(conn, piece)? {
+                None => return Ok(()),
+                Some(items) => self.enter_all(conn, items)?,
+            }
+            behind = others;
+        }
+        Ok(())
     }
 
     /// Cuts bytes into items; none if the connection is closed or its stream ended.
