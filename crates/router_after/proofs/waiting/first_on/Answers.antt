@@ -2,11 +2,14 @@ use Rattle.std.proofs.Common.{ℕ, Option, sym, subst}
 use Rattle.router_trace.specs.Deliveries.{delivery}
 use Rattle.router_deliveries.specs.Finding.{IsFirst}
 use Rattle.router_after.specs.Starting.{goes_from}
-use Rattle.router_after.proofs.Going.{nowhere, nobody, somebody}
+use Rattle.router_after.proofs.Going.{nowhere, closed, nobody, somebody}
 use Rattle.router_after.proofs.waiting.first_on.Goals as goal
 
 pub returns-in_default : goal.returns-in_default
 returns-in_default c = λ t f. nowhere t c.args.link (sym (c.in_default.ensures t f))
+
+pub returns-then-not-is_wide : goal.returns-then-not-is_wide
+returns-then-not-is_wide c = λ t f. closed t c.args.link c.in-Some.place (sym (c.in-Some.ensures t f)) (sym (c.if-not-is_wide.ensures t f))
 
 pub returns-in-None : goal.returns-in-None
 returns-in-None c = λ t f.
