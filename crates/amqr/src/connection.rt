@@ -6,9 +6,7 @@ use amqp_frames::{FrameReader, Item};
 use amqp_perf::Text;
 use route_table::Listener;
 use router_core::{ConnectionId, Door, Peer};
-use router_serve::{
-    Greeted, Hall, Ledgers, ReadEnd, Seat, Six, WriteEnd, greet, serve_reader, serve_writer,
-};
+use router_serve::{Greeted, Names, ReadEnd, Seat, WriteEnd, greet, serve_reader, serve_writer};
 use std::net::{Shutdown, SocketAddr, TcpStream};
 use std::sync::{Condvar, Mutex, Wait};
 use std::thread;
@@ -16,17 +14,9 @@ use std::thread::Threads;
 use std::time::{Clock, Duration};
 
 /// Serves a connection until it ends.
-pub fn connection<
-    U: Hall + Send + Sync,
-    I: Hall + Send + Sync,
-    D: Hall + Send + Sync,
-    T: Hall + Send + Sync,
-    S: Hall + Send + Sync,
-    B: Hall + Send + Sync,
-    R: Threads + Wait + Clock + Eprint + Sync,
->(
+pub fn connection<N: Names, R: Threads + Wait + Clock + Eprint + Sync>(
     rt: &R,
-    hub: &Hub<Six<U, I, D, T, S, B>>,
+    hub: &Hub<N>,
     listener: &Listener,
     peer: SocketAddr,
     stream: &TcpStream,
@@ -67,17 +57,9 @@ pub fn connection<
 }
 
 /// Serves a connection after its door.
-fn enter<
-    U: Hall + Send + Sync,
-    I: Hall + Send + Sync,
-    D: Hall + Send + Sync,
-    T: Hall + Send + Sync,
-    S: Hall + Send + Sync,
-    B: Hall + Send + Sync,
-    R: Threads + Wait + Clock + Eprint + Sync,
->(
+fn enter<N: Names, R: Threads + Wait + Clock + Eprint + Sync>(
     rt: &R,
-    hub: &Hub<Six<U, I, D, T, S, B>>,
+    hub: &Hub<N>,
     stream: &TcpStream,
     peer: SocketAddr,
     user: &Text,
@@ -108,64 +90,52 @@ fn enter<
 }
 
 /// Reads in this thread and writes in another, until both have ended.
-fn both<
-    U: Hall + Send + Sync,
-    I: Hall + Send + Sync,
-    D: Hall + Send + Sync,
-    T: Hall + Send + Sync,
-    S: Hall + Send + Sync,
-    B: Hall + Send + Sync,
-    R: Threads + Wait + Clock + Eprint + Sync,
->(
+fn both<N: Names, R: Threads + Wait + Clock + Eprint + Sync>(
     rt: &R,
-    hub: &Hub<Six<U, I, D, T, S, B>>,
+    hub: &Hub<N>,
     stream: &TcpStream,
     conn: ConnectionId,
-    seat: Seat<Six<U, I, D, T, S, B>>,
+    seat: Seat<N>,
     items: Vec<Item>,
     frames: &mut FrameReader,
     watch: &Watch<'_, R>,
-) -> Seat<Six<U, I, D, T, S, B>> {
+) -> Seat<N> {
     let read = Mutex::new(false);
     let rung = Condvar::new();
     let read = &read;
     let rung = &rung;
-    thread::scope(
-        thread::scope_env(),
-        rt,
-        |scope| -> Seat<Six<U, I, D, T, S, B>> {
-            let writer = scope.spawn(move || output(rt, hub, stream, conn, watch, read, rung));
-            let (seat, _, end) = serve_reader(
-                rt,
-                hub.alloc,
-                &hub.shared,
-                seat,
-                conn,
-                items,
-                frames,
-                &mut &*stream,
-                watch,
-            );
-            if let ReadEnd::Core(fault) = end {
-                hub.failed(rt, fault);
-            }
-            swallow(rt, stream);
-            *read.lock(rt) = true;
-            rung.notify_all();
-            let written = match writer {
-                Ok(writer) => writer.join(rt),
-                Err(_) => None,
-            };
-            tell_end(rt, hub, conn, end, written);
-            seat
-        },
-    )
+    thread::scope(thread::scope_env(), rt, |scope| -> Seat<N> {
+        let writer = scope.spawn(move || output(rt, hub, stream, conn, watch, read, rung));
+        let (seat, _, end) = serve_reader(
+            rt,
+            hub.alloc,
+            &hub.shared,
+            seat,
+            conn,
+            items,
+            frames,
+            &mut &*stream,
+            watch,
+        );
+        if let ReadEnd::Core(fault) = end {
+            hub.failed(rt, fault);
+        }
+        swallow(rt, stream);
+        *read.lock(rt) = true;
+        rung.notify_all();
+        let written = match writer {
+            Ok(writer) => writer.join(rt),
+            Err(_) => None,
+        };
+        tell_end(rt, hub, conn, end, written);
+        seat
+    })
 }
 
 /// Writes the router's output, then waits for the peer's end.
-fn output<G: Ledgers, R: Wait + Clock + Eprint>(
+fn output<N: Names, R: Wait + Clock + Eprint>(
     rt: &R,
-    hub: &Hub<G>,
+    hub: &Hub<N>,
     stream: &TcpStream,
     conn: ConnectionId,
     watch: &Watch<'_, R>,
@@ -192,12 +162,12 @@ fn output<G: Ledgers, R: Wait + Clock + Eprint>(
 }
 
 /// Takes what is still waiting for a connection that is over.
-fn drained<G: Ledgers, R: Wait + Eprint>(
+fn drained<N: Names, R: Wait + Eprint>(
     rt: &R,
-    hub: &Hub<G>,
+    hub: &Hub<N>,
     conn: ConnectionId,
-    seat: Seat<G>,
-) -> Seat<G> {
+    seat: Seat<N>,
+) -> Seat<N> {
     let mut seat = seat;
     for _turn in 0..u64::MAX {
         match hub.shared.wait_batch(rt, &mut seat, conn) {
@@ -216,9 +186,9 @@ fn drained<G: Ledgers, R: Wait + Eprint>(
 }
 
 /// Reports why a connection ended.
-fn tell_end<G: Ledgers, R: Wait + Eprint>(
+fn tell_end<N: Names, R: Wait + Eprint>(
     rt: &R,
-    hub: &Hub<G>,
+    hub: &Hub<N>,
     conn: ConnectionId,
     end: ReadEnd,
     written: Option<WriteEnd>,

@@ -3,7 +3,7 @@ use crate::connection::connection;
 use crate::hub::{Hub, Taken};
 use route_table::Listener;
 use router_core::Event;
-use router_serve::{Hall, Ledgers, Six};
+use router_serve::Names;
 use std::io::ErrorKind;
 use std::net::{Net, SocketAddr, TcpListener, TcpStream};
 use std::sync::{Arc, Condvar, Mutex, Wait};
@@ -22,14 +22,9 @@ const TRIES: u64 = 500;
 
 /// Accepts connections at all listeners, each of which has its socket, until no more are accepted and all have ended.
 pub fn listen<
-    U: Hall + Send + Sync,
-    I: Hall + Send + Sync,
-    D: Hall + Send + Sync,
-    T: Hall + Send + Sync,
-    S: Hall + Send + Sync,
-    B: Hall + Send + Sync,
+    N: Names,
     R: Net<Listener = TcpListener, Stream = TcpStream> + Threads + Wait + Sync + Clock + Eprint,
->(rt: &R, hub: &Hub<Six<U, I, D, T, S, B>>, listeners: &[Listener], sockets: &[TcpListener]) {
+>(rt: &R, hub: &Hub<N>, listeners: &[Listener], sockets: &[TcpListener]) {
     let done = Mutex::new(false);
     let rung = Condvar::new();
     let done = &done;
@@ -54,15 +49,12 @@ pub fn listen<
 }
 
 /// Accepts the connections of one listener.
-fn accept_all<
-    U: Hall + Send + Sync,
-    I: Hall + Send + Sync,
-    D: Hall + Send + Sync,
-    T: Hall + Send + Sync,
-    S: Hall + Send + Sync,
-    B: Hall + Send + Sync,
-    R: Threads + Wait + Sync + Clock + Eprint,
->(rt: &R, hub: &Hub<Six<U, I, D, T, S, B>>, listener: &Listener, socket: &TcpListener) {
+fn accept_all<N: Names, R: Threads + Wait + Sync + Clock + Eprint>(
+    rt: &R,
+    hub: &Hub<N>,
+    listener: &Listener,
+    socket: &TcpListener,
+) {
     thread::scope(thread::scope_env(), rt, |scope| {
         let mut failing = false;
         for stream in socket.incoming() {
@@ -102,15 +94,12 @@ fn accept_all<
 }
 
 /// Serves one connection.
-fn run_one<
-    U: Hall + Send + Sync,
-    I: Hall + Send + Sync,
-    D: Hall + Send + Sync,
-    T: Hall + Send + Sync,
-    S: Hall + Send + Sync,
-    B: Hall + Send + Sync,
-    R: Threads + Wait + Sync + Clock + Eprint,
->(rt: &R, hub: &Hub<Six<U, I, D, T, S, B>>, listener: &Listener, stream: TcpStream) {
+fn run_one<N: Names, R: Threads + Wait + Sync + Clock + Eprint>(
+    rt: &R,
+    hub: &Hub<N>,
+    listener: &Listener,
+    stream: TcpStream,
+) {
     if let Ok(peer) = stream.peer_addr() {
         if let Ok(stream) = Arc::new(hub.alloc, stream) {
             let number = hub.streams.lock(rt).add(&stream);
@@ -152,9 +141,9 @@ fn wake_one<R: Net<Listener = TcpListener, Stream = TcpStream> + Clock>(rt: &R, 
 }
 
 /// Gives the router the time every half second, until it is done; where the router failed, serving ends.
-fn tick<G: Ledgers, R: Wait + Clock + Eprint>(
+fn tick<N: Names, R: Wait + Clock + Eprint>(
     rt: &R,
-    hub: &Hub<G>,
+    hub: &Hub<N>,
     done: &Mutex<bool>,
     rung: &Condvar,
 ) {

@@ -11,7 +11,7 @@ use amqr_commands::{Refusal, Serving, Status, config_at, refuse};
 use amqr_files::JournalDisk;
 use route_table::{Config, Listener, Role};
 use router_core::Core;
-use router_serve::{Blanks, Hall, NoLog, SEATS, Shared, Six};
+use router_serve::{Blanks, Names, NoLog, SEATS, Shared};
 use std::alloc::{AllocError, Global};
 use std::fs::File;
 use std::io::{self, Write};
@@ -178,19 +178,12 @@ fn start<
         starts: Blank::new(SEATS),
         batches: Blank::new(SEATS),
     };
-    counted::<Brand, Brand, Brand, Brand, Brand, Brand, R>(
-        rt, alloc, config, own, sockets, serving, core, blanks,
-    )
+    counted::<Brand, R>(rt, alloc, config, own, sockets, serving, core, blanks)
 }
 
 /// Serves, and joins the threads' counts with what the router did.
 fn counted<
-    U: Hall + Send + Sync,
-    I: Hall + Send + Sync,
-    D: Hall + Send + Sync,
-    T: Hall + Send + Sync,
-    S: Hall + Send + Sync,
-    B: Hall + Send + Sync,
+    N: Names,
     R: Net<Listener = TcpListener, Stream = TcpStream> + Threads + Wait + Sync + Clock + Eprint,
 >(
     rt: &R,
@@ -204,14 +197,15 @@ fn counted<
 ) -> Result<Status, AllocError>
     requires opened { IsOpened core }
     requires counts { counts_of core ≡ uncounted }
-    requires ups { (blanks.ups.name ≡ U.name) × (blanks.ups.parts ≡ U.parts) × (U.seats ≡ U.parts) × (U.seats ≡ 4611686018427387904) }
-    requires items { (blanks.items.name ≡ I.name) × (blanks.items.parts ≡ I.parts) × (I.seats ≡ I.parts) × (I.seats ≡ 4611686018427387904) }
-    requires downs { (blanks.downs.name ≡ D.name) × (blanks.downs.parts ≡ D.parts) × (D.seats ≡ D.parts) × (D.seats ≡ 4611686018427387904) }
-    requires ticks { (blanks.ticks.name ≡ T.name) × (blanks.ticks.parts ≡ T.parts) × (T.seats ≡ T.parts) × (T.seats ≡ 4611686018427387904) }
-    requires starts { (blanks.starts.name ≡ S.name) × (blanks.starts.parts ≡ S.parts) × (S.seats ≡ S.parts) × (S.seats ≡ 4611686018427387904) }
-    requires batches { (blanks.batches.name ≡ B.name) × (blanks.batches.parts ≡ B.parts) × (B.seats ≡ B.parts) × (B.seats ≡ 4611686018427387904) }
+    requires ups { (blanks.ups.name ≡ N.ups) × (blanks.ups.parts ≡ N.seats) }
+    requires items { (blanks.items.name ≡ N.items) × (blanks.items.parts ≡ N.seats) }
+    requires downs { (blanks.downs.name ≡ N.downs) × (blanks.downs.parts ≡ N.seats) }
+    requires ticks { (blanks.ticks.name ≡ N.ticks) × (blanks.ticks.parts ≡ N.seats) }
+    requires starts { (blanks.starts.name ≡ N.starts) × (blanks.starts.parts ≡ N.seats) }
+    requires batches { (blanks.batches.name ≡ N.batches) × (blanks.batches.parts ≡ N.seats) }
+    requires seats { N.seats ≡ 4611686018427387904 }
 {
-    let made: Result<Shared<JournalDisk, NoLog, Six<U, I, D, T, S, B>>, AllocError> = Shared::new(
+    let made: Result<Shared<JournalDisk, NoLog, N>, AllocError> = Shared::new(
         alloc,
         core,
         NoLog {},

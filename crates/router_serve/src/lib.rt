@@ -12,7 +12,5 @@ pub use end::{ReadEnd, WriteEnd};
 pub use gate::{Gate, OpenGate, Side};
 pub use greeting::{Greeted, greet};
 pub use reader::serve_reader;
-pub use router_shared::{
-    Blanks, Closed, Hall, Ledgers, Log, NoLog, Receipt, SEATS, Seat, Shared, Six,
-};
+pub use router_shared::{Blanks, Closed, Ledgers, Log, Names, NoLog, Receipt, SEATS, Seat, Shared};
 pub use writer::serve_writer;

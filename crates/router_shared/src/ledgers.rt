@@ -12,10 +12,6 @@ pub trait Hall: Ledger {
     ghost seats: { ℕ };
 }
 
-impl Hall for Brand {
-    ghost seats = { 0 };
-}
-
 /// One ledger for each number that a router counts.
 pub trait Ledgers {
     /// The ledger of connections that came up.
@@ -32,23 +28,141 @@ pub trait Ledgers {
     type Batches: Hall;
 }
 
-/// Six ledgers.
-pub struct Six<U, I, D, T, S, B> {
-    of: PhantomData<(U, I, D, T, S, B)>,
+/// The names of a router's ledgers, and the number of seats, which is that of each ledger's parts. What has names has ledgers.
+pub trait Names: Send + Sync {
+    ghost ups: { ℕ };
+
+    ghost items: { ℕ };
+
+    ghost downs: { ℕ };
+
+    ghost ticks: { ℕ };
+
+    ghost starts: { ℕ };
+
+    ghost batches: { ℕ };
+
+    ghost seats: { ℕ };
 }
 
-impl<U: Hall, I: Hall, D: Hall, T: Hall, S: Hall, B: Hall> Ledgers for Six<U, I, D, T, S, B> {
-    type Ups = U;
+impl Names for Brand {
+    ghost ups = { 0 };
 
-    type Items = I;
+    ghost items = { 0 };
 
-    type Downs = D;
+    ghost downs = { 0 };
 
-    type Ticks = T;
+    ghost ticks = { 0 };
 
-    type Starts = S;
+    ghost starts = { 0 };
 
-    type Batches = B;
+    ghost batches = { 0 };
+
+    ghost seats = { 0 };
+}
+
+impl<N: Names> Ledgers for N {
+    type Ups = Ups<N>;
+
+    type Items = Items<N>;
+
+    type Downs = Downs<N>;
+
+    type Ticks = Ticks<N>;
+
+    type Starts = Starts<N>;
+
+    type Batches = Batches<N>;
+}
+
+/// The ledger of connections that came up.
+pub struct Ups<N> {
+    of: PhantomData<N>,
+}
+
+impl<N: Names> Ledger for Ups<N> {
+    ghost name = { N.ups };
+
+    ghost parts = { N.seats };
+}
+
+impl<N: Names> Hall for Ups<N> {
+    ghost seats = { N.seats };
+}
+
+/// The ledger of items received.
+pub struct Items<N> {
+    of: PhantomData<N>,
+}
+
+impl<N: Names> Ledger for Items<N> {
+    ghost name = { N.items };
+
+    ghost parts = { N.seats };
+}
+
+impl<N: Names> Hall for Items<N> {
+    ghost seats = { N.seats };
+}
+
+/// The ledger of connections that were lost.
+pub struct Downs<N> {
+    of: PhantomData<N>,
+}
+
+impl<N: Names> Ledger for Downs<N> {
+    ghost name = { N.downs };
+
+    ghost parts = { N.seats };
+}
+
+impl<N: Names> Hall for Downs<N> {
+    ghost seats = { N.seats };
+}
+
+/// The ledger of ticks.
+pub struct Ticks<N> {
+    of: PhantomData<N>,
+}
+
+impl<N: Names> Ledger for Ticks<N> {
+    ghost name = { N.ticks };
+
+    ghost parts = { N.seats };
+}
+
+impl<N: Names> Hall for Ticks<N> {
+    ghost seats = { N.seats };
+}
+
+/// The ledger of starts.
+pub struct Starts<N> {
+    of: PhantomData<N>,
+}
+
+impl<N: Names> Ledger for Starts<N> {
+    ghost name = { N.starts };
+
+    ghost parts = { N.seats };
+}
+
+impl<N: Names> Hall for Starts<N> {
+    ghost seats = { N.seats };
+}
+
+/// The ledger of batches that were taken.
+pub struct Batches<N> {
+    of: PhantomData<N>,
+}
+
+impl<N: Names> Ledger for Batches<N> {
+    ghost name = { N.batches };
+
+    ghost parts = { N.seats };
+}
+
+impl<N: Names> Hall for Batches<N> {
+    ghost seats = { N.seats };
 }
 
 /// The blanks of six ledgers.

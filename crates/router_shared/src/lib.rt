@@ -11,7 +11,7 @@ mod shared;
 mod tally;
 mod totals;
 
-pub use ledgers::{Blanks, Hall, Ledgers, SEATS, Six};
+pub use ledgers::{Blanks, Ledgers, Names, SEATS};
 pub use locked::{Closed, Log, NoLog, Receipt};
 pub use seat::Seat;
 pub use shared::Shared;

@@ -6,24 +6,14 @@ use crate::wire::{Ends, Input, Output, Wire};
 use amqp_frames::{FrameReader, Item};
 use route_table::{Config, Listener, Role};
 use router_core::{ConnectionId, Door, Peer};
-use router_serve::{
-    Greeted, Hall, Ledgers, Seat, Six, WriteEnd, greet, serve_reader, serve_writer,
-};
+use router_serve::{Greeted, Names, Seat, WriteEnd, greet, serve_reader, serve_writer};
 use std::alloc::{AllocError, Global};
 use std::sync::Wait;
 use std::thread;
 use std::thread::Threads;
 
 /// Serves all connections of a row at once, until they have ended.
-pub fn serve_all<
-    U: Hall + Send + Sync,
-    I: Hall + Send + Sync,
-    D: Hall + Send + Sync,
-    T: Hall + Send + Sync,
-    S: Hall + Send + Sync,
-    B: Hall + Send + Sync,
-    R: Threads + Wait + Sync,
->(rt: &R, hub: &Hub<Six<U, I, D, T, S, B>>, row: &Row) {
+pub fn serve_all<N: Names, R: Threads + Wait + Sync>(rt: &R, hub: &Hub<N>, row: &Row) {
     hub.start(rt);
     thread::scope(thread::scope_env(), rt, |scope| {
         for wire in &row.wires {
@@ -46,15 +36,7 @@ fn door(alloc: Global) -> Result<Door, AllocError> {
 }
 
 /// Serves a connection until it ends.
-fn connection<
-    U: Hall + Send + Sync,
-    I: Hall + Send + Sync,
-    D: Hall + Send + Sync,
-    T: Hall + Send + Sync,
-    S: Hall + Send + Sync,
-    B: Hall + Send + Sync,
-    R: Threads + Wait + Sync,
->(rt: &R, hub: &Hub<Six<U, I, D, T, S, B>>, row: &Row, wire: &Wire) {
+fn connection<N: Names, R: Threads + Wait + Sync>(rt: &R, hub: &Hub<N>, row: &Row, wire: &Wire) {
     let Ok(mut door) = door(hub.alloc) else {
         return;
     };
@@ -77,17 +59,9 @@ fn connection<
 }
 
 /// Serves a connection after its door.
-fn enter<
-    U: Hall + Send + Sync,
-    I: Hall + Send + Sync,
-    D: Hall + Send + Sync,
-    T: Hall + Send + Sync,
-    S: Hall + Send + Sync,
-    B: Hall + Send + Sync,
-    R: Threads + Wait + Sync,
->(
+fn enter<N: Names, R: Threads + Wait + Sync>(
     rt: &R,
-    hub: &Hub<Six<U, I, D, T, S, B>>,
+    hub: &Hub<N>,
     row: &Row,
     wire: &Wire,
     who: Peer,
@@ -113,57 +87,45 @@ fn enter<
 }
 
 /// Reads in this thread and writes in another, until both have ended.
-fn both<
-    U: Hall + Send + Sync,
-    I: Hall + Send + Sync,
-    D: Hall + Send + Sync,
-    T: Hall + Send + Sync,
-    S: Hall + Send + Sync,
-    B: Hall + Send + Sync,
-    R: Threads + Wait + Sync,
->(
+fn both<N: Names, R: Threads + Wait + Sync>(
     rt: &R,
-    hub: &Hub<Six<U, I, D, T, S, B>>,
+    hub: &Hub<N>,
     row: &Row,
     wire: &Wire,
     conn: ConnectionId,
-    seat: Seat<Six<U, I, D, T, S, B>>,
+    seat: Seat<N>,
     items: Vec<Item>,
     frames: &mut FrameReader,
     input: &mut Input<'_>,
-) -> Seat<Six<U, I, D, T, S, B>> {
-    thread::scope(
-        thread::scope_env(),
-        rt,
-        |scope| -> Seat<Six<U, I, D, T, S, B>> {
-            let writer = scope.spawn(move || write(rt, hub, row, wire, conn));
-            let gate = InOrder { row, wire };
-            let (mut seat, _, read) = serve_reader(
-                rt,
-                hub.alloc,
-                &hub.shared,
-                seat,
-                conn,
-                items,
-                frames,
-                input,
-                &gate,
-            );
-            hub.lose(rt, &mut seat, conn);
-            let written = match writer {
-                Ok(writer) => writer.join(rt),
-                Err(_) => None,
-            };
-            *wire.ends.lock(rt) = Some(Ends { read, written });
-            seat
-        },
-    )
+) -> Seat<N> {
+    thread::scope(thread::scope_env(), rt, |scope| -> Seat<N> {
+        let writer = scope.spawn(move || write(rt, hub, row, wire, conn));
+        let gate = InOrder { row, wire };
+        let (mut seat, _, read) = serve_reader(
+            rt,
+            hub.alloc,
+            &hub.shared,
+            seat,
+            conn,
+            items,
+            frames,
+            input,
+            &gate,
+        );
+        hub.lose(rt, &mut seat, conn);
+        let written = match writer {
+            Ok(writer) => writer.join(rt),
+            Err(_) => None,
+        };
+        *wire.ends.lock(rt) = Some(Ends { read, written });
+        seat
+    })
 }
 
 /// Writes the router's output.
-fn write<G: Ledgers, R: Wait>(
+fn write<N: Names, R: Wait>(
     rt: &R,
-    hub: &Hub<G>,
+    hub: &Hub<N>,
     row: &Row,
     wire: &Wire,
     conn: ConnectionId,
