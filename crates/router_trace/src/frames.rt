@@ -51,7 +51,7 @@ pub fn link_flow_item(own: u16, told: FlowState, at: LinkState) -> Item
     )
 }
 
-/// The router's attach on its channel `own`.
+/// The router's attach on its channel `own`. Fails if memory is refused.
 pub fn attach_item(alloc: Global, own: u16, attach: Attach) -> Result<Item, AllocError>
     ensures { IfOk result (λ item. item ≡ attach_item own attach) }
 {

@@ -142,6 +142,7 @@ impl RouterId {
     }
 
     /// The router's begin on its channel `own`; it answers the peer's begin on the channel `theirs` (AMQP 1.0 part 2, section 2.7.2).
+    /// Fails if memory is refused.
     pub fn begin_item(&self, own: u16, theirs: u16) -> Result<Item, AllocError>
         ensures { IfOk result (λ item. item ≡ begin_item own theirs) }
     {
