@@ -3,10 +3,10 @@ use crate::hub::Hub;
 use crate::lines::{Watch, reader_words, writer_words};
 use crate::socket::{LINGER, PATIENCE, swallow};
 use amqp_frames::{FrameReader, Item};
-use amqp_perf::Text;
 use route_table::Listener;
 use router_core::{ConnectionId, Door, Peer};
 use router_serve::{Greeted, Names, ReadEnd, Seat, WriteEnd, greet, serve_reader, serve_writer};
+use std::alloc::Global;
 use std::net::{Shutdown, SocketAddr, TcpStream};
 use std::sync::{Condvar, Mutex, Wait};
 use std::thread;
@@ -23,36 +23,46 @@ pub fn connection<N: Names, R: Threads + Wait + Clock + Eprint + Sync>(
 ) {
     let _ = stream.set_nodelay(true);
     let _ = stream.set_write_timeout(Some(Duration::from_millis(PATIENCE)));
-    let mut frames = FrameReader::new(hub.alloc);
-    let Ok(mut door) = Door::new(hub.alloc, &hub.config, listener) else {
+    let mut frames = FrameReader::new(hub.desk.alloc);
+    let Ok(door) = Door::new(hub.desk.alloc, &hub.config, listener) else {
+        drop(frames);
         return;
     };
     let role = door.role();
-    match greet(
-        hub.alloc,
-        &mut &*stream,
-        &mut &*stream,
-        &mut frames,
-        &mut door,
-    ) {
+    match at_door(hub.desk.alloc, stream, &mut frames, door) {
         Greeted::Up(user, items) => {
-            let Ok(copy) = user.clone() else {
-                return;
-            };
-            let who = Peer { user: copy, role };
-            enter(rt, hub, stream, peer, &user, who, items, &mut frames);
+            let who = Peer { user, role };
+            enter(rt, hub, stream, peer, who, items, &mut frames);
         }
-        Greeted::Ended(end) => {
-            let words = reader_words(end);
-            if let Ok(line) = format!(in hub.alloc; "{peer} ended at the door: {words}") {
-                hub.lines.say(rt, &line);
-            }
-            if end == ReadEnd::Door {
-                let _ = stream.shutdown(Shutdown::Write);
-                let _ = stream.set_read_timeout(Some(Duration::from_millis(LINGER)));
-                swallow(rt, stream);
-            }
-        }
+        Greeted::Ended(end) => refused(rt, hub, stream, peer, end),
+    }
+    drop(frames);
+}
+
+/// Greets a peer at a door.
+fn at_door(alloc: Global, stream: &TcpStream, frames: &mut FrameReader, door: Door) -> Greeted {
+    let mut door = door;
+    let greeted = greet(alloc, &mut &*stream, &mut &*stream, frames, &mut door);
+    drop(door);
+    greeted
+}
+
+/// Reports that a connection ended at its door, and gives the peer time to read why.
+fn refused<N: Names, R: Wait + Clock + Eprint>(
+    rt: &R,
+    hub: &Hub<N>,
+    stream: &TcpStream,
+    peer: SocketAddr,
+    end: ReadEnd,
+) {
+    let words = reader_words(end);
+    if let Ok(line) = format!(in hub.desk.alloc; "{peer} ended at the door: {words}") {
+        hub.lines.say(rt, &line);
+    }
+    if end == ReadEnd::Door {
+        let _ = stream.shutdown(Shutdown::Write);
+        let _ = stream.set_read_timeout(Some(Duration::from_millis(LINGER)));
+        swallow(rt, stream);
     }
 }
 
@@ -62,28 +72,50 @@ fn enter<N: Names, R: Threads + Wait + Clock + Eprint + Sync>(
     hub: &Hub<N>,
     stream: &TcpStream,
     peer: SocketAddr,
-    user: &Text,
     who: Peer,
     items: Vec<Item>,
     frames: &mut FrameReader,
 ) {
-    let Some(mut seat) = hub.seat(rt) else {
+    let Ok(user) = who.user.clone() else {
+        drop(who);
+        drop(items);
         return;
     };
-    match hub.up(rt, &mut seat, who) {
+    let watch = Watch {
+        rt,
+        alloc: hub.desk.alloc,
+        lines: &hub.lines,
+        peer,
+        user: user.as_str(),
+    };
+    come_up(rt, hub, stream, who, items, frames, &watch);
+    drop(watch);
+    drop(user);
+}
+
+/// Brings a connection up, and serves it.
+fn come_up<N: Names, R: Threads + Wait + Clock + Eprint + Sync>(
+    rt: &R,
+    hub: &Hub<N>,
+    stream: &TcpStream,
+    who: Peer,
+    items: Vec<Item>,
+    frames: &mut FrameReader,
+    watch: &Watch<'_, R>,
+) {
+    let Some(mut seat) = hub.desk.seat(rt) else {
+        drop(who);
+        drop(items);
+        return;
+    };
+    match hub.desk.up(rt, &mut seat, who) {
         Ok(conn) => {
-            let watch = Watch {
-                rt,
-                alloc: hub.alloc,
-                lines: &hub.lines,
-                peer,
-                user: user.as_str(),
-            };
-            let seat = both(rt, hub, stream, conn, seat, items, frames, &watch);
-            hub.put_back(rt, drained(rt, hub, conn, seat));
+            let seat = both(rt, hub, stream, conn, seat, items, frames, watch);
+            hub.desk.put_back(rt, drained(rt, hub, conn, seat));
         }
         Err(fault) => {
-            hub.put_back(rt, seat);
+            drop(items);
+            hub.desk.put_back(rt, seat);
             hub.failed(rt, fault);
         }
     }
@@ -108,8 +140,8 @@ fn both<N: Names, R: Threads + Wait + Clock + Eprint + Sync>(
         let writer = scope.spawn(move || output(rt, hub, stream, conn, watch, read, rung));
         let (seat, _, end) = serve_reader(
             rt,
-            hub.alloc,
-            &hub.shared,
+            hub.desk.alloc,
+            &hub.desk.shared,
             seat,
             conn,
             items,
@@ -142,12 +174,20 @@ fn output<N: Names, R: Wait + Clock + Eprint>(
     read: &Mutex<bool>,
     rung: &Condvar,
 ) -> Option<WriteEnd> {
-    let Some(seat) = hub.seat(rt) else {
+    let Some(seat) = hub.desk.seat(rt) else {
         let _ = stream.shutdown(Shutdown::Both);
         return None;
     };
-    let (seat, end) = serve_writer(rt, hub.alloc, &hub.shared, seat, conn, &mut &*stream, watch);
-    hub.put_back(rt, seat);
+    let (seat, end) = serve_writer(
+        rt,
+        hub.desk.alloc,
+        &hub.desk.shared,
+        seat,
+        conn,
+        &mut &*stream,
+        watch,
+    );
+    hub.desk.put_back(rt, seat);
     if let WriteEnd::Core(fault) = end {
         hub.failed(rt, fault);
     }
@@ -170,7 +210,7 @@ fn drained<N: Names, R: Wait + Eprint>(
 ) -> Seat<N> {
     let mut seat = seat;
     for _turn in 0..u64::MAX {
-        match hub.shared.wait_batch(rt, &mut seat, conn) {
+        match hub.desk.shared.wait_batch(rt, &mut seat, conn) {
             Ok(batch) => {
                 if batch.is_last() {
                     return seat;
@@ -199,7 +239,7 @@ fn tell_end<N: Names, R: Wait + Eprint>(
         Some(end) => writer_words(end),
         None => "no thread could be made",
     };
-    if let Ok(line) = format!(in hub.alloc; "connection {number} ended: {reader}; {writer}") {
+    if let Ok(line) = format!(in hub.desk.alloc; "connection {number} ended: {reader}; {writer}") {
         hub.lines.say(rt, &line);
     }
 }

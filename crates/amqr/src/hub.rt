@@ -5,8 +5,8 @@ use crate::lines::Lines;
 use crate::streams::Streams;
 use amqr_files::JournalDisk;
 use route_table::Config;
-use router_core::{ConnectionId, CoreFault, Event, Peer};
-use router_serve::{Ledgers, NoLog, Seat, Shared};
+use router_core::CoreFault;
+use router_serve::{Desk, Ledgers};
 use std::alloc::Global;
 use std::sync::{Condvar, Mutex, Wait};
 
@@ -40,18 +40,12 @@ pub enum Taken {
 /// The router, its seats, and everything else that the threads share.
 #[derive(Drop)]
 pub struct Hub<G: Ledgers> {
-    /// For everything that grows.
-    pub alloc: Global,
-    /// The router.
-    pub shared: Shared<JournalDisk, NoLog, G>,
+    /// The router, its seats and the numbers of its connections.
+    pub desk: Desk<JournalDisk, G>,
     /// The configuration.
     pub config: Config,
     /// The lines on standard error.
     pub lines: Lines,
-    /// Seats that no thread uses.
-    pub bench: Mutex<Vec<Seat<G>>>,
-    /// The number of the last connection that came up.
-    pub newest: Mutex<u64>,
     /// The count of the connections.
     pub taking: Mutex<Taking>,
     /// Notified when no more are accepted.
@@ -63,19 +57,16 @@ pub struct Hub<G: Ledgers> {
 impl<G: Ledgers> Hub<G> {
     /// What the threads share, before there are any: up to so many connections are accepted, or any number, and the lines are quiet or not.
     pub fn new(
-        alloc: Global,
-        shared: Shared<JournalDisk, NoLog, G>,
+        desk: Desk<JournalDisk, G>,
         config: Config,
         connections: Option<u64>,
         quiet: bool,
     ) -> Hub<G> {
+        let alloc = desk.alloc;
         Hub {
-            alloc,
-            shared,
+            desk,
             config,
             lines: Lines::new(quiet),
-            bench: Mutex::new(Vec::new(alloc)),
-            newest: Mutex::new(0),
             taking: Mutex::new(Taking {
                 left: connections,
                 running: 0,
@@ -88,27 +79,9 @@ impl<G: Ledgers> Hub<G> {
 
     /// Starts the router.
     pub fn start<R: Wait + Eprint>(&self, rt: &R) {
-        let Some(mut seat) = self.seat(rt) else {
-            return;
-        };
-        if let Err(fault) = self.shared.submit(rt, &mut seat, Event::Start) {
+        if let Err(fault) = self.desk.start(rt) {
             self.failed(rt, fault);
         }
-        self.put_back(rt, seat);
-    }
-
-    /// A seat, to be put back later.
-    pub fn seat<R: Wait>(&self, rt: &R) -> Option<Seat<G>> {
-        let free = self.bench.lock(rt).pop();
-        match free {
-            Some(seat) => Some(seat),
-            None => self.shared.seat(rt),
-        }
-    }
-
-    /// Puts a seat back. Where memory is refused the seat is lost, and its counts with it.
-    pub fn put_back<R: Wait>(&self, rt: &R, seat: Seat<G>) {
-        let _ = self.bench.lock(rt).push(seat);
     }
 
     /// A connection was accepted: what happens to it.
@@ -174,45 +147,24 @@ impl<G: Ledgers> Hub<G> {
         }
     }
 
-    /// A connection comes up, with the next number.
-    pub fn up<R: Wait>(
-        &self,
-        rt: &R,
-        seat: &mut Seat<G>,
-        peer: Peer,
-    ) -> Result<ConnectionId, CoreFault> {
-        let mut newest = self.newest.lock(rt);
-        let Some(number) = newest.checked_add(1) else {
-            return Err(CoreFault::Memory);
-        };
-        self.shared
-            .submit(rt, seat, Event::Up(ConnectionId(number), peer))?;
-        *newest = number;
-        Ok(ConnectionId(number))
-    }
-
     /// The seats that no thread uses come back, and all else is let go. It tells whether the router failed.
     pub fn close(self) -> bool
         requires cut { (G.Ups.seats ≡ G.Ups.parts) × (G.Items.seats ≡ G.Items.parts) × (G.Downs.seats ≡ G.Downs.parts) × (G.Ticks.seats ≡ G.Ticks.parts) × (G.Starts.seats ≡ G.Starts.parts) × (G.Batches.seats ≡ G.Batches.parts) }
     {
         let Hub {
-            alloc,
-            shared,
+            desk,
             config,
             lines,
-            bench,
-            newest,
             taking,
             over,
             streams,
         } = self;
         drop(config);
         drop(lines);
-        drop(newest);
         drop(taking);
         drop(over);
         drop(streams);
-        let closed = shared.close(bench.into_inner(), Vec::new(alloc));
+        let closed = desk.close();
         let failed = closed.core.is_failed();
         drop(closed);
         failed

@@ -3,8 +3,8 @@ use crate::connection::connection;
 use crate::hub::{Hub, Taken};
 use route_table::Listener;
 use router_core::Event;
-use router_serve::Names;
-use std::io::ErrorKind;
+use router_serve::{Names, Seat};
+use std::io::{Error, ErrorKind};
 use std::net::{Net, SocketAddr, TcpListener, TcpStream};
 use std::sync::{Arc, Condvar, Mutex, Wait};
 use std::thread;
@@ -57,33 +57,22 @@ fn accept_all<N: Names, R: Threads + Wait + Sync + Clock + Eprint>(
 ) {
     thread::scope(thread::scope_env(), rt, |scope| {
         let mut failing = false;
-        for stream in socket.incoming() {
-            match stream {
+        for accepted in socket.incoming() {
+            match accepted {
                 Ok(stream) => {
                     failing = false;
-                    match hub.take(rt) {
-                        Taken::Over => {}
-                        Taken::TooMany => hub.lines.say(rt, "a connection is closed: too many"),
-                        Taken::Served | Taken::Last => {
-                            let made = scope.spawn(move || run_one(rt, hub, listener, stream));
-                            if made.is_err() {
-                                hub.leave(rt);
-                                hub.lines
-                                    .say(rt, "a connection is closed: no thread can be made");
-                            }
+                    if is_served(rt, hub) {
+                        let made = scope.spawn(move || run_one(rt, hub, listener, stream));
+                        if made.is_err() {
+                            no_thread(rt, hub);
                         }
+                    } else {
+                        drop(stream);
                     }
                 }
                 Err(error) => {
-                    if !failing {
-                        if let Ok(line) = format!(in hub.alloc;
-                            "no connection can be taken: {error}"
-                        ) {
-                            hub.lines.say(rt, &line);
-                        }
-                    }
+                    not_accepted(rt, hub, error, failing);
                     failing = true;
-                    thread::sleep(rt, Duration::from_millis(PAUSE));
                 }
             }
             if hub.is_over(rt) {
@@ -91,6 +80,41 @@ fn accept_all<N: Names, R: Threads + Wait + Sync + Clock + Eprint>(
             }
         }
     });
+}
+
+/// Whether a connection that was accepted gets threads.
+fn is_served<N: Names, R: Wait + Eprint>(rt: &R, hub: &Hub<N>) -> bool {
+    match hub.take(rt) {
+        Taken::Over => false,
+        Taken::TooMany => {
+            hub.lines.say(rt, "a connection is closed: too many");
+            false
+        }
+        Taken::Served | Taken::Last => true,
+    }
+}
+
+/// A connection that was to get threads gets none.
+fn no_thread<N: Names, R: Wait + Eprint>(rt: &R, hub: &Hub<N>) {
+    hub.leave(rt);
+    hub.lines
+        .say(rt, "a connection is closed: no thread can be made");
+}
+
+/// No connection could be accepted: it is reported once, until one is accepted, and the listener pauses.
+fn not_accepted<N: Names, R: Wait + Clock + Eprint>(
+    rt: &R,
+    hub: &Hub<N>,
+    error: Error,
+    reported: bool,
+) {
+    if !reported {
+        if let Ok(line) = format!(in hub.desk.alloc; "no connection can be taken: {error}") {
+            hub.lines.say(rt, &line);
+        }
+    }
+    drop(error);
+    thread::sleep(rt, Duration::from_millis(PAUSE));
 }
 
 /// Serves one connection.
@@ -101,7 +125,7 @@ fn run_one<N: Names, R: Threads + Wait + Sync + Clock + Eprint>(
     stream: TcpStream,
 ) {
     if let Ok(peer) = stream.peer_addr() {
-        if let Ok(stream) = Arc::new(hub.alloc, stream) {
+        if let Ok(stream) = Arc::new(hub.desk.alloc, stream) {
             let number = hub.streams.lock(rt).add(&stream);
             if let Some(number) = number {
                 connection(rt, hub, listener, peer, &stream);
@@ -147,26 +171,41 @@ fn tick<N: Names, R: Wait + Clock + Eprint>(
     done: &Mutex<bool>,
     rung: &Condvar,
 ) {
-    let Some(mut seat) = hub.seat(rt) else {
+    let Some(mut seat) = hub.desk.seat(rt) else {
         return;
     };
+    tell_time(rt, hub, &mut seat, done, rung);
+    hub.desk.put_back(rt, seat);
+}
+
+/// Submits a tick every half second, until serving is done.
+fn tell_time<N: Names, R: Wait + Clock + Eprint>(
+    rt: &R,
+    hub: &Hub<N>,
+    seat: &mut Seat<N>,
+    done: &Mutex<bool>,
+    rung: &Condvar,
+) {
     let Ok(start) = Instant::now(rt) else {
-        hub.put_back(rt, seat);
         return;
     };
     for _turn in rt.forever() {
-        let (guard, _) = rung.wait_timeout(rt, done.lock(rt), Duration::from_millis(TICK));
-        let ended = *guard;
-        drop(guard);
-        if ended {
-            break;
+        if is_done(rt, done, rung) {
+            return;
         }
         if let Ok(passed) = start.elapsed(rt) {
             let moment = u64::try_from(passed.as_millis()).unwrap_or(u64::MAX);
-            if let Err(fault) = hub.shared.submit(rt, &mut seat, Event::Tick(moment)) {
+            if let Err(fault) = hub.desk.shared.submit(rt, seat, Event::Tick(moment)) {
                 hub.failed(rt, fault);
             }
         }
     }
-    hub.put_back(rt, seat);
+}
+
+/// Waits for half a second, or until serving is done; whether it is.
+fn is_done<R: Wait + Clock>(rt: &R, done: &Mutex<bool>, rung: &Condvar) -> bool {
+    let (guard, _) = rung.wait_timeout(rt, done.lock(rt), Duration::from_millis(TICK));
+    let done = *guard;
+    drop(guard);
+    done
 }

@@ -11,7 +11,7 @@ use amqr_commands::{Refusal, Serving, Status, config_at, refuse};
 use amqr_files::JournalDisk;
 use route_table::{Config, Listener, Role};
 use router_core::Core;
-use router_serve::{Blanks, Names, NoLog, SEATS, Shared};
+use router_serve::{Blanks, Desk, Names, NoLog, SEATS, Shared};
 use std::alloc::{AllocError, Global};
 use std::fs::File;
 use std::io::{self, Write};
@@ -216,7 +216,8 @@ fn counted<
         drop(config);
         return Err(AllocError);
     };
-    let hub = Hub::new(alloc, shared, config, serving.connections, serving.quiet);
+    let desk = Desk::new(alloc, shared);
+    let hub = Hub::new(desk, config, serving.connections, serving.quiet);
     if serving.journal.is_none() {
         hub.lines.say(rt, IN_MEMORY);
     }

@@ -1,6 +1,7 @@
 //! Threads around the shared router: a reader and a writer for each connection, and the greeting before them.
 #![tactic(auto)]
 
+mod desk;
 mod end;
 mod gate;
 mod greeting;
@@ -8,6 +9,7 @@ mod reader;
 mod writer;
 mod writing;
 
+pub use desk::Desk;
 pub use end::{ReadEnd, WriteEnd};
 pub use gate::{Gate, OpenGate, Side};
 pub use greeting::{Greeted, greet};

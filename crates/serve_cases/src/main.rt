@@ -2,7 +2,6 @@
 #![tactic(auto)]
 
 mod gate;
-mod hub;
 mod row;
 mod serving;
 mod telling;

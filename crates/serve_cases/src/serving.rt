@@ -4,19 +4,31 @@ ghost use Rattle.router_core.specs.Handling.{counts_of};
 ghost use Rattle.router_core.specs.Counting.{uncounted};
 ghost use Rattle.router_shared.specs.History.{IsOpened};
 
-use crate::hub::{Hub, Left};
 use crate::row::Row;
 use crate::threads::serve_all;
 use disk_core::{DiskFault, MemDisk};
 use gate_journal::{OpenFault, format};
 use route_table::Config;
-use router_core::Core;
-use router_serve::{Blanks, Names, NoLog, SEATS, Shared};
+use router_core::{Core, Counts};
+use router_serve::{Blanks, Closed, Desk, Names, NoLog, SEATS, Shared};
 use std::alloc::{AllocError, Global};
 use std::marker::Brand;
 use std::sync::Wait;
 use std::sync::ledger::Blank;
 use std::thread::Threads;
+
+/// What is left once a row was served.
+#[derive(Drop)]
+pub struct Left {
+    /// Whether every seat came back.
+    pub all: bool,
+    /// The sums of the seats' counts.
+    pub counts: Counts,
+    /// The number of the journal's last batch.
+    pub appended: u64,
+    /// The disk of the journal.
+    pub disk: MemDisk,
+}
 
 /// A new journal in memory.
 fn new_journal(alloc: Global) -> Result<MemDisk, DiskFault> {
@@ -91,7 +103,24 @@ fn counted<N: Names, R: Threads + Wait + Sync>(
     let Ok(shared) = made else {
         return Err(AllocError);
     };
-    let hub = Hub::new(alloc, shared);
-    serve_all(rt, &hub, row);
-    Ok(hub.close())
+    let desk = Desk::new(alloc, shared);
+    serve_all(rt, &desk, row);
+    Ok(left_of(desk.close()))
+}
+
+/// What a router left, of which all but the journal is let go.
+fn left_of(closed: Closed<MemDisk, NoLog>) -> Left {
+    let Closed {
+        all,
+        counts,
+        appended,
+        core,
+        ..
+    } = closed;
+    Left {
+        all,
+        counts,
+        appended,
+        disk: core.into_disk(),
+    }
 }

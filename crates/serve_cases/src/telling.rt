@@ -1,6 +1,6 @@
 //! What serving a row left, in lines.
-use crate::hub::Left;
 use crate::row::Row;
+use crate::serving::Left;
 use crate::wire::{Ends, Wire};
 use amqr_files::list_journal;
 use case_files::{CaseFault, digits_of};

@@ -1,23 +1,23 @@
 //! The threads of a row: for each connection one that greets and reads, and one that writes.
 use crate::gate::InOrder;
-use crate::hub::Hub;
 use crate::row::Row;
 use crate::wire::{Ends, Input, Output, Wire};
 use amqp_frames::{FrameReader, Item};
+use disk_core::MemDisk;
 use route_table::{Config, Listener, Role};
-use router_core::{ConnectionId, Door, Peer};
-use router_serve::{Greeted, Names, Seat, WriteEnd, greet, serve_reader, serve_writer};
+use router_core::{ConnectionId, Door, Event, Peer};
+use router_serve::{Desk, Greeted, Names, Seat, WriteEnd, greet, serve_reader, serve_writer};
 use std::alloc::{AllocError, Global};
 use std::sync::Wait;
 use std::thread;
 use std::thread::Threads;
 
 /// Serves all connections of a row at once, until they have ended.
-pub fn serve_all<N: Names, R: Threads + Wait + Sync>(rt: &R, hub: &Hub<N>, row: &Row) {
-    hub.start(rt);
+pub fn serve_all<N: Names, R: Threads + Wait + Sync>(rt: &R, desk: &Desk<MemDisk, N>, row: &Row) {
+    let _ = desk.start(rt);
     thread::scope(thread::scope_env(), rt, |scope| {
         for wire in &row.wires {
-            let _ = scope.spawn(move || connection(rt, hub, row, wire));
+            let _ = scope.spawn(move || connection(rt, desk, row, wire));
         }
     });
 }
@@ -36,18 +36,23 @@ fn door(alloc: Global) -> Result<Door, AllocError> {
 }
 
 /// Serves a connection until it ends.
-fn connection<N: Names, R: Threads + Wait + Sync>(rt: &R, hub: &Hub<N>, row: &Row, wire: &Wire) {
-    let Ok(mut door) = door(hub.alloc) else {
+fn connection<N: Names, R: Threads + Wait + Sync>(
+    rt: &R,
+    desk: &Desk<MemDisk, N>,
+    row: &Row,
+    wire: &Wire,
+) {
+    let Ok(mut door) = door(desk.alloc) else {
         return;
     };
     let role = door.role();
-    let mut frames = FrameReader::new(hub.alloc);
+    let mut frames = FrameReader::new(desk.alloc);
     let mut input = wire.reader();
     let mut output = Output { rt, wire };
-    match greet(hub.alloc, &mut input, &mut output, &mut frames, &mut door) {
+    match greet(desk.alloc, &mut input, &mut output, &mut frames, &mut door) {
         Greeted::Up(user, items) => {
             let who = Peer { user, role };
-            enter(rt, hub, row, wire, who, items, &mut frames, &mut input);
+            enter(rt, desk, row, wire, who, items, &mut frames, &mut input);
         }
         Greeted::Ended(read) => {
             *wire.ends.lock(rt) = Some(Ends {
@@ -61,7 +66,7 @@ fn connection<N: Names, R: Threads + Wait + Sync>(rt: &R, hub: &Hub<N>, row: &Ro
 /// Serves a connection after its door.
 fn enter<N: Names, R: Threads + Wait + Sync>(
     rt: &R,
-    hub: &Hub<N>,
+    desk: &Desk<MemDisk, N>,
     row: &Row,
     wire: &Wire,
     who: Peer,
@@ -69,19 +74,19 @@ fn enter<N: Names, R: Threads + Wait + Sync>(
     frames: &mut FrameReader,
     input: &mut Input<'_>,
 ) {
-    let Some(mut seat) = hub.shared.seat(rt) else {
+    let Some(mut seat) = desk.seat(rt) else {
         drop(who);
         drop(items);
         return;
     };
-    match hub.up(rt, &mut seat, who) {
-        Some(conn) => {
-            let seat = both(rt, hub, row, wire, conn, seat, items, frames, input);
-            hub.put_back(rt, seat);
+    match desk.up(rt, &mut seat, who) {
+        Ok(conn) => {
+            let seat = both(rt, desk, row, wire, conn, seat, items, frames, input);
+            desk.put_back(rt, seat);
         }
-        None => {
+        Err(_) => {
             drop(items);
-            hub.put_back(rt, seat);
+            desk.put_back(rt, seat);
         }
     }
 }
@@ -89,7 +94,7 @@ fn enter<N: Names, R: Threads + Wait + Sync>(
 /// Reads in this thread and writes in another, until both have ended.
 fn both<N: Names, R: Threads + Wait + Sync>(
     rt: &R,
-    hub: &Hub<N>,
+    desk: &Desk<MemDisk, N>,
     row: &Row,
     wire: &Wire,
     conn: ConnectionId,
@@ -99,12 +104,12 @@ fn both<N: Names, R: Threads + Wait + Sync>(
     input: &mut Input<'_>,
 ) -> Seat<N> {
     thread::scope(thread::scope_env(), rt, |scope| -> Seat<N> {
-        let writer = scope.spawn(move || write(rt, hub, row, wire, conn));
+        let writer = scope.spawn(move || write(rt, desk, row, wire, conn));
         let gate = InOrder { row, wire };
         let (mut seat, _, read) = serve_reader(
             rt,
-            hub.alloc,
-            &hub.shared,
+            desk.alloc,
+            &desk.shared,
             seat,
             conn,
             items,
@@ -112,7 +117,7 @@ fn both<N: Names, R: Threads + Wait + Sync>(
             input,
             &gate,
         );
-        hub.lose(rt, &mut seat, conn);
+        lose(rt, desk, &mut seat, conn);
         let written = match writer {
             Ok(writer) => writer.join(rt),
             Err(_) => None,
@@ -125,15 +130,27 @@ fn both<N: Names, R: Threads + Wait + Sync>(
 /// Writes the router's output.
 fn write<N: Names, R: Wait>(
     rt: &R,
-    hub: &Hub<N>,
+    desk: &Desk<MemDisk, N>,
     row: &Row,
     wire: &Wire,
     conn: ConnectionId,
 ) -> Option<WriteEnd> {
-    let seat = hub.shared.seat(rt)?;
+    let seat = desk.seat(rt)?;
     let gate = InOrder { row, wire };
     let mut output = Output { rt, wire };
-    let (seat, end) = serve_writer(rt, hub.alloc, &hub.shared, seat, conn, &mut output, &gate);
-    hub.put_back(rt, seat);
+    let (seat, end) = serve_writer(rt, desk.alloc, &desk.shared, seat, conn, &mut output, &gate);
+    desk.put_back(rt, seat);
     Some(end)
+}
+
+/// The threads of a connection have no more to hand in: where it is still live, it is lost, so that its writer ends.
+fn lose<N: Names, R: Wait>(
+    rt: &R,
+    desk: &Desk<MemDisk, N>,
+    seat: &mut Seat<N>,
+    conn: ConnectionId,
+) {
+    if desk.shared.is_live(rt, conn) {
+        let _ = desk.shared.submit(rt, seat, Event::Down(conn));
+    }
 }
