@@ -1,0 +1,92 @@
+-- What a table has at each place after a value that it lent was written.
+use Rattle.std.proofs.Common.{◌≡◌, ◌∙◌, ℕ, Bool, true, false, refl, sym, ap, arith, cond, List, [], ◌∷◌, Option, Some, None}
+use Rattle.std.specs.Prelude.{◌==◌, ◌<◌, if◌then◌else◌, nat_lt}
+use Rattle.std.specs.Map.{lookup, set_value}
+use Rattle.std.specs.Option.{option_map}
+use Rattle.std.specs.Ordering.{nat_cmp}
+use Rattle.std.specs.BTreeMap.{BTreeMap, get, is_at, WritesThrough}
+use Rattle.std.proofs.lemmas.Bool.{eqb-true, ltb-true}
+use Rattle.router_places.specs.Places.{in_map}
+
+by_test : {P : Type 0} (b : Bool) → (b ≡ true → P) → (b ≡ false → P) → P
+by_test true f g = f refl
+by_test false f g = g refl
+
+same_test : (a b : ℕ) → is_at (nat_cmp a) b ≡ (a == b)
+same_test a b =
+    by_test (nat_lt a b)
+    (λ e. by_test (a == b)
+    (λ f. let l : a < b = ltb-true a b e in let s : a ≡ b = eqb-true a b f in absurd (omega (arith, l, s)))
+    (λ f. rw (e, f) refl))
+    (λ e. by_test (a == b) (λ f. rw (e, f) refl) (λ f. rw (e, f) refl))
+
+set_nowhere : {X : Type 0} (test : ℕ → Bool) (es : List (ℕ × X)) (w : X) → lookup test es ≡ None → set_value test es w ≡ es
+set_nowhere test [] w none = refl
+set_nowhere {X} test (e ∷ es) w none = by_head (test e.0) (set_nowhere test es w) none
+  where
+    clash : Some e.1 ≡ None → ⊥
+    clash h = cc
+
+    by_head : (b : Bool) → (lookup test es ≡ None → set_value test es w ≡ es) → cond b (Some e.1) (lookup test es) ≡ None
+        → cond b ((e.0, w) ∷ es) (e ∷ set_value test es w) ≡ e ∷ es
+    by_head true rest is = absurd (clash is)
+    by_head false rest is = ap (λ xs. e ∷ xs) (rest is)
+
+written : {X : Type 0} (m n : BTreeMap ℕ X) (key : ℕ) (w : X) → WritesThrough nat_cmp (nat_cmp key) m w n
+    → (q : ℕ) → get nat_cmp n q ≡ (if key == q then option_map (λ _. w) (get nat_cmp m q) else get nat_cmp m q)
+written {X} m n key w through q = by_found (get nat_cmp m key) refl
+  where
+    by_found : (found : Option X) → get nat_cmp m key ≡ found → get nat_cmp n q ≡ (if key == q then option_map (λ _. w) (get nat_cmp m q) else get nat_cmp m q)
+    by_found None is =
+        let same : get nat_cmp n q ≡ get nat_cmp m q = ap (lookup (is_at (nat_cmp q))) (through.0 ∙ set_nowhere (is_at (nat_cmp key)) m.entries w is) in
+        by_test (key == q)
+        (λ e. let none : get nat_cmp m q ≡ None = ap (get nat_cmp m) (sym (eqb-true key q e)) ∙ is in rw e (same ∙ none ∙ sym (ap (option_map (λ _. w)) none)))
+        (λ e. rw e same)
+    by_found (Some x) is =
+        let now : get nat_cmp n q ≡ cond (key == q) (Some w) (get nat_cmp m q) =
+        (through.3 (rw is refl)).0 q ∙ ap (λ b. cond b (Some w) (get nat_cmp m q)) (same_test key q) in
+        by_test (key == q)
+        (λ e. let some : get nat_cmp m q ≡ Some x = ap (get nat_cmp m) (sym (eqb-true key q e)) ∙ is in
+        rw e (now ∙ ap (λ b. cond b (Some w) (get nat_cmp m q)) e ∙ sym (ap (option_map (λ _. w)) some)))
+        (λ e. rw e (now ∙ ap (λ b. cond b (Some w) (get nat_cmp m q)) e))
+
+-- at a key whose value was lent is what was written
+there : {X : Type 0} (m n : BTreeMap ℕ X) (key : ℕ) (x w : X) → get nat_cmp m key ≡ Some x → WritesThrough nat_cmp (nat_cmp key) m w n
+    → (q : ℕ) → (key == q) ≡ true → get nat_cmp n q ≡ Some w
+there m n key x w is through q e =
+    written m n key w through q
+    ∙ ap (λ b. if b then option_map (λ _. w) (get nat_cmp m q) else get nat_cmp m q) e
+    ∙ ap (option_map (λ _. w)) (ap (get nat_cmp m) (sym (eqb-true key q e)) ∙ is)
+
+elsewhere : {X : Type 0} (m n : BTreeMap ℕ X) (key : ℕ) (w : X) → WritesThrough nat_cmp (nat_cmp key) m w n
+    → (q : ℕ) → (key == q) ≡ false → get nat_cmp n q ≡ get nat_cmp m q
+elsewhere m n key w through q e = written m n key w through q ∙ ap (λ b. if b then option_map (λ _. w) (get nat_cmp m q) else get nat_cmp m q) e
+
+module _ {V : Type 0} (rows new : BTreeMap ℕ (BTreeMap ℕ (BTreeMap ℕ V))) (sessions changed : BTreeMap ℕ (BTreeMap ℕ V)) (handles after : BTreeMap ℕ V) (conn own : ℕ)
+    (in_conn : get nat_cmp rows conn ≡ Some sessions) (in_session : get nat_cmp sessions own ≡ Some handles)
+    (at_conn : WritesThrough nat_cmp (nat_cmp conn) rows changed new) (at_own : WritesThrough nat_cmp (nat_cmp own) sessions after changed) where
+  -- the session's values are the changed ones, and all others what they were
+  behind : (c o h : ℕ) (x : Option V) → ((conn == c) ≡ true → (own == o) ≡ true → in_map (in_map (get nat_cmp rows c) o) h ≡ get nat_cmp handles h → get nat_cmp after h ≡ x)
+      → in_map (in_map (get nat_cmp new c) o) h
+      ≡ (if conn == c then (if own == o then x else in_map (in_map (get nat_cmp rows c) o) h) else in_map (in_map (get nat_cmp rows c) o) h)
+  behind c o h x is =
+      by_test (conn == c)
+      (λ e. let old : get nat_cmp rows c ≡ Some sessions = ap (get nat_cmp rows) (sym (eqb-true conn c e)) ∙ in_conn in
+      let now : get nat_cmp new c ≡ Some changed = there rows new conn sessions changed in_conn at_conn c e in
+      by_test (own == o)
+      (λ f. rw (e, f) (ap (λ m. in_map (in_map m o) h) now ∙ ap (λ m. in_map m h) (there sessions changed own handles after in_session at_own o f)
+      ∙ is e f (ap (λ m. in_map (in_map m o) h) old ∙ ap (λ m. in_map m h) (ap (get nat_cmp sessions) (sym (eqb-true own o f)) ∙ in_session))))
+      (λ f. rw (e, f) (ap (λ m. in_map (in_map m o) h) now ∙ ap (λ m. in_map m h) (elsewhere sessions changed own after at_own o f) ∙ sym (ap (λ m. in_map (in_map m o) h) old))))
+      (λ e. rw e (ap (λ m. in_map (in_map m o) h) (elsewhere rows new conn changed at_conn c e)))
+
+  pub placed : (handle : ℕ) (w : V) → WritesThrough nat_cmp (nat_cmp handle) handles w after
+      → (c o h : ℕ) → in_map (in_map (get nat_cmp new c) o) h
+      ≡ (if conn == c then (if own == o then (if handle == h then option_map (λ _. w) (in_map (in_map (get nat_cmp rows c) o) h) else in_map (in_map (get nat_cmp rows c) o) h) else in_map (in_map (get nat_cmp rows c) o) h) else in_map (in_map (get nat_cmp rows c) o) h)
+  placed handle w at_handle c o h =
+      behind c o h (if handle == h then option_map (λ _. w) (in_map (in_map (get nat_cmp rows c) o) h) else in_map (in_map (get nat_cmp rows c) o) h)
+      (λ e f old. written handles after handle w at_handle h ∙ ap (λ v. if handle == h then option_map (λ _. w) v else v) (sym old))
+
+  pub unplaced : after ≡ handles → (c o h : ℕ) → in_map (in_map (get nat_cmp new c) o) h ≡ in_map (in_map (get nat_cmp rows c) o) h
+  unplaced same c o h =
+      behind c o h (in_map (in_map (get nat_cmp rows c) o) h) (λ e f old. ap (λ m. get nat_cmp m h) same ∙ sym old)
+      ∙ by_test (conn == c) (λ e. by_test (own == o) (λ f. rw (e, f) refl) (λ f. rw (e, f) refl)) (λ e. rw e refl)

@@ -1,0 +1,24 @@
+use Rattle.std.proofs.Common.{rules, ◌≡◌, refl, Some}
+use Rattle.std.specs.Ordering.{nat_cmp}
+use Rattle.std.specs.BTreeMap.{get}
+use Rattle.router_places.proofs.Placed.{placed, unplaced}
+use Rattle.router_places.proofs.by_handle.ByHandle.get_mut.Goals as goal
+
+pub returns : goal.returns
+returns g c =
+    let rows = c.args.self.now.rows in
+    let sessions = c.in_ok-sessions.sessions.now in
+    let handles = c.in_ok-handles.handles.now in
+    let in_conn : get nat_cmp rows c.args.conn ≡ Some sessions = search rules in
+    let in_session : get nat_cmp sessions c.args.own ≡ Some handles = search rules in
+    let after = c.get_mut-3.follows.lender in
+    let none = c.get_mut-3.follows.lender-at-none in (
+      (
+        refl,
+        (λ w. placed rows (c.get_mut.follows.lender (c.get_mut-2.follows.lender (after w))) sessions (c.get_mut-2.follows.lender (after w)) handles (after w) c.args.conn c.args.own in_conn in_session (c.get_mut.follows.holds (c.get_mut-2.follows.lender (after w))) (c.get_mut-2.follows.holds (after w))
+            c.args.handle w (c.get_mut-3.follows.holds w)),
+        unplaced rows (c.get_mut.follows.lender (c.get_mut-2.follows.lender none)) sessions (c.get_mut-2.follows.lender none) handles none c.args.conn c.args.own in_conn in_session
+            (c.get_mut.follows.holds (c.get_mut-2.follows.lender none)) (c.get_mut-2.follows.holds none) c.get_mut-3.follows.holds-at-none,
+      ),
+      search rules,
+    )
