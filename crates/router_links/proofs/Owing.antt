@@ -21,7 +21,7 @@ use Rattle.router_links.specs.Fits.{TableFit, owes}
 use Rattle.router_links.specs.Looking.{sends_at}
 use Rattle.router_links.specs.Naming.{NamesFit}
 use Rattle.router_links.specs.Owed.{is_same, is_listed, owed_at, owed_of_session, owed_of_connection, owed_of, owes_in_session, owes_on}
-use Rattle.router_links.specs.Places.{in_map, at}
+use Rattle.router_places.specs.Places.{in_map, at}
 
 -- one turn of a loop that gathers, and its end
 pub turn : (old here new all : List Attachment) (f : ℕ → List Attachment) (ks rest : List ℕ) (k : ℕ)

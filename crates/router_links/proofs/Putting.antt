@@ -8,13 +8,13 @@ use Rattle.amqp_frames.specs.declared.item.Item.TheVariants as item
 use Rattle.router_trace.specs.Trace.{Trace, Out}
 use Rattle.router_trace.specs.Links as view
 use Rattle.router_trace.specs.Links.{link, is_handle}
-use Rattle.router_links.specs.declared.by_handle.ByHandle.{ByHandle}
+use Rattle.router_places.specs.declared.by_handle.ByHandle.{ByHandle}
 use Rattle.router_links.specs.declared.link.Link.{Link}
 use Rattle.router_links.specs.declared.link.Side.TheVariants.{Router}
 use Rattle.router_links.specs.declared.table.LinkTable.{LinkTable}
 use Rattle.router_links.specs.Ends.{link_of, noted}
 use Rattle.router_links.specs.Fits.{TableFit, IsNoted, owes}
-use Rattle.router_links.specs.Places.{at}
+use Rattle.router_places.specs.Places.{at}
 use Rattle.router_links.proofs.Attached.{names_put}
 use Rattle.router_links.proofs.Follows.{our_flow_follows, our_transfer_follows}
 use Rattle.router_links.proofs.Rows.{mapped}

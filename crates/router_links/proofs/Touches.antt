@@ -17,7 +17,7 @@ use Rattle.router_links.specs.declared.link.Side.{Side}
 use Rattle.router_links.specs.declared.link.Side.TheVariants.{Peer, Router}
 use Rattle.router_links.specs.declared.table.LinkTable.{LinkTable}
 use Rattle.router_links.specs.Ends.{noted}
-use Rattle.router_links.specs.Places.{in_map, at}
+use Rattle.router_places.specs.Places.{in_map, at}
 use Rattle.router_links.specs.Touching.{is_numbered, if_number, named_link, in_session, in_connection, Touched}
 
 pub neither : (a b : Bool) → (a || b) ≡ false → (a ≡ false) × (b ≡ false)

@@ -22,7 +22,7 @@ use Rattle.router_links.specs.declared.table.LinkTable.{LinkTable}
 use Rattle.router_links.specs.Ends.{link_of}
 use Rattle.router_links.specs.Handled.{HandlesFit}
 use Rattle.router_links.specs.Naming.{NamesFit}
-use Rattle.router_links.specs.Places.{at}
+use Rattle.router_places.specs.Places.{at}
 
 -- a link owes a drain
 abbrev pub owes : Option Link → Bool

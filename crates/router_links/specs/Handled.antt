@@ -5,7 +5,7 @@ use Rattle.std.specs.BTreeMap.{get}
 use Rattle.router_trace.specs.Trace.{Trace}
 use Rattle.router_trace.specs.Links.{asked, told_handle_max, highest_handle, answered_handle, their_handle}
 use Rattle.router_links.specs.declared.handles.HandleTable.{HandleTable}
-use Rattle.router_links.specs.Places.{in_map, at}
+use Rattle.router_places.specs.Places.{in_map, at}
 
 pub record HandlesFit (s : HandleTable) (t : Trace) : Type 0 where
   pub asked : (c : ℕ) → get nat_cmp s.asked c ≡ asked t c

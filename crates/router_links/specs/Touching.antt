@@ -7,7 +7,7 @@ use Rattle.std.specs.BTreeSet.{contains}
 use Rattle.router_links.specs.declared.link.Link.{Link}
 use Rattle.router_links.specs.declared.links.Links.{Links}
 use Rattle.router_links.specs.declared.table.LinkTable.{LinkTable}
-use Rattle.router_links.specs.Places.{at}
+use Rattle.router_places.specs.Places.{at}
 
 -- a link has this number
 abbrev pub is_numbered : ℕ → Option Link → Bool

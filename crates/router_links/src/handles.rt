@@ -10,7 +10,7 @@ ghost use Rattle.router_trace.specs.Sessions.{is_channel, maps, theirs};
 ghost use Rattle.router_trace.specs.Links.{is_handle, names, handle_asked, detached, first_free_below, is_free_handle, free_handle};
 ghost use Rattle.router_links.specs.Fits.{names_in};
 ghost use Rattle.router_links.specs.Giving.{handle_of, handle_on};
-ghost use Rattle.router_links.specs.Places.{in_map, at};
+ghost use Rattle.router_places.specs.Places.{in_map, at};
 ghost use Rattle.router_links.specs.Handled.{HandlesFit};
 ghost use Rattle.router_trace.specs.declared.event.Event.TheVariants as event;
 ghost use Rattle.router_trace.specs.declared.handle.PeerHandle.TheVariants.{Detaching};
@@ -18,8 +18,8 @@ ghost use Rattle.amqp_perf.specs.declared.perf.Perf.TheVariants as perf;
 ghost use Rattle.amqp_perf.specs.declared.perf.End.{End};
 ghost use Rattle.amqp_frames.specs.declared.item.Item.TheVariants as item;
 
-use crate::by_handle::ByHandle;
 use amqp_perf::{Attach, Begin, Detach, Perf};
+use router_places::ByHandle;
 use router_trace::{Asked, ConnectionId, PeerHandle};
 use std::alloc::{AllocError, Global};
 use std::collections::BTreeMap;

@@ -1,7 +1,6 @@
 //! The table of links: by connection, session and handle, by key, and by number.
 #![tactic(auto)]
 
-mod by_handle;
 mod handles;
 mod link;
 mod links;

@@ -7,9 +7,9 @@ ghost use Rattle.book_core.specs.declared.terminus.LinkKey.{LinkKey as AKey};
 ghost use Rattle.router_links.specs.Naming.{on_conn, on_session, on_handle, unless, Thinned};
 ghost use Rattle.router_links.specs.Touching.{in_session, in_connection};
 
-use crate::by_handle::{InConnection, InSession};
 use crate::link::Link;
 use book_core::LinkKey;
+use router_places::{InConnection, InSession};
 use router_trace::Attachment;
 use std::alloc::{AllocError, Global};
 use std::collections::BTreeMap;

@@ -5,8 +5,8 @@ ghost use Rattle.std.specs.BTreeMap.{get};
 ghost use Rattle.std.specs.BTreeSet.{contains};
 ghost use Rattle.router_links.specs.Owed.{owed_here, owed_in_session, owed_in_connection, owed_of_connection, owed_of, owes_in_session, owes_in_connection, owes_on};
 
-use crate::by_handle::{ByHandle, InConnection, InSession};
 use crate::link::Link;
+use router_places::{ByHandle, InConnection, InSession};
 use router_trace::{Attachment, ConnectionId};
 use std::alloc::AllocError;
 use std::collections::BTreeSet;
@@ -69,7 +69,7 @@ fn append_of(
 ) -> Result<(), AllocError>
     ensures { OnOk result (owed.new.items ≡ owed.old.items ++ owed_of_connection conn (get nat_cmp links.now.rows conn)) }
 {
-    match links.rows.get(&conn) {
+    match links.connection(conn) {
         None => Ok(()),
         Some(sessions) => append_connection(owed, conn, sessions),
     }
@@ -117,7 +117,7 @@ fn owes_in_connection(sessions: &InConnection<Link>) -> bool
 fn owes_on(links: &ByHandle<Link>, conn: u64) -> bool
     ensures { result ≡ owes_on (get nat_cmp links.now.rows conn) }
 {
-    match links.rows.get(&conn) {
+    match links.connection(conn) {
         None => false,
         Some(sessions) => owes_in_connection(sessions),
     }

@@ -18,15 +18,14 @@ ghost use Rattle.router_trace.specs.Links.{is_handle, their_handle, asked, initi
 ghost use Rattle.router_trace.specs.declared.event.Event.TheVariants as event;
 ghost use Rattle.router_links.specs.declared.link.Side.TheVariants.{Peer, Router};
 ghost use Rattle.router_links.specs.Ends.{begun, noted};
-ghost use Rattle.router_links.specs.Giving.{part_named};
+ghost use Rattle.router_links.specs.Giving.{part_here, part_named};
 ghost use Rattle.router_links.specs.Looking.{middle_named, durable_at, attachment_of};
 ghost use Rattle.router_links.specs.Fits.{TableFit, with_mark, asks_drain, names_in, key_in, found_at, attachment, IsNoted};
 ghost use Rattle.router_links.specs.Naming.{on_conn, on_session, on_handle, Thinned};
-ghost use Rattle.router_links.specs.Places.{at};
+ghost use Rattle.router_places.specs.Places.{at};
 ghost use Rattle.router_links.specs.Owed.{owed_of, owes_on};
 ghost use Rattle.router_links.specs.Touching.{is_numbered, in_session, in_connection, Touched, IsLowest};
 
-use crate::by_handle::{ByHandle, InConnection, InSession};
 use crate::link::{Link, LinkEnd, Side, address_by};
 use crate::names::Names;
 use crate::owed::{append_all, settle};
@@ -35,6 +34,7 @@ use amqp_link::{Delivery, Part};
 use amqp_perf::{Attach, Detach, Perf, Text};
 use book_core::LinkKey;
 use bytes::Bytes;
+use router_places::{ByHandle, InConnection, InSession};
 use router_trace::{Asked, Attachment, ConnectionId, LinkAt};
 use std::alloc::{AllocError, Global};
 use std::collections::BTreeSet;
@@ -504,7 +504,28 @@ fn note(
     let (Some(own), Some(handle)) = (own, handle) else {
         return Ok(None);
     };
-    links.note(conn, own, handle, side, perf, payload)
+    note_at(links, conn, own, handle, side, perf, payload)
+}
+
+/// Applies a performative of one side to the link at a place, if there is one. Returns what a transfer of the peer makes of its delivery.
+/// If memory is refused, the link's state is unspecified.
+fn note_at(
+    links: &mut ByHandle<Link>,
+    conn: u64,
+    own: u16,
+    handle: u32,
+    side: Side,
+    perf: &Perf,
+    payload: &Bytes,
+) -> Result<Option<Part>, AllocError>
+    ensures links { OnOk result ((c o h : ℕ) → at links.new c o h
+        ≡ (if conn == c then (if own == o then (if handle == h then option_map (noted side perf.now payload.now) (at links.old c o h) else at links.old c o h) else at links.old c o h) else at links.old c o h)) }
+    ensures part { IfOk result (λ p. p ≡ part_here side perf.now payload.now (at links.old conn own handle)) }
+{
+    match links.get_mut(conn, own, handle) {
+        None => Ok(None),
+        Some(link) => link.note(side, perf, payload),
+    }
 }
 
 /// Applies a performative of the router to a link, if there is one.

@@ -3,11 +3,11 @@ ghost use Rattle.std.specs.Prelude.{◌≡◌, ◌==◌, ◌||◌, ℕ, true, if
 ghost use Rattle.std.specs.Ordering.{nat_cmp};
 ghost use Rattle.std.specs.BTreeMap.{get};
 ghost use Rattle.std.specs.BTreeSet.{contains};
-ghost use Rattle.router_links.specs.Places.{at};
+ghost use Rattle.router_places.specs.Places.{at};
 ghost use Rattle.router_links.specs.Touching.{is_numbered, named_link, in_session, in_connection};
 
-use crate::by_handle::{ByHandle, InConnection, InSession};
 use crate::link::Link;
+use router_places::{ByHandle, InConnection, InSession};
 use std::alloc::AllocError;
 use std::collections::BTreeSet;
 

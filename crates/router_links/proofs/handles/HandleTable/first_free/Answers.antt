@@ -1,6 +1,6 @@
 use Rattle.std.proofs.Common.{◌≡◌, ◌∙◌, ◌-◌, ◌≤◌, ℕ, zero, sym, ap, arith}
 use Rattle.router_trace.specs.Links.{first_free_below, is_free_handle}
-use Rattle.router_links.specs.Places.{at}
+use Rattle.router_places.specs.Places.{at}
 use Rattle.router_links.proofs.Free.{none_below, found, further}
 use Rattle.router_links.proofs.handles.HandleTable.first_free.Goals as goal
 

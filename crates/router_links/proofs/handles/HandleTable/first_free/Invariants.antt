@@ -1,6 +1,6 @@
 use Rattle.std.proofs.Common.{◌≡◌, ◌-◌}
 use Rattle.router_trace.specs.Links.{first_free_below, is_free_handle}
-use Rattle.router_links.specs.Places.{at}
+use Rattle.router_places.specs.Places.{at}
 use Rattle.router_links.proofs.handles.HandleTable.first_free.Given as goal
 
 -- none of the handles before is free

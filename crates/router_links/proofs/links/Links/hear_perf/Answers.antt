@@ -1,6 +1,6 @@
 use Rattle.std.proofs.Common.{◌∙◌, ap}
 use Rattle.router_trace.specs.Links.{their_handle}
-use Rattle.router_links.specs.Places.{at}
+use Rattle.router_places.specs.Places.{at}
 use Rattle.router_links.specs.Giving.{part_named}
 use Rattle.router_links.specs.declared.link.Side.TheVariants.{Peer}
 use Rattle.router_links.proofs.Gives.{given_follows}

@@ -10,7 +10,7 @@ use Rattle.router_trace.specs.declared.event.Event.TheVariants as event
 use Rattle.router_links.specs.declared.link.Side.TheVariants.{Peer}
 use Rattle.router_links.specs.Ends.{noted}
 use Rattle.router_links.specs.Fits.{names_in, with_mark}
-use Rattle.router_links.specs.Places.{at}
+use Rattle.router_places.specs.Places.{at}
 use Rattle.router_links.proofs.Attached.{names_heard}
 use Rattle.router_links.proofs.Thinning.{none_gone}
 use Rattle.router_links.proofs.Rows.{heard, noted_follows, heard_where_named, heard_row, heard_owes}

@@ -11,7 +11,7 @@ use Rattle.router_trace.specs.Links.{link, attachments, asked, initial_of, key_a
 use Rattle.router_links.specs.Ends.{begun}
 use Rattle.router_links.specs.Fits.{attachment}
 use Rattle.router_links.specs.Naming.{on_handle}
-use Rattle.router_links.specs.Places.{at}
+use Rattle.router_places.specs.Places.{at}
 use Rattle.router_links.proofs.Attached.{names_put, names_taken, attach_goes}
 use Rattle.router_links.proofs.Rows.{attached_row, over, none_at, begun_there, counted, uncounted, set_owes, same_key_of}
 use Rattle.router_links.proofs.Touches.{left_touches, joined_touches}
