@@ -14,7 +14,8 @@ use Rattle.router_trace.specs.Trace.{Trace}
 use Rattle.router_deliveries.specs.declared.claims.Claims.{Claims}
 use Rattle.router_deliveries.specs.Claiming.{ClaimsFit, IsSmall}
 use Rattle.router_deliveries.specs.Indexing.{in_set}
-use Rattle.router_deliveries.specs.Places.{at, at_id}
+use Rattle.router_places.specs.Places.{at}
+use Rattle.router_deliveries.specs.Places.{at_id}
 use Rattle.router_deliveries.proofs.Numbers.{not_true, none_below}
 
 -- one turn of a search, and its end

@@ -26,7 +26,8 @@ use Rattle.router_deliveries.specs.declared.link_ids.LinkIds.{LinkIds}
 use Rattle.router_deliveries.specs.Counting.{count_at}
 use Rattle.router_deliveries.specs.Finding.{IsCount}
 use Rattle.router_deliveries.specs.Indexing.{in_set}
-use Rattle.router_deliveries.specs.Places.{at, at_id}
+use Rattle.router_places.specs.Places.{at}
+use Rattle.router_deliveries.specs.Places.{at_id}
 
 -- ids have 32 bits
 abbrev pub IsSmall : ℕ → Option Claim → Type 0

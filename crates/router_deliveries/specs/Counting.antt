@@ -3,7 +3,7 @@ use Rattle.std.specs.Prelude.{ℕ, Option, unwrap_or}
 use Rattle.router_trace.specs.Deliveries.{is_number}
 use Rattle.router_deliveries.specs.declared.counts.Counts.{Counts}
 use Rattle.router_deliveries.specs.Finding.{IsCount}
-use Rattle.router_deliveries.specs.Places.{at}
+use Rattle.router_places.specs.Places.{at}
 
 abbrev pub count_at : Counts → ℕ → ℕ → ℕ → ℕ
 count_at s c o h = unwrap_or (at s.rows c o h) 0

@@ -17,7 +17,7 @@ use Rattle.router_deliveries.specs.Calling.{AreCalled, Knows}
 use Rattle.router_deliveries.specs.Finding.{IsListed}
 use Rattle.router_deliveries.specs.Indexing.{Indexes, standing}
 use Rattle.router_deliveries.specs.Naming.{NamesFit}
-use Rattle.router_deliveries.specs.Places.{at, in_map}
+use Rattle.router_places.specs.Places.{at, in_map}
 
 -- the deliveries are in the indexes, and under their names
 pub record Indexed (s : Store) : Type 0 where

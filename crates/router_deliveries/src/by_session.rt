@@ -4,7 +4,8 @@ ghost use Rattle.std.specs.Option.{is_some, option_copied};
 ghost use Rattle.std.specs.Ordering.{nat_cmp};
 ghost use Rattle.std.specs.BTreeMap.{get};
 ghost use Rattle.amqp_session.specs.Ranges.{in_range, has, IsRising};
-ghost use Rattle.router_deliveries.specs.Places.{in_map, in_ids, at_id};
+ghost use Rattle.router_places.specs.Places.{in_map};
+ghost use Rattle.router_deliveries.specs.Places.{in_ids, at_id};
 
 use amqp_session::{DeliveryIds, Serial};
 use std::alloc::{AllocError, Global};

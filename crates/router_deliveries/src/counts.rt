@@ -1,19 +1,14 @@
 //! How many delivery-ids each link has.
-ghost use Rattle.std.specs.Prelude.{◌≡◌, ◌==◌, ◌+◌, ◌-◌, ℕ, Option, if◌then◌else◌, unwrap_or, OnOk};
-ghost use Rattle.std.specs.Ordering.{nat_cmp};
-ghost use Rattle.std.specs.BTreeMap.{get};
+ghost use Rattle.std.specs.Prelude.{◌≡◌, ◌==◌, ◌+◌, ◌-◌, ℕ, Option, if◌then◌else◌, OnOk};
 ghost use Rattle.router_trace.specs.Deliveries.{is_number};
 ghost use Rattle.router_deliveries.specs.Counting.{count_at, IsCounted};
-ghost use Rattle.router_deliveries.specs.Places.{in_map};
 
-use crate::by_handle::{ByHandle, InConnection, InSession};
+use router_places::ByHandle;
 use std::alloc::{AllocError, Global};
-use std::collections::BTreeMap;
 
 /// How many ids each link has, by the router's handles; a link without any takes no room.
 #[derive(Debug, Drop)]
 pub(crate) struct Counts {
-    alloc: Global,
     rows: ByHandle<usize>,
 }
 
@@ -23,7 +18,6 @@ impl Counts {
         ensures { (c o h : ℕ) → count_at result c o h ≡ 0 }
     {
         Counts {
-            alloc,
             rows: ByHandle::new(alloc),
         }
     }
@@ -59,9 +53,16 @@ impl Counts {
         let Some(handle) = handle else {
             return;
         };
-        if let Some(sessions) = self.rows.rows.get_mut(&conn) {
-            drop_in_connection(sessions, own, handle);
+        match self.rows.get_mut(conn, own, handle) {
+            None => return,
+            Some(count) => {
+                if *count > 1 {
+                    *count -= 1;
+                    return;
+                }
+            }
         }
+        let _ = self.rows.remove(conn, own, handle);
     }
 
     /// A link has one more, if there is one.
@@ -72,9 +73,8 @@ impl Counts {
         let Some(handle) = handle else {
             return Ok(());
         };
-        let alloc = self.alloc;
-        if let Some(sessions) = self.rows.rows.get_mut(&conn) {
-            return add_in_connection(alloc, sessions, own, handle);
+        if let Some(count) = self.rows.get_mut(conn, own, handle) {
+            return add_one(count);
         }
         self.rows.insert(conn, own, handle, 1)
     }
@@ -92,66 +92,6 @@ impl Counts {
     {
         let _ = self.rows.forget(conn);
     }
-}
-
-/// A link of a connection has one more.
-fn add_in_connection(
-    alloc: Global,
-    sessions: &mut InConnection<usize>,
-    own: u16,
-    handle: u32,
-) -> Result<(), AllocError>
-    ensures { OnOk result ((o h : ℕ) → unwrap_or (in_map (get nat_cmp sessions.new o) h) 0
-        ≡ (if own == o then (if handle == h then unwrap_or (in_map (get nat_cmp sessions.old o) h) 0 + 1 else unwrap_or (in_map (get nat_cmp sessions.old o) h) 0) else unwrap_or (in_map (get nat_cmp sessions.old o) h) 0)) }
-{
-    if let Some(handles) = sessions.get_mut(&own) {
-        return add_in_session(handles, handle);
-    }
-    let mut handles = BTreeMap::new(alloc);
-    add_in_session(&mut handles, handle)?;
-    match sessions.insert(own, handles) {
-        Ok(_) => Ok(()),
-        Err(_) => Err(AllocError),
-    }
-}
-
-/// A link of a session has one more.
-fn add_in_session(handles: &mut InSession<usize>, handle: u32) -> Result<(), AllocError>
-    ensures { OnOk result ((h : ℕ) → unwrap_or (get nat_cmp handles.new h) 0
-        ≡ (if handle == h then unwrap_or (get nat_cmp handles.old h) 0 + 1 else unwrap_or (get nat_cmp handles.old h) 0)) }
-{
-    if let Some(count) = handles.get_mut(&handle) {
-        return add_one(count);
-    }
-    match handles.insert(handle, 1) {
-        Ok(_) => Ok(()),
-        Err(_) => Err(AllocError),
-    }
-}
-
-/// A link of a connection has one less, if it has any.
-fn drop_in_connection(sessions: &mut InConnection<usize>, own: u16, handle: u32)
-    ensures { (o h : ℕ) → unwrap_or (in_map (get nat_cmp sessions.new o) h) 0
-        ≡ (if own == o then (if handle == h then unwrap_or (in_map (get nat_cmp sessions.old o) h) 0 - 1 else unwrap_or (in_map (get nat_cmp sessions.old o) h) 0) else unwrap_or (in_map (get nat_cmp sessions.old o) h) 0) }
-{
-    if let Some(handles) = sessions.get_mut(&own) {
-        drop_in_session(handles, handle);
-    }
-}
-
-/// A link of a session has one less, if it has any.
-fn drop_in_session(handles: &mut InSession<usize>, handle: u32)
-    ensures { (h : ℕ) → unwrap_or (get nat_cmp handles.new h) 0
-        ≡ (if handle == h then unwrap_or (get nat_cmp handles.old h) 0 - 1 else unwrap_or (get nat_cmp handles.old h) 0) }
-{
-    let Some(count) = handles.get_mut(&handle) else {
-        return;
-    };
-    if *count > 1 {
-        *count -= 1;
-        return;
-    }
-    let _ = handles.remove(&handle);
 }
 
 /// Counts one more. Fails if that overflows.

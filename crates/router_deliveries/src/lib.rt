@@ -11,7 +11,6 @@
 //! come from it, and a disposition only those that its ids name. An id is forgotten once its delivery is decided.
 #![tactic(auto)]
 
-mod by_handle;
 mod by_link;
 mod by_name;
 mod by_session;

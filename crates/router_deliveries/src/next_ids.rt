@@ -8,7 +8,7 @@ ghost use Rattle.router_trace.specs.Configuration.{beginning};
 ghost use Rattle.router_trace.specs.Trace.{Entry, Out, did};
 ghost use Rattle.router_trace.specs.declared.event.Event.TheVariants as event;
 ghost use Rattle.router_trace.specs.Deliveries.{next_id, after_id};
-ghost use Rattle.router_deliveries.specs.Places.{in_map};
+ghost use Rattle.router_places.specs.Places.{in_map};
 ghost use Rattle.router_deliveries.specs.Fits.{NextIdsFit, next_in};
 
 use amqp_frames::Item;

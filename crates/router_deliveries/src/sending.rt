@@ -10,14 +10,14 @@ ghost use Rattle.router_trace.specs.Configuration.{beginning};
 ghost use Rattle.router_trace.specs.Trace.{Entry, Out, did};
 ghost use Rattle.router_trace.specs.declared.event.Event.TheVariants as event;
 ghost use Rattle.router_trace.specs.Deliveries.{carried, tag_in};
-ghost use Rattle.router_deliveries.specs.Places.{at};
+ghost use Rattle.router_places.specs.Places.{at};
 ghost use Rattle.router_deliveries.specs.Calling.{at_name, NumbersFit};
 ghost use Rattle.router_deliveries.specs.Fits.{SendingFit, carried_in, carried_by};
 
-use crate::by_handle::{ByHandle, InSession};
 use crate::by_name::ByName;
 use amqp_frames::Item;
 use amqp_perf::{Perf, Transfer};
+use router_places::{ByHandle, InSession};
 use router_trace::ConnectionId;
 use std::alloc::{AllocError, Global};
 

@@ -3,7 +3,7 @@ use Rattle.router_trace.specs.Trace.{Out}
 use Rattle.router_trace.specs.Deliveries.{delivery, number_named, sending}
 use Rattle.router_deliveries.specs.Calling.{at_name, Knows}
 use Rattle.router_deliveries.specs.Fits.{carried_by}
-use Rattle.router_deliveries.specs.Places.{at}
+use Rattle.router_places.specs.Places.{at}
 use Rattle.router_deliveries.proofs.Asked.{numbers_of}
 use Rattle.router_deliveries.proofs.Known.{known_carried_by}
 use Rattle.router_deliveries.proofs.deliveries.Deliveries.put.Goals as goal

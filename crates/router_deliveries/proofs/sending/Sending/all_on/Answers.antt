@@ -1,5 +1,5 @@
 use Rattle.std.proofs.Common.{ap}
-use Rattle.router_deliveries.specs.Places.{at, in_map}
+use Rattle.router_places.specs.Places.{at, in_map}
 use Rattle.router_deliveries.proofs.Listed.{none_listed}
 use Rattle.router_deliveries.proofs.sending.Sending.all_on.Goals as goal
 

@@ -5,7 +5,7 @@ use Rattle.router_trace.specs.Trace.{Out}
 use Rattle.router_trace.specs.Deliveries.{delivery, number_named, sending, sending_by}
 use Rattle.router_deliveries.specs.Calling.{NumbersFit}
 use Rattle.router_deliveries.specs.Fits.{SendingFit}
-use Rattle.router_deliveries.specs.Places.{at}
+use Rattle.router_places.specs.Places.{at}
 use Rattle.router_deliveries.proofs.Known.{known_quiet, still_known, unsent_by}
 use Rattle.router_deliveries.proofs.Low.{low_sending}
 use Rattle.router_deliveries.proofs.sending.Sending.put.Goals as goal

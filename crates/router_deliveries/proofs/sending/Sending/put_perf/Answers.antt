@@ -7,7 +7,7 @@ use Rattle.router_trace.specs.Trace.{Entry, Out}
 use Rattle.router_trace.specs.Deliveries.{delivery, number_named, sending, sending_in, tag_in}
 use Rattle.router_deliveries.specs.Calling.{at_name, NumbersFit}
 use Rattle.router_deliveries.specs.Fits.{SendingFit}
-use Rattle.router_deliveries.specs.Places.{at}
+use Rattle.router_places.specs.Places.{at}
 use Rattle.router_deliveries.proofs.Known.{known_transfer, known_ended, known_session, known_quiet, still_known, unsent_in}
 use Rattle.router_deliveries.proofs.Low.{low_sending}
 use Rattle.router_deliveries.proofs.sending.Sending.put_perf.Goals as goal
@@ -48,7 +48,7 @@ returns-in-End c = λ t sasl payload names fit.
     let puts = Out conn (item.Frame sasl own (perf.End c.in-End.field-0) payload) in
     subst (λ (p : Perf). SendingFit (record { numbers = c.end.new.self }) (Out conn (item.Frame sasl own p payload) ∷ t)) (sym c.in-End.is)
     (record {
-      numbers = λ d o h. known_session (delivery (puts ∷ t)) (conn == d) (own == o) _ (old d o h) (sending t d o h) (c.end.ensures d o h)
+      numbers = λ d o h. known_session (delivery (puts ∷ t)) (conn == d) (own == o) _ (old d o h) (sending t d o h) (c.end.ensures.gone d o h)
           (still_known puts t (old d o h) (sending t d o h) (low_sending t d o h) (fit.numbers d o h));
     })
 
@@ -60,7 +60,7 @@ returns-in-Close c = λ t sasl payload names fit.
     let puts = Out conn (item.Frame sasl own (perf.Close c.in-Close.field-0) payload) in
     subst (λ (p : Perf). SendingFit (record { numbers = c.forget.new.self }) (Out conn (item.Frame sasl own p payload) ∷ t)) (sym c.in-Close.is)
     (record {
-      numbers = λ d o h. known_ended (delivery (puts ∷ t)) (conn == d) true true _ (old d o h) (sending t d o h) (c.forget.ensures d o h)
+      numbers = λ d o h. known_ended (delivery (puts ∷ t)) (conn == d) true true _ (old d o h) (sending t d o h) (c.forget.ensures.gone d o h)
           (still_known puts t (old d o h) (sending t d o h) (low_sending t d o h) (fit.numbers d o h));
     })
 
