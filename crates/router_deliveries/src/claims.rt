@@ -90,7 +90,6 @@ struct Marks {
 
 impl Claims {
     /// An empty table.
-    #[tactic(auto, using(crate::proofs::Counted::counted_none))]
     pub fn new(alloc: Global) -> Claims
         ensures { (g : Beginning) → ClaimsFit result (beginning g) }
     {
