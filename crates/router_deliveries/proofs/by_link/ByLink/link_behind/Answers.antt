@@ -1,4 +1,4 @@
-use Rattle.std.proofs.Common.{rules, ◌≡◌, ◌∙◌, ◌<◌, ◌^◌, ap, subst, Some, None}
+use Rattle.std.proofs.Common.{rules, subst}
 use Rattle.router_deliveries.specs.Indexing.{IsFirstPair, behind_link}
 use Rattle.router_deliveries.proofs.Above.{no_link, link_found}
 use Rattle.router_deliveries.proofs.by_link.ByLink.link_behind.Goals as goal
