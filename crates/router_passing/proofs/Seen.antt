@@ -23,7 +23,7 @@ use Rattle.router_links.specs.declared.links.Links.{Links}
 use Rattle.router_links.specs.Ends.{end_of, link_of}
 use Rattle.router_links.specs.Fits.{LinksFit}
 use Rattle.router_links.specs.Naming.{Remembers}
-use Rattle.router_links.specs.Places.{at}
+use Rattle.router_places.specs.Places.{at}
 use Rattle.router_links.specs.Touching.{if_number}
 use Rattle.router_pools.specs.Sharing.{AreNumbered, Figure, consumer, producer}
 use Rattle.router_passing.specs.Figures.{begun_credit, figure, figure_at, figure_by, figure_on, free_of, held, undecided, unused_credit, waiting}
