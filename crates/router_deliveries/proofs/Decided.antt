@@ -182,9 +182,9 @@ not_decided d c o first last undecided row e =
     in ap (λ b. is_undecided d && b) (by_own_id d.link c o first last d.id there) ∙ and_none (is_undecided d)
 
 stays_by : (x : Change) (d : Delivery) → is_undecided d ≡ true → has_row d.name ≡ true → decides x (standing (Some d)) ≡ false → changed x d ≡ d
-stays_by (change.Ends g closed) d undecided row e = changes_nothing (change.Ends g closed) d e
-stays_by (change.Untold c o first last) d undecided row e = changes_nothing (change.Untold c o first last) d e
-stays_by (change.Told c o first last) d undecided row e = changes_nothing (change.Told c o first last) d e
+stays_by (change.Ends g closed) d undecided row e = changes_nothing (change.Ends g closed) d refl e
+stays_by (change.Untold c o first last) d undecided row e = changes_nothing (change.Untold c o first last) d refl e
+stays_by (change.Told c o first last) d undecided row e = changes_nothing (change.Told c o first last) d refl e
 stays_by (change.Decided c o first last made) d undecided row e = ap (λ b. if b then record d { outcome = Some made } else d) (not_decided d c o first last undecided row e)
 
 stays : (xs : List Change) (d : Delivery) → is_undecided d ≡ true → has_row d.name ≡ true → decide xs (standing (Some d)) ≡ false → changed_by xs d ≡ d

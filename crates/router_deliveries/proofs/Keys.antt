@@ -1,19 +1,18 @@
 -- The deliveries that a change concerns.
 use Rattle.std.proofs.Common.{◌≡◌, ◌∙◌, ◌||◌, ℕ, Bool, true, false, refl, sym, ap, Option, None, Some}
-use Rattle.std.specs.Prelude.{◌&&◌, ◌==◌, not, if◌then◌else◌, is_none}
+use Rattle.std.specs.Prelude.{◌&&◌, not, if◌then◌else◌, is_none}
 use Rattle.amqp_perf.specs.declared.state.DeliveryState.{DeliveryState}
 use Rattle.router_trace.specs.declared.binding.Origin.{Origin}
 use Rattle.router_trace.specs.declared.handle.Attachment.{Attachment}
-use Rattle.router_trace.specs.Deliveries.{Delivery, source, unless_over, is_undecided, stands_on, behind_ends, behind_origin, is_gone_with, ended, decided_at_end, suspended_at_end, untold, unsettled, failed, sender, forsaken}
+use Rattle.router_trace.specs.Deliveries.{Delivery, source, unless_over, behind_ends, behind_origin, is_gone_with, ended, decided_at_end, suspended_at_end, untold, unsettled, failed, sender, forsaken}
 use Rattle.router_deliveries.specs.declared.change.Change.{Change}
 use Rattle.router_deliveries.specs.declared.change.Change.TheVariants as change
 use Rattle.router_deliveries.specs.declared.change.Gone.{Gone}
 use Rattle.router_deliveries.specs.declared.change.Gone.TheVariants as gone
 use Rattle.router_deliveries.specs.declared.spots.Spot.{Spot}
-use Rattle.router_deliveries.specs.Indexing.{standing, concerns}
+use Rattle.router_deliveries.specs.Indexing.{standing, is_by_place, concerns}
 use Rattle.router_deliveries.specs.Placing.{spot_of, on_spot, from_spot, id_spot, is_gone_at, is_gone_there, is_id_there}
-use Rattle.router_deliveries.specs.Stepping.{is_gone, comes_with_id, is_decided_by, is_in, changed, behind, IsKept}
-use Rattle.router_deliveries.proofs.Again.{equal_back}
+use Rattle.router_deliveries.specs.Stepping.{is_gone, comes_with_id, changed, behind, IsKept}
 
 or_first : (a b : Bool) → (a || b) ≡ false → a ≡ false
 or_first true b e = e
@@ -89,49 +88,25 @@ pub untells_nothing : (p : Option Origin) (c o first last : ℕ) → is_id_there
 untells_nothing None c o first last e = refl
 untells_nothing (Some p) c o first last e = e
 
-decides_nothing : (d : Delivery) (c o first last : ℕ) → is_gone_there (gone.Session c o) (on_spot (spot_of d.link) (can_end d)) ≡ false → is_decided_by d c o first last ≡ false
-decides_nothing d c o first last e = by_rest d.outcome d.suspended refl refl
-  where
-    no : (u s i : Bool) → s ≡ false → (u && (s && i)) ≡ false
-    no true true i h = absurd cc
-    no true false i h = refl
-    no false s i h = refl
-
-    or_true : (b : Bool) → (b || true) ≡ true
-    or_true true = refl
-    or_true false = refl
-
-    here : d.outcome ≡ None → d.suspended ≡ false → stands_on d.link c o ≡ false
-    here y z = ap (λ b. (d.link.conn.0 == c) && b) (equal_back o d.link.channel)
-        ∙ on_false (gone.Session c o) (spot_of d.link) (can_end d) e (ap (λ v. d.going_on || (is_none v && not d.suspended)) y ∙ ap (λ b. d.going_on || not b) z ∙ or_true d.going_on)
-
-    not_or : (a b : Bool) → b ≡ true → not (a || b) ≡ false
-    not_or true b h = refl
-    not_or false true h = refl
-    not_or false false h = absurd cc
-
-    by_rest : (v : Option DeliveryState) (s : Bool) → d.outcome ≡ v → d.suspended ≡ s → is_decided_by d c o first last ≡ false
-    by_rest None false y z = no (is_undecided d) (stands_on d.link c o) (is_in d.id first last) (here y z)
-    by_rest None true y z = ap (λ v. (is_none v && not (d.presettled || d.suspended)) && (stands_on d.link c o && is_in d.id first last)) y
-        ∙ ap (λ b. b && (stands_on d.link c o && is_in d.id first last)) (not_or d.presettled d.suspended z)
-    by_rest (Some s) b y z = ap (λ v. (is_none v && not (d.presettled || d.suspended)) && (stands_on d.link c o && is_in d.id first last)) y
-
-pub changes_nothing : (x : Change) (d : Delivery) → concerns x (standing (Some d)) ≡ false → changed x d ≡ d
-changes_nothing (change.Ends g closed) d e =
+pub changes_nothing : (x : Change) (d : Delivery) → is_by_place x ≡ true → concerns x (standing (Some d)) ≡ false → changed x d ≡ d
+changes_nothing (change.Ends g closed) d placed e =
     let on = is_gone_there g (on_spot (spot_of d.link) (can_end d)) in
     let from = is_gone_there g (from_spot (sender d)) in
     ends_nothing closed g d (or_first on from e) (or_second on from e)
-changes_nothing (change.Untold c o first last) d e = ap (λ b. if b then untold d else d) (untells_nothing (source d) c o first last e)
-changes_nothing (change.Told c o first last) d e = ap (λ b. if b then unsettled d else d) (untells_nothing (source d) c o first last e)
-changes_nothing (change.Decided c o first last made) d e = ap (λ b. if b then record d { outcome = Some made } else d) (decides_nothing d c o first last e)
+changes_nothing (change.Untold c o first last) d placed e = ap (λ b. if b then untold d else d) (untells_nothing (source d) c o first last e)
+changes_nothing (change.Told c o first last) d placed e = ap (λ b. if b then unsettled d else d) (untells_nothing (source d) c o first last e)
+changes_nothing (change.Decided c o first last made) d placed e = absurd (no_place placed)
+  where
+    no_place : false ≡ true → ⊥
+    no_place h = cc
 
 -- a change applied to the deliveries that it concerns has been applied to all
-pub where_stands : (x : Change) (b : Bool) (old new : Option Delivery) → new ≡ (if b then behind x old else old)
+pub where_stands : (x : Change) → is_by_place x ≡ true → (b : Bool) (old new : Option Delivery) → new ≡ (if b then behind x old else old)
     → (concerns x (standing old) ≡ true → b ≡ true) → IsKept old → new ≡ behind x old
-where_stands x true old new is there keeps = is
-where_stands x false None new is there keeps = is
-where_stands x false (Some d) new is there keeps = by_test (concerns x (standing (Some d))) refl
+where_stands x placed true old new is there keeps = is
+where_stands x placed false None new is there keeps = is
+where_stands x placed false (Some d) new is there keeps = by_test (concerns x (standing (Some d))) refl
   where
     by_test : (b : Bool) → concerns x (standing (Some d)) ≡ b → new ≡ behind x (Some d)
     by_test true e = let wrong : false ≡ true = there e in absurd cc
-    by_test false e = is ∙ sym keeps ∙ ap unless_over (sym (changes_nothing x d e))
+    by_test false e = is ∙ sym keeps ∙ ap unless_over (sym (changes_nothing x d placed e))

@@ -22,6 +22,7 @@ use Rattle.router_deliveries.specs.declared.change.Change.TheVariants as change
 use Rattle.router_deliveries.specs.declared.change.Gone.TheVariants as gone
 use Rattle.router_deliveries.specs.declared.store.Store.{Store}
 use Rattle.router_deliveries.specs.Fits.{StoreFit}
+use Rattle.router_deliveries.specs.Indexing.{is_by_place, are_by_place}
 use Rattle.router_deliveries.specs.Stepping.{is_gone, comes_with_id, changed, behind, behind_any, put_change, put_by, IsKept}
 
 -- a delivery in a trace isn't over
@@ -154,6 +155,22 @@ other_frame numbers c own n sasl (perf.Close x) payload known other v keeps =
     does numbers c n (item.Frame sasl own (perf.Close x) payload) (change.Ends (gone.Connection c) false) known
     (λ d. same_ends false (λ a. (a.conn.0 == c) && true) (is_gone (gone.Connection c)) (λ a. and_true (a.conn.0 == c)) d) v
 other_frame numbers c own n sasl body payload known other v keeps = quiet numbers c n (item.Frame sasl own body payload) known (λ d. never c d) v keeps
+
+-- what the router puts out is no consumer's disposition
+pub put_by_place : (c own : ℕ) (body : Perf) → are_by_place (put_change c own body) ≡ true
+put_by_place c own (perf.Disposition x) = by_role x.role
+  where
+    told_there : (b : Bool) → is_by_place (if b then change.Untold c own x.first (last_of x) else change.Told c own x.first (last_of x)) ≡ true
+    told_there true = refl
+    told_there false = refl
+
+    by_role : (r : Role) → are_by_place (put_by r c own x) ≡ true
+    by_role Sender = refl
+    by_role Receiver = told_there x.settled
+put_by_place c own (perf.Detach x) = refl
+put_by_place c own (perf.End x) = refl
+put_by_place c own (perf.Close x) = refl
+put_by_place c own body = refl
 
 -- an item without a body
 pub unframed : (s : Store) (c : ℕ) (i : Item) (t : Trace) → ((sasl : Bool) (own : ℕ) (body : Perf) (payload : List ℕ) → i ≡ item.Frame sasl own body payload → ⊥)

@@ -11,7 +11,6 @@ use Rattle.router_trace.specs.Deliveries.{Delivery, has_row, source, sender, hol
 use Rattle.router_deliveries.specs.declared.by_link.ByLink.{ByLink}
 use Rattle.router_deliveries.specs.declared.change.Change.{Change}
 use Rattle.router_deliveries.specs.declared.change.Change.TheVariants as change
-use Rattle.router_deliveries.specs.declared.change.Gone.TheVariants as gone
 use Rattle.router_deliveries.specs.declared.index.Index.{Index}
 use Rattle.router_deliveries.specs.declared.index.Keys.{Keys}
 use Rattle.router_deliveries.specs.declared.index.Moved.{Moved}
@@ -98,9 +97,18 @@ pub record Indexes (s : Index) (known : ℕ → Keys) : Type 0 where
   pub by_id : SpotsFit s.by_id (λ n. (known n).by_id)
   pub durable : SpotsFit s.durable (λ n. (known n).durable)
 
--- a change may change a delivery with these entries
+-- the change isn't a consumer's disposition, which finds its deliveries by their ids
+abbrev pub is_by_place : Change → Bool
+is_by_place (change.Decided c o first last made) = false
+is_by_place _ = true
+
+abbrev pub are_by_place : Option Change → Bool
+are_by_place None = true
+are_by_place (Some x) = is_by_place x
+
+-- such a change may change a delivery with these entries
 abbrev pub concerns : Change → Keys → Bool
 concerns (change.Ends g closed) k = is_gone_there g k.on || is_gone_there g k.from
 concerns (change.Untold c o first last) k = is_id_there c o first last k.by_id
 concerns (change.Told c o first last) k = is_id_there c o first last k.by_id
-concerns (change.Decided c o first last made) k = is_gone_there (gone.Session c o) k.on
+concerns (change.Decided c o first last made) k = false

@@ -262,7 +262,7 @@ impl Index {
         Ok(())
     }
 
-    /// The numbers of the deliveries that a change may change; some may occur more than once.
+    /// The numbers of the deliveries that a change may change, if it isn't a consumer's disposition; some may occur more than once.
     pub(crate) fn concerned(&self, alloc: Global, change: &Change) -> Result<Vec<u64>, AllocError>
         ensures { IfOk result (λ numbers. (known : ℕ → TheKeys) → Indexes self.now known → (n : ℕ) → concerns change.now (known n) ≡ true → has n numbers.items ≡ true) }
     {
@@ -322,7 +322,7 @@ impl Index {
         Ok(())
     }
 
-    /// Adds the numbers of the deliveries that a change may change.
+    /// Adds the numbers of the deliveries that a change may change, if it isn't a consumer's disposition.
     pub(crate) fn add_concerned(
         &self,
         alloc: Global,
@@ -355,10 +355,7 @@ impl Index {
                 first,
                 last,
             } => self.by_id.append_ids(*conn, *own, *first, *last, numbers)?,
-            Change::Decided { conn, own, .. } => {
-                let (conn, own) = (*conn, *own);
-                self.on.append_gone(Gone::Session { conn, own }, numbers)?
-            }
+            Change::Decided { .. } => {}
         }
         Ok(())
     }

@@ -15,7 +15,7 @@ ghost use Rattle.router_deliveries.specs.Calling.{at_name, is_called, Knows};
 ghost use Rattle.router_deliveries.specs.Deciding.{decide};
 ghost use Rattle.router_deliveries.specs.Fits.{Indexed, StoreFit, carried_in, carried_by};
 ghost use Rattle.router_deliveries.specs.declared.index.Keys.{Keys as TheKeys};
-ghost use Rattle.router_deliveries.specs.Indexing.{Indexes, keys, moved, standing, in_group, concerns};
+ghost use Rattle.router_deliveries.specs.Indexing.{Indexes, keys, moved, standing, in_group, is_by_place, are_by_place, concerns};
 ghost use Rattle.router_deliveries.specs.Placing.{is_id_there};
 ghost use Rattle.std.specs.BTreeSet.{contains};
 ghost use Rattle.router_deliveries.specs.Finding.{IsFirst, IsFirstLink, is_above};
@@ -318,9 +318,9 @@ impl Store {
         Ok(())
     }
 
-    /// Applies a change to all deliveries. It looks only at those that the indexes give for the change.
+    /// Applies a change that isn't a consumer's disposition to all deliveries. It looks only at those that the indexes give for the change.
     pub(crate) fn apply(&mut self, change: &Change) -> Result<(), AllocError>
-        ensures deliveries { OnOk result (((n : ℕ) → IsKept (get nat_cmp self.old.deliveries n)) → Indexed self.old
+        ensures deliveries { OnOk result (is_by_place change.now ≡ true → ((n : ℕ) → IsKept (get nat_cmp self.old.deliveries n)) → Indexed self.old
             → (n : ℕ) → get nat_cmp self.new.deliveries n ≡ behind change.now (get nat_cmp self.old.deliveries n)) }
         ensures indexed { OnOk result (Indexed self.old → Indexed self.new) }
         ensures touches { OnOk result (StoreTouches self.old self.new) }
@@ -329,10 +329,10 @@ impl Store {
         self.change_all(numbers.as_slice(), change)
     }
 
-    /// Applies a change to all deliveries, if there is one.
+    /// Applies a change that isn't a consumer's disposition to all deliveries, if there is one.
     #[tactic(auto, using(crate::proofs::Touching::touches_self))]
     pub(crate) fn apply_any(&mut self, change: Option<Change>) -> Result<(), AllocError>
-        ensures deliveries { OnOk result (((n : ℕ) → IsKept (get nat_cmp self.old.deliveries n)) → Indexed self.old
+        ensures deliveries { OnOk result (are_by_place change ≡ true → ((n : ℕ) → IsKept (get nat_cmp self.old.deliveries n)) → Indexed self.old
             → (n : ℕ) → get nat_cmp self.new.deliveries n ≡ behind_any change (get nat_cmp self.old.deliveries n)) }
         ensures indexed { OnOk result (Indexed self.old → Indexed self.new) }
         ensures touches { OnOk result (StoreTouches self.old self.new) }
@@ -405,7 +405,7 @@ impl Store {
         }
     }
 
-    /// The ids of the deliveries that a change may change.
+    /// The ids of the deliveries that a change may change, if it isn't a consumer's disposition.
     fn ids_on(&self, change: &Change) -> Result<Vec<u32>, AllocError>
         ensures { IfOk result (λ ids. Indexed self.now → (n id : ℕ) → concerns change.now (standing (get nat_cmp self.now.deliveries n)) ≡ true
             → is_id (id_of (get nat_cmp self.now.deliveries n)) id ≡ true → has id ids.items ≡ true) }

@@ -9,7 +9,3 @@ returns-in_ok-append_ids-in-Untold c = λ known fit n there.
 pub returns-in_ok-append_ids-in-Told : goal.returns-in_ok-append_ids-in-Told
 returns-in_ok-append_ids-in-Told c = λ known fit n there.
     c.in_ok-append_ids-in-Told.ensures.found (λ m. (known m).by_id) fit.by_id n (ap (λ x. concerns x (known n)) (sym c.in-Told.is) ∙ there)
-
-pub returns-in_ok-append_gone-in-Decided : goal.returns-in_ok-append_gone-in-Decided
-returns-in_ok-append_gone-in-Decided c = λ known fit n there.
-    c.in_ok-append_gone-in-Decided.ensures.found (λ m. (known m).on) fit.on n (ap (λ x. concerns x (known n)) (sym c.in-Decided.is) ∙ there)

@@ -8,8 +8,9 @@ use Rattle.router_trace.specs.Deliveries.{Delivery, delivery, number_named, send
 use Rattle.router_deliveries.specs.Calling.{Knows}
 use Rattle.router_deliveries.proofs.Known.{same_number}
 use Rattle.router_deliveries.specs.Fits.{carried_in}
+use Rattle.router_deliveries.specs.Indexing.{are_by_place}
 use Rattle.router_deliveries.specs.Stepping.{behind_any, IsKept}
-use Rattle.router_deliveries.proofs.Puts.{on_ok_both, one_frame, other_frame, put_behind, kept}
+use Rattle.router_deliveries.proofs.Puts.{on_ok_both, one_frame, other_frame, put_behind, put_by_place, kept}
 use Rattle.router_deliveries.proofs.store.Store.put_perf.Goals as goal
 
 pub returns-in-Transfer-clause-fits : goal.returns-in-Transfer-clause-fits
@@ -36,7 +37,7 @@ returns-in_default-clause-fits c = on_ok_both c.apply_any.result
     let body = c.args.perf.now in
     record {
       deliveries = λ n.
-          applied (λ m. subst IsKept (sym (fit.deliveries m)) (kept t m)) fit.indexed n
+          applied (ap are_by_place c.behind_put.ensures ∙ put_by_place c.args.conn c.args.own body) (λ m. subst IsKept (sym (fit.deliveries m)) (kept t m)) fit.indexed n
           ∙ ap (behind_any c.behind_put.result) (fit.deliveries n)
           ∙ ap (λ x. behind_any x (delivery t n)) c.behind_put.ensures
           ∙ other_frame (number_named t) c.args.conn c.args.own n sasl body c.args.payload.now (sending t c.args.conn) c.in_default.not-Transfer (delivery t n) (kept t n);
