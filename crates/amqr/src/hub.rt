@@ -1,13 +1,10 @@
 //! What the threads of a serving program share.
-ghost use Rattle.std.specs.Prelude.{◌≡◌};
-
 use crate::lines::Lines;
 use crate::streams::Streams;
 use amqr_files::JournalDisk;
 use route_table::Config;
 use router_core::CoreFault;
-use router_serve::{Desk, Ledgers};
-use std::alloc::Global;
+use router_serve::{Desk, Names};
 use std::sync::{Condvar, Mutex, Wait};
 
 /// The most connections that have threads at once.
@@ -37,13 +34,13 @@ pub enum Taken {
     Over,
 }
 
-/// The router, its seats, and everything else that the threads share.
+/// All that the threads share.
 #[derive(Drop)]
-pub struct Hub<G: Ledgers> {
+pub struct Hub<'a, N: Names> {
     /// The router, its seats and the numbers of its connections.
-    pub desk: Desk<JournalDisk, G>,
+    pub desk: &'a Desk<JournalDisk, N>,
     /// The configuration.
-    pub config: Config,
+    pub config: &'a Config,
     /// The lines on standard error.
     pub lines: Lines,
     /// The count of the connections.
@@ -54,15 +51,14 @@ pub struct Hub<G: Ledgers> {
     pub streams: Mutex<Streams>,
 }
 
-impl<G: Ledgers> Hub<G> {
+impl<'a, N: Names> Hub<'a, N> {
     /// What the threads share, before there are any: up to so many connections are accepted, or any number, and the lines are quiet or not.
     pub fn new(
-        desk: Desk<JournalDisk, G>,
-        config: Config,
+        desk: &'a Desk<JournalDisk, N>,
+        config: &'a Config,
         connections: Option<u64>,
         quiet: bool,
-    ) -> Hub<G> {
-        let alloc = desk.alloc;
+    ) -> Hub<'a, N> {
         Hub {
             desk,
             config,
@@ -73,7 +69,7 @@ impl<G: Ledgers> Hub<G> {
                 over: false,
             }),
             over: Condvar::new(),
-            streams: Mutex::new(Streams::new(alloc)),
+            streams: Mutex::new(Streams::new(desk.alloc)),
         }
     }
 
@@ -145,28 +141,5 @@ impl<G: Ledgers> Hub<G> {
         if first {
             self.lines.say(rt, "the router failed: all connections end");
         }
-    }
-
-    /// The seats that no thread uses come back, and all else is let go. It tells whether the router failed.
-    pub fn close(self) -> bool
-        requires cut { (G.Ups.seats ≡ G.Ups.parts) × (G.Items.seats ≡ G.Items.parts) × (G.Downs.seats ≡ G.Downs.parts) × (G.Ticks.seats ≡ G.Ticks.parts) × (G.Starts.seats ≡ G.Starts.parts) × (G.Batches.seats ≡ G.Batches.parts) }
-    {
-        let Hub {
-            desk,
-            config,
-            lines,
-            taking,
-            over,
-            streams,
-        } = self;
-        drop(config);
-        drop(lines);
-        drop(taking);
-        drop(over);
-        drop(streams);
-        let closed = desk.close();
-        let failed = closed.core.is_failed();
-        drop(closed);
-        failed
     }
 }

@@ -1,6 +1,7 @@
 -- Greetings, read by read.
 use Rattle.std.proofs.Common.{◌≡◌, ◌≢◌, ◌∙◌, sym, ap, refl, subst, ℕ, ◌+◌, ◌<◌, Bool, true, false, List, [], ◌∷◌, ◌++◌, length, take, Option, Some, None, arith, append_assoc, append-nil, length-append, ◌⊎◌, inl, inr}
 use Rattle.std.proofs.Math.Seq.{take-append-add}
+use Rattle.std.proofs.KnownBytes.{Consumes-nil, Consumes-trans}
 use Rattle.std.specs.Io.KnownBytes.{Appends, Consumes, IsAtEnd, Keeps}
 use Rattle.amqp_frames.specs.declared.item.Item.{Item}
 use Rattle.amqp_frames.specs.Cuts.{Cuts, Stream}
@@ -15,70 +16,11 @@ use Rattle.router_serve.specs.Wrote.{spelled}
 use Rattle.router_serve.specs.Greeting.{door_says, Fate, waits, passed, closed, fate, fate_of, door_past, Gives, IsTold, Greets, Stops, Breaks}
 use Rattle.router_serve.proofs.Appending.{appends_on}
 use Rattle.router_serve.proofs.Doors.{written_more, fate_more, past_more, fate_bad}
-
--- bytes that are read, then more of them
-pub consumes_on : (a b c : Option (List ℕ)) (xs ys : List ℕ) → Consumes a b xs → Consumes b c ys → Consumes a c (xs ++ ys)
-consumes_on None b c xs ys first rest = tt
-consumes_on (Some a) None c xs ys first rest = elim first [ ]
-consumes_on (Some a) (Some b) None xs ys first rest = elim rest [ ]
-consumes_on (Some a) (Some b) (Some c) xs ys first rest = first ∙ (ap (λ (w : List ℕ). xs ++ w) rest ∙ sym (append_assoc xs ys c))
-
-pub consumes_none : (a : Option (List ℕ)) → Consumes a a []
-consumes_none None = tt
-consumes_none (Some a) = refl
-
-pub kept_consumes : (a b : Option (List ℕ)) → Keeps a b → Consumes a b []
-kept_consumes None b kept = tt
-kept_consumes (Some a) None kept = elim kept [ ]
-kept_consumes (Some a) (Some b) kept = sym kept
+use Rattle.router_serve.proofs.Streams.{at_end, Came, gives_more, gives_nothing, gives_the_same, none_behind}
 
 pub appends_none : (a : Option (List ℕ)) → Appends a a []
 appends_none None = tt
 appends_none (Some a) = sym (append-nil a)
-
--- what a frame reader gives
-pub gives_nothing : (old : Stream) → Gives old [] [] old
-gives_nothing old = inl (inl refl, refl, refl)
-
-pub gives_no_more : (old new : Stream) (bytes : List ℕ) → old.failed ≡ true → new.rest ≡ old.rest → new.failed ≡ true → Gives old bytes [] new
-gives_no_more old new bytes before rest after = inl (
-  inr before,
-  refl,
-  ap (λ (r : List ℕ). record new { rest = r }) rest ∙ ap (λ (f : Bool). record old { failed = f }) (after ∙ sym before),
-)
-
-none_by : (bs : List ℕ) (f g : Bool) → (g ≡ true → f ≡ true) → f ≡ false → (bs ≡ []) ⊎ (g ≡ true) → bs ≡ []
-none_by bs f g back sound (inl e) = e
-none_by bs f g back sound (inr t) = absurd (let bad : true ≡ false = sym (back t) ∙ sound in cc)
-
-still_none : (bs cs : List ℕ) (f g : Bool) → (g ≡ true → f ≡ true) → (bs ≡ []) ⊎ (f ≡ true) → (cs ≡ []) ⊎ (g ≡ true) → (bs ++ cs ≡ []) ⊎ (f ≡ true)
-still_none bs cs f g back (inr t) k = inr t
-still_none bs cs f g back (inl e) (inr t) = inr (back t)
-still_none bs cs f g back (inl e) (inl e') = inl (ap (λ (w : List ℕ). w ++ cs) e ∙ e')
-
-pub gives_more : (old mid new : Stream) (bs cs : List ℕ) (is js : List Item) → (mid.failed ≡ true → old.failed ≡ true)
-    → Gives old bs is mid → Gives mid cs js new → Gives old (bs ++ cs) (is ++ js) new
-gives_more old mid new bs cs is js back (inl h) (inl k) =
-    inl (still_none bs cs old.failed mid.failed back h.0 k.0, ap (λ (w : List Item). w ++ js) h.1 ∙ k.1, k.2 ∙ h.2)
-gives_more old mid new bs cs is js back (inl h) (inr k) =
-    let sound : old.failed ≡ false = sym (ap (λ (s : Stream). s.failed) h.2) ∙ k.0 in
-    let none : bs ≡ [] = none_by bs old.failed old.failed (λ t. t) sound h.0 in
-    let bytes : mid.rest ++ cs ≡ old.rest ++ (bs ++ cs) = ap (λ (s : Stream). s.rest ++ cs) h.2 ∙ ap (λ (w : List ℕ). old.rest ++ (w ++ cs)) (sym none) in
-    let items : js ≡ is ++ js = ap (λ (w : List Item). w ++ js) (sym h.1) in
-    inr (sound, subst (λ (w : List ℕ). Cuts new.failed w (is ++ js) new.rest) bytes (subst (λ (xs : List Item). Cuts new.failed (mid.rest ++ cs) xs new.rest) items k.1))
-gives_more old mid new bs cs is js back (inr h) (inl k) =
-    let none : cs ≡ [] = none_by cs old.failed mid.failed back h.0 k.0 in
-    let bytes : bs ≡ bs ++ cs = sym (ap (λ (w : List ℕ). bs ++ w) none ∙ append-nil bs) in
-    let items : is ≡ is ++ js = sym (ap (λ (w : List Item). is ++ w) k.1 ∙ append-nil is) in
-    let whole : Cuts new.failed (old.rest ++ bs) is new.rest = subst (λ (s : Stream). Cuts s.failed (old.rest ++ bs) is s.rest) (sym k.2) h.1 in
-    inr (h.0, subst (λ (w : List ℕ). Cuts new.failed (old.rest ++ w) (is ++ js) new.rest) bytes (subst (λ (xs : List Item). Cuts new.failed (old.rest ++ bs) xs new.rest) items whole))
-gives_more old mid new bs cs is js back (inr h) (inr k) =
-    let whole : Cuts false (old.rest ++ bs) is mid.rest = subst (λ (f : Bool). Cuts f (old.rest ++ bs) is mid.rest) k.0 h.1 in
-    inr (
-      h.0,
-      subst (λ (w : List ℕ). Cuts new.failed w (is ++ js) new.rest) (append_assoc old.rest bs cs)
-          (cuts_append new.failed (old.rest ++ bs) is mid.rest cs js new.rest whole.0 k.1),
-    )
 
 -- while the door waits, the reader hasn't met bytes that are no item
 pub still_reads : (d : Door) (old mid : Stream) (bs : List ℕ) (is : List Item) → Gives old bs is mid → fate d is ≡ waits → mid.failed ≡ true → old.failed ≡ true
@@ -92,10 +34,6 @@ abbrev pub IsFar : Door → Stream → Option (List ℕ) → Option (List ℕ) �
 IsFar d old source held now mid left holds = (bytes : List ℕ) × (items : List Item) × Consumes source left bytes × Gives old bytes items mid
     × Appends held holds (spelled (door_says d items)) × (fate d items ≡ waits) × (now ≡ door_past d items)
 
--- bytes that came, and their items
-abbrev pub Came : Option (List ℕ) → Option (List ℕ) → Stream → List Item → Stream → Type 0
-Came left less mid items new = (bytes : List ℕ) × Consumes left less bytes × Gives mid bytes items new
-
 pub seen_as : (left less : Option (List ℕ)) (mid new : Stream) (items seen : List Item) → seen ≡ items → Came left less mid items new → Came left less mid seen new
 seen_as left less mid new items seen is read = subst (λ (xs : List Item). Came left less mid xs new) (sym is) read
 
@@ -103,7 +41,7 @@ pub answered_as : (p q : Passing) (items : List Item) (f : Fate) → p ≡ q →
 answered_as p q items f is answered = subst (λ (x : Passing). fate_of x items ≡ f) is answered
 
 pub begins : (d : Door) (old : Stream) (source held : Option (List ℕ)) → IsFar d old source held d old source held
-begins d old source held = ([], [], consumes_none source, gives_nothing old, appends_none held, refl, refl)
+begins d old source held = ([], [], Consumes-nil source, gives_nothing old, appends_none held, refl, refl)
 
 -- the items so far and those that came
 read_on : (d : Door) (old : Stream) (source held : Option (List ℕ)) (now : Door) (mid new : Stream) (left less holds : Option (List ℕ)) (items : List Item)
@@ -133,7 +71,7 @@ pub goes : (d : Door) (old : Stream) (source held : Option (List ℕ)) (now next
 goes d old source held now next mid new left less holds more items far read wrote waiting stage = (
   far.0 ++ read.0,
   far.1 ++ items,
-  consumes_on source left less far.0 read.0 far.2 read.1,
+  Consumes-trans source left less far.0 read.0 far.2 read.1,
   read_on d old source held now mid new left less holds items far read,
   written_on d old source held now mid left holds more items far wrote,
   all_fated d old source held now mid left holds items far ∙ sym waiting,
@@ -166,9 +104,6 @@ greeted_by d old mid new source left held holds g bs ls is read gives written fa
   ended = over;
 }
 
-none_behind : (source left : Option (List ℕ)) (bs : List ℕ) → Consumes source left bs → Consumes source left (bs ++ [])
-none_behind source left bs read = subst (λ (w : List ℕ). Consumes source left w) (sym (append-nil bs)) read
-
 failed_only : (e f : ReadEnd) → (e ≡ f → ⊥) → greeted.Ended e ≡ greeted.Ended f → ⊥
 failed_only e f apart same = apart (let here : e ≡ f = cc in here)
 
@@ -190,7 +125,7 @@ door_unbroken = unbroken_by end.Door (λ e. absurd (let bad : end.Door ≡ end.W
 -- memory was refused before anything was read
 pub refused : (d : Door) (old : Stream) (source held : Option (List ℕ)) → Greets d old old source source held held (greeted.Ended end.Memory)
 refused d old source held =
-    greeted_by d old old old source source held held (greeted.Ended end.Memory) [] [] [] (consumes_none source) (gives_nothing old) (appends_none held) tt memory_unbroken
+    greeted_by d old old old source source held held (greeted.Ended end.Memory) [] [] [] (Consumes-nil source) (gives_nothing old) (appends_none held) tt memory_unbroken
     (λ isnt. absurd (isnt refl)) (λ same. absurd (failed_only end.Memory end.End (λ e. absurd (let bad : end.Memory ≡ end.End = e in cc)) same))
 
 -- all reads were made
@@ -201,28 +136,21 @@ tires d old source held now mid left holds far =
     (λ _. (refl, refl)) (λ same. absurd (failed_only end.ReadFailed end.End (λ e. absurd (let bad : end.ReadFailed ≡ end.End = e in cc)) same))
 
 -- a read gives no items
-at_end : (ended : Type 0) (room : ℕ) (f g : Bool) → (g ≡ true → f ≡ true) → 0 < room → (0 < room → ended) ⊎ (g ≡ true) → ended ⊎ (f ≡ true)
-at_end ended room f g back roomy (inl h) = inl (h roomy)
-at_end ended room f g back roomy (inr t) = inr (back t)
-
-no_items : (old new : Stream) (bs : List ℕ) (is : List Item) → Gives old bs (is ++ []) new → Gives old bs is new
-no_items old new bs is given = subst (λ (xs : List Item). Gives old bs xs new) (append-nil is) given
-
 pub stops : (d : Door) (old : Stream) (source held : Option (List ℕ)) (now : Door) (mid new : Stream) (left less holds : Option (List ℕ)) (e : ReadEnd) (room : ℕ) → 0 < room
     → IsFar d old source held now mid left holds → (bytes : List ℕ) × Consumes left less bytes × Stops e room mid bytes new less
     → Greets d old new source less held holds (greeted.Ended e)
 stops d old source held now mid new left less holds end.End room roomy far read =
     let bs = far.0 ++ read.0 in
-    greeted_by d old new new source less held holds (greeted.Ended end.End) bs [] far.1 (none_behind source less bs (consumes_on source left less far.0 read.0 far.2 read.1))
-    (no_items old new bs far.1 (read_on d old source held now mid new left less holds [] far (read.0, read.1, read.2.0))) far.4 far.5 end_unbroken
+    greeted_by d old new new source less held holds (greeted.Ended end.End) bs [] far.1 (none_behind source less bs (Consumes-trans source left less far.0 read.0 far.2 read.1))
+    (gives_the_same old new bs far.1 (read_on d old source held now mid new left less holds [] far (read.0, read.1, read.2.0))) far.4 far.5 end_unbroken
     (λ _. (refl, refl)) (λ _. at_end (IsAtEnd less) room old.failed mid.failed (still_reads d old mid far.0 far.1 far.3 far.5) roomy read.2.1)
 stops d old source held now mid new left less holds end.ReadFailed room roomy far read =
     let bs = far.0 ++ read.0 in
-    greeted_by d old new new source less held holds (greeted.Ended end.ReadFailed) bs [] far.1 (none_behind source less bs (consumes_on source left less far.0 read.0 far.2 read.1))
-    (no_items old new bs far.1 (read_on d old source held now mid new left less holds [] far (read.0, read.1, read.2))) far.4 far.5 read_unbroken
+    greeted_by d old new new source less held holds (greeted.Ended end.ReadFailed) bs [] far.1 (none_behind source less bs (Consumes-trans source left less far.0 read.0 far.2 read.1))
+    (gives_the_same old new bs far.1 (read_on d old source held now mid new left less holds [] far (read.0, read.1, read.2))) far.4 far.5 read_unbroken
     (λ _. (refl, refl)) (λ same. absurd (failed_only end.ReadFailed end.End (λ e. absurd (let bad : end.ReadFailed ≡ end.End = e in cc)) same))
 stops d old source held now mid new left less holds end.Memory room roomy far read =
-    greeted_by d old mid new source less held holds (greeted.Ended end.Memory) far.0 read.0 far.1 (consumes_on source left less far.0 read.0 far.2 read.1) far.3 far.4 tt memory_unbroken
+    greeted_by d old mid new source less held holds (greeted.Ended end.Memory) far.0 read.0 far.1 (Consumes-trans source left less far.0 read.0 far.2 read.1) far.3 far.4 tt memory_unbroken
     (λ isnt. absurd (isnt refl)) (λ same. absurd (failed_only end.Memory end.End (λ e. absurd (let bad : end.Memory ≡ end.End = e in cc)) same))
 stops d old source held now mid new left less holds end.Door room roomy far read = elim read.2 [ ]
 stops d old source held now mid new left less holds end.WriteFailed room roomy far read = elim read.2 [ ]
@@ -233,7 +161,7 @@ pub breaks : (d : Door) (old : Stream) (source held : Option (List ℕ)) (now : 
     → IsFar d old source held now mid left holds → Came left less mid items new → Breaks e holds more (spelled (door_says now items))
     → Greets d old new source less held more (greeted.Ended e)
 breaks d old source held now mid new left less holds more items end.Memory far read same =
-    greeted_by d old mid new source less held more (greeted.Ended end.Memory) far.0 read.0 far.1 (consumes_on source left less far.0 read.0 far.2 read.1) far.3
+    greeted_by d old mid new source less held more (greeted.Ended end.Memory) far.0 read.0 far.1 (Consumes-trans source left less far.0 read.0 far.2 read.1) far.3
     (subst (λ (o : Option (List ℕ)). Appends held o (spelled (door_says d far.1))) (sym same) far.4) tt memory_unbroken
     (λ isnt. absurd (isnt refl)) (λ same. absurd (failed_only end.Memory end.End (λ e. absurd (let bad : end.Memory ≡ end.End = e in cc)) same))
 breaks d old source held now mid new left less holds more items end.WriteFailed far read some =
@@ -245,7 +173,7 @@ breaks d old source held now mid new left less holds more items end.WriteFailed 
     = ap (λ (w : List ℕ). take (length xs + some.0) w) all ∙ take-append-add xs ys some.0 in record {
       bytes = bs;
       lost = [];
-      came = none_behind source less bs (consumes_on source left less far.0 read.0 far.2 read.1);
+      came = none_behind source less bs (Consumes-trans source left less far.0 read.0 far.2 read.1);
       items = far.1 ++ items;
       kept = new;
       given = read_on d old source held now mid new left less holds items far read;
@@ -269,7 +197,7 @@ comes : (d : Door) (old : Stream) (source held : Option (List ℕ)) (now : Door)
     → g ≢ greeted.Ended end.WriteFailed → g ≢ greeted.Ended end.End → Greets d old new source less held more g
 comes d old source held now mid new left less holds more items g far read wrote told unbroken goes_on =
     let bs = far.0 ++ read.0 in
-    greeted_by d old new new source less held more g bs [] (far.1 ++ items) (none_behind source less bs (consumes_on source left less far.0 read.0 far.2 read.1))
+    greeted_by d old new new source less held more g bs [] (far.1 ++ items) (none_behind source less bs (Consumes-trans source left less far.0 read.0 far.2 read.1))
     (read_on d old source held now mid new left less holds items far read) (written_on d old source held now mid left holds more items far wrote)
     (subst (λ (f : Fate). IsTold g f) (sym (all_fated d old source held now mid left holds items far)) told)
     unbroken (λ _. (refl, refl)) (λ same. absurd (goes_on same))

@@ -1,67 +1,71 @@
 -- What readers' seats count.
-use Rattle.std.proofs.Common.{◌≡◌, ◌∙◌, sym, ap, refl, ℕ, ◌+◌, ◌-◌, true, false, Result, Ok, Err, OnOk, OnErr, List, [], ◌∷◌, ◌++◌, length, arith}
+use Rattle.std.proofs.Common.{◌≡◌, ◌∙◌, sym, ap, refl, ℕ, ◌+◌, ◌-◌, ◌≤◌, true, false, Result, Ok, Err, OnOk, OnErr, List, [], ◌∷◌, ◌++◌, Option, length, arith}
 use Rattle.std.proofs.lemmas.List.{length-append, length-drop}
+use Rattle.std.specs.Iterator.{Yields}
+use Rattle.std.specs.Vec.Iter.{into_iter_items, into_iter_steps}
+use Rattle.std.specs.declared.vec.IntoIter.{IntoIter}
 use Rattle.amqp_frames.specs.declared.item.Item.{Item}
+use Rattle.amqp_frames.specs.Cuts.{Stream}
 use Rattle.router_core.specs.declared.counts.Counts.{Counts}
 use Rattle.router_serve.specs.declared.end.ReadEnd.{ReadEnd}
+use Rattle.router_serve.specs.declared.end.ReadEnd.TheVariants as end
 use Rattle.router_shared.specs.Adding.{Handled, with_items}
-use Rattle.router_serve.specs.Submitting.{CountsGone, with_downs, needs_down, Submitted}
+use Rattle.router_serve.specs.Submitting.{CountsGone, CountsSome, HandsIn, Hinders, IsCore, with_downs, needs_down, Submitted}
 
 -- items, then more of them
-abbrev pub HasItems : Counts → Counts → Type 0
-HasItems old new = (k : ℕ) × (new ≡ with_items k old)
+pub items_added : (n : Counts) (j k : ℕ) → with_items k (with_items j n) ≡ with_items (j + k) n
+items_added n j k = ap (λ (i : ℕ). record n { items = i }) (let same : (n.items + j) + k ≡ n.items + (j + k) = omega arith in same)
 
-pub items_joined : (a b c : Counts) → HasItems a b → HasItems b c → HasItems a c
-items_joined a b c first more = (
-  first.0 + more.0,
-  more.1 ∙ (ap (with_items more.0) first.1 ∙ ap (λ (i : ℕ). record a { items = i }) (let same : (a.items + first.0) + more.0 ≡ a.items + (first.0 + more.0) = omega arith in same)),
-)
+no_items : (n : Counts) → n ≡ with_items 0 n
+no_items n = ap (λ (i : ℕ). record n { items = i }) (let same : n.items ≡ n.items + 0 = omega arith in same)
 
-pub no_items : (n : Counts) → HasItems n n
-no_items n = (0, ap (λ (i : ℕ). record n { items = i }) (let same : n.items ≡ n.items + 0 = omega arith in same))
+pub none_counted : (n : Counts) (most : ℕ) → CountsSome n n most
+none_counted n most = record { items = 0; within = omega arith; counted = no_items n }
 
 -- a loss that is reported, or refused
 no_downs : (n : Counts) → n ≡ with_downs 0 n
 no_downs n = ap (λ (i : ℕ). record n { downs = i }) (let same : n.downs ≡ n.downs + 0 = omega arith in same)
 
-pub told : {T E : Type 0} (r : Result T E) (old mid new : Counts) (e : ReadEnd) → HasItems old mid → needs_down e ≡ true
-    → OnOk r (new ≡ with_downs 1 mid) → OnErr r (new ≡ mid) → Submitted old new e
-told (Ok x) old mid new e items needs counted uncounted = record {
-  items = items.0;
+pub told : {T E : Type 0} (r : Result T E) (old mid new : Counts) (over : List Item) (before behind : Stream) (source left : Option (List ℕ)) (e : ReadEnd)
+    → HandsIn old mid over before behind source left e → needs_down e ≡ true → OnOk r (new ≡ with_downs 1 mid) → OnErr r (new ≡ mid) → Submitted old new over before behind source left e
+told (Ok x) old mid new over before behind source left e items needs counted uncounted = record {
+  counts = mid;
+  items = items;
   downs = 1;
   once = omega arith;
   not_again = λ isnt. absurd (let bad : true ≡ false = sym needs ∙ isnt in cc);
-  counted = counted ∙ ap (with_downs 1) items.1;
+  counted = counted;
 }
-told (Err x) old mid new e items needs counted uncounted = record {
-  items = items.0;
+told (Err x) old mid new over before behind source left e items needs counted uncounted = record {
+  counts = mid;
+  items = items;
   downs = 0;
   once = omega arith;
   not_again = λ isnt. refl;
-  counted = uncounted ∙ (items.1 ∙ no_downs (with_items items.0 old));
+  counted = uncounted ∙ no_downs mid;
 }
 
-pub untold : (old new : Counts) (e : ReadEnd) → HasItems old new → Submitted old new e
-untold old new e items = record {
-  items = items.0;
+pub untold : (old new : Counts) (over : List Item) (before behind : Stream) (source left : Option (List ℕ)) (e : ReadEnd)
+    → HandsIn old new over before behind source left e → Submitted old new over before behind source left e
+untold old new over before behind source left e items = record {
+  counts = new;
+  items = items;
   downs = 0;
   once = omega arith;
   not_again = λ isnt. refl;
-  counted = items.1 ∙ no_downs (with_items items.0 old);
+  counted = no_downs new;
 }
 
 -- items left a queue, then more of them
 pub gone_joined : (a b c : Counts) (xs ys zs : List Item) → CountsGone a b xs ys → CountsGone b c ys zs → CountsGone a c xs zs
-unfolding items_joined
 gone_joined a b c xs ys zs first more = record {
   items = first.items + more.items;
   gone = omega (arith, first.gone, more.gone);
-  counted = (items_joined a b c (first.items, first.counted) (more.items, more.counted)).1;
+  counted = more.counted ∙ (ap (with_items more.items) first.counted ∙ items_added a first.items more.items);
 }
 
 pub none_gone : (n : Counts) (xs : List Item) → CountsGone n n xs xs
-unfolding no_items
-none_gone n xs = record { items = 0; gone = omega arith; counted = (no_items n).1 }
+none_gone n xs = record { items = 0; gone = omega arith; counted = no_items n }
 
 -- those that were handed in have left it
 pub handed_gone : (old new : Counts) (before behind : List Item) → Handled 0 old new before behind → CountsGone old new before behind
@@ -70,6 +74,29 @@ handed_gone old new before behind h = record {
   gone = let left : length behind ≡ length before - (h.items + 0) = ap length h.left ∙ length-drop (h.items + 0) before in omega (arith, h.there, left);
   counted = h.counted;
 }
+
+-- one of them was refused
+pub refused_some : (old new : Counts) (before behind : List Item) → Handled 1 old new before behind → CountsSome old new (length before)
+refused_some old new before behind h = record { items = h.items; within = omega (arith, h.there); counted = h.counted }
+
+-- items left a queue, and of those behind them some are counted
+pub some_behind : (a b c : Counts) (xs ys : List Item) (n : ℕ) → length xs ≤ n → CountsGone a b xs ys → CountsSome b c (length ys) → CountsSome a c n
+some_behind a b c xs ys n most first more = record {
+  items = first.items + more.items;
+  within = omega (arith, first.gone, more.within, most);
+  counted = more.counted ∙ (ap (with_items more.items) first.counted ∙ items_added a first.items more.items);
+}
+
+pub some_gone : (a b : Counts) (xs ys : List Item) (n : ℕ) → length xs ≤ n → CountsGone a b xs ys → CountsSome a b n
+some_gone a b xs ys n most first = record { items = first.items; within = omega (arith, first.gone, most); counted = first.counted }
+
+-- what the iterator of a vector has given is a front of its items
+taken_front : {X A : Type 0} (s : IntoIter X A) (xs : List X) (t : IntoIter X A) → Yields into_iter_steps s xs t → into_iter_items s ≡ xs ++ into_iter_items t
+taken_front s [] t y = ap into_iter_items y
+taken_front s (x ∷ xs) t y = y.1.0 ∙ ap (λ ys. x ∷ ys) (taken_front y.0 xs t y.2)
+
+pub no_longer : {X A : Type 0} (s : IntoIter X A) (xs ys : List X) (t : IntoIter X A) → into_iter_items s ≡ ys → Yields into_iter_steps s xs t → length xs ≤ length ys
+no_longer s xs ys t all y = omega (arith, ap length (sym all ∙ taken_front s xs t y), length-append xs (into_iter_items t))
 
 -- one came to it
 pub one_came : (old new : Counts) (came passed : List Item) (item : Item) → CountsGone old new came passed → CountsGone old new (came ++ item ∷ []) (passed ++ item ∷ [])
@@ -83,3 +110,12 @@ one_came old new came passed item so_far = record {
 pub all_gone : (old new : Counts) (before behind : List Item) → CountsGone old new before behind → behind ≡ [] → new ≡ with_items (length before) old
 all_gone old new before behind all none = all.counted
     ∙ ap (λ k. with_items k old) (let empty : length behind ≡ 0 = ap length none in let same : all.items ≡ length before = omega (arith, all.gone, empty) in same)
+
+-- a fault of the router is why the others aren't submitted
+pub core_hinders : (e : ReadEnd) (old new : Counts) (items : List Item) → IsCore e → CountsSome old new (length items) → Hinders e old new items
+core_hinders (end.Core fault) old new items is some = some
+core_hinders end.End old new items is some = elim is [ ]
+core_hinders end.ReadFailed old new items is some = elim is [ ]
+core_hinders end.Memory old new items is some = elim is [ ]
+core_hinders end.Door old new items is some = elim is [ ]
+core_hinders end.WriteFailed old new items is some = elim is [ ]

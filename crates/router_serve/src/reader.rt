@@ -1,9 +1,9 @@
 //! The thread that reads what a peer sends and submits it to the router.
-ghost use Rattle.std.specs.Prelude.{◌≡◌, ℕ, List, [], length, OnOk, IfOk, IfErr};
+ghost use Rattle.std.specs.Prelude.{◌≡◌, ℕ, List, [], false, length, OnOk, OnErr, IfOk, IfErr};
 ghost use Rattle.std.specs.Io.KnownBytes.{Consumes};
 ghost use Rattle.router_serve.specs.Greeting.{Gives, Stops};
 ghost use Rattle.router_shared.specs.Adding.{with_items};
-ghost use Rattle.router_serve.specs.Submitting.{CountsGone, needs_down, Submitted};
+ghost use Rattle.router_serve.specs.Submitting.{CountsGone, CountsSome, ends_badly, HandsIn, Hinders, IsCore, needs_down, Submitted};
 
 use crate::end::ReadEnd;
 use crate::gate::{Gate, Side};
@@ -21,7 +21,7 @@ pub const PIECE: usize = 65_536;
 
 /// Submits what a peer sends: the items left over from the door, then those of the input, and at the end one loss of the
 /// connection, unless the router answered `Failed` or `NoConnection`. It returns the seat, the receipts if any, and
-/// why it ended.
+/// why it ended. Each item that came is submitted and counted, in order, unless memory is refused or the router answers a fault.
 pub fn serve_reader<D: Disk, L: Log, G: Ledgers, R: Wait, I: Read, P: Gate>(
     rt: &R,
     alloc: Global,
@@ -33,7 +33,7 @@ pub fn serve_reader<D: Disk, L: Log, G: Ledgers, R: Wait, I: Read, P: Gate>(
     input: &mut I,
     gate: &P,
 ) -> (Seat<G>, Vec<Receipt>, ReadEnd)
-    ensures { Submitted seat result.0 result.2 }
+    ensures { Submitted seat result.0 left.items frames.old frames.new (I.remaining input.old) (I.remaining input.new) result.2 }
 {
     let mut seat = seat;
     let end = hand_in_all(
@@ -67,21 +67,24 @@ fn hand_in_all<D: Disk, L: Log, G: Ledgers, R: Wait, I: Read, P: Gate>(
     input: &mut I,
     gate: &P,
 ) -> ReadEnd
-    ensures { (k : ℕ) × (seat.new ≡ with_items k seat.old) }
+    ensures { HandsIn seat.old seat.new left.items frames.old frames.new (I.remaining input.old) (I.remaining input.new) result }
 {
     let Ok(mut piece) = vec![in alloc; 0u8; PIECE] else {
+        drop(left);
         return ReadEnd::Memory;
     };
     let mut number = 0u64;
-    let mut items = left;
+    if let Err(end) = hand_in(rt, alloc, shared, seat, conn, left, &mut number, gate) {
+        return end;
+    }
     for _turn in 0..u64::MAX {
+        let items = match read_items(alloc, frames, input, piece.as_mut_slice()) {
+            Ok(items) => items,
+            Err(end) => return end,
+        };
         if let Err(end) = hand_in(rt, alloc, shared, seat, conn, items, &mut number, gate) {
             return end;
         }
-        items = match read_items(alloc, frames, input, piece.as_mut_slice()) {
-            Ok(more) => more,
-            Err(end) => return end,
-        };
     }
     ReadEnd::ReadFailed
 }
@@ -101,13 +104,17 @@ fn hand_in<D: Disk, L: Log, G: Ledgers, R: Wait, P: Gate>(
     number: &mut u64,
     gate: &P,
 ) -> Result<(), ReadEnd>
-    ensures some { (k : ℕ) × (seat.new ≡ with_items k seat.old) }
     ensures all { OnOk result (seat.new ≡ with_items (length items.items) seat.old) }
+    ensures goes_on { OnOk result (ends_badly items.items ≡ false) }
+    ensures err { IfErr result (λ e. Hinders e seat.old seat.new items.items) }
 {
-    let last = ends_in_bad(items.as_slice());
+    let last = ends_badly(items.as_slice());
     let mut passed = VecDeque::new(alloc);
     for item in items {
-        make_way(rt, shared, seat, conn, &mut passed, gate)?;
+        if let Err(end) = make_way(rt, shared, seat, conn, &mut passed, gate) {
+            drop(item);
+            return Err(end);
+        }
         gate.pass(rt, conn, Side::Reader, *number);
         gate.see(rt, conn, Side::Reader, &item);
         *number = number.saturating_add(1);
@@ -116,7 +123,9 @@ fn hand_in<D: Disk, L: Log, G: Ledgers, R: Wait, P: Gate>(
             return Err(ReadEnd::Memory);
         }
     }
-    submit_all(rt, shared, seat, conn, &mut passed)?;
+    if let Err(end) = submit_all(rt, shared, seat, conn, &mut passed) {
+        return Err(end);
+    }
     if last { Err(ReadEnd::End) } else { Ok(()) }
 }
 
@@ -133,8 +142,9 @@ fn make_way<D: Disk, L: Log, G: Ledgers, R: Wait, P: Gate>(
     passed: &mut VecDeque<Item>,
     gate: &P,
 ) -> Result<(), ReadEnd>
-    ensures some { (k : ℕ) × (seat.new ≡ with_items k seat.old) }
     ensures all { OnOk result (CountsGone seat.old seat.new passed.old.items passed.new.items) }
+    ensures some { OnErr result (CountsSome seat.old seat.new (length passed.old.items)) }
+    ensures core { IfErr result IsCore }
 {
     if gate.holds(Side::Reader) {
         return submit_all(rt, shared, seat, conn, passed);
@@ -154,9 +164,10 @@ fn submit_all<D: Disk, L: Log, G: Ledgers, R: Wait>(
     conn: ConnectionId,
     items: &mut VecDeque<Item>,
 ) -> Result<(), ReadEnd>
-    ensures some { (k : ℕ) × (seat.new ≡ with_items k seat.old) }
     ensures none_left { OnOk result (items.new.items ≡ []) }
     ensures all { OnOk result (CountsGone seat.old seat.new items.old.items items.new.items) }
+    ensures some { OnErr result (CountsSome seat.old seat.new (length items.old.items)) }
+    ensures core { IfErr result IsCore }
 {
     while !items.is_empty() {
         match shared.submit_items(rt, seat, conn, items) {
@@ -168,7 +179,9 @@ fn submit_all<D: Disk, L: Log, G: Ledgers, R: Wait>(
 }
 
 /// Whether the last of these items is the last of their stream.
-fn ends_in_bad(items: &[Item]) -> bool {
+fn ends_badly(items: &[Item]) -> bool
+    ensures { result ≡ ends_badly items.now }
+{
     match items.last() {
         Some(Item::Bad(_)) => true,
         _ => false,

@@ -1,4 +1,5 @@
-use Rattle.router_serve.proofs.Submits.{gone_joined, handed_gone, items_joined, none_gone}
+use Rattle.router_serve.proofs.Submits.{gone_joined, handed_gone, none_gone, refused_some, some_behind}
+use Rattle.std.proofs.Common.{arith}
 use Rattle.router_serve.proofs.reader.submit_all.Goals as goal
 
 pub loop-conn-init : goal.loop-conn-init
@@ -10,4 +11,4 @@ loop-conn-preserved g c =
 
 pub returns-in-Err-clause-some : goal.returns-in-Err-clause-some
 returns-in-Err-clause-some g c =
-    items_joined _ _ _ (c.loop-conn.invariant.items, c.loop-conn.invariant.counted) (c.in-Err.ensures.refused.items, c.in-Err.ensures.refused.counted)
+    some_behind _ _ _ _ _ _ (omega arith) c.loop-conn.invariant (refused_some _ _ _ _ c.in-Err.ensures.refused)
