@@ -9,7 +9,7 @@ ghost use Rattle.router_shared.specs.History.{HasHistory, IsOpened};
 
 use disk_core::Disk;
 use router_core::{ConnectionId, Core, CoreFault, Event, Peer};
-use router_shared::{Blanks, Closed, Names, NoLog, SEATS, Seat, Shared};
+use router_shared::{Blanks, Closed, Ledgers, Names, NoLog, SEATS, Seat, Shared};
 use std::alloc::{AllocError, Global};
 use std::marker::Brand;
 use std::sync::ledger::Blank;
@@ -18,7 +18,10 @@ use std::sync::{Mutex, Wait};
 /// The router under its lock, the seats that no thread uses, and the number of the newest connection: what the threads of a program
 /// share, whatever their connections are made of.
 #[derive(Drop)]
-pub struct Desk<D: Disk, N: Names> {
+pub struct Desk<D: Disk, N: Names>
+where
+    N: Ledgers,
+{
     /// For everything that grows.
     pub alloc: Global,
     /// The router.
