@@ -4,7 +4,7 @@ use crate::streams::Streams;
 use amqr_files::JournalDisk;
 use route_table::Config;
 use router_core::CoreFault;
-use router_serve::{Desk, Names};
+use router_serve::{Desk, Ledgers, Names};
 use std::sync::{Condvar, Mutex, Wait};
 
 /// The most connections that have threads at once.
@@ -36,7 +36,10 @@ pub enum Taken {
 
 /// All that the threads share.
 #[derive(Drop)]
-pub struct Hub<'a, N: Names> {
+pub struct Hub<'a, N: Names>
+where
+    N: Ledgers,
+{
     /// The router, its seats and the numbers of its connections.
     pub desk: &'a Desk<JournalDisk, N>,
     /// The configuration.
