@@ -16,7 +16,7 @@ use std::time::{Clock, Duration};
 /// Serves a connection until it ends.
 pub fn connection<N: Names, R: Threads + Wait + Clock + Eprint + Sync>(
     rt: &R,
-    hub: &Hub<'_, N>,
+    hub: &Hub<N>,
     listener: &Listener,
     peer: SocketAddr,
     stream: &TcpStream,
@@ -24,7 +24,7 @@ pub fn connection<N: Names, R: Threads + Wait + Clock + Eprint + Sync>(
     let _ = stream.set_nodelay(true);
     let _ = stream.set_write_timeout(Some(Duration::from_millis(PATIENCE)));
     let mut frames = FrameReader::new(hub.desk.alloc);
-    let Ok(door) = Door::new(hub.desk.alloc, hub.config, listener) else {
+    let Ok(door) = Door::new(hub.desk.alloc, &hub.config, listener) else {
         drop(frames);
         return;
     };
@@ -50,7 +50,7 @@ fn at_door(alloc: Global, stream: &TcpStream, frames: &mut FrameReader, door: Do
 /// Reports that a connection ended at its door, and gives the peer time to read why.
 fn refused<N: Names, R: Wait + Clock + Eprint>(
     rt: &R,
-    hub: &Hub<'_, N>,
+    hub: &Hub<N>,
     stream: &TcpStream,
     peer: SocketAddr,
     end: ReadEnd,
@@ -69,7 +69,7 @@ fn refused<N: Names, R: Wait + Clock + Eprint>(
 /// Serves a connection after its door.
 fn enter<N: Names, R: Threads + Wait + Clock + Eprint + Sync>(
     rt: &R,
-    hub: &Hub<'_, N>,
+    hub: &Hub<N>,
     stream: &TcpStream,
     peer: SocketAddr,
     who: Peer,
@@ -96,7 +96,7 @@ fn enter<N: Names, R: Threads + Wait + Clock + Eprint + Sync>(
 /// Brings a connection up, and serves it.
 fn come_up<N: Names, R: Threads + Wait + Clock + Eprint + Sync>(
     rt: &R,
-    hub: &Hub<'_, N>,
+    hub: &Hub<N>,
     stream: &TcpStream,
     who: Peer,
     items: Vec<Item>,
@@ -124,7 +124,7 @@ fn come_up<N: Names, R: Threads + Wait + Clock + Eprint + Sync>(
 /// Reads in this thread and writes in another, until both have ended.
 fn both<N: Names, R: Threads + Wait + Clock + Eprint + Sync>(
     rt: &R,
-    hub: &Hub<'_, N>,
+    hub: &Hub<N>,
     stream: &TcpStream,
     conn: ConnectionId,
     seat: Seat<N>,
@@ -167,7 +167,7 @@ fn both<N: Names, R: Threads + Wait + Clock + Eprint + Sync>(
 /// Writes the router's output, then waits for the peer's end.
 fn output<N: Names, R: Wait + Clock + Eprint>(
     rt: &R,
-    hub: &Hub<'_, N>,
+    hub: &Hub<N>,
     stream: &TcpStream,
     conn: ConnectionId,
     watch: &Watch<'_, R>,
@@ -204,7 +204,7 @@ fn output<N: Names, R: Wait + Clock + Eprint>(
 /// Takes what is still waiting for a connection that is over.
 fn drained<N: Names, R: Wait + Eprint>(
     rt: &R,
-    hub: &Hub<'_, N>,
+    hub: &Hub<N>,
     conn: ConnectionId,
     seat: Seat<N>,
 ) -> Seat<N> {
@@ -228,7 +228,7 @@ fn drained<N: Names, R: Wait + Eprint>(
 /// Reports why a connection ended.
 fn tell_end<N: Names, R: Wait + Eprint>(
     rt: &R,
-    hub: &Hub<'_, N>,
+    hub: &Hub<N>,
     conn: ConnectionId,
     end: ReadEnd,
     written: Option<WriteEnd>,

@@ -1,10 +1,13 @@
 //! What the threads of a serving program share.
+ghost use Rattle.std.specs.Prelude.{◌≡◌};
+
 use crate::lines::Lines;
 use crate::streams::Streams;
 use amqr_files::JournalDisk;
 use route_table::Config;
 use router_core::CoreFault;
-use router_serve::{Desk, Ledgers, Names};
+use router_serve::{Desk, Ledgers};
+use std::alloc::Global;
 use std::sync::{Condvar, Mutex, Wait};
 
 /// The most connections that have threads at once.
@@ -34,16 +37,13 @@ pub enum Taken {
     Over,
 }
 
-/// All that the threads share.
+/// The router, its seats, and everything else that the threads share.
 #[derive(Drop)]
-pub struct Hub<'a, N: Names>
-where
-    N: Ledgers,
-{
+pub struct Hub<G: Ledgers> {
     /// The router, its seats and the numbers of its connections.
-    pub desk: &'a Desk<JournalDisk, N>,
+    pub desk: Desk<JournalDisk, G>,
     /// The configuration.
-    pub config: &'a Config,
+    pub config: Config,
     /// The lines on standard error.
     pub lines: Lines,
     /// The count of the connections.
@@ -54,14 +54,15 @@ where
     pub streams: Mutex<Streams>,
 }
 
-impl<'a, N: Names> Hub<'a, N> {
+impl<G: Ledgers> Hub<G> {
     /// What the threads share, before there are any: up to so many connections are accepted, or any number, and the lines are quiet or not.
     pub fn new(
-        desk: &'a Desk<JournalDisk, N>,
-        config: &'a Config,
+        desk: Desk<JournalDisk, G>,
+        config: Config,
         connections: Option<u64>,
         quiet: bool,
-    ) -> Hub<'a, N> {
+    ) -> Hub<G> {
+        let alloc = desk.alloc;
         Hub {
             desk,
             config,
@@ -72,7 +73,7 @@ impl<'a, N: Names> Hub<'a, N> {
                 over: false,
             }),
             over: Condvar::new(),
-            streams: Mutex::new(Streams::new(desk.alloc)),
+            streams: Mutex::new(Streams::new(alloc)),
         }
     }
 
@@ -144,5 +145,28 @@ impl<'a, N: Names> Hub<'a, N> {
         if first {
             self.lines.say(rt, "the router failed: all connections end");
         }
+    }
+
+    /// The seats that no thread uses come back, and all else is let go. It tells whether the router failed.
+    pub fn close(self) -> bool
+        requires cut { (G.Ups.seats ≡ G.Ups.parts) × (G.Items.seats ≡ G.Items.parts) × (G.Downs.seats ≡ G.Downs.parts) × (G.Ticks.seats ≡ G.Ticks.parts) × (G.Starts.seats ≡ G.Starts.parts) × (G.Batches.seats ≡ G.Batches.parts) }
+    {
+        let Hub {
+            desk,
+            config,
+            lines,
+            taking,
+            over,
+            streams,
+        } = self;
+        drop(config);
+        drop(lines);
+        drop(taking);
+        drop(over);
+        drop(streams);
+        let closed = desk.close();
+        let failed = closed.core.is_failed();
+        drop(closed);
+        failed
     }
 }

@@ -24,7 +24,7 @@ const TRIES: u64 = 500;
 pub fn listen<
     N: Names,
     R: Net<Listener = TcpListener, Stream = TcpStream> + Threads + Wait + Sync + Clock + Eprint,
->(rt: &R, hub: &Hub<'_, N>, listeners: &[Listener], sockets: &[TcpListener]) {
+>(rt: &R, hub: &Hub<N>, listeners: &[Listener], sockets: &[TcpListener]) {
     let done = Mutex::new(false);
     let rung = Condvar::new();
     let done = &done;
@@ -51,7 +51,7 @@ pub fn listen<
 /// Accepts the connections of one listener.
 fn accept_all<N: Names, R: Threads + Wait + Sync + Clock + Eprint>(
     rt: &R,
-    hub: &Hub<'_, N>,
+    hub: &Hub<N>,
     listener: &Listener,
     socket: &TcpListener,
 ) {
@@ -83,7 +83,7 @@ fn accept_all<N: Names, R: Threads + Wait + Sync + Clock + Eprint>(
 }
 
 /// Whether a connection that was accepted gets threads.
-fn is_served<N: Names, R: Wait + Eprint>(rt: &R, hub: &Hub<'_, N>) -> bool {
+fn is_served<N: Names, R: Wait + Eprint>(rt: &R, hub: &Hub<N>) -> bool {
     match hub.take(rt) {
         Taken::Over => false,
         Taken::TooMany => {
@@ -95,7 +95,7 @@ fn is_served<N: Names, R: Wait + Eprint>(rt: &R, hub: &Hub<'_, N>) -> bool {
 }
 
 /// A connection that was to get threads gets none.
-fn no_thread<N: Names, R: Wait + Eprint>(rt: &R, hub: &Hub<'_, N>) {
+fn no_thread<N: Names, R: Wait + Eprint>(rt: &R, hub: &Hub<N>) {
     hub.leave(rt);
     hub.lines
         .say(rt, "a connection is closed: no thread can be made");
@@ -104,7 +104,7 @@ fn no_thread<N: Names, R: Wait + Eprint>(rt: &R, hub: &Hub<'_, N>) {
 /// No connection could be accepted: it is reported once, until one is accepted, and the listener pauses.
 fn not_accepted<N: Names, R: Wait + Clock + Eprint>(
     rt: &R,
-    hub: &Hub<'_, N>,
+    hub: &Hub<N>,
     error: Error,
     reported: bool,
 ) {
@@ -120,7 +120,7 @@ fn not_accepted<N: Names, R: Wait + Clock + Eprint>(
 /// Serves one connection.
 fn run_one<N: Names, R: Threads + Wait + Sync + Clock + Eprint>(
     rt: &R,
-    hub: &Hub<'_, N>,
+    hub: &Hub<N>,
     listener: &Listener,
     stream: TcpStream,
 ) {
@@ -167,7 +167,7 @@ fn wake_one<R: Net<Listener = TcpListener, Stream = TcpStream> + Clock>(rt: &R, 
 /// Gives the router the time every half second, until it is done; where the router failed, serving ends.
 fn tick<N: Names, R: Wait + Clock + Eprint>(
     rt: &R,
-    hub: &Hub<'_, N>,
+    hub: &Hub<N>,
     done: &Mutex<bool>,
     rung: &Condvar,
 ) {
@@ -181,7 +181,7 @@ fn tick<N: Names, R: Wait + Clock + Eprint>(
 /// Submits a tick every half second, until serving is done.
 fn tell_time<N: Names, R: Wait + Clock + Eprint>(
     rt: &R,
-    hub: &Hub<'_, N>,
+    hub: &Hub<N>,
     seat: &mut Seat<N>,
     done: &Mutex<bool>,
     rung: &Condvar,

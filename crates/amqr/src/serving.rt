@@ -1,5 +1,5 @@
 //! The command that serves clients.
-ghost use Rattle.std.specs.Prelude.{◌≡◌};
+ghost use Rattle.std.specs.Prelude.{◌≡◌, ◌^◌};
 ghost use Rattle.router_core.specs.Handling.{counts_of};
 ghost use Rattle.router_core.specs.Counting.{uncounted};
 ghost use Rattle.router_shared.specs.History.{IsOpened};
@@ -11,13 +11,15 @@ use amqr_commands::{Refusal, Serving, Status, config_at, refuse};
 use amqr_files::JournalDisk;
 use route_table::{Config, Listener, Role};
 use router_core::Core;
-use router_serve::{Closed, Desk, Names, NoLog, Server, serve_with};
+use router_serve::{Blanks, Desk, Names, NoLog, SEATS, Shared};
 use std::alloc::{AllocError, Global};
 use std::fs::File;
 use std::io::{self, Write};
+use std::marker::Brand;
 use std::net::{Net, TcpListener, TcpStream};
 use std::rt::Files;
 use std::sync::Wait;
+use std::sync::ledger::Blank;
 use std::thread::Threads;
 use std::time::Clock;
 
@@ -80,70 +82,21 @@ fn serve_over<
         drop(config);
         return refuse(output, Refusal::Memory);
     };
-    let listeners = listeners_of(&config, &own);
-    match bind(rt, alloc, listeners, output) {
-        Ok(Bound::All(sockets)) => {
-            let clients = Clients {
-                rt,
-                config: &config,
-                listeners,
-                sockets: &sockets,
-                serving,
-            };
-            end(serve_with(alloc, core, &clients), output)
-        }
+    match bind(rt, alloc, listeners_of(&config, &own), output) {
+        Ok(Bound::All(sockets)) => match start(rt, alloc, config, core, &own, &sockets, serving) {
+            Ok(status) => Ok(status),
+            Err(_) => refuse(output, Refusal::Memory),
+        },
         Ok(Bound::Ended(status)) => {
             drop(core);
+            drop(config);
             Ok(status)
         }
         Err(error) => {
             drop(core);
+            drop(config);
             Err(error)
         }
-    }
-}
-
-/// What the program ends with, once nothing is served any more.
-fn end<O: Write>(
-    served: Result<Closed<JournalDisk, NoLog>, AllocError>,
-    output: &mut O,
-) -> io::Result<Status> {
-    let Ok(closed) = served else {
-        return refuse(output, Refusal::Memory);
-    };
-    let failed = closed.core.is_failed();
-    drop(closed);
-    Ok(if failed { Status::Failed } else { Status::Done })
-}
-
-/// The clients of a configuration's listeners.
-#[derive(Drop)]
-struct Clients<'a, R> {
-    rt: &'a R,
-    config: &'a Config,
-    listeners: &'a [Listener],
-    /// One for each listener.
-    sockets: &'a [TcpListener],
-    serving: Serving<'a>,
-}
-
-impl<
-    'a,
-    R: Net<Listener = TcpListener, Stream = TcpStream> + Threads + Wait + Sync + Clock + Eprint,
-> Server<JournalDisk> for Clients<'a, R> {
-    fn serve<N: Names>(&self, desk: &Desk<JournalDisk, N>) {
-        let hub = Hub::new(
-            desk,
-            self.config,
-            self.serving.connections,
-            self.serving.quiet,
-        );
-        if self.serving.journal.is_none() {
-            hub.lines.say(self.rt, IN_MEMORY);
-        }
-        hub.start(self.rt);
-        listen(self.rt, &hub, self.listeners, self.sockets);
-        drop(hub);
     }
 }
 
@@ -200,4 +153,78 @@ fn bind_all<R: Net<Listener = TcpListener, Stream = TcpStream>>(
         }
     }
     Ok(sockets)
+}
+
+/// Serves with a router, with ledgers that are made for it.
+fn start<
+    R: Net<Listener = TcpListener, Stream = TcpStream> + Threads + Wait + Sync + Clock + Eprint,
+>(
+    rt: &R,
+    alloc: Global,
+    config: Config,
+    core: Core<JournalDisk>,
+    own: &[Listener],
+    sockets: &[TcpListener],
+    serving: Serving<'_>,
+) -> Result<Status, AllocError>
+    requires opened { IsOpened core }
+    requires counts { counts_of core ≡ uncounted }
+{
+    let blanks = Blanks {
+        ups: Blank::new(SEATS),
+        items: Blank::new(SEATS),
+        downs: Blank::new(SEATS),
+        ticks: Blank::new(SEATS),
+        starts: Blank::new(SEATS),
+        batches: Blank::new(SEATS),
+    };
+    counted::<Brand, R>(rt, alloc, config, own, sockets, serving, core, blanks)
+}
+
+/// Serves, and joins the threads' counts with what the router did.
+fn counted<
+    N: Names,
+    R: Net<Listener = TcpListener, Stream = TcpStream> + Threads + Wait + Sync + Clock + Eprint,
+>(
+    rt: &R,
+    alloc: Global,
+    config: Config,
+    own: &[Listener],
+    sockets: &[TcpListener],
+    serving: Serving<'_>,
+    core: Core<JournalDisk>,
+    blanks: Blanks,
+) -> Result<Status, AllocError>
+    requires opened { IsOpened core }
+    requires counts { counts_of core ≡ uncounted }
+    requires ups { (blanks.ups.name ≡ N.ups) × (blanks.ups.parts ≡ N.seats) }
+    requires items { (blanks.items.name ≡ N.items) × (blanks.items.parts ≡ N.seats) }
+    requires downs { (blanks.downs.name ≡ N.downs) × (blanks.downs.parts ≡ N.seats) }
+    requires ticks { (blanks.ticks.name ≡ N.ticks) × (blanks.ticks.parts ≡ N.seats) }
+    requires starts { (blanks.starts.name ≡ N.starts) × (blanks.starts.parts ≡ N.seats) }
+    requires batches { (blanks.batches.name ≡ N.batches) × (blanks.batches.parts ≡ N.seats) }
+    requires seats { N.seats ≡ 4611686018427387904 }
+{
+    let made: Result<Shared<JournalDisk, NoLog, N>, AllocError> = Shared::new(
+        alloc,
+        core,
+        NoLog {},
+        blanks,
+        SEATS,
+    );
+    let Ok(shared) = made else {
+        drop(config);
+        return Err(AllocError);
+    };
+    let desk = Desk::new(alloc, shared);
+    let hub = Hub::new(desk, config, serving.connections, serving.quiet);
+    if serving.journal.is_none() {
+        hub.lines.say(rt, IN_MEMORY);
+    }
+    hub.start(rt);
+    listen(rt, &hub, listeners_of(&hub.config, own), sockets);
+    if hub.close() {
+        return Ok(Status::Failed);
+    }
+    Ok(Status::Done)
 }

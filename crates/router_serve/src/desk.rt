@@ -1,38 +1,33 @@
 //! Where the threads of a program get their seats, and connections their numbers.
-ghost use Rattle.std.specs.Prelude.{◌≡◌, ◌^◌, true, OnErr, IfOk};
+ghost use Rattle.std.specs.Prelude.{◌≡◌, true, OnErr, IfOk};
 ghost use Rattle.gate_journal.specs.Journal.{batch_count};
 ghost use Rattle.router_store.specs.Store.{journal_of};
 ghost use Rattle.router_trace.specs.declared.event.Event.TheVariants as event;
 ghost use Rattle.router_core.specs.Handling.{counts_of, store_of};
-ghost use Rattle.router_core.specs.Counting.{uncounted, with_event};
-ghost use Rattle.router_shared.specs.History.{HasHistory, IsOpened};
+ghost use Rattle.router_core.specs.Counting.{with_event};
+ghost use Rattle.router_shared.specs.History.{HasHistory};
 
 use disk_core::Disk;
-use router_core::{ConnectionId, Core, CoreFault, Event, Peer};
-use router_shared::{Blanks, Closed, Ledgers, Names, NoLog, SEATS, Seat, Shared};
-use std::alloc::{AllocError, Global};
-use std::marker::Brand;
-use std::sync::ledger::Blank;
+use router_core::{ConnectionId, CoreFault, Event, Peer};
+use router_shared::{Closed, Ledgers, NoLog, Seat, Shared};
+use std::alloc::Global;
 use std::sync::{Mutex, Wait};
 
 /// The router under its lock, the seats that no thread uses, and the number of the newest connection: what the threads of a program
 /// share, whatever their connections are made of.
 #[derive(Drop)]
-pub struct Desk<D: Disk, N: Names>
-where
-    N: Ledgers,
-{
+pub struct Desk<D: Disk, G: Ledgers> {
     /// For everything that grows.
     pub alloc: Global,
     /// The router.
-    pub shared: Shared<D, NoLog, N>,
-    bench: Mutex<Vec<Seat<N>>>,
+    pub shared: Shared<D, NoLog, G>,
+    bench: Mutex<Vec<Seat<G>>>,
     newest: Mutex<u64>,
 }
 
-impl<D: Disk, N: Names> Desk<D, N> {
+impl<D: Disk, G: Ledgers> Desk<D, G> {
     /// A desk before there are any threads, over a router that isn't started.
-    fn new(alloc: Global, shared: Shared<D, NoLog, N>) -> Desk<D, N> {
+    pub fn new(alloc: Global, shared: Shared<D, NoLog, G>) -> Desk<D, G> {
         Desk {
             alloc,
             shared,
@@ -58,7 +53,7 @@ impl<D: Disk, N: Names> Desk<D, N> {
 
     /// A seat that no thread uses, or else a new one; to be put back later, so that its counts are added up in the end. None if no part
     /// of a ledger is left.
-    pub fn seat<R: Wait>(&self, rt: &R) -> Option<Seat<N>> {
+    pub fn seat<R: Wait>(&self, rt: &R) -> Option<Seat<G>> {
         let free = self.bench.lock(rt).pop();
         match free {
             Some(seat) => Some(seat),
@@ -67,7 +62,7 @@ impl<D: Disk, N: Names> Desk<D, N> {
     }
 
     /// Puts a seat back. If memory is refused the seat is lost, and its counts with it.
-    pub fn put_back<R: Wait>(&self, rt: &R, seat: Seat<N>) {
+    pub fn put_back<R: Wait>(&self, rt: &R, seat: Seat<G>) {
         let _ = self.bench.lock(rt).push(seat);
     }
 
@@ -79,7 +74,7 @@ impl<D: Disk, N: Names> Desk<D, N> {
     pub fn up<R: Wait>(
         &self,
         rt: &R,
-        seat: &mut Seat<N>,
+        seat: &mut Seat<G>,
         peer: Peer,
     ) -> Result<ConnectionId, CoreFault>
         ensures counted { IfOk result (λ conn. seat.new ≡ with_event (event.Up conn peer) seat.old) }
@@ -96,7 +91,8 @@ impl<D: Disk, N: Names> Desk<D, N> {
     }
 
     /// Adds up the counts of the seats that were put back, beside the router's: if none is missing, these are equal, number by number.
-    fn close(self) -> Closed<D, NoLog>
+    pub fn close(self) -> Closed<D, NoLog>
+        requires cut { (G.Ups.seats ≡ G.Ups.parts) × (G.Items.seats ≡ G.Items.parts) × (G.Downs.seats ≡ G.Downs.parts) × (G.Ticks.seats ≡ G.Ticks.parts) × (G.Starts.seats ≡ G.Starts.parts) × (G.Batches.seats ≡ G.Batches.parts) }
         ensures all { result.all ≡ true → counts_of result.core ≡ result.counts }
         ensures appended { result.appended ≡ batch_count (journal_of (store_of result.core)) }
         ensures history { ∥ HasHistory result.core ∥₁ }
@@ -110,65 +106,4 @@ impl<D: Disk, N: Names> Desk<D, N> {
         drop(newest);
         shared.close(bench.into_inner(), Vec::new(alloc))
     }
-}
-
-/// What serves connections over a desk.
-pub trait Server<D: Disk> {
-    /// Starts the router, and serves with the threads that it makes, until all of them have ended.
-    fn serve<N: Names>(&self, desk: &Desk<D, N>);
-}
-
-/// Puts a router that was just opened under a lock, with ledgers of its own, and has it served. Then it adds up the counts of the seats
-/// that were put back, beside the router's: if none is missing, these are equal, number by number; and unless the router failed, its
-/// tables agree with one order of events and takes since it was opened.
-///
-/// # Errors
-///
-/// Fails if there is no memory for the lock; then nothing was served.
-pub fn serve_with<D: Disk, S: Server<D>>(
-    alloc: Global,
-    core: Core<D>,
-    server: &S,
-) -> Result<Closed<D, NoLog>, AllocError>
-    requires opened { IsOpened core }
-    requires counts { counts_of core ≡ uncounted }
-    ensures all { IfOk result (λ closed. closed.all ≡ true → counts_of closed.core ≡ closed.counts) }
-    ensures appended { IfOk result (λ closed. closed.appended ≡ batch_count (journal_of (store_of closed.core))) }
-    ensures history { IfOk result (λ closed. ∥ HasHistory closed.core ∥₁) }
-{
-    let blanks = Blanks {
-        ups: Blank::new(SEATS),
-        items: Blank::new(SEATS),
-        downs: Blank::new(SEATS),
-        ticks: Blank::new(SEATS),
-        starts: Blank::new(SEATS),
-        batches: Blank::new(SEATS),
-    };
-    serve_counted::<Brand, D, S>(alloc, core, blanks, server)
-}
-
-/// Has a router served, over ledgers of these names.
-fn serve_counted<N: Names, D: Disk, S: Server<D>>(
-    alloc: Global,
-    core: Core<D>,
-    blanks: Blanks,
-    server: &S,
-) -> Result<Closed<D, NoLog>, AllocError>
-    requires opened { IsOpened core }
-    requires counts { counts_of core ≡ uncounted }
-    requires ups { (blanks.ups.name ≡ N.ups) × (blanks.ups.parts ≡ N.seats) }
-    requires items { (blanks.items.name ≡ N.items) × (blanks.items.parts ≡ N.seats) }
-    requires downs { (blanks.downs.name ≡ N.downs) × (blanks.downs.parts ≡ N.seats) }
-    requires ticks { (blanks.ticks.name ≡ N.ticks) × (blanks.ticks.parts ≡ N.seats) }
-    requires starts { (blanks.starts.name ≡ N.starts) × (blanks.starts.parts ≡ N.seats) }
-    requires batches { (blanks.batches.name ≡ N.batches) × (blanks.batches.parts ≡ N.seats) }
-    requires seats { N.seats ≡ 4611686018427387904 }
-    ensures all { IfOk result (λ closed. closed.all ≡ true → counts_of closed.core ≡ closed.counts) }
-    ensures appended { IfOk result (λ closed. closed.appended ≡ batch_count (journal_of (store_of closed.core))) }
-    ensures history { IfOk result (λ closed. ∥ HasHistory closed.core ∥₁) }
-{
-    let shared: Shared<D, NoLog, N> = Shared::new(alloc, core, NoLog {}, blanks, SEATS)?;
-    let desk = Desk::new(alloc, shared);
-    server.serve(&desk);
-    Ok(desk.close())
 }

@@ -9,10 +9,10 @@ mod reader;
 mod writer;
 mod writing;
 
-pub use desk::{Desk, Server, serve_with};
+pub use desk::Desk;
 pub use end::{ReadEnd, WriteEnd};
 pub use gate::{Gate, OpenGate, Side};
 pub use greeting::{Greeted, greet};
 pub use reader::serve_reader;
-pub use router_shared::{Closed, Ledgers, Log, Names, NoLog, Receipt, SEATS, Seat, Shared};
+pub use router_shared::{Blanks, Closed, Ledgers, Log, Names, NoLog, Receipt, SEATS, Seat, Shared};
 pub use writer::serve_writer;

@@ -1,18 +1,20 @@
 //! A router with ledgers of its own for each row.
-ghost use Rattle.std.specs.Prelude.{◌≡◌, IfOk};
+ghost use Rattle.std.specs.Prelude.{◌≡◌, ◌^◌, IfOk};
 ghost use Rattle.router_core.specs.Handling.{counts_of};
 ghost use Rattle.router_core.specs.Counting.{uncounted};
 ghost use Rattle.router_shared.specs.History.{IsOpened};
 
 use crate::row::Row;
-use crate::threads::Wires;
+use crate::threads::serve_all;
 use disk_core::{DiskFault, MemDisk};
 use gate_journal::{OpenFault, format};
 use route_table::Config;
 use router_core::{Core, Counts};
-use router_serve::{Closed, NoLog, serve_with};
+use router_serve::{Blanks, Closed, Desk, Names, NoLog, SEATS, Shared};
 use std::alloc::{AllocError, Global};
+use std::marker::Brand;
 use std::sync::Wait;
+use std::sync::ledger::Blank;
 use std::thread::Threads;
 
 /// What is left once a row was served.
@@ -53,7 +55,7 @@ fn opened(alloc: Global) -> Result<Core<MemDisk>, OpenFault>
     }
 }
 
-/// Serves the connections of a row with a router of its own.
+/// Serves the connections of a row with a router of its own, whose ledgers are made for it.
 pub fn serve_row<R: Threads + Wait + Sync>(
     rt: &R,
     alloc: Global,
@@ -62,8 +64,48 @@ pub fn serve_row<R: Threads + Wait + Sync>(
     let Ok(core) = opened(alloc) else {
         return Err(AllocError);
     };
-    let closed = serve_with(alloc, core, &Wires { rt, row })?;
-    Ok(left_of(closed))
+    let blanks = Blanks {
+        ups: Blank::new(SEATS),
+        items: Blank::new(SEATS),
+        downs: Blank::new(SEATS),
+        ticks: Blank::new(SEATS),
+        starts: Blank::new(SEATS),
+        batches: Blank::new(SEATS),
+    };
+    counted::<Brand, R>(rt, alloc, row, core, blanks)
+}
+
+/// Serves a row, and adds up what the seats counted.
+fn counted<N: Names, R: Threads + Wait + Sync>(
+    rt: &R,
+    alloc: Global,
+    row: &Row,
+    core: Core<MemDisk>,
+    blanks: Blanks,
+) -> Result<Left, AllocError>
+    requires opened { IsOpened core }
+    requires counts { counts_of core ≡ uncounted }
+    requires ups { (blanks.ups.name ≡ N.ups) × (blanks.ups.parts ≡ N.seats) }
+    requires items { (blanks.items.name ≡ N.items) × (blanks.items.parts ≡ N.seats) }
+    requires downs { (blanks.downs.name ≡ N.downs) × (blanks.downs.parts ≡ N.seats) }
+    requires ticks { (blanks.ticks.name ≡ N.ticks) × (blanks.ticks.parts ≡ N.seats) }
+    requires starts { (blanks.starts.name ≡ N.starts) × (blanks.starts.parts ≡ N.seats) }
+    requires batches { (blanks.batches.name ≡ N.batches) × (blanks.batches.parts ≡ N.seats) }
+    requires seats { N.seats ≡ 4611686018427387904 }
+{
+    let made: Result<Shared<MemDisk, NoLog, N>, AllocError> = Shared::new(
+        alloc,
+        core,
+        NoLog {},
+        blanks,
+        SEATS,
+    );
+    let Ok(shared) = made else {
+        return Err(AllocError);
+    };
+    let desk = Desk::new(alloc, shared);
+    serve_all(rt, &desk, row);
+    Ok(left_of(desk.close()))
 }
 
 /// What a router left, of which all but the journal is let go.

@@ -6,34 +6,20 @@ use amqp_frames::{FrameReader, Item};
 use disk_core::MemDisk;
 use route_table::{Config, Listener, Role};
 use router_core::{ConnectionId, Door, Event, Peer};
-use router_serve::{
-    Desk, Greeted, Names, Seat, Server, WriteEnd, greet, serve_reader, serve_writer,
-};
+use router_serve::{Desk, Greeted, Names, Seat, WriteEnd, greet, serve_reader, serve_writer};
 use std::alloc::{AllocError, Global};
 use std::sync::Wait;
 use std::thread;
 use std::thread::Threads;
 
-/// The connections of a row.
-#[derive(Drop)]
-pub struct Wires<'a, R> {
-    /// The runtime.
-    pub rt: &'a R,
-    /// The row.
-    pub row: &'a Row,
-}
-
-impl<'a, R: Threads + Wait + Sync> Server<MemDisk> for Wires<'a, R> {
-    /// Serves all connections at once, until they have ended.
-    fn serve<N: Names>(&self, desk: &Desk<MemDisk, N>) {
-        let (rt, row) = (self.rt, self.row);
-        let _ = desk.start(rt);
-        thread::scope(thread::scope_env(), rt, |scope| {
-            for wire in &row.wires {
-                let _ = scope.spawn(move || connection(rt, desk, row, wire));
-            }
-        });
-    }
+/// Serves all connections of a row at once, until they have ended.
+pub fn serve_all<N: Names, R: Threads + Wait + Sync>(rt: &R, desk: &Desk<MemDisk, N>, row: &Row) {
+    let _ = desk.start(rt);
+    thread::scope(thread::scope_env(), rt, |scope| {
+        for wire in &row.wires {
+            let _ = scope.spawn(move || connection(rt, desk, row, wire));
+        }
+    });
 }
 
 /// The door of a connection at the standard listener.

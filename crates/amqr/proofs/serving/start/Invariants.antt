@@ -1,7 +1,7 @@
-use Rattle.router_serve.proofs.desk.serve_with.Given as goal
+use Rattle.amqr.proofs.serving.start.Given as goal
 
-abbrev pub ghosts-serve_counted : goal.ghosts-serve_counted
-ghosts-serve_counted g a = record {
+abbrev pub ghosts-counted : goal.ghosts-counted
+ghosts-counted g a = record {
   ups = a.blanks.ups.name;
   items = a.blanks.items.name;
   downs = a.blanks.downs.name;

@@ -1,0 +1,12 @@
+use Rattle.serve_cases.proofs.serving.serve_row.Given as goal
+
+abbrev pub ghosts-counted : goal.ghosts-counted
+ghosts-counted g a = record {
+  ups = a.blanks.ups.name;
+  items = a.blanks.items.name;
+  downs = a.blanks.downs.name;
+  ticks = a.blanks.ticks.name;
+  starts = a.blanks.starts.name;
+  batches = a.blanks.batches.name;
+  seats = 4611686018427387904;
+}
