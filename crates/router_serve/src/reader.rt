@@ -21,7 +21,7 @@ pub const PIECE: usize = 65_536;
 
 /// Submits what a peer sends: the items left over from the door, then those of the input, and at the end one loss of the
 /// connection, unless the router answered `Failed` or `NoConnection`. It returns the seat, the receipts if any, and
-/// why it ended. Each item that came is submitted and counted, in order, unless memory is refused or the router answers a fault.
+/// why it ended. The seat counts as many items as came, unless memory is refused or the router answers a fault.
 pub fn serve_reader<D: Disk, L: Log, G: Ledgers, R: Wait, I: Read, P: Gate>(
     rt: &R,
     alloc: Global,
