@@ -1,18 +1,28 @@
 -- The phases of a connection, item by item (AMQP 1.0 part 2, section 2.4.6).
-use Rattle.std.specs.Prelude.{◌≡◌, ℕ, true, nat_lt, if◌then◌else◌, Result, Ok, Err}
+use Rattle.std.specs.Prelude.{ℕ, true, nat_lt, if◌then◌else◌, Result, Ok, Err}
 use Rattle.amqp_perf.specs.declared.perf.Open.{Open}
 use Rattle.amqp_conn.specs.declared.conn.Conn.{Conn}
 use Rattle.amqp_conn.specs.declared.fault.ConnFault.{ConnFault}
 use Rattle.amqp_conn.specs.declared.fault.ConnFault.TheVariants.{WrongPhase, FrameSizeTooSmall, ChannelTooHigh}
 
+-- the phase once headers are exchanged, once opens are, and once the connection is over
+abbrev pub with_header : Conn → Conn
+with_header c = record c { header = true }
+
+abbrev pub with_open : Conn → Conn
+with_open c = record c { opened = true }
+
+abbrev pub over : Conn → Conn
+over c = record c { closed = true }
+
 -- the phase after a header: only the first is in turn
 abbrev pub after_header : Conn → Result Conn ConnFault
-after_header c = if c.closed then Err WrongPhase else if c.header then Err WrongPhase else Ok (record c { header = true })
+after_header c = if c.closed then Err WrongPhase else if c.header then Err WrongPhase else Ok (with_header c)
 
 -- the phase after an open: only the first is in turn, and its largest frame is at least MIN-MAX-FRAME-SIZE (2.7.1)
 abbrev pub after_open : Open → Conn → Result Conn ConnFault
 after_open o c = if c.closed then Err WrongPhase else if c.opened then Err WrongPhase
-    else if nat_lt o.max_frame_size 512 then Err FrameSizeTooSmall else Ok (record c { opened = true })
+    else if nat_lt o.max_frame_size 512 then Err FrameSizeTooSmall else Ok (with_open c)
 
 -- the phase after another frame: the open came before it, and its channel is at most 14 (2.7.1, channel-max)
 abbrev pub after_frame : ℕ → Conn → Result Conn ConnFault
@@ -20,17 +30,12 @@ after_frame channel c = if c.closed then Err WrongPhase else if c.opened then
     (if nat_lt 14 channel then Err ChannelTooHigh else Ok c) else Err WrongPhase
 
 -- the phase after a close, which is such a frame and ends the connection
-abbrev pub over : Result Conn ConnFault → Result Conn ConnFault
-over (Ok c) = Ok (record c { closed = true })
-over (Err f) = Err f
+abbrev pub unless_fault : Result Conn ConnFault → Result Conn ConnFault
+unless_fault (Ok c) = Ok (over c)
+unless_fault (Err f) = Err f
 
 abbrev pub after_close : ℕ → Conn → Result Conn ConnFault
-after_close channel c = over (after_frame channel c)
-
--- a call answered as the definition does, and moved to the phase that it gives; a fault changes nothing
-abbrev pub Moves : Result (Unit {0}) ConnFault → Conn → Conn → Result Conn ConnFault → Type 0
-Moves (Ok _) old new defined = defined ≡ Ok new
-Moves (Err f) old new defined = (defined ≡ Err f) × (new ≡ old)
+after_close channel c = unless_fault (after_frame channel c)
 
 -- the fault's number
 abbrev pub number_of : ConnFault → ℕ

@@ -1,6 +1,6 @@
 //! The phase that a connection is in.
 ghost use Rattle.std.specs.Prelude.{◌≡◌, false};
-ghost use Rattle.amqp_conn.specs.Phase.{Moves, after_header, after_open, after_frame, after_close};
+ghost use Rattle.amqp_conn.specs.Phase.{with_header, with_open, over, after_header, after_open, after_frame, after_close};
 
 use crate::fault::ConnFault;
 use amqp_perf::Open;
@@ -11,13 +11,18 @@ pub const MIN_MAX_FRAME_SIZE: u32 = 512;
 /// The highest channel that the router accepts, as its open announces.
 pub const CHANNEL_MAX: u16 = 14;
 
-/// The phase of a connection: which of header, open and close have come (AMQP 1.0 part 2, section 2.4.6). Header
-/// and open come in either order: a caller that wants the header first refuses other items before it.
+/// The phase of a connection: which of header, open and close were exchanged (AMQP 1.0 part 2, section 2.4.6). The router
+/// answers each in the event in which it comes, so a thing is exchanged once the router's own is written.
+///
+/// These are three facts, and not one of the standard's states, since none of them rules out another: header and open come in
+/// either order (a caller that wants the header first refuses other items before it), and a connection that is over because its
+/// outbox is full has its close yet to be written, with an open before it where there was none. The standard's START, HDR EXCH,
+/// OPENED and END are none of them, the header alone, header and open, and the close.
 #[derive(Clone, Copy, Debug, PartialEq, Eq)]
 pub struct Conn {
-    /// Whether a header was taken.
+    /// Whether headers were exchanged.
     pub header: bool,
-    /// Whether an open was taken.
+    /// Whether opens were exchanged.
     pub opened: bool,
     /// Whether the connection is over.
     pub closed: bool,
@@ -35,9 +40,39 @@ impl Conn {
         }
     }
 
-    /// Takes the header. Fails with `WrongPhase`, and changes nothing, where one was taken or the connection is over.
-    pub fn take_header(&mut self) -> Result<(), ConnFault>
-        ensures { Moves result self.old self.new (after_header self.old) }
+    /// The phase once headers are exchanged.
+    pub fn with_header(self) -> Conn
+        ensures { result ≡ with_header self }
+    {
+        Conn {
+            header: true,
+            ..self
+        }
+    }
+
+    /// The phase once opens are exchanged.
+    pub fn with_open(self) -> Conn
+        ensures { result ≡ with_open self }
+    {
+        Conn {
+            opened: true,
+            ..self
+        }
+    }
+
+    /// The phase once the connection is over.
+    pub fn over(self) -> Conn
+        ensures { result ≡ over self }
+    {
+        Conn {
+            closed: true,
+            ..self
+        }
+    }
+
+    /// The phase after a header. Fails with `WrongPhase` where headers were exchanged or the connection is over.
+    pub fn take_header(self) -> Result<Conn, ConnFault>
+        ensures { result ≡ after_header self }
     {
         if self.closed {
             return Err(ConnFault::WrongPhase);
@@ -45,14 +80,13 @@ impl Conn {
         if self.header {
             return Err(ConnFault::WrongPhase);
         }
-        self.header = true;
-        Ok(())
+        Ok(self.with_header())
     }
 
-    /// Takes an open, on any channel. Fails with `WrongPhase` where one was taken or the connection is over, else
-    /// with `FrameSizeTooSmall` where its max-frame-size is below 512 bytes; a fault changes nothing.
-    pub fn take_open(&mut self, open: &Open) -> Result<(), ConnFault>
-        ensures { Moves result self.old self.new (after_open «open».now self.old) }
+    /// The phase after an open, on any channel. Fails with `WrongPhase` where opens were exchanged or the connection is over, else
+    /// with `FrameSizeTooSmall` where its max-frame-size is below 512 bytes.
+    pub fn take_open(self, open: &Open) -> Result<Conn, ConnFault>
+        ensures { result ≡ after_open «open».now self }
     {
         if self.closed {
             return Err(ConnFault::WrongPhase);
@@ -63,14 +97,13 @@ impl Conn {
         if open.max_frame_size < MIN_MAX_FRAME_SIZE {
             return Err(ConnFault::FrameSizeTooSmall);
         }
-        self.opened = true;
-        Ok(())
+        Ok(self.with_open())
     }
 
-    /// Asks whether a frame on this channel that is neither open nor close is in turn. Fails with `WrongPhase` before
-    /// the open and where the connection is over, else with `ChannelTooHigh` above channel 14.
-    pub fn take_frame(&self, channel: u16) -> Result<(), ConnFault>
-        ensures { Moves result self.now self.now (after_frame channel self.now) }
+    /// The phase after a frame on this channel that is neither open nor close. Fails with `WrongPhase` before the open and where
+    /// the connection is over, else with `ChannelTooHigh` above channel 14.
+    pub fn take_frame(self, channel: u16) -> Result<Conn, ConnFault>
+        ensures { result ≡ after_frame channel self }
     {
         if self.closed {
             return Err(ConnFault::WrongPhase);
@@ -81,15 +114,14 @@ impl Conn {
         if channel > CHANNEL_MAX {
             return Err(ConnFault::ChannelTooHigh);
         }
-        Ok(())
+        Ok(self)
     }
 
-    /// Takes a close on this channel, which ends the connection. Fails as `take_frame` does, and then changes nothing.
-    pub fn take_close(&mut self, channel: u16) -> Result<(), ConnFault>
-        ensures { Moves result self.old self.new (after_close channel self.old) }
+    /// The phase after a close on this channel, which ends the connection. Fails as `take_frame` does.
+    pub fn take_close(self, channel: u16) -> Result<Conn, ConnFault>
+        ensures { result ≡ after_close channel self }
     {
-        self.take_frame(channel)?;
-        self.closed = true;
-        Ok(())
+        let taken = self.take_frame(channel)?;
+        Ok(taken.over())
     }
 }

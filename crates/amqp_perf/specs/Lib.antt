@@ -6,6 +6,7 @@ pub mod Fields
 pub mod States
 pub mod Tags
 pub mod Termini
+pub mod Parts
 pub mod Places
 pub mod Performative
 pub mod Texts

@@ -1,5 +1,8 @@
 //! The performatives of the transport (AMQP 1.0 part 2, section 2.7) and the bodies of SASL frames (part 5, section
 //! 5.3.3), each with the fields of the standard, in its order and under its names.
+ghost use Rattle.std.specs.Prelude.{◌≡◌};
+ghost use Rattle.amqp_perf.specs.Parts.{attach_of};
+
 use crate::boxed::Boxed;
 use crate::leaf::{Binary, Map, Symbol, Symbols, Text};
 use crate::state::{DeliveryState, DeliveryTag, Fault, Unsettled};
@@ -7,7 +10,7 @@ use crate::terminus::{SourceTerminus, TargetTerminus};
 use std::fmt;
 
 /// One performative or SASL body. Those that come once for a connection, a session or a link stand in a box, so that the others are small.
-#[derive(Debug, Drop)]
+#[derive(Debug)]
 pub enum Perf {
     /// Negotiates a connection.
     Open(Boxed<Open>),
@@ -37,6 +40,43 @@ pub enum Perf {
     SaslResponse(SaslResponse),
     /// How the exchange ended.
     SaslOutcome(SaslOutcome),
+}
+
+impl Drop for Perf {
+    /// Drops what it holds by one call, where a derived drop is its steps at each exit of a function that holds one.
+    fn drop(self) {
+        match self {
+            Perf::Open(_open) => {}
+            Perf::Begin(_begin) => {}
+            Perf::Attach(_attach) => {}
+            Perf::Flow(_flow) => {}
+            Perf::Transfer(_transfer) => {}
+            Perf::Disposition(_disposition) => {}
+            Perf::Detach(_detach) => {}
+            Perf::End(_end) => {}
+            Perf::Close(_close) => {}
+            Perf::SaslMechanisms(_mechanisms) => {}
+            Perf::SaslInit(_init) => {}
+            Perf::SaslChallenge(_challenge) => {}
+            Perf::SaslResponse(_response) => {}
+            Perf::SaslOutcome(_outcome) => {}
+        }
+    }
+}
+
+impl Perf {
+    /// The attach that it is, taken out of its box; none of any other performative, which is dropped.
+    pub fn into_attach(self) -> Option<Attach>
+        ensures { result ≡ attach_of self }
+    {
+        match self {
+            Perf::Attach(attach) => Some(attach.into_inner()),
+            other => {
+                drop(other);
+                None
+            }
+        }
+    }
 }
 
 /// Whether an end of a link sends or receives (AMQP 1.0 part 2, section 2.8.1).

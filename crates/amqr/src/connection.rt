@@ -1,4 +1,5 @@
 //! The threads of one connection.
+use crate::house::House;
 use crate::hub::Hub;
 use crate::lines::{Watch, reader_words, writer_words};
 use crate::socket::{LINGER, PATIENCE, swallow};
@@ -23,18 +24,18 @@ pub fn connection<N: Names, R: Threads + Wait + Clock + Eprint + Sync>(
 ) {
     let _ = stream.set_nodelay(true);
     let _ = stream.set_write_timeout(Some(Duration::from_millis(PATIENCE)));
-    let mut frames = FrameReader::new(hub.desk.alloc);
-    let Ok(door) = Door::new(hub.desk.alloc, &hub.config, listener) else {
+    let mut frames = FrameReader::new(hub.house.alloc);
+    let Ok(door) = Door::new(hub.house.alloc, &hub.house.config, listener) else {
         drop(frames);
         return;
     };
     let role = door.role();
-    match at_door(hub.desk.alloc, stream, &mut frames, door) {
+    match at_door(hub.house.alloc, stream, &mut frames, door) {
         Greeted::Up(user, items) => {
             let who = Peer { user, role };
             enter(rt, hub, stream, peer, who, items, &mut frames);
         }
-        Greeted::Ended(end) => refused(rt, hub, stream, peer, end),
+        Greeted::Ended(end) => refused(rt, &hub.house, stream, peer, end),
     }
     drop(frames);
 }
@@ -48,16 +49,16 @@ fn at_door(alloc: Global, stream: &TcpStream, frames: &mut FrameReader, door: Do
 }
 
 /// Reports that a connection ended at its door, and gives the peer time to read why.
-fn refused<N: Names, R: Wait + Clock + Eprint>(
+fn refused<R: Wait + Clock + Eprint>(
     rt: &R,
-    hub: &Hub<N>,
+    house: &House,
     stream: &TcpStream,
     peer: SocketAddr,
     end: ReadEnd,
 ) {
     let words = reader_words(end);
-    if let Ok(line) = format!(in hub.desk.alloc; "{peer} ended at the door: {words}") {
-        hub.lines.say(rt, &line);
+    if let Ok(line) = format!(in house.alloc; "{peer} ended at the door: {words}") {
+        house.lines.say(rt, &line);
     }
     if end == ReadEnd::Door {
         let _ = stream.shutdown(Shutdown::Write);
@@ -83,8 +84,8 @@ fn enter<N: Names, R: Threads + Wait + Clock + Eprint + Sync>(
     };
     let watch = Watch {
         rt,
-        alloc: hub.desk.alloc,
-        lines: &hub.lines,
+        alloc: hub.house.alloc,
+        lines: &hub.house.lines,
         peer,
         user: user.as_str(),
     };
@@ -116,7 +117,7 @@ fn come_up<N: Names, R: Threads + Wait + Clock + Eprint + Sync>(
         Err(fault) => {
             drop(items);
             hub.desk.put_back(rt, seat);
-            hub.failed(rt, fault);
+            hub.house.failed(rt, fault);
         }
     }
 }
@@ -150,7 +151,7 @@ fn both<N: Names, R: Threads + Wait + Clock + Eprint + Sync>(
             watch,
         );
         if let ReadEnd::Core(fault) = end {
-            hub.failed(rt, fault);
+            hub.house.failed(rt, fault);
         }
         swallow(rt, stream);
         *read.lock(rt) = true;
@@ -159,7 +160,7 @@ fn both<N: Names, R: Threads + Wait + Clock + Eprint + Sync>(
             Ok(writer) => writer.join(rt),
             Err(_) => None,
         };
-        tell_end(rt, hub, conn, end, written);
+        tell_end(rt, &hub.house, conn, end, written);
         seat
     })
 }
@@ -189,7 +190,7 @@ fn output<N: Names, R: Wait + Clock + Eprint>(
     );
     hub.desk.put_back(rt, seat);
     if let WriteEnd::Core(fault) = end {
-        hub.failed(rt, fault);
+        hub.house.failed(rt, fault);
     }
     if end == WriteEnd::Ended {
         let _ = stream.shutdown(Shutdown::Write);
@@ -217,7 +218,7 @@ fn drained<N: Names, R: Wait + Eprint>(
                 }
             }
             Err(fault) => {
-                hub.failed(rt, fault);
+                hub.house.failed(rt, fault);
                 return seat;
             }
         }
@@ -226,9 +227,9 @@ fn drained<N: Names, R: Wait + Eprint>(
 }
 
 /// Reports why a connection ended.
-fn tell_end<N: Names, R: Wait + Eprint>(
+fn tell_end<R: Wait + Eprint>(
     rt: &R,
-    hub: &Hub<N>,
+    house: &House,
     conn: ConnectionId,
     end: ReadEnd,
     written: Option<WriteEnd>,
@@ -239,7 +240,7 @@ fn tell_end<N: Names, R: Wait + Eprint>(
         Some(end) => writer_words(end),
         None => "no thread could be made",
     };
-    if let Ok(line) = format!(in hub.desk.alloc; "connection {number} ended: {reader}; {writer}") {
-        hub.lines.say(rt, &line);
+    if let Ok(line) = format!(in house.alloc; "connection {number} ended: {reader}; {writer}") {
+        house.lines.say(rt, &line);
     }
 }

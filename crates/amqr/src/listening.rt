@@ -1,6 +1,7 @@
 //! Accepts connections, and gives the router the time.
 use crate::connection::connection;
-use crate::hub::{Hub, Taken};
+use crate::house::{House, Taken};
+use crate::hub::Hub;
 use route_table::Listener;
 use router_core::Event;
 use router_serve::{Names, Seat};
@@ -37,10 +38,10 @@ pub fn listen<
                     .spawn(move || accept_all(rt, hub, listener, socket))
                     .is_err()
                 {
-                    hub.stop(rt);
+                    hub.house.stop(rt);
                 }
             }
-            hub.wait_over(rt);
+            hub.house.wait_over(rt);
             wake(rt, sockets);
         });
         *done.lock(rt) = true;
@@ -61,21 +62,21 @@ fn accept_all<N: Names, R: Threads + Wait + Sync + Clock + Eprint>(
             match accepted {
                 Ok(stream) => {
                     failing = false;
-                    if is_served(rt, hub) {
+                    if is_served(rt, &hub.house) {
                         let made = scope.spawn(move || run_one(rt, hub, listener, stream));
                         if made.is_err() {
-                            no_thread(rt, hub);
+                            no_thread(rt, &hub.house);
                         }
                     } else {
                         drop(stream);
                     }
                 }
                 Err(error) => {
-                    not_accepted(rt, hub, error, failing);
+                    not_accepted(rt, &hub.house, error, failing);
                     failing = true;
                 }
             }
-            if hub.is_over(rt) {
+            if hub.house.is_over(rt) {
                 break;
             }
         }
@@ -83,11 +84,11 @@ fn accept_all<N: Names, R: Threads + Wait + Sync + Clock + Eprint>(
 }
 
 /// Whether a connection that was accepted gets threads.
-fn is_served<N: Names, R: Wait + Eprint>(rt: &R, hub: &Hub<N>) -> bool {
-    match hub.take(rt) {
+fn is_served<R: Wait + Eprint>(rt: &R, house: &House) -> bool {
+    match house.take(rt) {
         Taken::Over => false,
         Taken::TooMany => {
-            hub.lines.say(rt, "a connection is closed: too many");
+            house.lines.say(rt, "a connection is closed: too many");
             false
         }
         Taken::Served | Taken::Last => true,
@@ -95,22 +96,18 @@ fn is_served<N: Names, R: Wait + Eprint>(rt: &R, hub: &Hub<N>) -> bool {
 }
 
 /// A connection that was to get threads gets none.
-fn no_thread<N: Names, R: Wait + Eprint>(rt: &R, hub: &Hub<N>) {
-    hub.leave(rt);
-    hub.lines
+fn no_thread<R: Wait + Eprint>(rt: &R, house: &House) {
+    house.leave(rt);
+    house
+        .lines
         .say(rt, "a connection is closed: no thread can be made");
 }
 
 /// No connection could be accepted: it is reported once, until one is accepted, and the listener pauses.
-fn not_accepted<N: Names, R: Wait + Clock + Eprint>(
-    rt: &R,
-    hub: &Hub<N>,
-    error: Error,
-    reported: bool,
-) {
+fn not_accepted<R: Wait + Clock + Eprint>(rt: &R, house: &House, error: Error, reported: bool) {
     if !reported {
-        if let Ok(line) = format!(in hub.desk.alloc; "no connection can be taken: {error}") {
-            hub.lines.say(rt, &line);
+        if let Ok(line) = format!(in house.alloc; "no connection can be taken: {error}") {
+            house.lines.say(rt, &line);
         }
     }
     drop(error);
@@ -125,15 +122,15 @@ fn run_one<N: Names, R: Threads + Wait + Sync + Clock + Eprint>(
     stream: TcpStream,
 ) {
     if let Ok(peer) = stream.peer_addr() {
-        if let Ok(stream) = Arc::new(hub.desk.alloc, stream) {
-            let number = hub.streams.lock(rt).add(&stream);
+        if let Ok(stream) = Arc::new(hub.house.alloc, stream) {
+            let number = hub.house.streams.lock(rt).add(&stream);
             if let Some(number) = number {
                 connection(rt, hub, listener, peer, &stream);
-                hub.streams.lock(rt).remove(number);
+                hub.house.streams.lock(rt).remove(number);
             }
         }
     }
-    hub.leave(rt);
+    hub.house.leave(rt);
 }
 
 /// Wakes the threads that wait at listeners: each accepts a connection that asks for nothing, and finds that no more are accepted.
@@ -196,7 +193,7 @@ fn tell_time<N: Names, R: Wait + Clock + Eprint>(
         if let Ok(passed) = start.elapsed(rt) {
             let moment = u64::try_from(passed.as_millis()).unwrap_or(u64::MAX);
             if let Err(fault) = hub.desk.shared.submit(rt, seat, Event::Tick(moment)) {
-                hub.failed(rt, fault);
+                hub.house.failed(rt, fault);
             }
         }
     }

@@ -2,6 +2,7 @@
 #![tactic(auto)]
 
 mod connection;
+mod house;
 mod hub;
 mod lines;
 mod listening;

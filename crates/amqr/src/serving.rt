@@ -4,6 +4,7 @@ ghost use Rattle.router_core.specs.Handling.{counts_of};
 ghost use Rattle.router_core.specs.Counting.{uncounted};
 ghost use Rattle.router_shared.specs.History.{IsOpened};
 
+use crate::house::House;
 use crate::hub::Hub;
 use crate::listening::listen;
 use crate::opening::open_router;
@@ -217,12 +218,13 @@ fn counted<
         return Err(AllocError);
     };
     let desk = Desk::new(alloc, shared);
-    let hub = Hub::new(desk, config, serving.connections, serving.quiet);
+    let house = House::new(alloc, config, serving.connections, serving.quiet);
+    let hub = Hub { desk, house };
     if serving.journal.is_none() {
-        hub.lines.say(rt, IN_MEMORY);
+        hub.house.lines.say(rt, IN_MEMORY);
     }
     hub.start(rt);
-    listen(rt, &hub, listeners_of(&hub.config, own), sockets);
+    listen(rt, &hub, listeners_of(&hub.house.config, own), sockets);
     if hub.close() {
         return Ok(Status::Failed);
     }

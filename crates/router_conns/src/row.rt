@@ -38,14 +38,8 @@ fn behind_perf(perf: &Perf, phase: Conn) -> Conn
     ensures { result ≡ behind_perf perf.now phase }
 {
     match perf {
-        Perf::Open(_) => Conn {
-            opened: true,
-            ..phase
-        },
-        Perf::Close(_) => Conn {
-            closed: true,
-            ..phase
-        },
+        Perf::Open(_) => phase.with_open(),
+        Perf::Close(_) => phase.over(),
         _ => phase,
     }
 }
@@ -55,10 +49,7 @@ fn behind(item: &Item, phase: Conn) -> Conn
     ensures { result ≡ behind item.now phase }
 {
     match item {
-        Item::Header { .. } => Conn {
-            header: true,
-            ..phase
-        },
+        Item::Header { .. } => phase.with_header(),
         Item::Frame { perf, .. } => behind_perf(perf, phase),
         _ => phase,
     }
@@ -71,9 +62,8 @@ impl Row {
     {
         Row {
             phase: Conn {
-                header: false,
-                opened: false,
                 closed: !(live < CONNECTIONS),
+                ..Conn::new()
             },
             waiting: VecDeque::new(alloc),
             taken: 0,
@@ -124,7 +114,7 @@ impl Row {
     pub fn end(&mut self)
         ensures { self.new ≡ ended self.old }
     {
-        self.phase.closed = true;
+        self.phase = self.phase.over();
     }
 
     /// Puts an item into the outbox. If memory is refused, the row's contents are unspecified.

@@ -16,7 +16,7 @@ use Rattle.amqp_frames.specs.declared.item.Item.TheVariants as item
 use Rattle.amqp_conn.specs.declared.conn.Conn.{Conn}
 use Rattle.amqp_conn.specs.declared.fault.ConnFault.{ConnFault}
 use Rattle.amqp_conn.specs.declared.fault.ConnFault.TheVariants.{ChannelTooHigh}
-use Rattle.amqp_conn.specs.Phase.{after_frame, after_open}
+use Rattle.amqp_conn.specs.Phase.{after_frame, after_open, unless_fault}
 use Rattle.book_core.specs.Book.{BookView}
 use Rattle.amqp_session.specs.declared.states.BeginState.{BeginState}
 use Rattle.amqp_session.specs.Session.{Session, TheirFlow, allowance}
@@ -35,7 +35,7 @@ use Rattle.router_trace.specs.Sessions.{Place, nowhere, ending, on, on_session, 
 use Rattle.router_conns.proofs.Lists.{by_test}
 use Rattle.router_rows.specs.declared.answer.Answer.{Answer}
 use Rattle.router_rows.specs.declared.answer.Answer.TheVariants.{Nothing, Header, Open, Close, CloseWith, Begin, End, Flow, Attach, Refuse, Detach, LinkFlow, Taken, Settle}
-use Rattle.router_rows.specs.Rows.{Finds, Links, said, header_reply, open_by, open_reply, begin_by, begin_reply, end_reply, echo, flow_on, flow_reply, attach_reply, transfer_reply, detach_reply, disposition_reply, in_turn, turn_by, perf_reply, item_reply}
+use Rattle.router_rows.specs.Rows.{Finds, Links, said, header_reply, open_by, open_reply, begin_by, begin_reply, end_reply, echo, flow_on, flow_reply, attach_reply, transfer_reply, detach_reply, disposition_reply, close_by, close_reply, in_turn, turn_by, perf_reply, item_reply}
 use Rattle.router_rows.specs.LinkRows.{is_multicast_link, refusal, attach_or, attach_at, session_attach_reply, session_detach_reply, link_echo, is_reached, detach_for, link_flow_reply, is_anonymous, asks, is_among, start_on, delivery_by, delivery_on, link_transfer_reply, is_unattached, session_transfer_reply}
 use Rattle.router_rows.specs.LinkRows.{flow_on as link_flow_on}
 use Rattle.router_rows.specs.Finding.{finds}
@@ -329,6 +329,15 @@ turn_fits h true b asked k channel body here = by_channel (nat_lt 14 channel)
     by_channel true = tt
     by_channel false = here
 
+-- a close ends an open connection
+close_fits : (h o : Bool) (b : ℕ → Bool) (asked : Option BeginState) (channel : ℕ) → AnswerFits (open_phase h o) b asked (close_reply (open_phase h o) channel)
+close_fits h false b asked channel = tt
+close_fits h true b asked channel = by_channel (nat_lt 14 channel)
+  where
+    by_channel : (q : Bool) → AnswerFits (open_phase h true) b asked (close_by (unless_fault (if q then Err ChannelTooHigh else Ok (open_phase h true))))
+    by_channel true = tt
+    by_channel false = refl
+
 -- what an item finds fits what was written
 pub record FindsFit (k : Finds) (b : ℕ → Bool) : Type 0 where
   pub places : (n : ℕ) → PlaceFits (k.places n) b
@@ -352,7 +361,7 @@ perf_fits h o b asked k payload channel (perf.Detach x) found =
     turn_fits h o b asked k channel (perf.Detach x) (detach_fits h b asked (k.places channel) k.links x (found.places channel))
 perf_fits h o b asked k payload channel (perf.End x) found =
     turn_fits h o b asked k channel (perf.End x) (end_fits h b asked (k.places channel) (found.places channel))
-perf_fits h o b asked k payload channel (perf.Close x) found = turn_fits h o b asked k channel (perf.Close x) refl
+perf_fits h o b asked k payload channel (perf.Close x) found = close_fits h o b asked channel
 perf_fits h o b asked k payload channel (perf.SaslMechanisms x) found = turn_fits h o b asked k channel (perf.SaslMechanisms x) tt
 perf_fits h o b asked k payload channel (perf.SaslInit x) found = turn_fits h o b asked k channel (perf.SaslInit x) tt
 perf_fits h o b asked k payload channel (perf.SaslChallenge x) found = turn_fits h o b asked k channel (perf.SaslChallenge x) tt

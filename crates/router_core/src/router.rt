@@ -122,7 +122,6 @@ impl Batch {
 
 /// The router. It handles one event at a time; the items that it puts out are fetched with `take`. Its durable deliveries
 /// are kept by a journal on a disk.
-#[derive(Drop)]
 pub struct Core<D: Disk> {
     alloc: Global,
     id: RouterId,
@@ -131,6 +130,21 @@ pub struct Core<D: Disk> {
     counts: Counts,
     started: bool,
     failed: bool,
+}
+
+impl<D: Disk> Drop for Core<D> {
+    /// Drops what it holds by one call, where a derived drop is its steps at each exit of a function that holds one.
+    fn drop(self) {
+        let Core {
+            alloc: _alloc,
+            id: _id,
+            state: _state,
+            store: _store,
+            counts: _counts,
+            started: _started,
+            failed: _failed,
+        } = self;
+    }
 }
 
 impl<D: Disk> Core<D> {
@@ -213,10 +227,13 @@ impl<D: Disk> Core<D> {
         ensures { result ≡ disk_of (store_of self) }
     {
         let Core {
+            alloc: _alloc,
             id,
             state,
             store,
-            ..
+            counts: _counts,
+            started: _started,
+            failed: _failed,
         } = self;
         drop(id);
         drop(state);

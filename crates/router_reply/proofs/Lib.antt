@@ -1,5 +1,4 @@
 pub mod Puts
-pub mod Unlinked
 pub mod Behind
 mod Given
 mod Answering

@@ -3,6 +3,7 @@ use Rattle.std.specs.Prelude.{ℕ, Bool, true, false, not, ◌||◌, is_some, na
 use Rattle.amqp_perf.specs.declared.perf.Attach.{Attach as AnAttach}
 use Rattle.amqp_perf.specs.declared.perf.Perf.{Perf}
 use Rattle.amqp_perf.specs.declared.perf.Perf.TheVariants as perf
+use Rattle.amqp_perf.specs.Parts.{attach_of}
 use Rattle.amqp_perf.specs.declared.perf.Disposition.{Disposition as ADisposition}
 use Rattle.amqp_perf.specs.declared.perf.Role.TheVariants.{Sender, Receiver}
 use Rattle.amqp_perf.specs.declared.state.DeliveryState.{DeliveryState}
@@ -189,9 +190,12 @@ put_for_attach t c a (Attach own) = taken t c own a
 put_for_attach t c a (Refuse own handle x) = each_to c (refused (largest_frame t c) own handle x a)
 put_for_attach t c a _ = []
 
+abbrev pub put_if_attach : Trace → ℕ → Option AnAttach → Answer → List Put
+put_if_attach t c None answer = []
+put_if_attach t c (Some a) answer = put_for_attach t c a answer
+
 abbrev pub attach_put_in : Trace → ℕ → Perf → Answer → List Put
-attach_put_in t c (perf.Attach a) answer = put_for_attach t c a answer
-attach_put_in t c _ answer = []
+attach_put_in t c body answer = put_if_attach t c (attach_of body) answer
 
 abbrev pub attach_put : Trace → ℕ → Item → Answer → List Put
 attach_put t c (item.Frame sasl channel body payload) answer = attach_put_in t c body answer

@@ -200,9 +200,9 @@ fn answer_perf(
 ) -> Result<(), AllocError>
     ensures { OnOk result ((t : List Entry) → TablesFit state.old t → TablesFit state.new (goes (attach_put_in t conn perf answer.now) t)) }
 {
-    match perf {
-        Perf::Attach(attach) => answer_attach(state, id, conn, attach.into_inner(), answer)?,
-        other => drop(other),
+    match perf.into_attach() {
+        Some(attach) => answer_attach(state, id, conn, attach, answer)?,
+        None => {}
     }
     Ok(())
 }

@@ -16,7 +16,7 @@ use Rattle.amqp_frames.specs.declared.item.Item.TheVariants as item
 use Rattle.amqp_conn.specs.declared.conn.Conn.{Conn}
 use Rattle.amqp_conn.specs.declared.fault.ConnFault.{ConnFault}
 use Rattle.amqp_conn.specs.declared.fault.ConnFault.TheVariants.{ChannelTooHigh}
-use Rattle.amqp_conn.specs.Phase.{after_frame, after_header, after_open}
+use Rattle.amqp_conn.specs.Phase.{after_frame, after_header, after_open, after_close}
 use Rattle.amqp_link.specs.declared.part.Delivery.{Delivery as Told}
 use Rattle.amqp_link.specs.Receiving.{delivery_count, unused}
 use Rattle.router_trace.specs.Deliveries.{terminal, tag_in}
@@ -32,7 +32,7 @@ use Rattle.router_trace.specs.Settling.{middle_by, middle_on}
 use Rattle.router_links.specs.Fits.{channel_of}
 use Rattle.router_rows.specs.declared.answer.Answer.{Answer}
 use Rattle.router_rows.specs.declared.answer.Answer.TheVariants.{Taken, Attach}
-use Rattle.router_rows.specs.Rows.{Finds, Links, header_by, open_by, begin_by, begin_reply, end_reply, echo, flow_on, flow_reply, attach_reply, transfer_reply, detach_reply, disposition_reply, in_turn, out_of_turn, turn_by, perf_reply, item_reply}
+use Rattle.router_rows.specs.Rows.{Finds, Links, header_by, open_by, begin_by, begin_reply, end_reply, echo, flow_on, flow_reply, attach_reply, transfer_reply, detach_reply, disposition_reply, in_turn, out_of_turn, close_by, turn_by, perf_reply, item_reply}
 use Rattle.router_rows.specs.LinkRows.{is_multicast_link, refusal, attach_or, attach_at, session_detach_reply, link_echo, is_reached, link_flow_reply, is_anonymous, is_among, is_same_id, is_same_tag, is_unattached, asks, delivery_by, delivery_on, link_transfer_reply}
 use Rattle.router_rows.specs.LinkRows.{flow_on as link_flow_on}
 use Rattle.router_rows.specs.Finding.{finds}
@@ -162,13 +162,17 @@ transfer_here here (on own s) links claimed x place =
     by detaching = tt
     by (on_link k l) = carried k l.durable l.happened
 
+out_of_turn_here : (here : ℕ → Bool) (f : ConnFault) → IsHere here (out_of_turn f)
+out_of_turn_here here ChannelTooHigh = tt
+out_of_turn_here here _ = tt
+
+close_here : (here : ℕ → Bool) (r : Result Conn ConnFault) → IsHere here (close_by r)
+close_here here (Ok q) = tt
+close_here here (Err f) = out_of_turn_here here f
+
 turn_here : (here : ℕ → Bool) (k : Finds) (channel : ℕ) (body : Perf) (r : Result Conn ConnFault) → IsHere here (in_turn k channel body) → IsHere here (turn_by k channel body r)
 turn_here here k channel body (Ok q) it = it
-turn_here here k channel body (Err f) it = by f
-  where
-    by : (f : ConnFault) → IsHere here (out_of_turn f)
-    by ChannelTooHigh = tt
-    by _ = tt
+turn_here here k channel body (Err f) it = out_of_turn_here here f
 
 in_turn_here : (here : ℕ → Bool) (k : Finds) (channel : ℕ) (body : Perf) → PlaceIsHere here (k.places channel) → IsHere here (in_turn k channel body)
 in_turn_here here k channel (perf.Begin x) place = begin_here here (k.places channel) k.free_channel channel x
@@ -178,11 +182,11 @@ in_turn_here here k channel (perf.Transfer x) place = transfer_here here (k.plac
 in_turn_here here k channel (perf.Disposition x) place = disposition_here here (k.places channel) x
 in_turn_here here k channel (perf.Detach x) place = detach_here here (k.places channel) k.links x
 in_turn_here here k channel (perf.End x) place = end_here here (k.places channel)
-in_turn_here here k channel (perf.Close x) place = tt
 in_turn_here here k channel _ place = tt
 
 perf_here : (here : ℕ → Bool) (p : Conn) (k : Finds) (channel : ℕ) (body : Perf) → IsHere here (in_turn k channel body) → IsHere here (perf_reply p k channel body)
 perf_here here p k channel (perf.Open x) it = open_here here x (after_open x p)
+perf_here here p k channel (perf.Close x) it = close_here here (after_close channel p)
 perf_here here p k channel body it = turn_here here k channel body (after_frame channel p) it
 
 item_here : (here : ℕ → Bool) (p : Conn) (k : Finds) (i : Item) → PlaceIsHere here (k.places (channel_of i)) → IsHere here (item_reply p k i)

@@ -18,7 +18,7 @@ use Rattle.amqp_frames.specs.declared.item.Item.TheVariants as item
 use Rattle.amqp_conn.specs.declared.conn.Conn.{Conn}
 use Rattle.amqp_conn.specs.declared.fault.ConnFault.{ConnFault}
 use Rattle.amqp_conn.specs.declared.fault.ConnFault.TheVariants.{ChannelTooHigh}
-use Rattle.amqp_conn.specs.Phase.{after_header, after_open, after_frame}
+use Rattle.amqp_conn.specs.Phase.{after_header, after_open, after_frame, after_close}
 use Rattle.amqp_session.specs.Session.{Session, TheirFlow}
 use Rattle.router_trace.specs.declared.condition.Condition.{Condition}
 use Rattle.router_trace.specs.declared.condition.Condition.TheVariants.{NotAllowed, FramingError, DecodeError, ResourceLimitExceeded}
@@ -81,9 +81,18 @@ channel_reply = CloseWith FramingError
 abbrev pub no_session_reply : Answer
 no_session_reply = CloseWith NotAllowed
 
--- a close: the router's close, which ends the connection
-abbrev pub close_reply : Answer
-close_reply = Close
+-- a frame that isn't in turn: before the open, or on a channel above 14
+abbrev pub out_of_turn : ConnFault → Answer
+out_of_turn ChannelTooHigh = channel_reply
+out_of_turn _ = early_frame_reply
+
+-- a close: the router's close, which ends the connection; where it isn't in turn, what any frame gets there
+abbrev pub close_by : Result Conn ConnFault → Answer
+close_by (Ok q) = Close
+close_by (Err f) = out_of_turn f
+
+abbrev pub close_reply : Conn → ℕ → Answer
+close_reply p channel = close_by (after_close channel p)
 
 -- events without an answer
 abbrev pub silent_reply : Answer
@@ -175,12 +184,7 @@ in_turn k channel (perf.Transfer x) = transfer_reply (k.places channel) k.links 
 in_turn k channel (perf.Disposition x) = disposition_reply (k.places channel) x
 in_turn k channel (perf.Detach x) = detach_reply (k.places channel) k.links x
 in_turn k channel (perf.End x) = end_reply (k.places channel)
-in_turn k channel (perf.Close x) = close_reply
 in_turn k channel _ = early_frame_reply
-
-abbrev pub out_of_turn : ConnFault → Answer
-out_of_turn ChannelTooHigh = channel_reply
-out_of_turn _ = early_frame_reply
 
 abbrev pub turn_by : Finds → ℕ → Perf → Result Conn ConnFault → Answer
 turn_by k channel body (Ok q) = in_turn k channel body
@@ -188,6 +192,7 @@ turn_by k channel body (Err f) = out_of_turn f
 
 abbrev pub perf_reply : Conn → Finds → ℕ → Perf → Answer
 perf_reply p k channel (perf.Open o) = open_reply p o
+perf_reply p k channel (perf.Close x) = close_reply p channel
 perf_reply p k channel body = turn_by k channel body (after_frame channel p)
 
 -- an item on a live connection in this phase

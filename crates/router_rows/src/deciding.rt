@@ -17,10 +17,10 @@ use crate::link_rows::{
 };
 use crate::multicast::is_multicast_link;
 use crate::rows::{
-    bad_frame_reply, beat_reply, begin_reply, channel_reply, close_reply, disposition_reply,
-    early_frame_reply, end_reply, header_reply, no_session_reply, open_reply, session_flow_reply,
+    bad_frame_reply, beat_reply, begin_reply, close_reply, disposition_reply, early_frame_reply,
+    end_reply, header_reply, no_session_reply, open_reply, out_of_turn, session_flow_reply,
 };
-use amqp_conn::{Conn, ConnFault};
+use amqp_conn::Conn;
 use amqp_frames::Item;
 use amqp_perf::{Attach, Detach, Flow, Perf, Transfer};
 use router_sessions::Place;
@@ -103,7 +103,7 @@ fn detach_reply(state: &State, conn: u64, place: Place, detach: &Detach) -> Answ
     }
 }
 
-/// The answer to a performative other than open, on an open connection.
+/// The answer to a performative other than open and close, on an open connection.
 fn in_turn(state: &State, conn: u64, channel: u16, perf: &Perf) -> Answer
     ensures { (t : List Entry) → TablesFind state.now t → result ≡ in_turn (finds t conn) channel perf.now }
 {
@@ -116,20 +116,18 @@ fn in_turn(state: &State, conn: u64, channel: u16, perf: &Perf) -> Answer
         Perf::Disposition(disposition) => disposition_reply(place, disposition),
         Perf::Detach(detach) => detach_reply(state, conn, place, detach),
         Perf::End(_) => end_reply(place),
-        Perf::Close(_) => close_reply(),
         _ => early_frame_reply(),
     }
 }
 
-/// The answer to a performative other than open, on this channel.
+/// The answer to a performative other than open and close, on this channel.
 fn turn_by(state: &State, conn: u64, phase: Conn, channel: u16, perf: &Perf) -> Answer
     ensures { (t : List Entry) → TablesFind state.now t
         → result ≡ turn_by (finds t conn) channel perf.now (after_frame channel phase) }
 {
     match phase.take_frame(channel) {
-        Ok(()) => in_turn(state, conn, channel, perf),
-        Err(ConnFault::ChannelTooHigh) => channel_reply(),
-        Err(_) => early_frame_reply(),
+        Ok(_) => in_turn(state, conn, channel, perf),
+        Err(fault) => out_of_turn(fault),
     }
 }
 
@@ -139,6 +137,7 @@ fn perf_reply(state: &State, conn: u64, phase: Conn, channel: u16, perf: &Perf) 
 {
     match perf {
         Perf::Open(open) => open_reply(phase, open.as_ref()),
+        Perf::Close(_) => close_reply(phase, channel),
         _ => turn_by(state, conn, phase, channel, perf),
     }
 }

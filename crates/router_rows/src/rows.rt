@@ -3,15 +3,15 @@
 ghost use Rattle.std.specs.Prelude.{◌≡◌, ◌∷◌};
 ghost use Rattle.router_trace.specs.Sessions.{Place as At};
 ghost use Rattle.router_sessions.specs.Fits.{found_of};
-ghost use Rattle.router_rows.specs.Rows.{header_reply, bad_frame_reply, open_reply, early_frame_reply, channel_reply, no_session_reply, close_reply, beat_reply, begin_reply, begin_by, end_reply, echo, disposition_reply, condition_of};
+ghost use Rattle.router_rows.specs.Rows.{header_reply, bad_frame_reply, open_reply, early_frame_reply, channel_reply, out_of_turn, no_session_reply, close_reply, beat_reply, begin_reply, begin_by, end_reply, echo, disposition_reply, condition_of};
 ghost use Rattle.amqp_session.specs.Session.{Session, TheirFlow};
 ghost use Rattle.amqp_session.specs.Figures.{window_of};
 ghost use Rattle.router_trace.specs.Sessions.{flow_state};
 
 use crate::answer::Answer;
 use crate::link_rows::session_disposition_reply;
-use amqp_conn::Conn;
 use amqp_conn::conn::CHANNEL_MAX;
+use amqp_conn::{Conn, ConnFault};
 use amqp_frames::FrameFault;
 use amqp_perf::{Begin, Disposition, Flow, Open};
 use amqp_session::Window;
@@ -26,9 +26,8 @@ pub const CONTAINER_ID: usize = 1024;
 pub fn header_reply(phase: Conn) -> Answer
     ensures { result ≡ header_reply phase }
 {
-    let mut moved = phase;
-    match moved.take_header() {
-        Ok(()) => Answer::Header,
+    match phase.take_header() {
+        Ok(_) => Answer::Header,
         Err(_) => Answer::CloseWith(Condition::FramingError),
     }
 }
@@ -56,9 +55,8 @@ pub fn open_reply(phase: Conn, open: &Open) -> Answer
     ensures { result ≡ open_reply phase «open».now }
 {
     let long = open.container_id.as_str().len() > CONTAINER_ID;
-    let mut moved = phase;
-    match moved.take_open(open) {
-        Ok(()) => {
+    match phase.take_open(open) {
+        Ok(_) => {
             if long {
                 Answer::CloseWith(Condition::ResourceLimitExceeded)
             } else {
@@ -90,11 +88,25 @@ pub fn no_session_reply() -> Answer
     Answer::CloseWith(Condition::NotAllowed)
 }
 
-/// A close: the router's close, which ends the connection (AMQP 1.0 part 2, section 2.7.9).
-pub fn close_reply() -> Answer
-    ensures { result ≡ close_reply }
+/// A frame that isn't in turn: before the open, or on a channel above 14.
+pub fn out_of_turn(fault: ConnFault) -> Answer
+    ensures { result ≡ out_of_turn fault }
 {
-    Answer::Close
+    match fault {
+        ConnFault::ChannelTooHigh => channel_reply(),
+        _ => early_frame_reply(),
+    }
+}
+
+/// A close: the router's close, which ends the connection (AMQP 1.0 part 2, section 2.7.9); where it isn't in turn, what any frame
+/// gets there.
+pub fn close_reply(phase: Conn, channel: u16) -> Answer
+    ensures { result ≡ close_reply phase channel }
+{
+    match phase.take_close(channel) {
+        Ok(_) => Answer::Close,
+        Err(fault) => out_of_turn(fault),
+    }
 }
 
 /// A heartbeat: no answer; on a channel above 14 the same answer as for any frame.

@@ -9,7 +9,7 @@ ghost use Rattle.router_shared.specs.History.{HasHistory};
 
 use disk_core::Disk;
 use router_core::{ConnectionId, CoreFault, Event, Peer};
-use router_shared::{Closed, Ledgers, NoLog, Seat, Shared};
+use router_shared::{Closed, Ledgers, Names, NoLog, Seat, Shared};
 use std::alloc::Global;
 use std::sync::{Mutex, Wait};
 
@@ -89,10 +89,11 @@ impl<D: Disk, G: Ledgers> Desk<D, G> {
         *newest = number;
         Ok(conn)
     }
+}
 
+impl<D: Disk, N: Names> Desk<D, N> {
     /// Adds up the counts of the seats that were put back, beside the router's: if none is missing, these are equal, number by number.
     pub fn close(self) -> Closed<D, NoLog>
-        requires cut { (G.Ups.seats ≡ G.Ups.parts) × (G.Items.seats ≡ G.Items.parts) × (G.Downs.seats ≡ G.Downs.parts) × (G.Ticks.seats ≡ G.Ticks.parts) × (G.Starts.seats ≡ G.Starts.parts) × (G.Batches.seats ≡ G.Batches.parts) }
         ensures all { result.all ≡ true → counts_of result.core ≡ result.counts }
         ensures appended { result.appended ≡ batch_count (journal_of (store_of result.core)) }
         ensures history { ∥ HasHistory result.core ∥₁ }

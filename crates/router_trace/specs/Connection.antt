@@ -6,6 +6,7 @@ use Rattle.amqp_perf.specs.declared.perf.Perf.TheVariants as perf
 use Rattle.amqp_frames.specs.declared.item.Item.{Item}
 use Rattle.amqp_frames.specs.declared.item.Item.TheVariants as item
 use Rattle.amqp_conn.specs.declared.conn.Conn.{Conn}
+use Rattle.amqp_conn.specs.Phase.{with_header, with_open, over}
 use Rattle.router_trace.specs.declared.event.Event.{Event}
 use Rattle.router_trace.specs.declared.event.Event.TheVariants as event
 use Rattle.router_trace.specs.Trace.{Did, Out, Took, Bound, Booked, Began, Trace, ups}
@@ -19,12 +20,12 @@ pub record Connection : Type 0 where
 
 -- the phase after a performative, and after an item, that the router wrote
 abbrev pub behind_perf : Perf → Conn → Conn
-behind_perf (perf.Open o) p = record p { opened = true }
-behind_perf (perf.Close c) p = record p { closed = true }
+behind_perf (perf.Open o) p = with_open p
+behind_perf (perf.Close c) p = over p
 behind_perf _ p = p
 
 abbrev pub behind : Item → Conn → Conn
-behind (item.Header id major minor revision) p = record p { header = true }
+behind (item.Header id major minor revision) p = with_header p
 behind (item.Frame sasl channel body payload) p = behind_perf body p
 behind _ p = p
 
@@ -34,7 +35,7 @@ with_item i v = record { phase = behind i v.phase; waiting = v.waiting ++ i ∷ 
 
 -- the connection is over; the items in its outbox stay
 abbrev pub ended : Connection → Connection
-ended v = record { phase = record v.phase { closed = true }; waiting = v.waiting; taken = v.taken }
+ended v = record { phase = over v.phase; waiting = v.waiting; taken = v.taken }
 
 -- this many items have left the outbox
 abbrev pub drained : ℕ → Connection → Connection
