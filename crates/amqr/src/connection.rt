@@ -6,7 +6,7 @@ use crate::socket::{LINGER, PATIENCE, swallow};
 use amqp_frames::{FrameReader, Item};
 use route_table::Listener;
 use router_core::{ConnectionId, Door, Peer};
-use router_serve::{Greeted, Names, ReadEnd, Seat, WriteEnd, greet, serve_reader, serve_writer};
+use router_serve::{Greeted, ReadEnd, Service, WriteEnd, greet};
 use std::alloc::Global;
 use std::net::{Shutdown, SocketAddr, TcpStream};
 use std::sync::{Condvar, Mutex, Wait};
@@ -15,9 +15,9 @@ use std::thread::Threads;
 use std::time::{Clock, Duration};
 
 /// Serves a connection until it ends.
-pub fn connection<N: Names, R: Threads + Wait + Clock + Eprint + Sync>(
+pub fn connection<S: Service, R: Threads + Wait + Clock + Eprint + Sync>(
     rt: &R,
-    hub: &Hub<N>,
+    hub: &Hub<S>,
     listener: &Listener,
     peer: SocketAddr,
     stream: &TcpStream,
@@ -68,9 +68,9 @@ fn refused<R: Wait + Clock + Eprint>(
 }
 
 /// Serves a connection after its door.
-fn enter<N: Names, R: Threads + Wait + Clock + Eprint + Sync>(
+fn enter<S: Service, R: Threads + Wait + Clock + Eprint + Sync>(
     rt: &R,
-    hub: &Hub<N>,
+    hub: &Hub<S>,
     stream: &TcpStream,
     peer: SocketAddr,
     who: Peer,
@@ -95,61 +95,56 @@ fn enter<N: Names, R: Threads + Wait + Clock + Eprint + Sync>(
 }
 
 /// Brings a connection up, and serves it.
-fn come_up<N: Names, R: Threads + Wait + Clock + Eprint + Sync>(
+fn come_up<S: Service, R: Threads + Wait + Clock + Eprint + Sync>(
     rt: &R,
-    hub: &Hub<N>,
+    hub: &Hub<S>,
     stream: &TcpStream,
     who: Peer,
     items: Vec<Item>,
     frames: &mut FrameReader,
     watch: &Watch<'_, R>,
 ) {
-    let Some(mut seat) = hub.desk.seat(rt) else {
+    let Some(mut seat) = hub.router.seat(rt) else {
         drop(who);
         drop(items);
         return;
     };
-    match hub.desk.up(rt, &mut seat, who) {
+    match hub.router.connect(rt, &mut seat, who) {
         Ok(conn) => {
-            let seat = both(rt, hub, stream, conn, seat, items, frames, watch);
-            hub.desk.put_back(rt, drained(rt, hub, conn, seat));
+            let mut seat = both(rt, hub, stream, conn, seat, items, frames, watch);
+            if let Err(fault) = hub.router.drain(rt, &mut seat, conn) {
+                hub.house.failed(rt, fault);
+            }
+            hub.router.put_back(rt, seat);
         }
         Err(fault) => {
             drop(items);
-            hub.desk.put_back(rt, seat);
+            hub.router.put_back(rt, seat);
             hub.house.failed(rt, fault);
         }
     }
 }
 
 /// Reads in this thread and writes in another, until both have ended.
-fn both<N: Names, R: Threads + Wait + Clock + Eprint + Sync>(
+fn both<S: Service, R: Threads + Wait + Clock + Eprint + Sync>(
     rt: &R,
-    hub: &Hub<N>,
+    hub: &Hub<S>,
     stream: &TcpStream,
     conn: ConnectionId,
-    seat: Seat<N>,
+    seat: S::Seat,
     items: Vec<Item>,
     frames: &mut FrameReader,
     watch: &Watch<'_, R>,
-) -> Seat<N> {
+) -> S::Seat {
     let read = Mutex::new(false);
     let rung = Condvar::new();
     let read = &read;
     let rung = &rung;
-    thread::scope(thread::scope_env(), rt, |scope| -> Seat<N> {
+    thread::scope(thread::scope_env(), rt, |scope| -> S::Seat {
         let writer = scope.spawn(move || output(rt, hub, stream, conn, watch, read, rung));
-        let (seat, _, end) = serve_reader(
-            rt,
-            hub.desk.alloc,
-            &hub.desk.shared,
-            seat,
-            conn,
-            items,
-            frames,
-            &mut &*stream,
-            watch,
-        );
+        let (seat, end) = hub
+            .router
+            .read(rt, seat, conn, items, frames, &mut &*stream, watch);
         if let ReadEnd::Core(fault) = end {
             hub.house.failed(rt, fault);
         }
@@ -166,29 +161,23 @@ fn both<N: Names, R: Threads + Wait + Clock + Eprint + Sync>(
 }
 
 /// Writes the router's output, then waits for the peer's end.
-fn output<N: Names, R: Wait + Clock + Eprint>(
+fn output<S: Service, R: Wait + Clock + Eprint>(
     rt: &R,
-    hub: &Hub<N>,
+    hub: &Hub<S>,
     stream: &TcpStream,
     conn: ConnectionId,
     watch: &Watch<'_, R>,
     read: &Mutex<bool>,
     rung: &Condvar,
 ) -> Option<WriteEnd> {
-    let Some(seat) = hub.desk.seat(rt) else {
+    let Some(seat) = hub.router.seat(rt) else {
         let _ = stream.shutdown(Shutdown::Both);
         return None;
     };
-    let (seat, end) = serve_writer(
-        rt,
-        hub.desk.alloc,
-        &hub.desk.shared,
-        seat,
-        conn,
-        &mut &*stream,
-        watch,
-    );
-    hub.desk.put_back(rt, seat);
+    let (seat, end) = hub
+        .router
+        .write(rt, seat, conn, &mut &*stream, watch);
+    hub.router.put_back(rt, seat);
     if let WriteEnd::Core(fault) = end {
         hub.house.failed(rt, fault);
     }
@@ -200,30 +189,6 @@ fn output<N: Names, R: Wait + Clock + Eprint>(
     }
     let _ = stream.shutdown(Shutdown::Both);
     Some(end)
-}
-
-/// Takes what is still waiting for a connection that is over.
-fn drained<N: Names, R: Wait + Eprint>(
-    rt: &R,
-    hub: &Hub<N>,
-    conn: ConnectionId,
-    seat: Seat<N>,
-) -> Seat<N> {
-    let mut seat = seat;
-    for _turn in 0..u64::MAX {
-        match hub.desk.shared.wait_batch(rt, &mut seat, conn) {
-            Ok(batch) => {
-                if batch.is_last() {
-                    return seat;
-                }
-            }
-            Err(fault) => {
-                hub.house.failed(rt, fault);
-                return seat;
-            }
-        }
-    }
-    seat
 }
 
 /// Reports why a connection ended.

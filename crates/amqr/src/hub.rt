@@ -1,33 +1,34 @@
 //! What the threads of a serving program share.
 use crate::house::House;
 use amqr_files::JournalDisk;
-use router_serve::{Desk, Ledgers, Names};
+use router_serve::{Desk, Names, Service};
 use std::sync::Wait;
 
-/// The router with its seats, and everything else that the threads share: a part by itself, so that what needs no router isn't proved over its tables.
+/// The router with its seats, and everything else that the threads share. The threads know the router as a service, so that they are proved
+/// without its tables, and what needs no router is a part by itself.
 #[derive(Drop)]
-pub struct Hub<G: Ledgers> {
+pub struct Hub<S: Service> {
     /// The router, its seats and the numbers of its connections.
-    pub desk: Desk<JournalDisk, G>,
+    pub router: S,
     /// Everything else.
     pub house: House,
 }
 
-impl<G: Ledgers> Hub<G> {
+impl<S: Service> Hub<S> {
     /// Starts the router.
     pub fn start<R: Wait + Eprint>(&self, rt: &R) {
-        if let Err(fault) = self.desk.start(rt) {
+        if let Err(fault) = self.router.start(rt) {
             self.house.failed(rt, fault);
         }
     }
 }
 
-impl<N: Names> Hub<N> {
+impl<N: Names> Hub<Desk<JournalDisk, N>> {
     /// The seats that no thread uses come back, and all else is let go. It tells whether the router failed.
     pub fn close(self) -> bool {
-        let Hub { desk, house } = self;
+        let Hub { router, house } = self;
         drop(house);
-        let closed = desk.close();
+        let closed = router.close();
         let failed = closed.core.is_failed();
         drop(closed);
         failed

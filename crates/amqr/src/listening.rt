@@ -3,8 +3,7 @@ use crate::connection::connection;
 use crate::house::{House, Taken};
 use crate::hub::Hub;
 use route_table::Listener;
-use router_core::Event;
-use router_serve::{Names, Seat};
+use router_serve::Service;
 use std::io::{Error, ErrorKind};
 use std::net::{Net, SocketAddr, TcpListener, TcpStream};
 use std::sync::{Arc, Condvar, Mutex, Wait};
@@ -23,9 +22,9 @@ const TRIES: u64 = 500;
 
 /// Accepts connections at all listeners, each of which has its socket, until no more are accepted and all have ended.
 pub fn listen<
-    N: Names,
+    S: Service,
     R: Net<Listener = TcpListener, Stream = TcpStream> + Threads + Wait + Sync + Clock + Eprint,
->(rt: &R, hub: &Hub<N>, listeners: &[Listener], sockets: &[TcpListener]) {
+>(rt: &R, hub: &Hub<S>, listeners: &[Listener], sockets: &[TcpListener]) {
     let done = Mutex::new(false);
     let rung = Condvar::new();
     let done = &done;
@@ -50,9 +49,9 @@ pub fn listen<
 }
 
 /// Accepts the connections of one listener.
-fn accept_all<N: Names, R: Threads + Wait + Sync + Clock + Eprint>(
+fn accept_all<S: Service, R: Threads + Wait + Sync + Clock + Eprint>(
     rt: &R,
-    hub: &Hub<N>,
+    hub: &Hub<S>,
     listener: &Listener,
     socket: &TcpListener,
 ) {
@@ -115,9 +114,9 @@ fn not_accepted<R: Wait + Clock + Eprint>(rt: &R, house: &House, error: Error, r
 }
 
 /// Serves one connection.
-fn run_one<N: Names, R: Threads + Wait + Sync + Clock + Eprint>(
+fn run_one<S: Service, R: Threads + Wait + Sync + Clock + Eprint>(
     rt: &R,
-    hub: &Hub<N>,
+    hub: &Hub<S>,
     listener: &Listener,
     stream: TcpStream,
 ) {
@@ -162,24 +161,24 @@ fn wake_one<R: Net<Listener = TcpListener, Stream = TcpStream> + Clock>(rt: &R, 
 }
 
 /// Gives the router the time every half second, until it is done; where the router failed, serving ends.
-fn tick<N: Names, R: Wait + Clock + Eprint>(
+fn tick<S: Service, R: Wait + Clock + Eprint>(
     rt: &R,
-    hub: &Hub<N>,
+    hub: &Hub<S>,
     done: &Mutex<bool>,
     rung: &Condvar,
 ) {
-    let Some(mut seat) = hub.desk.seat(rt) else {
+    let Some(mut seat) = hub.router.seat(rt) else {
         return;
     };
     tell_time(rt, hub, &mut seat, done, rung);
-    hub.desk.put_back(rt, seat);
+    hub.router.put_back(rt, seat);
 }
 
 /// Submits a tick every half second, until serving is done.
-fn tell_time<N: Names, R: Wait + Clock + Eprint>(
+fn tell_time<S: Service, R: Wait + Clock + Eprint>(
     rt: &R,
-    hub: &Hub<N>,
-    seat: &mut Seat<N>,
+    hub: &Hub<S>,
+    seat: &mut S::Seat,
     done: &Mutex<bool>,
     rung: &Condvar,
 ) {
@@ -192,7 +191,7 @@ fn tell_time<N: Names, R: Wait + Clock + Eprint>(
         }
         if let Ok(passed) = start.elapsed(rt) {
             let moment = u64::try_from(passed.as_millis()).unwrap_or(u64::MAX);
-            if let Err(fault) = hub.desk.shared.submit(rt, seat, Event::Tick(moment)) {
+            if let Err(fault) = hub.router.tick(rt, seat, moment) {
                 hub.house.failed(rt, fault);
             }
         }

@@ -3,6 +3,7 @@ ghost use Rattle.std.specs.Prelude.{◌≡◌, ◌^◌};
 ghost use Rattle.router_core.specs.Handling.{counts_of};
 ghost use Rattle.router_core.specs.Counting.{uncounted};
 ghost use Rattle.router_shared.specs.History.{IsOpened};
+ghost use Rattle.router_shared.specs.Blank.{AreOf};
 
 use crate::house::House;
 use crate::hub::Hub;
@@ -12,7 +13,7 @@ use amqr_commands::{Refusal, Serving, Status, config_at, refuse};
 use amqr_files::JournalDisk;
 use route_table::{Config, Listener, Role};
 use router_core::Core;
-use router_serve::{Blanks, Desk, Names, NoLog, SEATS, Shared};
+use router_serve::{Blanks, Desk, Names};
 use std::alloc::{AllocError, Global};
 use std::fs::File;
 use std::io::{self, Write};
@@ -20,7 +21,6 @@ use std::marker::Brand;
 use std::net::{Net, TcpListener, TcpStream};
 use std::rt::Files;
 use std::sync::Wait;
-use std::sync::ledger::Blank;
 use std::thread::Threads;
 use std::time::Clock;
 
@@ -171,14 +171,7 @@ fn start<
     requires opened { IsOpened core }
     requires counts { counts_of core ≡ uncounted }
 {
-    let blanks = Blanks {
-        ups: Blank::new(SEATS),
-        items: Blank::new(SEATS),
-        downs: Blank::new(SEATS),
-        ticks: Blank::new(SEATS),
-        starts: Blank::new(SEATS),
-        batches: Blank::new(SEATS),
-    };
+    let blanks = Blanks::new();
     counted::<Brand, R>(rt, alloc, config, own, sockets, serving, core, blanks)
 }
 
@@ -198,28 +191,16 @@ fn counted<
 ) -> Result<Status, AllocError>
     requires opened { IsOpened core }
     requires counts { counts_of core ≡ uncounted }
-    requires ups { (blanks.ups.name ≡ N.ups) × (blanks.ups.parts ≡ N.seats) }
-    requires items { (blanks.items.name ≡ N.items) × (blanks.items.parts ≡ N.seats) }
-    requires downs { (blanks.downs.name ≡ N.downs) × (blanks.downs.parts ≡ N.seats) }
-    requires ticks { (blanks.ticks.name ≡ N.ticks) × (blanks.ticks.parts ≡ N.seats) }
-    requires starts { (blanks.starts.name ≡ N.starts) × (blanks.starts.parts ≡ N.seats) }
-    requires batches { (blanks.batches.name ≡ N.batches) × (blanks.batches.parts ≡ N.seats) }
-    requires seats { N.seats ≡ 4611686018427387904 }
+    requires blanks { AreOf N.ups N.items N.downs N.ticks N.starts N.batches N.seats blanks }
+    requires seats { N.seats ≡ 2 ^ 62 }
 {
-    let made: Result<Shared<JournalDisk, NoLog, N>, AllocError> = Shared::new(
-        alloc,
-        core,
-        NoLog {},
-        blanks,
-        SEATS,
-    );
-    let Ok(shared) = made else {
+    let made: Result<Desk<JournalDisk, N>, AllocError> = Desk::new(alloc, core, blanks);
+    let Ok(router) = made else {
         drop(config);
         return Err(AllocError);
     };
-    let desk = Desk::new(alloc, shared);
     let house = House::new(alloc, config, serving.connections, serving.quiet);
-    let hub = Hub { desk, house };
+    let hub = Hub { router, house };
     if serving.journal.is_none() {
         hub.house.lines.say(rt, IN_MEMORY);
     }

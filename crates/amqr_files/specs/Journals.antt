@@ -6,7 +6,7 @@ use Rattle.book_core.specs.Book.{BookView}
 use Rattle.book_core.specs.declared.act.ActKind.{ActKind}
 use Rattle.book_core.specs.declared.act.ActKind.TheVariants as kind
 use Rattle.disk_core.specs.Disk.{Only}
-use Rattle.gate_journal.specs.Format.{fresh}
+use Rattle.act_codec.specs.Format.{fresh}
 use Rattle.gate_journal.specs.Listed.{IsListed}
 use Rattle.gate_journal.specs.Opening.{Explains}
 use Rattle.gate_journal.specs.declared.fault.OpenFault.TheVariants as opening

@@ -8,14 +8,14 @@ use Rattle.book_core.specs.declared.act.Act.{Act}
 use Rattle.book_core.specs.declared.fault.BookFault.{BookFault}
 use Rattle.book_core.specs.Book.{BookView, empty_book, first_fault, effects}
 use Rattle.gate_journal.specs.declared.fault.OpenFault.TheVariants.{NotAJournal}
-use Rattle.gate_journal.specs.declared.read.ReadFault.{ReadFault}
-use Rattle.gate_journal.specs.Format.{magic, in_4, acts_bytes, batch, front}
-use Rattle.gate_journal.specs.Batches.{AreWritable, IsBatch, Holds}
+use Rattle.act_codec.specs.declared.read.ReadFault.{ReadFault}
+use Rattle.act_codec.specs.Format.{magic, in_4, acts_bytes, batch, front}
+use Rattle.act_codec.specs.Batches.{AreWritable, IsBatch, NoActs, Holds}
 use Rattle.gate_journal.specs.Opening.{NoBatch, IsDamagedAt, Explains}
-use Rattle.gate_journal.specs.Reading.{act_at, inside_at}
-use Rattle.gate_journal.specs.Scanning.{NoActs, Walked}
-use Rattle.gate_journal.proofs.Tools.{AreBytes, bytes_behind, bytes_take, by_test, is_less, is_not_less}
-use Rattle.gate_journal.proofs.Scans.{no_more, none_fails, read_more, read_shorter, none_of_acts, inside_forth, batch_is, is_batch}
+use Rattle.act_codec.specs.Reading.{act_at, inside_at}
+use Rattle.gate_journal.specs.Scanning.{Walked}
+use Rattle.act_codec.proofs.Tools.{AreBytes, bytes_behind, bytes_take, by_test, is_less, is_not_less}
+use Rattle.act_codec.proofs.Scans.{no_more, none_fails, read_more, read_shorter, none_of_acts, inside_forth, batch_is, is_batch}
 use Rattle.gate_journal.proofs.Walks.{walk_none, walk_more, walk_damaged, walk_ends, none_reads, none_applies, by_rest}
 
 by_result : {A P : Type 0} (r : Result A ReadFault) → ((x : A) → r ≡ Ok x → P) → ((fault : ReadFault) → r ≡ Err fault → P) → P

@@ -3,8 +3,8 @@ use Rattle.std.proofs.Common.{◌≡◌, ℕ, List, [], ◌∷◌, ◌++◌, Non
 use Rattle.std.proofs.lemmas.List.{append-nil}
 use Rattle.book_core.specs.declared.act.Act.{Act}
 use Rattle.book_core.specs.Book.{BookView, first_fault, effects}
-use Rattle.gate_journal.specs.Format.{magic, batch, blocks, front}
-use Rattle.gate_journal.specs.Batches.{IsBatch, AllApply, Holds, book_after}
+use Rattle.act_codec.specs.Format.{magic, batch, blocks, front}
+use Rattle.act_codec.specs.Batches.{IsBatch, AllApply, Holds, book_after}
 use Rattle.disk_core.specs.Disk.{overwritten}
 
 pub blocks_more : (bs : List (List Act)) (acts : List Act) → blocks (bs ++ acts ∷ []) ≡ blocks bs ++ 1 ∷ batch acts

@@ -4,7 +4,7 @@ use Rattle.std.specs.Prelude.{nat_lt, sum_by, IsTrue, ◌↔◌}
 use Rattle.std.proofs.lemmas.Bool.Decides.{nat_tests}
 use Rattle.book_core.specs.declared.act.Act.{Act}
 use Rattle.gate_journal.specs.Reserve.{growth, release, journal_limit, batch_bytes, IsFull, is_full}
-use Rattle.gate_journal.proofs.Tools.{is_less}
+use Rattle.act_codec.proofs.Tools.{is_less}
 
 less : (a b : ℕ) → a < b → nat_lt a b ≡ true
 less a b l = grind (arith, nat_tests)

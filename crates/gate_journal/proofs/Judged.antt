@@ -4,10 +4,10 @@ use Rattle.std.proofs.lemmas.List.{append_cancel_left}
 use Rattle.book_core.specs.declared.act.Act.{Act}
 use Rattle.book_core.specs.Book.{BookView, empty_book, effects}
 use Rattle.gate_journal.specs.declared.fault.OpenFault.TheVariants.{NotAJournal}
-use Rattle.gate_journal.specs.Format.{magic, batch, blocks, front}
-use Rattle.gate_journal.specs.Batches.{AllApply, Holds, book_after}
+use Rattle.act_codec.specs.Format.{magic, batch, blocks, front}
+use Rattle.act_codec.specs.Batches.{AllApply, Holds, book_after}
 use Rattle.gate_journal.specs.Opening.{Begins, NoBatch, IsDamagedAt, Explains}
-use Rattle.gate_journal.proofs.Unique.{batch_unique}
+use Rattle.act_codec.proofs.Unique.{batch_unique}
 
 byte_same : (a b : ℕ) (r s : List ℕ) → a ∷ r ≡ b ∷ s → a ≡ b
 byte_same a b r s e = cc

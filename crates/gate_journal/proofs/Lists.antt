@@ -4,8 +4,8 @@ use Rattle.std.proofs.lemmas.List.{append-nil}
 use Rattle.book_core.specs.declared.act.Act.{Act}
 use Rattle.book_core.specs.Book.{BookView, empty_book, first_fault, effects}
 use Rattle.gate_journal.specs.declared.listing.Entry.{Entry}
-use Rattle.gate_journal.specs.Format.{magic, batch, blocks, front}
-use Rattle.gate_journal.specs.Batches.{IsBatch, AllApply, book_after}
+use Rattle.act_codec.specs.Format.{magic, batch, blocks, front}
+use Rattle.act_codec.specs.Batches.{IsBatch, AllApply, book_after}
 use Rattle.gate_journal.specs.Listing.{placed, entries_from}
 use Rattle.gate_journal.specs.Listed.{IsListed}
 use Rattle.gate_journal.specs.Walking.{Listed}

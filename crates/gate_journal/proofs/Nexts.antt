@@ -3,7 +3,7 @@ use Rattle.std.proofs.Common.{◌≡◌, ℕ, ◌+◌, ◌-◌, List, [], ◌∷
 use Rattle.std.specs.Prelude.{sum_by}
 use Rattle.book_core.specs.declared.act.Act.{Act}
 use Rattle.book_core.specs.Book.{BookView, empty_book, first_fault, effects}
-use Rattle.gate_journal.specs.Batches.{IsBatch, IsNext, AllApply, book_after, HaveOutcomes, HaveTermini, AreWritable}
+use Rattle.act_codec.specs.Batches.{IsBatch, IsNext, AllApply, book_after, HaveOutcomes, HaveTermini, AreWritable}
 use Rattle.gate_journal.specs.Reserve.{reserve, growth, release}
 use Rattle.gate_journal.proofs.Fronts.{book_more}
 use Rattle.gate_journal.specs.Ordered.{IsOrdered}

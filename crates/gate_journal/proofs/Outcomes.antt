@@ -6,8 +6,8 @@ use Rattle.disk_core.specs.SpoiltLaws.{spoilt_of}
 use Rattle.disk_core.specs.DiskLaws.{overwritten_inside}
 use Rattle.book_core.specs.declared.act.Act.{Act}
 use Rattle.book_core.specs.Book.{empty_book, first_fault}
-use Rattle.gate_journal.specs.Format.{batch, front}
-use Rattle.gate_journal.specs.Batches.{Holds, IsBatch, AllApply, book_after}
+use Rattle.act_codec.specs.Format.{batch, front}
+use Rattle.act_codec.specs.Batches.{Holds, IsBatch, AllApply, book_after}
 use Rattle.gate_journal.specs.Stands.{IsAt}
 use Rattle.gate_journal.proofs.Fronts.{front_more, all_more}
 

@@ -15,7 +15,7 @@ use Rattle.book_core.specs.Book.{BookView, refusal, effect, first_fault, effects
 use Rattle.book_core.specs.declared.terminus.LinkRole.TheVariants.{Consumer}
 use Rattle.book_core.specs.Rising.{Rises, AllAbove}
 use Rattle.book_core.proofs.Shown as shown
-use Rattle.gate_journal.specs.Batches.{HasTerminus, HaveTermini, IsAboveZero}
+use Rattle.act_codec.specs.Batches.{HasTerminus, HaveTermini, IsAboveZero}
 use Rattle.gate_journal.specs.Reserve.{row_reserve, reserve, growth, release}
 use Rattle.gate_journal.specs.Ordered.{IsOrdered}
 use Rattle.gate_journal.proofs.Ordered.{ordered_step}

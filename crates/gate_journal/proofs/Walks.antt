@@ -8,12 +8,12 @@ use Rattle.gate_journal.specs.declared.fault.OpenFault.TheVariants as opening
 use Rattle.std.specs.Prelude.{not, ◌==◌}
 use Rattle.std.specs.Cmp.Lexicographic.{pointwise, bytes_decides}
 use Rattle.book_core.specs.Book.{BookView, empty_book, first_fault, effects}
-use Rattle.gate_journal.specs.Format.{magic, batch, blocks, front}
-use Rattle.gate_journal.specs.Batches.{IsBatch, AllApply, book_after}
+use Rattle.act_codec.specs.Format.{magic, batch, blocks, front}
+use Rattle.act_codec.specs.Batches.{IsBatch, NoneBegins, AllApply, book_after}
 use Rattle.gate_journal.specs.Opening.{NoBatch, IsDamagedAt, IsFound, Explains}
-use Rattle.gate_journal.specs.Scanning.{NoneBegins, Walked, IsNoNext, refused_as}
+use Rattle.gate_journal.specs.Scanning.{Walked, IsNoNext, refused_as}
 use Rattle.gate_journal.proofs.Fronts.{front_more, all_more, book_more}
-use Rattle.gate_journal.proofs.Unique.{batch_unique}
+use Rattle.act_codec.proofs.Unique.{batch_unique}
 
 -- before the first batch
 pub walk_none : (bytes behind : List ℕ) → bytes ≡ magic ++ behind → behind ≢ [] → Walked bytes behind empty_book 0

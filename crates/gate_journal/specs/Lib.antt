@@ -1,13 +1,9 @@
-pub mod Batches
 pub mod Fault
-pub mod Format
 pub mod Journal
 pub mod Listed
 pub mod Listing
 pub mod Opening
 pub mod Ordered
-pub mod Outcome
-pub mod Reading
 pub mod Reserve
 pub mod Scanning
 pub mod Stands

@@ -3,8 +3,8 @@ use Rattle.std.specs.Prelude.{◌≡◌, ℕ, List, length}
 use Rattle.book_core.specs.declared.act.Act.{Act}
 use Rattle.book_core.specs.Book.{BookView, empty_book}
 use Rattle.gate_journal.specs.declared.listing.Entry.{Entry}
-use Rattle.gate_journal.specs.Format.{front}
-use Rattle.gate_journal.specs.Batches.{Holds, book_after}
+use Rattle.act_codec.specs.Format.{front}
+use Rattle.act_codec.specs.Batches.{Holds, book_after}
 use Rattle.gate_journal.specs.Listing.{entries_of}
 
 -- the acts of the batches of a file with their places, the place of the gate that ends them, and the book after them

@@ -6,7 +6,7 @@ use Rattle.book_core.specs.declared.act.Act.{Act}
 use Rattle.book_core.specs.declared.act.Act.TheVariants.{Make, Admit, Decide, Forget, Drop}
 use Rattle.book_core.specs.declared.row.Row.{Row}
 use Rattle.book_core.specs.Book.{BookView, is_undecided}
-use Rattle.gate_journal.specs.Format.{acts_bytes}
+use Rattle.act_codec.specs.Format.{acts_bytes}
 
 -- the most bytes of a journal
 abbrev pub journal_limit : ℕ

@@ -6,17 +6,9 @@ use Rattle.book_core.specs.declared.fault.BookFault.TheVariants as books
 use Rattle.gate_journal.specs.declared.fault.OpenFault.{OpenFault}
 use Rattle.gate_journal.specs.declared.fault.OpenFault.TheVariants as opening
 use Rattle.book_core.specs.Book.{BookView, empty_book}
-use Rattle.gate_journal.specs.Format.{acts_bytes, batch, front}
+use Rattle.act_codec.specs.Format.{acts_bytes, batch, front}
 use Rattle.gate_journal.specs.Opening.{NoBatch}
-use Rattle.gate_journal.specs.Batches.{AreWritable, IsBatch, AllApply, book_after}
-
--- these bytes are those of no acts
-abbrev pub NoActs : List ℕ → Type 0
-NoActs bytes = (acts : List Act) → AreWritable acts → bytes ≡ acts_bytes acts → ⊥
-
--- the bytes don't begin with a batch and a gate after it
-abbrev pub NoneBegins : List ℕ → Type 0
-NoneBegins bytes = (acts : List Act) (gate : ℕ) (rest : List ℕ) → IsBatch acts → bytes ≡ batch acts ++ gate ∷ rest → ⊥
+use Rattle.act_codec.specs.Batches.{IsBatch, NoneBegins, AllApply, book_after}
 
 -- Good batches come before the rest, and give this book.
 pub record Walked (bytes rest : List ℕ) (book : BookView) (count : ℕ) : Type 0 where

@@ -9,15 +9,12 @@ mod fresh;
 mod journal;
 pub mod laws;
 mod listing;
-mod read;
 mod scan;
-mod spell;
 mod store;
 mod whole;
 
+pub use act_codec::{acts_len, kept_outcome};
 pub use fault::{JournalFault, OpenFault};
 pub use fresh::format;
 pub use journal::Journal;
 pub use listing::{Entry, Listing, list};
-pub use read::kept_outcome;
-pub use spell::acts_len;

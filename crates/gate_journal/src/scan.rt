@@ -2,54 +2,18 @@
 ghost use Rattle.std.specs.Prelude.{◌≡◌, ◌≢◌, ◌++◌, [], ◌∷◌, List, ℕ, ◌<◌, ◌⊎◌, length, take, None, IfNone, IfSome, IfOk, IfErr, IsErrOf};
 ghost use Rattle.book_core.specs.declared.act.Act.{Act};
 ghost use Rattle.book_core.specs.Book.{first_fault, effects};
-ghost use Rattle.gate_journal.specs.Format.{magic, acts_bytes, batch};
-ghost use Rattle.gate_journal.specs.Batches.{AreWritable, IsBatch};
+ghost use Rattle.act_codec.specs.Format.{magic, batch};
+ghost use Rattle.act_codec.specs.Batches.{IsBatch};
 ghost use Rattle.gate_journal.specs.Opening.{Explains, IsFound};
-ghost use Rattle.gate_journal.specs.Scanning.{NoActs, NoneBegins, IsNoNext, refused_as};
+ghost use Rattle.gate_journal.specs.Scanning.{IsNoNext, refused_as};
 
 use crate::fault::OpenFault;
-use crate::read::{ReadFault, act, inside};
+use act_codec::{ReadFault, read_batch};
 use book_core::{Act, Book, BookFault};
 use std::alloc::Global;
 
 /// The first bytes of each journal of this format.
 pub(crate) const MAGIC: [u8; 8] = *b"AMQRJ001";
-
-/// The acts that make up all of these bytes.
-fn read_acts(alloc: Global, bytes: &[u8]) -> Result<Vec<Act>, ReadFault>
-    ensures spelled { IfOk result (λ v. bytes.now ≡ acts_bytes v.items) }
-    ensures writable { IfOk result (λ v. AreWritable v.items) }
-    ensures none { IsErrOf result ReadFault.Misspelt → NoActs bytes.now }
-{
-    let mut acts = Vec::new(alloc);
-    let mut rest = bytes;
-    while !rest.is_empty() {
-        match act(alloc, rest) {
-            Err(fault) => return Err(fault),
-            Ok((read, behind)) => {
-                acts.push(read)?;
-                rest = behind;
-            }
-        }
-    }
-    Ok(acts)
-}
-
-/// The batch at the front, and what follows it, which isn't empty.
-fn read_batch(alloc: Global, bytes: &[u8]) -> Result<(Vec<Act>, &[u8]), ReadFault>
-    ensures spelled { IfOk result (λ x. bytes.now ≡ batch x.0.items ++ x.1.now) }
-    ensures is_batch { IfOk result (λ x. IsBatch x.0.items) }
-    ensures behind { IfOk result (λ x. x.1.now ≢ []) }
-    ensures none { IsErrOf result ReadFault.Misspelt → NoneBegins bytes.now }
-{
-    match inside(bytes) {
-        Err(fault) => Err(fault),
-        Ok((inside, behind)) => match read_acts(alloc, inside) {
-            Err(fault) => Err(fault),
-            Ok(acts) => Ok((acts, behind)),
-        },
-    }
-}
 
 /// What follows an open gate.
 pub(crate) fn behind_gate(rest: &[u8]) -> Option<&[u8]>

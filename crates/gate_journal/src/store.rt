@@ -3,8 +3,8 @@ ghost use Rattle.std.specs.Prelude.{◌≡◌, ◌⊎◌, ◌+◌, ◌++◌, [],
 ghost use Rattle.disk_core.specs.Disk.{LeavesOnly, HasCause};
 ghost use Rattle.book_core.specs.declared.act.Act.{Act};
 ghost use Rattle.book_core.specs.Book.{empty_book, first_fault};
-ghost use Rattle.gate_journal.specs.Format.{batch};
-ghost use Rattle.gate_journal.specs.Batches.{Holds, IsBatch, book_after};
+ghost use Rattle.act_codec.specs.Format.{batch};
+ghost use Rattle.act_codec.specs.Batches.{Holds, IsBatch, book_after};
 ghost use Rattle.gate_journal.specs.Stands.{IsAt};
 
 use crate::device::put;

@@ -1,6 +1,6 @@
 //! Batches of acts, as a journal accepts them: not empty, of outcomes, within the limit, and applying to its book.
 ghost use Rattle.std.specs.Prelude.{◌≡◌, true, OnOk};
-ghost use Rattle.gate_journal.specs.Batches.{HasOutcome, HaveOutcomes};
+ghost use Rattle.act_codec.specs.Batches.{HasOutcome, HaveOutcomes};
 
 use crate::acts::acts_of;
 use amqp_perf::DeliveryState;

@@ -6,7 +6,7 @@ ghost use Rattle.router_after.specs.Soonest.{is_sooner, sooner};
 use router_trace::Attachment;
 
 /// A delivery or a link that may go next.
-#[derive(Clone, Copy, Debug, PartialEq, Eq)]
+#[derive(Clone, Copy, PartialEq, Eq)]
 pub(crate) struct Candidate {
     /// Its number.
     pub(crate) number: u64,

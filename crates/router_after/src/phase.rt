@@ -14,7 +14,7 @@ use router_trace::Outgoing;
 use std::alloc::AllocError;
 
 /// A phase that repeats as long as something is due.
-#[derive(Clone, Copy, Debug, PartialEq, Eq)]
+#[derive(Clone, Copy, PartialEq, Eq)]
 pub(crate) enum Phase {
     /// Outcomes are sent to producers.
     Outcomes,

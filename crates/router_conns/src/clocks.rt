@@ -20,7 +20,7 @@ use std::collections::BTreeMap;
 
 /// For each peer what its open says and when an item was last put out; nothing for a connection that is closed or
 /// lost. If an operation fails to allocate, the table's contents are unspecified.
-#[derive(Debug, Drop)]
+#[derive(Drop)]
 pub struct Clocks {
     moment: u64,
     terms: BTreeMap<u64, Terms>,

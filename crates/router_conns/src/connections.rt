@@ -19,7 +19,7 @@ use std::alloc::{AllocError, Global};
 use std::collections::BTreeMap;
 
 /// The table of connections: those that are live, and those that are over and still have items waiting.
-#[derive(Debug, Drop)]
+#[derive(Drop)]
 pub struct Connections {
     alloc: Global,
     rows: BTreeMap<u64, Row>,

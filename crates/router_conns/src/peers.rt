@@ -22,7 +22,7 @@ use std::collections::BTreeMap;
 use std::marker::Model;
 
 /// What links need of a peer's first open (AMQP 1.0 part 2, section 2.7.1).
-#[derive(Debug, Drop)]
+#[derive(Drop)]
 pub struct Container {
     id: Text,
     // the largest frame that the peer accepts, in bytes
@@ -51,7 +51,7 @@ impl Container {
 
 /// The users of connections, and what their first opens say; nothing for a connection that is closed or lost. If an operation
 /// fails to allocate, the table's contents are unspecified.
-#[derive(Debug, Drop)]
+#[derive(Drop)]
 pub struct Peers {
     alloc: Global,
     users: BTreeMap<u64, Text>,

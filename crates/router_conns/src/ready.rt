@@ -9,7 +9,7 @@ use std::collections::BTreeSet;
 use std::ops::Bound;
 
 /// The numbers of the connections that are ready.
-#[derive(Debug, Drop)]
+#[derive(Drop)]
 pub struct Ready {
     set: BTreeSet<u64>,
 }

@@ -18,7 +18,7 @@ pub const CONNECTIONS: usize = 64;
 pub const OUTBOX: usize = 4096;
 
 /// One connection: its phase, the items waiting in its outbox, and how many have left it.
-#[derive(Debug, Drop)]
+#[derive(Drop)]
 pub struct Row {
     phase: Conn,
     waiting: VecDeque<Item>,
@@ -173,7 +173,7 @@ impl Row {
 }
 
 /// Items taken from an outbox.
-#[derive(Debug, Drop)]
+#[derive(Drop)]
 pub struct Taken {
     /// The number of the first of them: how many items left the outbox before.
     pub first: u64,

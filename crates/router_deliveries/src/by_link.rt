@@ -14,7 +14,7 @@ use std::ops::Bound;
 type Pair = (u64, u64);
 
 /// Delivery numbers by link number. The numbers of a link are adjacent, and the first of them is found by one look-up.
-#[derive(Debug, Drop)]
+#[derive(Drop)]
 pub(crate) struct ByLink {
     pairs: BTreeSet<Pair>,
 }

@@ -14,7 +14,7 @@ use std::alloc::{AllocError, Global};
 use std::collections::BTreeMap;
 
 /// The numbers of deliveries by their names.
-#[derive(Debug, Drop)]
+#[derive(Drop)]
 pub(crate) struct ByName {
     rows: BTreeMap<u64, u64>,
     counters: BTreeMap<u64, u64>,

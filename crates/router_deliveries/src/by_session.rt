@@ -12,7 +12,7 @@ use std::alloc::{AllocError, Global};
 use std::collections::BTreeMap;
 
 /// Values by connection, the router's channel of a session, and the delivery-id on it.
-#[derive(Debug, Drop)]
+#[derive(Drop)]
 pub(crate) struct BySession<V> {
     alloc: Global,
     pub(crate) rows: BTreeMap<u64, BTreeMap<u16, DeliveryIds<V>>>,

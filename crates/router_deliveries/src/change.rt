@@ -37,7 +37,7 @@ pub enum Gone {
 }
 
 /// A change to deliveries.
-#[derive(Debug, Drop)]
+#[derive(Drop)]
 pub enum Change {
     /// Links end.
     Ends {

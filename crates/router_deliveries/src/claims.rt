@@ -32,7 +32,7 @@ use std::collections::{BTreeMap, BTreeSet};
 use std::marker::Model;
 
 /// An unsettled delivery of a peer.
-#[derive(Debug, Drop)]
+#[derive(Drop)]
 pub struct Claim {
     /// The router's handle of its link.
     pub handle: u32,
@@ -70,7 +70,7 @@ pub struct Receiving {
 }
 
 /// The deliveries that peers have not settled. After an error the table's contents are unspecified.
-#[derive(Debug, Drop)]
+#[derive(Drop)]
 pub struct Claims {
     ids: BySession<Claim>,
     // how many unbound claims each link has
@@ -80,7 +80,7 @@ pub struct Claims {
 }
 
 /// The handles of the router at which a claim stands.
-#[derive(Clone, Copy, Debug)]
+#[derive(Clone, Copy)]
 struct Marks {
     // that of the link whose unbound claims count it
     unbound: Option<u32>,

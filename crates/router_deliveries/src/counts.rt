@@ -7,7 +7,7 @@ use router_places::ByHandle;
 use std::alloc::{AllocError, Global};
 
 /// How many ids each link has, by the router's handles; a link without any takes no room.
-#[derive(Debug, Drop)]
+#[derive(Drop)]
 pub(crate) struct Counts {
     rows: ByHandle<usize>,
 }

@@ -32,7 +32,7 @@ use router_trace::{Binding, ConnectionId, DeliveryName};
 use std::alloc::{AllocError, Global};
 
 /// The deliveries that the router passes on. After an error the table's contents are unspecified.
-#[derive(Debug, Drop)]
+#[derive(Drop)]
 pub struct Deliveries {
     alloc: Global,
     // how many messages were bound, and how many of them have no row

@@ -14,7 +14,7 @@ use std::alloc::AllocError;
 use std::marker::Model;
 
 /// A message bound to one consumer link (AMQP 1.0 part 2, section 2.6.12).
-#[derive(Debug, Drop)]
+#[derive(Drop)]
 pub struct Delivery {
     /// Its name, from which its tag is made.
     pub name: DeliveryName,

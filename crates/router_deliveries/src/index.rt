@@ -20,7 +20,7 @@ use std::alloc::{AllocError, Global};
 use std::collections::BTreeSet;
 
 /// The entries of a delivery in the indexes.
-#[derive(Clone, Copy, Debug, PartialEq, Eq)]
+#[derive(Clone, Copy, PartialEq, Eq)]
 pub(crate) struct Keys {
     /// The link on which it waits to start.
     pub(crate) waiting: Option<u64>,
@@ -43,7 +43,7 @@ pub(crate) struct Keys {
 }
 
 /// What the indexes have to know of a delivery that was changed in its place.
-#[derive(Clone, Copy, Debug)]
+#[derive(Clone, Copy)]
 pub(crate) struct Moved {
     /// Its name.
     pub(crate) name: DeliveryName,
@@ -56,7 +56,7 @@ pub(crate) struct Moved {
 }
 
 /// Indexes of deliveries.
-#[derive(Debug, Drop)]
+#[derive(Drop)]
 pub(crate) struct Index {
     // how many wait to start on a link
     pub(crate) waiting: Tallies,

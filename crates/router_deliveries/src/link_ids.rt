@@ -12,7 +12,7 @@ use std::alloc::{AllocError, Global};
 use std::collections::BTreeSet;
 
 /// Delivery-ids by the router's handles; a link without any takes no room.
-#[derive(Debug, Drop)]
+#[derive(Drop)]
 pub(crate) struct LinkIds {
     alloc: Global,
     sets: ByHandle<BTreeSet<u32>>,

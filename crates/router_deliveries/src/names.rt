@@ -28,7 +28,7 @@ use std::alloc::{AllocError, Global};
 
 /// The numbers of deliveries by the delivery-ids that the router gave them, by session; some of those that aren't undecided are
 /// forgotten.
-#[derive(Debug, Drop)]
+#[derive(Drop)]
 pub(crate) struct Names {
     alloc: Global,
     ids: BySession<u64>,

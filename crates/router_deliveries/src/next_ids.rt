@@ -18,7 +18,7 @@ use std::alloc::{AllocError, Global};
 use std::collections::BTreeMap;
 
 /// The next delivery-id that the router gives on a session; 0 if no entry is kept.
-#[derive(Debug, Drop)]
+#[derive(Drop)]
 pub(crate) struct NextIds {
     alloc: Global,
     rows: BTreeMap<u64, BTreeMap<u16, u32>>,

@@ -22,7 +22,7 @@ use router_trace::ConnectionId;
 use std::alloc::{AllocError, Global};
 
 /// The number of the delivery of which more frames remain to be sent, by the router's handle.
-#[derive(Debug, Drop)]
+#[derive(Drop)]
 pub(crate) struct Sending {
     numbers: ByHandle<u64>,
 }

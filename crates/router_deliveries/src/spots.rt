@@ -13,7 +13,7 @@ use std::collections::BTreeSet;
 use std::collections::btree_set::Range;
 
 /// A place on a session: a handle, or a delivery-id.
-#[derive(Clone, Copy, Debug, PartialEq, Eq)]
+#[derive(Clone, Copy, PartialEq, Eq)]
 pub(crate) struct Spot {
     /// The connection.
     pub(crate) conn: u64,
@@ -28,7 +28,7 @@ type Key = (u64, u16, u32, u64);
 
 /// Delivery numbers by place, each number at one place at most. The numbers of a connection, of a session, or of a range of handles
 /// or ids are adjacent, and are found without a look at anything else.
-#[derive(Debug, Drop)]
+#[derive(Drop)]
 pub(crate) struct Spots {
     keys: BTreeSet<Key>,
 }

@@ -39,7 +39,7 @@ use std::alloc::{AllocError, Global};
 use std::collections::{BTreeMap, BTreeSet};
 
 /// Deliveries by number; one that is over is removed. If an operation fails to allocate, the contents are unspecified.
-#[derive(Debug, Drop)]
+#[derive(Drop)]
 pub(crate) struct Store {
     alloc: Global,
     deliveries: BTreeMap<u64, Delivery>,

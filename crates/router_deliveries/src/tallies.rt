@@ -9,7 +9,7 @@ use std::alloc::{AllocError, Global};
 use std::collections::BTreeMap;
 
 /// How many deliveries each link has; a link without any takes no room.
-#[derive(Debug, Drop)]
+#[derive(Drop)]
 pub(crate) struct Tallies {
     counts: BTreeMap<u64, usize>,
 }

@@ -12,7 +12,7 @@ use std::alloc::{AllocError, Global};
 use std::collections::BTreeSet;
 
 /// The numbers of links whose waiting, undecided or held deliveries may have changed since they were last forgotten.
-#[derive(Debug, Drop)]
+#[derive(Drop)]
 pub(crate) struct Touched {
     links: BTreeSet<u64>,
 }

@@ -28,7 +28,7 @@ use std::collections::BTreeMap;
 const HANDLES: u32 = 64;
 
 /// What attaches ask for, and what handles stand for. If an operation fails to allocate, the table's contents are unspecified.
-#[derive(Debug, Drop)]
+#[derive(Drop)]
 pub struct HandleTable {
     alloc: Global,
     // by connection, what the peer's last attach asks for

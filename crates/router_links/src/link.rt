@@ -21,7 +21,7 @@ use router_trace::is_durable;
 use std::alloc::{AllocError, Global};
 
 /// The router's end of a link.
-#[derive(Debug, Drop)]
+#[derive(Drop)]
 pub enum LinkEnd {
     /// The router is the sender.
     Sends(SendEnd),
@@ -39,7 +39,7 @@ pub enum Side {
 }
 
 /// A link that the router took (AMQP 1.0 part 2, section 2.6).
-#[derive(Debug, Drop)]
+#[derive(Drop)]
 pub struct Link {
     /// The number of its attachment, which is never reused.
     pub number: u64,

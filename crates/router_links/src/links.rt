@@ -31,7 +31,7 @@ use router_trace::{Attachment, ConnectionId, LinkAt, PeerHandle};
 use std::alloc::{AllocError, Global};
 
 /// The links of all connections. If an operation fails to allocate, the table's contents are unspecified.
-#[derive(Debug, Drop)]
+#[derive(Drop)]
 pub struct Links {
     handles: HandleTable,
     table: LinkTable,

@@ -15,7 +15,7 @@ use std::alloc::{AllocError, Global};
 use std::collections::BTreeMap;
 
 /// Attachments by the name that identifies them.
-#[derive(Debug, Drop)]
+#[derive(Drop)]
 pub(crate) struct Attachments<K: Ord> {
     pub(crate) entries: BTreeMap<K, Attachment>,
 }
@@ -69,7 +69,7 @@ fn is_on(attachment: Attachment, conn: u64, own: u16, handle: u32) -> bool
 }
 
 /// Attachments by key and by number. Some of those that are no longer attached may still be in it.
-#[derive(Debug, Drop)]
+#[derive(Drop)]
 pub(crate) struct Names {
     pub(crate) keys: Attachments<LinkKey>,
     pub(crate) numbers: Attachments<u64>,

@@ -40,7 +40,7 @@ use std::alloc::{AllocError, Global};
 use std::collections::BTreeSet;
 
 /// The links that the router took, with their keys and numbers. If an operation fails to allocate, the table's contents are unspecified.
-#[derive(Debug, Drop)]
+#[derive(Drop)]
 pub struct LinkTable {
     alloc: Global,
     // by the router's handle

@@ -16,7 +16,7 @@ pub type InSession<V> = BTreeMap<u32, V>;
 pub type InConnection<V> = BTreeMap<u16, InSession<V>>;
 
 /// Values by connection, the router's channel of a session, and a handle.
-#[derive(Debug, Drop)]
+#[derive(Drop)]
 pub struct ByHandle<V> {
     alloc: Global,
     rows: BTreeMap<u64, InConnection<V>>,

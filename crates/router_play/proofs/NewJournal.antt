@@ -2,8 +2,8 @@
 use Rattle.std.proofs.Common.{◌≡◌, ◌∙◌, ap, refl, subst, ℕ, ◌+◌, List, [], length}
 use Rattle.book_core.specs.declared.act.Act.{Act}
 use Rattle.book_core.specs.Book.{BookView, empty_book}
-use Rattle.gate_journal.specs.Batches.{Holds, book_after}
-use Rattle.gate_journal.specs.Format.{blocks, front}
+use Rattle.act_codec.specs.Batches.{Holds, book_after}
+use Rattle.act_codec.specs.Format.{blocks, front}
 use Rattle.gate_journal.proofs.Unique.{holds_unique}
 use Rattle.route_table.specs.Places.{routing_of}
 use Rattle.route_table.specs.Settings.{Settings}

@@ -10,7 +10,7 @@ use std::alloc::{AllocError, Global};
 use std::collections::BTreeSet;
 
 /// Addresses, ordered by their bytes.
-#[derive(Debug, Drop)]
+#[derive(Drop)]
 pub(crate) struct Addresses {
     alloc: Global,
     addresses: BTreeSet<Vec<u8>>,

@@ -18,7 +18,7 @@ use std::collections::BTreeMap;
 
 /// Pools by address: first by the address's digest, then by its bytes. So a look-up compares bytes about once, and addresses that were
 /// chosen to have one digest cost no more than a map by bytes does. A pool without links is removed, and a row without pools.
-#[derive(Debug, Drop)]
+#[derive(Drop)]
 pub(crate) struct ByAddress {
     alloc: Global,
     rows: BTreeMap<u64, Row>,

@@ -13,7 +13,7 @@ use std::alloc::{AllocError, Global};
 use std::collections::BTreeMap;
 
 /// Pools by the bytes of their addresses, which have the same digest. A pool without links is removed.
-#[derive(Debug, Drop)]
+#[derive(Drop)]
 pub(crate) struct Row {
     alloc: Global,
     pools: BTreeMap<Vec<u8>, Pool>,

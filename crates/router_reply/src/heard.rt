@@ -17,7 +17,7 @@ use router_trace::{ConnectionId, Event, Outgoing};
 use std::alloc::{AllocError, Global};
 
 /// What is kept of an event that was handled, for its answer.
-#[derive(Debug, Drop)]
+#[derive(Drop)]
 pub struct Heard {
     /// The phase of the connection of the event's item, as the event finds it; none if it isn't live then, and of other events.
     pub phase: Option<Conn>,

@@ -23,7 +23,7 @@ use router_trace::Event;
 use std::alloc::{AllocError, Global};
 
 /// What an event is answered with, and what it does to the book but for an admission.
-#[derive(Debug, Drop)]
+#[derive(Drop)]
 pub struct Plan {
     /// The answer to its item; `Nothing` if the item's connection isn't live as the event finds it, and for any other event.
     pub answer: Answer,

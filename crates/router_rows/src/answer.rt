@@ -3,7 +3,7 @@ use amqp_session::FlowState;
 use router_trace::{Condition, LinkState};
 
 /// A row's answer to an item.
-#[derive(Clone, Copy, Debug)]
+#[derive(Clone, Copy)]
 pub enum Answer {
     /// Nothing.
     Nothing,

@@ -6,6 +6,7 @@ mod end;
 mod gate;
 mod greeting;
 mod reader;
+mod service;
 mod writer;
 mod writing;
 
@@ -15,4 +16,5 @@ pub use gate::{Gate, OpenGate, Side};
 pub use greeting::{Greeted, greet};
 pub use reader::serve_reader;
 pub use router_shared::{Blanks, Closed, Ledgers, Log, Names, NoLog, Receipt, SEATS, Seat, Shared};
+pub use service::Service;
 pub use writer::serve_writer;

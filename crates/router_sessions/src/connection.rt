@@ -21,7 +21,7 @@ use std::collections::BTreeMap;
 pub const NARROW: u32 = 1_024;
 
 /// The sessions of one connection.
-#[derive(Debug, Drop)]
+#[derive(Drop)]
 pub struct ConnectionSessions {
     // what the peer's last begin says
     offered: Option<BeginState>,

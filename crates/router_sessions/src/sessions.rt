@@ -33,7 +33,7 @@ const CHANNEL_COUNT: u16 = 15;
 pub const CHANNELS: [u16; 15] = [0, 1, 2, 3, 4, 5, 6, 7, 8, 9, 10, 11, 12, 13, 14];
 
 /// The sessions of all connections.
-#[derive(Debug, Drop)]
+#[derive(Drop)]
 pub struct Sessions {
     alloc: Global,
     rows: BTreeMap<u64, ConnectionSessions>,

@@ -1,4 +1,5 @@
 pub mod Adding
+pub mod Blank
 pub mod Handing
 pub mod History
 pub use Rattle.router_core.specs.Handling

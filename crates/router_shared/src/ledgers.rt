@@ -1,5 +1,6 @@
 //! The ledgers in which the threads' counts add up to the router's.
-ghost use Rattle.std.specs.Prelude.{ℕ};
+ghost use Rattle.std.specs.Prelude.{ℕ, ◌^◌};
+ghost use Rattle.router_shared.specs.Blank.{AreOf};
 
 use std::marker::{Brand, PhantomData};
 use std::sync::ledger::{Blank, Ledger};
@@ -180,4 +181,20 @@ pub struct Blanks {
     pub starts: Blank,
     /// The blank for batches that were taken.
     pub batches: Blank,
+}
+
+impl Blanks {
+    /// Blanks of ledgers that have a part for each seat.
+    pub fn new() -> Blanks
+        ensures { AreOf result.ups.name result.items.name result.downs.name result.ticks.name result.starts.name result.batches.name (2 ^ 62) result }
+    {
+        Blanks {
+            ups: Blank::new(SEATS),
+            items: Blank::new(SEATS),
+            downs: Blank::new(SEATS),
+            ticks: Blank::new(SEATS),
+            starts: Blank::new(SEATS),
+            batches: Blank::new(SEATS),
+        }
+    }
 }

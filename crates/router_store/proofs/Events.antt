@@ -19,9 +19,9 @@ use Rattle.book_core.specs.declared.terminus.Terminus.{Terminus}
 use Rattle.book_core.specs.declared.terminus.TerminusNumber.{TerminusNumber}
 use Rattle.book_core.specs.Book.{BookView, empty_book, refusal, first_fault, effects, make_refusal, drop_refusal, admit_refusal, terminus_at, is_undecided, unless, has_role, may_bind, has_tag, is_from, undecided_for}
 use Rattle.book_core.specs.Rising.{Rises}
-use Rattle.gate_journal.specs.Batches.{HaveOutcomes, HasOutcome}
-use Rattle.gate_journal.specs.Format.{act_bytes, acts_bytes, in_2, in_4, in_8, or_zero}
-use Rattle.gate_journal.proofs.Spelled.{length-in_2, length-in_4, length-in_8}
+use Rattle.act_codec.specs.Batches.{HaveOutcomes, HasOutcome}
+use Rattle.act_codec.specs.Format.{act_bytes, acts_bytes, in_2, in_4, in_8, or_zero}
+use Rattle.act_codec.proofs.Spelled.{length-in_2, length-in_4, length-in_8}
 use Rattle.router_store.specs.declared.acting.TerminusAct.{TerminusAct}
 use Rattle.router_store.specs.declared.acting.TerminusAct.TheVariants as terminus
 use Rattle.router_store.specs.Made.{IsMade}

@@ -11,7 +11,7 @@ use Rattle.book_core.specs.declared.fault.BookFault.TheVariants.{NoTerminus, NoR
 use Rattle.book_core.specs.declared.terminus.LinkRole.TheVariants.{Producer}
 use Rattle.book_core.specs.declared.row.Row.{Row}
 use Rattle.book_core.specs.Book.{BookView, empty_book, refusal, effect, effects, first_fault, admit_refusal, unless, or_else, admitted, decided, forgotten, has_role, may_bind, terminus_at, has_tag, is_from, undecided_for}
-use Rattle.gate_journal.specs.Batches.{AllApply, book_after}
+use Rattle.act_codec.specs.Batches.{AllApply, book_after}
 
 -- one condition of several
 pub holds : (b : Bool) (f : BookFault) (next : Option BookFault) → unless b f next ≡ None → b ≡ true

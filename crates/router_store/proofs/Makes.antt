@@ -10,8 +10,8 @@ use Rattle.book_core.specs.declared.row.Row.{Row}
 use Rattle.book_core.specs.Rising.{Rises}
 use Rattle.book_core.specs.declared.fault.BookFault.{BookFault}
 use Rattle.book_core.specs.Book.{BookView, empty_book, refusal, effect, effects, first_fault}
-use Rattle.gate_journal.specs.Batches.{AllApply, book_after}
-use Rattle.gate_journal.specs.Format.{acts_bytes}
+use Rattle.act_codec.specs.Batches.{AllApply, book_after}
+use Rattle.act_codec.specs.Format.{acts_bytes}
 use Rattle.gate_journal.specs.Ordered.{IsOrdered}
 use Rattle.gate_journal.specs.Reserve.{reserve}
 use Rattle.gate_journal.proofs.Nexts.{made_ordered}

@@ -2,7 +2,7 @@
 use Rattle.std.proofs.Common.{◌≡◌, ℕ, List, sym, subst}
 use Rattle.disk_core.specs.Disk.{LeavesOnly}
 use Rattle.disk_core.specs.DiskLaws.{started}
-use Rattle.gate_journal.specs.Batches.{Holds}
+use Rattle.act_codec.specs.Batches.{Holds}
 use Rattle.router_store.specs.declared.store.Store.{Store}
 use Rattle.router_store.specs.Store.{OpensTo, Stands, disk_of, book_of}
 

@@ -9,11 +9,11 @@ use Rattle.book_core.specs.declared.fault.BookFault.TheVariants.{NoTerminus, Lim
 use Rattle.book_core.specs.declared.terminus.Terminus.{Terminus}
 use Rattle.book_core.specs.declared.terminus.TerminusNumber.{TerminusNumber}
 use Rattle.book_core.specs.Book.{BookView, refusal, make_refusal, first_fault, unless, same_key, is_short, has_short_texts}
-use Rattle.gate_journal.specs.Format.{in_2, in_8, role_byte, text_bytes, act_bytes}
+use Rattle.act_codec.specs.Format.{in_2, in_8, role_byte, text_bytes, act_bytes}
 use Rattle.gate_journal.specs.Reserve.{is_full}
 use Rattle.gate_journal.proofs.Fulls.{not_full_tested}
 use Rattle.gate_journal.proofs.Releases.{releases_fit}
-use Rattle.gate_journal.proofs.Spelled.{length-in_2, length-in_8}
+use Rattle.act_codec.proofs.Spelled.{length-in_2, length-in_8}
 use Rattle.router_store.proofs.Few.{holds, next_holds}
 
 -- what a batch needs

@@ -2,7 +2,7 @@
 use Rattle.std.proofs.Common.{◌≡◌, ◌⊎◌, inl, inr, ⊎_elim, ℕ, List, [], ◌∷◌, ◌++◌, sym, ap, ◌∙◌}
 use Rattle.book_core.specs.declared.act.Act.{Act}
 use Rattle.book_core.specs.Book.{BookView, empty_book, effects}
-use Rattle.gate_journal.specs.Batches.{Holds, book_after}
+use Rattle.act_codec.specs.Batches.{Holds, book_after}
 use Rattle.gate_journal.proofs.Fronts.{book_more}
 use Rattle.gate_journal.proofs.Unique.{holds_unique}
 use Rattle.router_store.specs.Store.{OpensTo}

@@ -14,9 +14,9 @@ use Rattle.book_core.specs.declared.row.RowNumber.{RowNumber}
 use Rattle.book_core.specs.Book.{BookView, effects, first_fault, is_undecided, decided, forgotten}
 use Rattle.book_core.specs.Rising.{Rises}
 use Rattle.book_core.proofs.Shown as shown
-use Rattle.gate_journal.specs.Batches.{IsOutcome}
-use Rattle.gate_journal.specs.Outcome.{kept_outcome}
-use Rattle.gate_journal.proofs.Kept.{is_kept}
+use Rattle.act_codec.specs.Batches.{IsOutcome}
+use Rattle.act_codec.specs.Outcome.{kept_outcome}
+use Rattle.act_codec.proofs.Kept.{is_kept}
 use Rattle.router_store.specs.Lost.{failed}
 use Rattle.router_store.specs.Acting.{journal_outcome, outcome_for, is_among, decision, decide_row, forget_row, decides, forgets, settles, decided_to, decided_by, forgotten_by, rows_behind}
 use Rattle.router_store.proofs.Makes.{effects_more, applies_more}

@@ -11,12 +11,12 @@ use Rattle.book_core.specs.declared.row.Row.{Row}
 use Rattle.book_core.specs.Book.{BookView, refusal, effect, first_fault, row_at, with_row, decided, is_undecided}
 use Rattle.book_core.specs.Rising.{Rises, AllAbove}
 use Rattle.book_core.proofs.Shown as shown
-use Rattle.gate_journal.specs.Batches.{HaveOutcomes, IsOutcome}
-use Rattle.gate_journal.specs.Format.{act_bytes, acts_bytes, in_8, in_2}
-use Rattle.gate_journal.proofs.Spelled.{length-in_2, length-in_8}
+use Rattle.act_codec.specs.Batches.{HaveOutcomes, IsOutcome}
+use Rattle.act_codec.specs.Format.{act_bytes, acts_bytes, in_8, in_2}
+use Rattle.act_codec.proofs.Spelled.{length-in_2, length-in_8}
 use Rattle.gate_journal.specs.Reserve.{OnlyRelease, IsFull}
 use Rattle.gate_journal.proofs.Releases.{releases_fit}
-use Rattle.gate_journal.proofs.Terminal.{is_outcome}
+use Rattle.act_codec.proofs.Terminal.{is_outcome}
 use Rattle.router_store.specs.Lost.{failed, is_lost, failure_of, start_acts}
 
 abbrev number_of_row : Row → ℕ

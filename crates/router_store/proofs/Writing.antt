@@ -5,8 +5,8 @@ use Rattle.book_core.specs.declared.act.Act.TheVariants.{Make, Drop}
 use Rattle.book_core.specs.declared.terminus.Terminus.{Terminus}
 use Rattle.book_core.specs.declared.terminus.TerminusNumber.{TerminusNumber}
 use Rattle.book_core.specs.Book.{BookView, refusal, make_refusal, drop_refusal, terminus_at, first_fault}
-use Rattle.gate_journal.specs.Batches.{HasOutcome}
-use Rattle.gate_journal.specs.Format.{act_bytes, acts_bytes}
+use Rattle.act_codec.specs.Batches.{HasOutcome}
+use Rattle.act_codec.specs.Format.{act_bytes, acts_bytes}
 use Rattle.gate_journal.specs.Reserve.{IsFull}
 use Rattle.gate_journal.proofs.Fulls.{test_full}
 use Rattle.router_store.specs.Lost.{start_acts}

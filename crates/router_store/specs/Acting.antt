@@ -11,7 +11,7 @@ use Rattle.book_core.specs.declared.act.Decision.{Decision}
 use Rattle.book_core.specs.declared.row.Row.{Row}
 use Rattle.book_core.specs.declared.row.RowNumber.{RowNumber}
 use Rattle.book_core.specs.Book.{BookView, effects, is_undecided, decided, forgotten, make_refusal, admit_refusal, drop_refusal, terminus_at}
-use Rattle.gate_journal.specs.Outcome.{kept_outcome}
+use Rattle.act_codec.specs.Outcome.{kept_outcome}
 use Rattle.router_store.specs.declared.acting.TerminusAct.{TerminusAct}
 use Rattle.router_store.specs.declared.acting.TerminusAct.TheVariants as terminus
 use Rattle.router_store.specs.Lost.{failed}

@@ -3,7 +3,7 @@ use Rattle.std.specs.Prelude.{◌≡◌, ℕ, ◌+◌, Bool, false, List, [], �
 use Rattle.book_core.specs.declared.act.Act.{Act}
 use Rattle.book_core.specs.Book.{BookView, empty_book, effects}
 use Rattle.gate_journal.specs.declared.journal.Journal.{Journal}
-use Rattle.gate_journal.specs.Batches.{Holds, book_after}
+use Rattle.act_codec.specs.Batches.{Holds, book_after}
 use Rattle.gate_journal.specs.Journal.{Keeps, batch_count, used_bytes, kept_bytes}
 use Rattle.gate_journal.specs.Reserve.{reserve, batch_bytes, is_full}
 use Rattle.router_store.specs.declared.store.Store.{Store}

@@ -2,8 +2,8 @@
 use Rattle.std.specs.Prelude.{◌≡◌, ◌≤◌, List, length, None}
 use Rattle.book_core.specs.declared.act.Act.{Act}
 use Rattle.book_core.specs.Book.{BookView, first_fault}
-use Rattle.gate_journal.specs.Batches.{HaveOutcomes}
-use Rattle.gate_journal.specs.Format.{acts_bytes}
+use Rattle.act_codec.specs.Batches.{HaveOutcomes}
+use Rattle.act_codec.specs.Format.{acts_bytes}
 
 -- acts that can be written to a store with this book: they apply to it, fit one batch, and each outcome among them is one
 pub record Writable (b : BookView) (acts : List Act) : Type 0 where

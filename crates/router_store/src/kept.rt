@@ -1,8 +1,8 @@
 //! The book of a store, and what can be written to it.
 ghost use Rattle.std.specs.Prelude.{◌≡◌, ◌≤◌, None, length, OnOk, OnErr, IfOk};
 ghost use Rattle.book_core.specs.Book.{first_fault, effects};
-ghost use Rattle.gate_journal.specs.Batches.{HaveOutcomes};
-ghost use Rattle.gate_journal.specs.Format.{acts_bytes};
+ghost use Rattle.act_codec.specs.Batches.{HaveOutcomes};
+ghost use Rattle.act_codec.specs.Format.{acts_bytes};
 ghost use Rattle.router_store.specs.Acting.{admission_acts, event_acts};
 ghost use Rattle.router_store.specs.Lost.{start_acts};
 ghost use Rattle.router_store.specs.Made.{IsMade};

@@ -3,8 +3,8 @@ ghost use Rattle.std.specs.Prelude.{◌≡◌, ◌≢◌, ◌⊎◌, ◌+◌, �
 ghost use Rattle.disk_core.specs.Disk.{LeavesOnly, NoMore};
 ghost use Rattle.book_core.specs.declared.act.Act.{Act as AnAct};
 ghost use Rattle.book_core.specs.Book.{first_fault, effects};
-ghost use Rattle.gate_journal.specs.Batches.{Holds, HaveOutcomes};
-ghost use Rattle.gate_journal.specs.Format.{acts_bytes, front};
+ghost use Rattle.act_codec.specs.Batches.{Holds, HaveOutcomes};
+ghost use Rattle.act_codec.specs.Format.{acts_bytes, front};
 ghost use Rattle.gate_journal.specs.Journal.{batch_count, used_bytes, kept_bytes, has_failed};
 ghost use Rattle.gate_journal.specs.Opening.{Explains};
 ghost use Rattle.gate_journal.specs.Reserve.{reserve, batch_bytes, is_full};

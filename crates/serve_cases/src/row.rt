@@ -41,6 +41,8 @@ struct Due {
 /// A row, and its connections. What comes in is held back until all above it that goes out was written, and so is what goes out.
 #[derive(Drop)]
 pub struct Row {
+    /// For everything that grows while it is served.
+    pub alloc: Global,
     lines: Vec<Line>,
     /// Its connections.
     pub wires: Vec<Wire>,
@@ -58,6 +60,7 @@ impl Row {
     /// `Word` and `Bytes` where a line isn't in the form of `docs/cases.md`; `Memory`.
     pub fn of(alloc: Global, text: &str) -> Result<Row, CaseFault> {
         let mut row = Row {
+            alloc,
             lines: Vec::new(alloc),
             wires: Vec::new(alloc),
             wanted: String::new(alloc),

@@ -3,6 +3,7 @@ ghost use Rattle.std.specs.Prelude.{◌≡◌, ◌^◌, IfOk};
 ghost use Rattle.router_core.specs.Handling.{counts_of};
 ghost use Rattle.router_core.specs.Counting.{uncounted};
 ghost use Rattle.router_shared.specs.History.{IsOpened};
+ghost use Rattle.router_shared.specs.Blank.{AreOf};
 
 use crate::row::Row;
 use crate::threads::serve_all;
@@ -10,11 +11,10 @@ use disk_core::{DiskFault, MemDisk};
 use gate_journal::{OpenFault, format};
 use route_table::Config;
 use router_core::{Core, Counts};
-use router_serve::{Blanks, Closed, Desk, Names, NoLog, SEATS, Shared};
+use router_serve::{Blanks, Closed, Desk, Names, NoLog};
 use std::alloc::{AllocError, Global};
 use std::marker::Brand;
 use std::sync::Wait;
-use std::sync::ledger::Blank;
 use std::thread::Threads;
 
 /// What is left once a row was served.
@@ -64,15 +64,7 @@ pub fn serve_row<R: Threads + Wait + Sync>(
     let Ok(core) = opened(alloc) else {
         return Err(AllocError);
     };
-    let blanks = Blanks {
-        ups: Blank::new(SEATS),
-        items: Blank::new(SEATS),
-        downs: Blank::new(SEATS),
-        ticks: Blank::new(SEATS),
-        starts: Blank::new(SEATS),
-        batches: Blank::new(SEATS),
-    };
-    counted::<Brand, R>(rt, alloc, row, core, blanks)
+    counted::<Brand, R>(rt, alloc, row, core, Blanks::new())
 }
 
 /// Serves a row, and adds up what the seats counted.
@@ -85,25 +77,10 @@ fn counted<N: Names, R: Threads + Wait + Sync>(
 ) -> Result<Left, AllocError>
     requires opened { IsOpened core }
     requires counts { counts_of core ≡ uncounted }
-    requires ups { (blanks.ups.name ≡ N.ups) × (blanks.ups.parts ≡ N.seats) }
-    requires items { (blanks.items.name ≡ N.items) × (blanks.items.parts ≡ N.seats) }
-    requires downs { (blanks.downs.name ≡ N.downs) × (blanks.downs.parts ≡ N.seats) }
-    requires ticks { (blanks.ticks.name ≡ N.ticks) × (blanks.ticks.parts ≡ N.seats) }
-    requires starts { (blanks.starts.name ≡ N.starts) × (blanks.starts.parts ≡ N.seats) }
-    requires batches { (blanks.batches.name ≡ N.batches) × (blanks.batches.parts ≡ N.seats) }
-    requires seats { N.seats ≡ 4611686018427387904 }
+    requires blanks { AreOf N.ups N.items N.downs N.ticks N.starts N.batches N.seats blanks }
+    requires seats { N.seats ≡ 2 ^ 62 }
 {
-    let made: Result<Shared<MemDisk, NoLog, N>, AllocError> = Shared::new(
-        alloc,
-        core,
-        NoLog {},
-        blanks,
-        SEATS,
-    );
-    let Ok(shared) = made else {
-        return Err(AllocError);
-    };
-    let desk = Desk::new(alloc, shared);
+    let desk: Desk<MemDisk, N> = Desk::new(alloc, core, blanks)?;
     serve_all(rt, &desk, row);
     Ok(left_of(desk.close()))
 }

@@ -3,21 +3,20 @@ use crate::gate::InOrder;
 use crate::row::Row;
 use crate::wire::{Ends, Input, Output, Wire};
 use amqp_frames::{FrameReader, Item};
-use disk_core::MemDisk;
 use route_table::{Config, Listener, Role};
-use router_core::{ConnectionId, Door, Event, Peer};
-use router_serve::{Desk, Greeted, Names, Seat, WriteEnd, greet, serve_reader, serve_writer};
+use router_core::{ConnectionId, Door, Peer};
+use router_serve::{Greeted, Service, WriteEnd, greet};
 use std::alloc::{AllocError, Global};
 use std::sync::Wait;
 use std::thread;
 use std::thread::Threads;
 
 /// Serves all connections of a row at once, until they have ended.
-pub fn serve_all<N: Names, R: Threads + Wait + Sync>(rt: &R, desk: &Desk<MemDisk, N>, row: &Row) {
-    let _ = desk.start(rt);
+pub fn serve_all<S: Service, R: Threads + Wait + Sync>(rt: &R, router: &S, row: &Row) {
+    let _ = router.start(rt);
     thread::scope(thread::scope_env(), rt, |scope| {
         for wire in &row.wires {
-            let _ = scope.spawn(move || connection(rt, desk, row, wire));
+            let _ = scope.spawn(move || connection(rt, router, row, wire));
         }
     });
 }
@@ -36,23 +35,23 @@ fn door(alloc: Global) -> Result<Door, AllocError> {
 }
 
 /// Serves a connection until it ends.
-fn connection<N: Names, R: Threads + Wait + Sync>(
+fn connection<S: Service, R: Threads + Wait + Sync>(
     rt: &R,
-    desk: &Desk<MemDisk, N>,
+    router: &S,
     row: &Row,
     wire: &Wire,
 ) {
-    let Ok(mut door) = door(desk.alloc) else {
+    let Ok(mut door) = door(row.alloc) else {
         return;
     };
     let role = door.role();
-    let mut frames = FrameReader::new(desk.alloc);
+    let mut frames = FrameReader::new(row.alloc);
     let mut input = wire.reader();
     let mut output = Output { rt, wire };
-    match greet(desk.alloc, &mut input, &mut output, &mut frames, &mut door) {
+    match greet(row.alloc, &mut input, &mut output, &mut frames, &mut door) {
         Greeted::Up(user, items) => {
             let who = Peer { user, role };
-            enter(rt, desk, row, wire, who, items, &mut frames, &mut input);
+            enter(rt, router, row, wire, who, items, &mut frames, &mut input);
         }
         Greeted::Ended(read) => {
             *wire.ends.lock(rt) = Some(Ends {
@@ -64,9 +63,9 @@ fn connection<N: Names, R: Threads + Wait + Sync>(
 }
 
 /// Serves a connection after its door.
-fn enter<N: Names, R: Threads + Wait + Sync>(
+fn enter<S: Service, R: Threads + Wait + Sync>(
     rt: &R,
-    desk: &Desk<MemDisk, N>,
+    router: &S,
     row: &Row,
     wire: &Wire,
     who: Peer,
@@ -74,50 +73,40 @@ fn enter<N: Names, R: Threads + Wait + Sync>(
     frames: &mut FrameReader,
     input: &mut Input<'_>,
 ) {
-    let Some(mut seat) = desk.seat(rt) else {
+    let Some(mut seat) = router.seat(rt) else {
         drop(who);
         drop(items);
         return;
     };
-    match desk.up(rt, &mut seat, who) {
+    match router.connect(rt, &mut seat, who) {
         Ok(conn) => {
-            let seat = both(rt, desk, row, wire, conn, seat, items, frames, input);
-            desk.put_back(rt, seat);
+            let seat = both(rt, router, row, wire, conn, seat, items, frames, input);
+            router.put_back(rt, seat);
         }
         Err(_) => {
             drop(items);
-            desk.put_back(rt, seat);
+            router.put_back(rt, seat);
         }
     }
 }
 
 /// Reads in this thread and writes in another, until both have ended.
-fn both<N: Names, R: Threads + Wait + Sync>(
+fn both<S: Service, R: Threads + Wait + Sync>(
     rt: &R,
-    desk: &Desk<MemDisk, N>,
+    router: &S,
     row: &Row,
     wire: &Wire,
     conn: ConnectionId,
-    seat: Seat<N>,
+    seat: S::Seat,
     items: Vec<Item>,
     frames: &mut FrameReader,
     input: &mut Input<'_>,
-) -> Seat<N> {
-    thread::scope(thread::scope_env(), rt, |scope| -> Seat<N> {
-        let writer = scope.spawn(move || write(rt, desk, row, wire, conn));
+) -> S::Seat {
+    thread::scope(thread::scope_env(), rt, |scope| -> S::Seat {
+        let writer = scope.spawn(move || write(rt, router, row, wire, conn));
         let gate = InOrder { row, wire };
-        let (mut seat, _, read) = serve_reader(
-            rt,
-            desk.alloc,
-            &desk.shared,
-            seat,
-            conn,
-            items,
-            frames,
-            input,
-            &gate,
-        );
-        lose(rt, desk, &mut seat, conn);
+        let (mut seat, read) = router.read(rt, seat, conn, items, frames, input, &gate);
+        router.lose(rt, &mut seat, conn);
         let written = match writer {
             Ok(writer) => writer.join(rt),
             Err(_) => None,
@@ -128,29 +117,17 @@ fn both<N: Names, R: Threads + Wait + Sync>(
 }
 
 /// Writes the router's output.
-fn write<N: Names, R: Wait>(
+fn write<S: Service, R: Wait>(
     rt: &R,
-    desk: &Desk<MemDisk, N>,
+    router: &S,
     row: &Row,
     wire: &Wire,
     conn: ConnectionId,
 ) -> Option<WriteEnd> {
-    let seat = desk.seat(rt)?;
+    let seat = router.seat(rt)?;
     let gate = InOrder { row, wire };
     let mut output = Output { rt, wire };
-    let (seat, end) = serve_writer(rt, desk.alloc, &desk.shared, seat, conn, &mut output, &gate);
-    desk.put_back(rt, seat);
+    let (seat, end) = router.write(rt, seat, conn, &mut output, &gate);
+    router.put_back(rt, seat);
     Some(end)
-}
-
-/// The threads of a connection have no more to hand in: where it is still live, it is lost, so that its writer ends.
-fn lose<N: Names, R: Wait>(
-    rt: &R,
-    desk: &Desk<MemDisk, N>,
-    seat: &mut Seat<N>,
-    conn: ConnectionId,
-) {
-    if desk.shared.is_live(rt, conn) {
-        let _ = desk.shared.submit(rt, seat, Event::Down(conn));
-    }
 }

@@ -2,8 +2,8 @@ use Rattle.std.proofs.Common.{ap}
 use Rattle.std.specs.Prelude.{Option}
 use Rattle.std.specs.Option.{unwrap_or}
 use Rattle.amqp_perf.specs.declared.state.DeliveryState.{DeliveryState}
-use Rattle.gate_journal.proofs.Kept.{keeps_itself}
-use Rattle.gate_journal.proofs.Terminal.{is_outcome}
+use Rattle.act_codec.proofs.Kept.{keeps_itself}
+use Rattle.act_codec.proofs.Terminal.{is_outcome}
 use Rattle.router_store.specs.Lost.{failed}
 use Rattle.router_store.proofs.Settled.{written_is_outcome, written_is_short}
 use Rattle.router_store.proofs.laws.outcomes_are_written.Goals as goal

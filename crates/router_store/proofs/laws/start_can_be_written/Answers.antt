@@ -1,7 +1,7 @@
 use Rattle.std.proofs.Common.{◌≡◌, ◌≤◌, sym, subst, length, None}
 use Rattle.book_core.specs.Book.{BookView, empty_book, first_fault}
-use Rattle.gate_journal.specs.Batches.{book_after}
-use Rattle.gate_journal.specs.Format.{acts_bytes}
+use Rattle.act_codec.specs.Batches.{book_after}
+use Rattle.act_codec.specs.Format.{acts_bytes}
 use Rattle.gate_journal.proofs.Nexts.{after_ordered}
 use Rattle.router_store.specs.Lost.{start_acts}
 use Rattle.router_store.proofs.Few.{few_rows}

@@ -1,8 +1,8 @@
 use Rattle.std.proofs.Common.{sym, subst, ◌≡◌, ◌≤◌, List, None, length}
 use Rattle.book_core.specs.declared.act.Act.{Act}
 use Rattle.book_core.specs.Book.{first_fault}
-use Rattle.gate_journal.specs.Batches.{HaveOutcomes}
-use Rattle.gate_journal.specs.Format.{acts_bytes}
+use Rattle.act_codec.specs.Batches.{HaveOutcomes}
+use Rattle.act_codec.specs.Format.{acts_bytes}
 use Rattle.router_store.proofs.Makes.{may_apply, may_fit}
 use Rattle.router_store.proofs.Started.{start_outcomes}
 use Rattle.std.proofs.lemmas.Result.{IfOk-weaker}

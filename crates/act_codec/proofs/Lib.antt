@@ -1,0 +1,10 @@
+pub mod Joins
+pub mod Spelled
+pub mod Texts
+pub mod Tools
+pub mod Back
+pub mod Forth
+pub mod Terminal
+pub mod Kept
+pub mod Unique
+pub mod Scans

@@ -1,0 +1,4 @@
+pub mod Batches
+pub mod Format
+pub mod Outcome
+pub mod Reading
