@@ -174,9 +174,7 @@ fn output<S: Service, R: Wait + Clock + Eprint>(
         let _ = stream.shutdown(Shutdown::Both);
         return None;
     };
-    let (seat, end) = hub
-        .router
-        .write(rt, seat, conn, &mut &*stream, watch);
+    let (seat, end) = hub.router.write(rt, seat, conn, &mut &*stream, watch);
     hub.router.put_back(rt, seat);
     if let WriteEnd::Core(fault) = end {
         hub.house.failed(rt, fault);

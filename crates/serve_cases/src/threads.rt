@@ -35,12 +35,7 @@ fn door(alloc: Global) -> Result<Door, AllocError> {
 }
 
 /// Serves a connection until it ends.
-fn connection<S: Service, R: Threads + Wait + Sync>(
-    rt: &R,
-    router: &S,
-    row: &Row,
-    wire: &Wire,
-) {
+fn connection<S: Service, R: Threads + Wait + Sync>(rt: &R, router: &S, row: &Row, wire: &Wire) {
     let Ok(mut door) = door(row.alloc) else {
         return;
     };
