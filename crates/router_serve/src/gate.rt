@@ -1,4 +1,7 @@
 //! Observation points of readers and writers.
+ghost use Rattle.std.specs.Prelude.{◌≡◌};
+ghost use Rattle.router_serve.specs.Ends.{side_number};
+
 use amqp_frames::Item;
 use router_core::ConnectionId;
 use std::sync::Wait;
@@ -14,7 +17,9 @@ pub enum Side {
 
 impl Side {
     /// The side's number: 0 for the reader, 1 for the writer.
-    pub fn number(self) -> u8 {
+    pub fn number(self) -> u8
+        ensures { result ≡ side_number self }
+    {
         match self {
             Side::Reader => 0,
             Side::Writer => 1,
