@@ -15,27 +15,23 @@ with_open c = record c { opened = true }
 abbrev pub over : Conn → Conn
 over c = record c { closed = true }
 
--- the phase after a header: only the first is in turn
-abbrev pub after_header : Conn → Result Conn ConnFault
-after_header c = if c.closed then Err WrongPhase else if c.header then Err WrongPhase else Ok (with_header c)
+-- a header: only the first is in turn
+abbrev pub header_in_turn : Conn → Result (Unit {0}) ConnFault
+header_in_turn c = if c.closed then Err WrongPhase else if c.header then Err WrongPhase else Ok tt
 
--- the phase after an open: only the first is in turn, and its largest frame is at least MIN-MAX-FRAME-SIZE (2.7.1)
-abbrev pub after_open : Open → Conn → Result Conn ConnFault
-after_open o c = if c.closed then Err WrongPhase else if c.opened then Err WrongPhase
-    else if nat_lt o.max_frame_size 512 then Err FrameSizeTooSmall else Ok (with_open c)
+-- an open: only the first is in turn, and its largest frame is at least MIN-MAX-FRAME-SIZE (2.7.1)
+abbrev pub open_in_turn : Open → Conn → Result (Unit {0}) ConnFault
+open_in_turn o c = if c.closed then Err WrongPhase else if c.opened then Err WrongPhase
+    else if nat_lt o.max_frame_size 512 then Err FrameSizeTooSmall else Ok tt
 
--- the phase after another frame: the open came before it, and its channel is at most 14 (2.7.1, channel-max)
-abbrev pub after_frame : ℕ → Conn → Result Conn ConnFault
-after_frame channel c = if c.closed then Err WrongPhase else if c.opened then
-    (if nat_lt 14 channel then Err ChannelTooHigh else Ok c) else Err WrongPhase
+-- another frame: the open came before it, and its channel is at most 14 (2.7.1, channel-max)
+abbrev pub frame_in_turn : ℕ → Conn → Result (Unit {0}) ConnFault
+frame_in_turn channel c = if c.closed then Err WrongPhase else if c.opened then
+    (if nat_lt 14 channel then Err ChannelTooHigh else Ok tt) else Err WrongPhase
 
--- the phase after a close, which is such a frame and ends the connection
-abbrev pub unless_fault : Result Conn ConnFault → Result Conn ConnFault
-unless_fault (Ok c) = Ok (over c)
-unless_fault (Err f) = Err f
-
-abbrev pub after_close : ℕ → Conn → Result Conn ConnFault
-after_close channel c = unless_fault (after_frame channel c)
+-- a close is in turn where another frame is
+abbrev pub close_in_turn : ℕ → Conn → Result (Unit {0}) ConnFault
+close_in_turn channel c = frame_in_turn channel c
 
 -- the fault's number
 abbrev pub number_of : ConnFault → ℕ

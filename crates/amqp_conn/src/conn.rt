@@ -1,6 +1,6 @@
 //! The phase that a connection is in.
 ghost use Rattle.std.specs.Prelude.{◌≡◌, false};
-ghost use Rattle.amqp_conn.specs.Phase.{with_header, with_open, over, after_header, after_open, after_frame, after_close};
+ghost use Rattle.amqp_conn.specs.Phase.{with_header, with_open, over, header_in_turn, open_in_turn, frame_in_turn, close_in_turn};
 
 use crate::fault::ConnFault;
 use amqp_perf::Open;
@@ -12,7 +12,9 @@ pub const MIN_MAX_FRAME_SIZE: u32 = 512;
 pub const CHANNEL_MAX: u16 = 14;
 
 /// The phase of a connection: which of header, open and close were exchanged (AMQP 1.0 part 2, section 2.4.6). The router
-/// answers each in the event in which it comes, so a thing is exchanged once the router's own is written.
+/// answers each in the event in which it comes, so a thing is exchanged once the router's own is written. So `take_header`,
+/// `take_open`, `take_frame` and `take_close` ask whether the peer's item is in turn, and change nothing; what the router writes
+/// in answer moves the phase: `with_header`, `with_open`, `over`.
 ///
 /// These are three facts, and not one of the standard's states, since none of them rules out another: header and open come in
 /// either order (a caller that wants the header first refuses other items before it), and a connection that is over because its
@@ -70,9 +72,9 @@ impl Conn {
         }
     }
 
-    /// The phase after a header. Fails with `WrongPhase` where headers were exchanged or the connection is over.
-    pub fn take_header(self) -> Result<Conn, ConnFault>
-        ensures { result ≡ after_header self }
+    /// Takes a header, which the phase must allow. Fails with `WrongPhase` where headers were exchanged or the connection is over.
+    pub fn take_header(self) -> Result<(), ConnFault>
+        ensures { result ≡ header_in_turn self }
     {
         if self.closed {
             return Err(ConnFault::WrongPhase);
@@ -80,13 +82,13 @@ impl Conn {
         if self.header {
             return Err(ConnFault::WrongPhase);
         }
-        Ok(self.with_header())
+        Ok(())
     }
 
-    /// The phase after an open, on any channel. Fails with `WrongPhase` where opens were exchanged or the connection is over, else
-    /// with `FrameSizeTooSmall` where its max-frame-size is below 512 bytes.
-    pub fn take_open(self, open: &Open) -> Result<Conn, ConnFault>
-        ensures { result ≡ after_open «open».now self }
+    /// Takes an open, on any channel. Fails with `WrongPhase` where opens were exchanged or the connection is over, else with
+    /// `FrameSizeTooSmall` where its max-frame-size is below 512 bytes.
+    pub fn take_open(self, open: &Open) -> Result<(), ConnFault>
+        ensures { result ≡ open_in_turn «open».now self }
     {
         if self.closed {
             return Err(ConnFault::WrongPhase);
@@ -97,13 +99,13 @@ impl Conn {
         if open.max_frame_size < MIN_MAX_FRAME_SIZE {
             return Err(ConnFault::FrameSizeTooSmall);
         }
-        Ok(self.with_open())
+        Ok(())
     }
 
-    /// The phase after a frame on this channel that is neither open nor close. Fails with `WrongPhase` before the open and where
-    /// the connection is over, else with `ChannelTooHigh` above channel 14.
-    pub fn take_frame(self, channel: u16) -> Result<Conn, ConnFault>
-        ensures { result ≡ after_frame channel self }
+    /// Takes a frame on this channel that is neither open nor close. Fails with `WrongPhase` before the open and where the connection
+    /// is over, else with `ChannelTooHigh` above channel 14.
+    pub fn take_frame(self, channel: u16) -> Result<(), ConnFault>
+        ensures { result ≡ frame_in_turn channel self }
     {
         if self.closed {
             return Err(ConnFault::WrongPhase);
@@ -114,14 +116,13 @@ impl Conn {
         if channel > CHANNEL_MAX {
             return Err(ConnFault::ChannelTooHigh);
         }
-        Ok(self)
+        Ok(())
     }
 
-    /// The phase after a close on this channel, which ends the connection. Fails as `take_frame` does.
-    pub fn take_close(self, channel: u16) -> Result<Conn, ConnFault>
-        ensures { result ≡ after_close channel self }
+    /// Takes a close on this channel. Fails as `take_frame` does.
+    pub fn take_close(self, channel: u16) -> Result<(), ConnFault>
+        ensures { result ≡ close_in_turn channel self }
     {
-        let taken = self.take_frame(channel)?;
-        Ok(taken.over())
+        self.take_frame(channel)
     }
 }

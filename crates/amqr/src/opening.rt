@@ -2,7 +2,7 @@
 ghost use Rattle.std.specs.Prelude.{◌≡◌, ⊤, IfOk, IfErr};
 ghost use Rattle.router_core.specs.Handling.{counts_of};
 ghost use Rattle.router_core.specs.Counting.{uncounted};
-ghost use Rattle.router_shared.specs.History.{IsOpened};
+ghost use Rattle.router_locked.specs.History.{IsOpened};
 ghost use Rattle.amqr_files.specs.Journals.{IsNotListed};
 
 use amqr_files::{JournalDisk, Refusal, journal_disk};

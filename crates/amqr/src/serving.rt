@@ -2,8 +2,8 @@
 ghost use Rattle.std.specs.Prelude.{◌≡◌, ◌^◌};
 ghost use Rattle.router_core.specs.Handling.{counts_of};
 ghost use Rattle.router_core.specs.Counting.{uncounted};
-ghost use Rattle.router_shared.specs.History.{IsOpened};
-ghost use Rattle.router_shared.specs.Blank.{AreOf};
+ghost use Rattle.router_locked.specs.History.{IsOpened};
+ghost use Rattle.router_seats.specs.Blank.{AreOf};
 
 use crate::house::House;
 use crate::hub::Hub;

@@ -41,8 +41,8 @@ use Rattle.router_rows.specs.Rows.{Finds, said, item_reply}
 use Rattle.router_rows.specs.Finding.{finds}
 use Rattle.router_rows.specs.Booking.{repeats, booked_transfer}
 use Rattle.router_reply.specs.Acts.{answer_of, found_journal}
-use Rattle.router_reply.specs.Admitting.{claimed_id}
-use Rattle.router_reply.specs.Replies.{closing_of, lasts_on, consumer_for, let_go, unless_many, ignored_put, released_by, unbound_put, part_put, row_found, settled_answers, links_put, item_row, own_row}
+use Rattle.router_transfers.specs.Transfers.{claimed_id, lasts_on, consumer_for, let_go, unless_many, ignored_put, released_by, unbound_put, part_put, settled_answers}
+use Rattle.router_reply.specs.Replies.{closing_of, row_found, links_put, item_row, own_row}
 use Rattle.router_core.specs.Laws.{is_attach_in, is_attach, brings_attach}
 use Rattle.router_conns.proofs.Lists.{by_test, filter_none}
 use Rattle.router_core.proofs.Due.{goes_on_link, AllOnLinks}

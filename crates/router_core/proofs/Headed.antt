@@ -7,7 +7,7 @@ use Rattle.amqp_frames.specs.declared.item.Item.{Item}
 use Rattle.amqp_frames.specs.declared.item.Item.TheVariants as item
 use Rattle.amqp_conn.specs.declared.conn.Conn.{Conn}
 use Rattle.amqp_session.specs.Session.{Session}
-use Rattle.router_trace.specs.Trace.{Beginning}
+use Rattle.router_trace.specs.Trace.{Beginning, Entry, Put, Did, Out, Took, Bound, Booked, Began, did, goes, puts, each_to, ups, step_of}
 use Rattle.router_trace.specs.Configuration.{beginning}
 use Rattle.book_core.specs.declared.act.Act.{Act}
 use Rattle.router_trace.specs.declared.binding.Binding.{Binding}
@@ -17,7 +17,6 @@ use Rattle.router_trace.specs.declared.event.ConnectionId.{ConnectionId}
 use Rattle.router_trace.specs.declared.event.Event.{Event}
 use Rattle.router_trace.specs.declared.handle.Attachment.{Attachment}
 use Rattle.router_trace.specs.declared.event.Event.TheVariants as event
-use Rattle.router_trace.specs.Trace.{Entry, Put, Did, Out, Took, Bound, Booked, Began, did, goes, puts, each_to, ups, step_of}
 use Rattle.router_trace.specs.Connection.{Connection, conn, ended, took, unless_empty, drained, standing, is_live, is_full, is_due, has, due, found, live, live_of, at_event}
 use Rattle.router_trace.specs.Refusing.{refuses}
 use Rattle.router_trace.specs.Frames.{header_item}
@@ -32,7 +31,8 @@ use Rattle.router_state.specs.Tables.{beat_if, beats_over}
 use Rattle.router_passing.specs.Passing.{grants_due, with_bound}
 use Rattle.router_after.specs.After.{followed}
 use Rattle.router_rows.specs.Rows.{said}
-use Rattle.router_reply.specs.Replies.{closing_of, ends, heard, stolen_by, refused, part_put, settled_answers, bound_by, item_row, own_row, replied}
+use Rattle.router_transfers.specs.Transfers.{part_put, settled_answers}
+use Rattle.router_reply.specs.Replies.{closing_of, ends, heard, stolen_by, refused, bound_by, item_row, own_row, replied}
 use Rattle.router_reply.specs.Acts.{answer_of, booked}
 use Rattle.router_core.specs.Replies.{answered, handled}
 use Rattle.router_core.specs.Runs.{waiting_of, took_one}

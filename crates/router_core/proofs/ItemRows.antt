@@ -19,7 +19,8 @@ use Rattle.router_trace.specs.Peers.{largest_frame}
 use Rattle.router_rows.specs.declared.answer.Answer.{Answer}
 use Rattle.router_rows.specs.declared.answer.Answer.TheVariants.{Attach, Refuse, Taken, Settle}
 use Rattle.router_rows.specs.Rows.{said}
-use Rattle.router_reply.specs.Replies.{taken, refused, part_put, row_found, settled_answers, item_put}
+use Rattle.router_transfers.specs.Transfers.{part_put, settled_answers}
+use Rattle.router_reply.specs.Replies.{taken, refused, row_found, item_put}
 
 pub item_cases : (id : List ℕ) (t after : List Entry) (c : ℕ) (p : Conn) (P : Answer → List Put → Type 0)
     → ((a : Answer) → P a (each_to c (said id p a)))

@@ -15,7 +15,7 @@ use Rattle.amqp_link.specs.declared.part.Part.{Part}
 use Rattle.amqp_link.specs.declared.part.Part.TheVariants as part
 use Rattle.amqp_session.specs.Session.{Session, remote_window}
 use Rattle.book_core.specs.declared.row.RowNumber.{RowNumber}
-use Rattle.router_trace.specs.Trace.{Beginning}
+use Rattle.router_trace.specs.Trace.{Beginning, Entry, Did, Out, Put, Step, goes, puts, each_to, ups}
 use Rattle.router_trace.specs.Configuration.{beginning}
 use Rattle.router_trace.specs.declared.binding.Binding.{Binding}
 use Rattle.router_trace.specs.declared.binding.Origin.{Origin}
@@ -24,7 +24,6 @@ use Rattle.router_trace.specs.declared.condition.Condition.TheVariants.{Resource
 use Rattle.router_trace.specs.declared.event.Event.{Event}
 use Rattle.router_trace.specs.declared.handle.Attachment.{Attachment}
 use Rattle.router_trace.specs.declared.event.Event.TheVariants as event
-use Rattle.router_trace.specs.Trace.{Entry, Did, Out, Put, Step, goes, puts, each_to, ups}
 use Rattle.router_trace.specs.Connection.{Connection, conn, standing, found, live, due, live_of}
 use Rattle.router_trace.specs.Frames.{closing, told_of}
 use Rattle.router_trace.specs.Deliveries.{Delivery, has_row, delivery}
@@ -44,8 +43,8 @@ use Rattle.router_passing.specs.Passing.{grants_due, with_bound}
 use Rattle.router_rows.specs.declared.answer.Answer.{Answer}
 use Rattle.router_rows.specs.declared.answer.Answer.TheVariants.{Nothing, Header, Open, Close, CloseWith, Begin, End, Flow, Attach, Refuse, Detach, LinkFlow, Taken, Settle}
 use Rattle.router_rows.specs.Rows.{said}
-use Rattle.router_reply.specs.Admitting.{claimed_id}
-use Rattle.router_reply.specs.Replies.{closing_of, ends, heard, stolen_by, attach_answer, refused, lasts_on, consumer_for, let_go, unless_many, ignored_put, released_by, unbound_put, whole_put, part_put, settled_answers, bound_by, item_row, own_row, replied}
+use Rattle.router_transfers.specs.Transfers.{claimed_id, lasts_on, consumer_for, let_go, unless_many, ignored_put, released_by, unbound_put, whole_put, part_put, settled_answers}
+use Rattle.router_reply.specs.Replies.{closing_of, ends, heard, stolen_by, attach_answer, refused, bound_by, item_row, own_row, replied}
 use Rattle.router_reply.specs.Acts.{answer_of, booked}
 use Rattle.router_core.specs.Replies.{answered, handled}
 use Rattle.router_core.proofs.Booking.{booked_keeps}

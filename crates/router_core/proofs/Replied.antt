@@ -26,7 +26,8 @@ use Rattle.router_passing.specs.Passing.{with_bound}
 use Rattle.router_rows.specs.declared.answer.Answer.{Answer}
 use Rattle.router_rows.specs.Rows.{said}
 use Rattle.router_reply.specs.Acts.{answer_of}
-use Rattle.router_reply.specs.Replies.{heard, taken, refused, part_put, settled_answers, bound_by, item_row, own_row, replied}
+use Rattle.router_transfers.specs.Transfers.{part_put, settled_answers}
+use Rattle.router_reply.specs.Replies.{heard, taken, refused, bound_by, item_row, own_row, replied}
 use Rattle.router_core.specs.Replies.{answered}
 use Rattle.router_conns.proofs.Lists.{by_test, has_push}
 use Rattle.router_conns.proofs.Turns.{known}

@@ -16,7 +16,7 @@ use Rattle.amqp_frames.specs.declared.item.Item.TheVariants as item
 use Rattle.amqp_conn.specs.declared.conn.Conn.{Conn}
 use Rattle.amqp_conn.specs.declared.fault.ConnFault.{ConnFault}
 use Rattle.amqp_conn.specs.declared.fault.ConnFault.TheVariants.{ChannelTooHigh}
-use Rattle.amqp_conn.specs.Phase.{after_frame, after_open, unless_fault}
+use Rattle.amqp_conn.specs.Phase.{frame_in_turn, open_in_turn}
 use Rattle.book_core.specs.Book.{BookView}
 use Rattle.amqp_session.specs.declared.states.BeginState.{BeginState}
 use Rattle.amqp_session.specs.Session.{Session, TheirFlow, allowance}
@@ -36,8 +36,7 @@ use Rattle.router_conns.proofs.Lists.{by_test}
 use Rattle.router_rows.specs.declared.answer.Answer.{Answer}
 use Rattle.router_rows.specs.declared.answer.Answer.TheVariants.{Nothing, Header, Open, Close, CloseWith, Begin, End, Flow, Attach, Refuse, Detach, LinkFlow, Taken, Settle}
 use Rattle.router_rows.specs.Rows.{Finds, Links, said, header_reply, open_by, open_reply, begin_by, begin_reply, end_reply, echo, flow_on, flow_reply, attach_reply, transfer_reply, detach_reply, disposition_reply, close_by, close_reply, in_turn, turn_by, perf_reply, item_reply}
-use Rattle.router_rows.specs.LinkRows.{is_multicast_link, refusal, attach_or, attach_at, session_attach_reply, session_detach_reply, link_echo, is_reached, detach_for, link_flow_reply, is_anonymous, asks, is_among, start_on, delivery_by, delivery_on, link_transfer_reply, is_unattached, session_transfer_reply}
-use Rattle.router_rows.specs.LinkRows.{flow_on as link_flow_on}
+use Rattle.router_rows.specs.LinkRows.{is_multicast_link, refusal, attach_or, attach_at, session_attach_reply, session_detach_reply, link_echo, is_reached, detach_for, link_flow_reply, is_anonymous, asks, is_among, start_on, delivery_by, delivery_on, link_transfer_reply, is_unattached, session_transfer_reply, flow_on as link_flow_on}
 use Rattle.router_rows.specs.Finding.{finds}
 use Rattle.router_rows.specs.Booking.{attach_unless, booked_attach, repeats, booked_transfer, booked_perf, booked, book_refusal}
 use Rattle.router_reply.specs.Acts.{found_journal, full_at, answer_of}
@@ -321,11 +320,11 @@ flow_fits h b asked (on own s) links f place = by f.handle
 -- on an open connection or not
 turn_fits : (h o : Bool) (b : ℕ → Bool) (asked : Option BeginState) (k : Finds) (channel : ℕ) (body : Perf)
     → AnswerFits (open_phase h true) b asked (in_turn k channel body)
-    → AnswerFits (open_phase h o) b asked (turn_by k channel body (after_frame channel (open_phase h o)))
+    → AnswerFits (open_phase h o) b asked (turn_by k channel body (frame_in_turn channel (open_phase h o)))
 turn_fits h false b asked k channel body here = tt
 turn_fits h true b asked k channel body here = by_channel (nat_lt 14 channel)
   where
-    by_channel : (q : Bool) → AnswerFits (open_phase h true) b asked (turn_by k channel body (if q then Err ChannelTooHigh else Ok (open_phase h true)))
+    by_channel : (q : Bool) → AnswerFits (open_phase h true) b asked (turn_by k channel body (if q then Err ChannelTooHigh else Ok tt))
     by_channel true = tt
     by_channel false = here
 
@@ -334,7 +333,7 @@ close_fits : (h o : Bool) (b : ℕ → Bool) (asked : Option BeginState) (channe
 close_fits h false b asked channel = tt
 close_fits h true b asked channel = by_channel (nat_lt 14 channel)
   where
-    by_channel : (q : Bool) → AnswerFits (open_phase h true) b asked (close_by (unless_fault (if q then Err ChannelTooHigh else Ok (open_phase h true))))
+    by_channel : (q : Bool) → AnswerFits (open_phase h true) b asked (close_by (if q then Err ChannelTooHigh else Ok tt))
     by_channel true = tt
     by_channel false = refl
 
@@ -389,9 +388,9 @@ Opens (CloseWith x) = Unit {0}
 Opens _ = ⊥
 
 pub open_opens : (p : Conn) (x : AnOpen) → Opens (open_reply p x)
-open_opens p x = by (after_open x p)
+open_opens p x = by (open_in_turn x p)
   where
-    by : (r : Result Conn ConnFault) → Opens (open_by x r)
+    by : (r : Result (Unit {0}) ConnFault) → Opens (open_by x r)
     by (Ok q) = by_test (nat_lt 1024 (length x.container_id)) (λ e. rw e tt) (λ e. rw e tt)
     by (Err f) = tt
 

@@ -28,8 +28,7 @@ use Rattle.router_trace.specs.LinkFrames.{plain_answer, answer_to, detach_item}
 use Rattle.router_trace.specs.Links.{Link, link, free_handle, holder, key_at, link_place, durable_key}
 use Rattle.router_trace.specs.Deliveries.{terminal, last_of, named, tag_in}
 use Rattle.router_trace.specs.DeliveryFrames.{outcome_item}
-use Rattle.router_trace.specs.Numbers.{count_below}
-use Rattle.router_trace.specs.Numbers.{first_below}
+use Rattle.router_trace.specs.Numbers.{count_below, first_below}
 use Rattle.router_trace.specs.Settling.{ids_between, is_open_as, names_open, is_open_id, is_of_link, is_unbound_on, unbound, is_tagged_on, uses_tag, middle_on, part_of}
 use Rattle.router_passing.specs.Passing.{consumer_of, lasts, binding_to, passing}
 use Rattle.router_rows.specs.declared.answer.Answer.{Answer}
@@ -37,8 +36,8 @@ use Rattle.router_rows.specs.declared.answer.Answer.TheVariants.{Attach, Detach,
 use Rattle.router_rows.specs.Rows.{Finds, said, item_reply}
 use Rattle.router_rows.specs.Finding.{finds}
 use Rattle.router_rows.specs.Booking.{wants_durable, wanted_address, new_terminus, has_room, durable_refusal, volatile_refusal, book_refusal, booked_attach, stands_from, repeats, booked_transfer, booked, answer_at}
-use Rattle.router_reply.specs.Admitting.{claimed_id}
-use Rattle.router_reply.specs.Replies.{stolen_by, attach_answer, taken_behind, taken, refused, settled_answers, from_link, origin_of, lasts_on, may_pass, consumer_for, fresh_bound, whole_bound, let_go, unless_many, ignored_put, released_by, released, unbound_put, whole_put, part_put, part_bound, row_found, bound_for, links_put, item_put}
+use Rattle.router_transfers.specs.Transfers.{claimed_id, settled_answers, from_link, origin_of, lasts_on, may_pass, consumer_for, fresh_bound, whole_bound, let_go, unless_many, ignored_put, released_by, released, unbound_put, whole_put, part_put, part_bound}
+use Rattle.router_reply.specs.Replies.{stolen_by, attach_answer, taken_behind, taken, refused, row_found, bound_for, links_put, item_put}
 use Rattle.router_core.specs.Laws.{untaken}
 use Rattle.router_core.proofs.Untaken.{untaken_goes, same_place, same_free}
 use Rattle.router_core.proofs.UntakenDeliveries.{same_named, same_delivery, same_claims, same_numbered}

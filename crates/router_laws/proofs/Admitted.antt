@@ -38,9 +38,10 @@ use Rattle.router_rows.specs.declared.answer.Answer.{Answer}
 use Rattle.router_rows.specs.declared.answer.Answer.TheVariants.{Nothing, Taken}
 use Rattle.router_rows.specs.Booking.{answer_at}
 use Rattle.router_reply.specs.Acts.{live_answer, event_answer, planned_acts, admitted_acts, or_admits, event_acts, finds_full, journaled, book_in, acts_of, booked, answer_of}
-use Rattle.router_reply.specs.Admitting.{claimed_id, terminus_for, admitted_to, whole_admission, part_admission, taken_admission, unless_ends, event_admission, admits, row_in, without_acts}
+use Rattle.router_transfers.specs.Transfers.{claimed_id, from_link, origin_of, lasts_on, may_pass, fresh_bound, whole_bound, part_bound}
+use Rattle.router_reply.specs.Admitting.{terminus_for, admitted_to, whole_admission, part_admission, taken_admission, unless_ends, event_admission, admits, row_in, without_acts}
 use Rattle.router_reply.specs.Deciding.{decided, forgotten, terminus_of_event}
-use Rattle.router_reply.specs.Replies.{from_link, origin_of, lasts_on, may_pass, fresh_bound, whole_bound, part_bound, row_found, ends, heard, bound_for, item_bound, bound_by}
+use Rattle.router_reply.specs.Replies.{row_found, ends, heard, bound_for, item_bound, bound_by}
 use Rattle.router_laws.specs.Admitted.{IsFromTerminus, IsAdmitted, IsAdmittedUnder, RowIsAdmitted}
 use Rattle.router_laws.proofs.Arriving.{CameAt, came_whole, bound_on, bound_there}
 use Rattle.router_laws.proofs.Transfers.{IsOn, IfTaken, transfer_taken}

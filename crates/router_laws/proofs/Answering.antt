@@ -10,7 +10,7 @@ use Rattle.amqp_frames.specs.declared.item.Item.TheVariants as item
 use Rattle.amqp_conn.specs.declared.conn.Conn.{Conn}
 use Rattle.amqp_conn.specs.declared.fault.ConnFault.{ConnFault}
 use Rattle.amqp_conn.specs.declared.fault.ConnFault.TheVariants.{ChannelTooHigh}
-use Rattle.amqp_conn.specs.Phase.{after_frame}
+use Rattle.amqp_conn.specs.Phase.{frame_in_turn}
 use Rattle.book_core.specs.declared.act.Act.{Act}
 use Rattle.book_core.specs.declared.act.Act.TheVariants.{Admit}
 use Rattle.book_core.specs.declared.act.Admission.{Admission}
@@ -190,7 +190,7 @@ attach_by_reply sessions.nowhere links free multicast a = tt
 attach_by_reply sessions.ending links free multicast a = tt
 attach_by_reply (sessions.on own h) links free multicast a = attach_by_session free own (links own a.handle) (is_multicast_link multicast a.role a) a
 
-attach_by_turn : (k : Finds) (channel : ℕ) (a : AnAttach) (r : Result Conn ConnFault) → IfAttach false k.free_handle (turn_by k channel (perf.Attach a) r)
+attach_by_turn : (k : Finds) (channel : ℕ) (a : AnAttach) (r : Result (Unit {0}) ConnFault) → IfAttach false k.free_handle (turn_by k channel (perf.Attach a) r)
 attach_by_turn k channel a (Ok q) = attach_by_reply (k.places channel) k.links k.free_handle k.multicast a
 attach_by_turn k channel a (Err f) = by f
   where
@@ -200,7 +200,7 @@ attach_by_turn k channel a (Err f) = by f
 
 attach_by_row : (p : Conn) (k : Finds) (sasl : Bool) (channel : ℕ) (a : AnAttach) (payload : List ℕ) → IfAttach sasl k.free_handle (item_reply p k (item.Frame sasl channel (perf.Attach a) payload))
 attach_by_row p k true channel a payload = tt
-attach_by_row p k false channel a payload = attach_by_turn k channel a (after_frame channel p)
+attach_by_row p k false channel a payload = attach_by_turn k channel a (frame_in_turn channel p)
 
 attach_by_book : (sasl : Bool) (free : ℕ → Option ℕ) (r : Option Condition) (y : Answer) → IfAttach sasl free y → IfAttach sasl free (booked_attach free r y)
 attach_by_book sasl free None (Attach own) is = is

@@ -26,8 +26,8 @@ use Rattle.router_trace.specs.Sessions.{theirs}
 use Rattle.router_trace.specs.Links.{Link, LinkPlace, Happened, link, link_place}
 use Rattle.router_trace.specs.Settling.{is_claimed_on, unbound, part_on, part_by, part_of}
 use Rattle.router_passing.specs.Passing.{consumer_of, binding_to, with_bound}
-use Rattle.router_reply.specs.Admitting.{claimed_id}
-use Rattle.router_reply.specs.Replies.{from_link, origin_of, lasts_on, may_pass, fresh_bound, whole_put, whole_bound, part_put, part_bound, let_go, released_by, released, unbound_put, ignored_put, row_found}
+use Rattle.router_transfers.specs.Transfers.{claimed_id, from_link, origin_of, lasts_on, may_pass, fresh_bound, whole_put, whole_bound, part_put, part_bound, let_go, released_by, released, unbound_put, ignored_put}
+use Rattle.router_reply.specs.Replies.{row_found}
 use Rattle.router_laws.specs.Came.{Handled, just_handled, bound_since, CameWhole, ComesFrom, HasRowOn}
 use Rattle.router_laws.specs.Told.{IsUnbound}
 use Rattle.router_conns.proofs.Lists.{by_test}

@@ -27,7 +27,8 @@ use Rattle.router_state.specs.Tables.{beat_if, beats_over}
 use Rattle.router_rows.specs.declared.answer.Answer.{Answer}
 use Rattle.router_rows.specs.declared.answer.Answer.TheVariants.{Nothing, Header, Open, Close, CloseWith, Begin, End, Flow, Attach, Refuse, Detach, LinkFlow, Taken, Settle}
 use Rattle.router_rows.specs.Rows.{said}
-use Rattle.router_reply.specs.Replies.{closing_of, stolen_by, attach_answer, refused, taken, let_go, ignored_put, settled_answers}
+use Rattle.router_transfers.specs.Transfers.{let_go, ignored_put, settled_answers}
+use Rattle.router_reply.specs.Replies.{closing_of, stolen_by, attach_answer, refused, taken}
 use Rattle.router_core.proofs.Granting.{AllGrants, all_grants}
 use Rattle.router_conns.proofs.Lists.{by_test}
 use Rattle.router_laws.proofs.Sound.{is_loud, Quiet, QuietPut, quiet_both, quiet_to}

@@ -29,9 +29,9 @@ use Rattle.router_rows.specs.declared.answer.Answer.{Answer}
 use Rattle.router_rows.specs.declared.answer.Answer.TheVariants.{Taken, Settle}
 use Rattle.router_rows.specs.Rows.{said}
 use Rattle.router_reply.specs.Acts.{book_in}
-use Rattle.router_reply.specs.Admitting.{claimed_id}
+use Rattle.router_transfers.specs.Transfers.{claimed_id, lasts_on, let_go, unless_many, ignored_put, released_by, released, unbound_put, consumer_for, whole_put, part_put, settled_answers}
 use Rattle.router_reply.specs.Deciding.{ended_by}
-use Rattle.router_reply.specs.Replies.{lasts_on, let_go, unless_many, ignored_put, released_by, released, unbound_put, consumer_for, whole_put, part_put, row_found, settled_answers, bound_for, links_put, item_put}
+use Rattle.router_reply.specs.Replies.{row_found, bound_for, links_put, item_put}
 use Rattle.router_laws.specs.Came.{BindsMessage, ComesFrom}
 use Rattle.router_laws.proofs.Consuming.{consumer_sends}
 use Rattle.router_laws.proofs.Ending.{TakesNone, takes_none, said_kept}

@@ -7,7 +7,7 @@ use Rattle.amqp_frames.specs.declared.item.Item.TheVariants as item
 use Rattle.amqp_conn.specs.declared.conn.Conn.{Conn}
 use Rattle.amqp_conn.specs.declared.fault.ConnFault.{ConnFault}
 use Rattle.amqp_conn.specs.declared.fault.ConnFault.TheVariants.{ChannelTooHigh}
-use Rattle.amqp_conn.specs.Phase.{after_frame}
+use Rattle.amqp_conn.specs.Phase.{frame_in_turn}
 use Rattle.amqp_link.specs.declared.part.Delivery.{Delivery as Told}
 use Rattle.amqp_link.specs.Receiving.{Received, unused}
 use Rattle.amqp_session.specs.Session.{Session, allowance}
@@ -76,7 +76,7 @@ by_place (Some (Mapped own)) known links claimed x = by (known own)
     by None = tt
     by (Some h) = by_session own h (claimed own) (λ own. links own x.handle) x
 
-by_turn : (v : Option PeerChannel) (at : ℕ → LinkPlace) (k : Finds) (channel : ℕ) (x : Transfer) (r : Result Conn ConnFault)
+by_turn : (v : Option PeerChannel) (at : ℕ → LinkPlace) (k : Finds) (channel : ℕ) (x : Transfer) (r : Result (Unit {0}) ConnFault)
     → IfTaken false v at (in_turn k channel (perf.Transfer x)) → IfTaken false v at (turn_by k channel (perf.Transfer x) r)
 by_turn v at k channel x (Ok q) it = it
 by_turn v at k channel x (Err f) it = by f
@@ -89,7 +89,7 @@ row_taken : (p : Conn) (t : Trace) (c : ℕ) (sasl : Bool) (channel : ℕ) (x : 
     → IfTaken sasl (theirs t c channel) (λ own. link_place t c own x.handle) (item_reply p (finds t c) (item.Frame sasl channel (perf.Transfer x) payload))
 row_taken p t c true channel x payload = tt
 row_taken p t c false channel x payload =
-    by_turn (theirs t c channel) (λ own. link_place t c own x.handle) (finds t c) channel x (after_frame channel p)
+    by_turn (theirs t c channel) (λ own. link_place t c own x.handle) (finds t c) channel x (frame_in_turn channel p)
     (by_place (theirs t c channel) (session t c) (link_place t c) (finds t c).claimed x)
 
 -- a row that repeats one of the book is not taken; else the answer is as without a book

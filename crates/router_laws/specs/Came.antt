@@ -18,8 +18,8 @@ use Rattle.router_trace.specs.Sessions.{theirs}
 use Rattle.router_trace.specs.Links.{Link, receives, link, link_place, on}
 use Rattle.router_trace.specs.Settling.{is_claimed_on}
 use Rattle.router_passing.specs.Passing.{consumer_of, lasts}
-use Rattle.router_reply.specs.Admitting.{claimed_id}
-use Rattle.router_reply.specs.Replies.{from_link, lasts_on, row_found}
+use Rattle.router_transfers.specs.Transfers.{claimed_id, from_link, lasts_on}
+use Rattle.router_reply.specs.Replies.{row_found}
 
 -- an event, and the trace that it found
 pub record Handled : Type 0 where

@@ -18,7 +18,8 @@ use Rattle.router_trace.specs.DeliveryFrames.{kept_outcome}
 use Rattle.router_trace.specs.Links.{Link, link}
 use Rattle.router_trace.specs.Settling.{is_claimed_on}
 use Rattle.router_passing.specs.Passing.{consumer_of}
-use Rattle.router_reply.specs.Replies.{lasts_on, row_found}
+use Rattle.router_transfers.specs.Transfers.{lasts_on}
+use Rattle.router_reply.specs.Replies.{row_found}
 use Rattle.router_laws.specs.OneConsumer.{WhileThere}
 use Rattle.router_laws.specs.Decided.{DecidedByConsumer}
 use Rattle.router_laws.specs.Came.{CameWhole}

@@ -4,7 +4,7 @@ use Rattle.std.specs.Prelude.{◌==◌, Option, Some, None, is_some, option_map,
 use Rattle.std.proofs.lemmas.Bool.{eqb-true, eq-eqb}
 use Rattle.amqp_frames.specs.declared.item.Item.{Item}
 use Rattle.amqp_conn.specs.declared.conn.Conn.{Conn}
-use Rattle.router_trace.specs.Trace.{Beginning}
+use Rattle.router_trace.specs.Trace.{Beginning, Entry, Out, Put, did, goes, each_to, puts, ups, step_of}
 use Rattle.router_trace.specs.declared.binding.Binding.{Binding}
 use Rattle.router_trace.specs.declared.condition.Condition.{Condition}
 use Rattle.router_trace.specs.declared.condition.Condition.TheVariants.{ResourceLimitExceeded}
@@ -13,7 +13,6 @@ use Rattle.router_trace.specs.declared.event.Peer.{Peer}
 use Rattle.router_trace.specs.declared.event.Event.{Event}
 use Rattle.router_trace.specs.declared.handle.Attachment.{Attachment}
 use Rattle.router_trace.specs.declared.event.Event.TheVariants as event
-use Rattle.router_trace.specs.Trace.{Entry, Out, Put, did, goes, each_to, puts, ups, step_of}
 use Rattle.router_trace.specs.Connection.{Connection, conn, with_item, ended, took, drained, unless_empty, standing, is_live, is_item, is_ready, has, due, found, live_of, at_event}
 use Rattle.amqp_session.specs.Session.{Session}
 use Rattle.router_trace.specs.Links.{link, if_attached, last_of_key, holder, key_at}
@@ -28,7 +27,8 @@ use Rattle.router_sessions.specs.Windows.{is_narrow, flow_due, flows_below, wind
 use Rattle.router_state.specs.Tables.{beat_if, beats_over, beats}
 use Rattle.router_passing.specs.Passing.{grants_due, with_bound}
 use Rattle.router_rows.specs.Rows.{said}
-use Rattle.router_reply.specs.Replies.{closing_of, ends, heard, stolen_by, refused, part_put, settled_answers, bound_by, item_row, own_row, replied}
+use Rattle.router_transfers.specs.Transfers.{part_put, settled_answers}
+use Rattle.router_reply.specs.Replies.{closing_of, ends, heard, stolen_by, refused, bound_by, item_row, own_row, replied}
 use Rattle.router_after.specs.After.{widened, followed}
 use Rattle.router_reply.specs.Acts.{answer_of, booked}
 use Rattle.router_core.specs.Replies.{answered, handled}

@@ -15,7 +15,8 @@ use Rattle.router_rows.specs.declared.answer.Answer.{Answer}
 use Rattle.router_rows.specs.declared.answer.Answer.TheVariants.{Taken, Settle}
 use Rattle.router_rows.specs.Rows.{said}
 use Rattle.router_reply.specs.Acts.{answer_of}
-use Rattle.router_reply.specs.Replies.{item_row, item_bound, item_put, links_put, put_for_transfer, put_for_disposition, bound_for, part_put, part_bound, settled_put, disposition_in, attach_put, row_found, given_behind, behind_answer}
+use Rattle.router_transfers.specs.Transfers.{part_put, part_bound, disposition_in, given_behind}
+use Rattle.router_reply.specs.Replies.{item_row, item_bound, item_put, links_put, put_for_transfer, put_for_disposition, bound_for, settled_put, attach_put, row_found, behind_answer}
 use Rattle.router_reply.proofs.Puts.{goes_both}
 
 -- an answer takes no transfer, or answers no disposition

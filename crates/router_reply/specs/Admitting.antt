@@ -1,6 +1,6 @@
 -- The delivery that an event admits to the book: a whole delivery that came on a durable link, whose producer hasn't settled it and doesn't resume it, if
 -- a consumer of its address is chosen.
-use Rattle.std.specs.Prelude.{ℕ, Bool, if◌then◌else◌, ◌||◌, is_none, List, [], ◌∷◌, Option, Some, None, option_map, unwrap_or}
+use Rattle.std.specs.Prelude.{ℕ, if◌then◌else◌, ◌||◌, is_none, List, [], ◌∷◌, Option, Some, None, option_map, unwrap_or}
 use Rattle.amqp_link.specs.declared.part.Delivery.{Delivery as Told}
 use Rattle.amqp_link.specs.declared.part.Part.{Part}
 use Rattle.amqp_link.specs.declared.part.Part.TheVariants as part
@@ -20,15 +20,11 @@ use Rattle.router_trace.specs.Trace.{Trace, did, Booked}
 use Rattle.router_trace.specs.Connection.{due}
 use Rattle.router_trace.specs.Following.{link_of}
 use Rattle.router_trace.specs.Links.{link, link_place, durable_key}
-use Rattle.router_trace.specs.Settling.{is_claimed_on, part_of}
+use Rattle.router_trace.specs.Settling.{part_of}
 use Rattle.router_passing.specs.Passing.{consumer_of}
 use Rattle.router_rows.specs.declared.answer.Answer.{Answer}
 use Rattle.router_rows.specs.declared.answer.Answer.TheVariants.{Taken}
-
--- the id of a delivery, if its producer hasn't settled it: the link still claims it
-abbrev pub claimed_id : Trace → ℕ → ℕ → ℕ → Option ℕ → Option ℕ
-claimed_id after c own handle None = None
-claimed_id after c own handle (Some id) = if is_claimed_on after c own handle id then Some id else None
+use Rattle.router_transfers.specs.Transfers.{claimed_id}
 
 -- the number of a durable link's terminus in the book
 abbrev pub terminus_for : BookView → Option LinkKey → Option TerminusNumber

@@ -16,7 +16,7 @@ use Rattle.router_rows.specs.declared.answer.Answer.{Answer}
 use Rattle.router_rows.specs.declared.answer.Answer.TheVariants.{Settle}
 use Rattle.router_state.specs.Tables.{beats}
 use Rattle.router_reply.specs.declared.heard.Heard.{Heard}
-use Rattle.router_reply.specs.Replies.{disposition_in}
+use Rattle.router_transfers.specs.Transfers.{disposition_in}
 
 -- the deliveries that a disposition decides without settling them
 abbrev pub ids_named : Trace → ℕ → ℕ → Option ADisposition → List ℕ → Type 0

@@ -5,7 +5,6 @@ ghost use Rattle.router_trace.specs.Links.{link, durable_key};
 ghost use Rattle.router_state.specs.Tables.{TablesFit};
 ghost use Rattle.router_reply.specs.Admitting.{terminus_for, admission_of, admitted_to, whole_admission, part_admission, answer_admission, row_in};
 
-use crate::passing::claimed_id;
 use amqp_link::{Delivery, Part};
 use amqp_perf::DeliveryTag;
 use book_core::{Act, Admission, Book, LinkKey, RowNumber, TerminusNumber};
@@ -13,6 +12,7 @@ use bytes::Bytes;
 use router_rows::Answer;
 use router_state::State;
 use router_trace::{Attachment, ConnectionId};
+use router_transfers::claimed_id;
 use std::alloc::AllocError;
 
 /// The number of a durable link's terminus in the book.

@@ -9,13 +9,13 @@ ghost use Rattle.router_links.specs.Fits.{channel_of};
 ghost use Rattle.router_state.specs.Tables.{TablesFit, beats};
 ghost use Rattle.router_reply.specs.Acts.{answer_of, answer_to_event};
 ghost use Rattle.router_reply.specs.Heard.{ids_named, ItemHeard, IsHeard};
-ghost use Rattle.router_reply.specs.Replies.{replied, replied_behind, given_behind, behind_answer, attach_put, settled_put, disposition_in, row_found};
+ghost use Rattle.router_transfers.specs.Transfers.{given_behind, disposition_in};
+ghost use Rattle.router_reply.specs.Replies.{replied, replied_behind, behind_answer, attach_put, settled_put, row_found};
 ghost use Rattle.router_trace.specs.declared.event.Event.TheVariants as event;
 
 use crate::attaching::answer_item;
 use crate::closing::{close_all, say};
 use crate::heard::Heard;
-use crate::passing::{disposition_in, settle, take_part};
 use amqp_conn::Conn;
 use amqp_frames::Item;
 use amqp_link::Part;
@@ -23,6 +23,7 @@ use book_core::RowNumber;
 use router_rows::Answer;
 use router_state::State;
 use router_trace::{ConnectionId, Event, Outgoing, RouterId};
+use router_transfers::{disposition_in, settle, take_part};
 use std::alloc::AllocError;
 
 /// The deliveries that a disposition decides without settling them, and that are answered.

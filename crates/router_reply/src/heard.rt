@@ -7,13 +7,13 @@ ghost use Rattle.router_trace.specs.declared.event.Event.TheVariants as event;
 ghost use Rattle.router_state.specs.Tables.{TablesFit, TablesAt, TablesFind, beats};
 ghost use Rattle.router_reply.specs.Heard.{ids_found, ItemHeard, IsHeard};
 
-use crate::passing::{disposition_in, last_of};
 use amqp_conn::Conn;
 use amqp_frames::Item;
 use amqp_link::Part;
 use router_rows::Answer;
 use router_state::State;
 use router_trace::{ConnectionId, Event, Outgoing};
+use router_transfers::{disposition_in, last_of};
 use std::alloc::{AllocError, Global};
 
 /// What is kept of an event that was handled, for its answer.

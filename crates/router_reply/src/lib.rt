@@ -7,11 +7,9 @@ mod closing;
 mod deciding;
 mod events;
 mod heard;
-mod passing;
 mod planning;
 
 pub use admitting::{admission_for, row_in};
 pub use events::reply;
 pub use heard::{Heard, hear};
-pub use passing::UNBOUND;
 pub use planning::{Plan, make_plan};

@@ -16,7 +16,7 @@ use Rattle.amqp_frames.specs.declared.item.Item.TheVariants as item
 use Rattle.amqp_conn.specs.declared.conn.Conn.{Conn}
 use Rattle.amqp_conn.specs.declared.fault.ConnFault.{ConnFault}
 use Rattle.amqp_conn.specs.declared.fault.ConnFault.TheVariants.{ChannelTooHigh}
-use Rattle.amqp_conn.specs.Phase.{after_frame, after_header, after_open, after_close}
+use Rattle.amqp_conn.specs.Phase.{frame_in_turn, header_in_turn, open_in_turn, close_in_turn}
 use Rattle.amqp_link.specs.declared.part.Delivery.{Delivery as Told}
 use Rattle.amqp_link.specs.Receiving.{delivery_count, unused}
 use Rattle.router_trace.specs.Deliveries.{terminal, tag_in}
@@ -33,8 +33,7 @@ use Rattle.router_links.specs.Fits.{channel_of}
 use Rattle.router_rows.specs.declared.answer.Answer.{Answer}
 use Rattle.router_rows.specs.declared.answer.Answer.TheVariants.{Taken, Attach}
 use Rattle.router_rows.specs.Rows.{Finds, Links, header_by, open_by, begin_by, begin_reply, end_reply, echo, flow_on, flow_reply, attach_reply, transfer_reply, detach_reply, disposition_reply, in_turn, out_of_turn, close_by, turn_by, perf_reply, item_reply}
-use Rattle.router_rows.specs.LinkRows.{is_multicast_link, refusal, attach_or, attach_at, session_detach_reply, link_echo, is_reached, link_flow_reply, is_anonymous, is_among, is_same_id, is_same_tag, is_unattached, asks, delivery_by, delivery_on, link_transfer_reply}
-use Rattle.router_rows.specs.LinkRows.{flow_on as link_flow_on}
+use Rattle.router_rows.specs.LinkRows.{is_multicast_link, refusal, attach_or, attach_at, session_detach_reply, link_echo, is_reached, link_flow_reply, is_anonymous, is_among, is_same_id, is_same_tag, is_unattached, asks, delivery_by, delivery_on, link_transfer_reply, flow_on as link_flow_on}
 use Rattle.router_rows.specs.Finding.{finds}
 use Rattle.router_rows.specs.Booking.{attach_unless, booked_attach, repeats, booked_transfer, booked_perf, booked, book_refusal, answer_at}
 use Rattle.book_core.specs.Book.{BookView}
@@ -59,11 +58,11 @@ place_here (Some (Mapped own)) known = by (known own)
     by (Some h) = eq-eqb own own refl
 
 -- each row
-header_here : (here : ℕ → Bool) (r : Result Conn ConnFault) → IsHere here (header_by r)
+header_here : (here : ℕ → Bool) (r : Result (Unit {0}) ConnFault) → IsHere here (header_by r)
 header_here here (Ok q) = tt
 header_here here (Err f) = tt
 
-open_here : (here : ℕ → Bool) (x : AnOpen) (r : Result Conn ConnFault) → IsHere here (open_by x r)
+open_here : (here : ℕ → Bool) (x : AnOpen) (r : Result (Unit {0}) ConnFault) → IsHere here (open_by x r)
 open_here here x (Ok q) = by_test (nat_lt 1024 (length x.container_id)) (λ e. rw e tt) (λ e. rw e tt)
 open_here here x (Err f) = tt
 
@@ -166,11 +165,11 @@ out_of_turn_here : (here : ℕ → Bool) (f : ConnFault) → IsHere here (out_of
 out_of_turn_here here ChannelTooHigh = tt
 out_of_turn_here here _ = tt
 
-close_here : (here : ℕ → Bool) (r : Result Conn ConnFault) → IsHere here (close_by r)
+close_here : (here : ℕ → Bool) (r : Result (Unit {0}) ConnFault) → IsHere here (close_by r)
 close_here here (Ok q) = tt
 close_here here (Err f) = out_of_turn_here here f
 
-turn_here : (here : ℕ → Bool) (k : Finds) (channel : ℕ) (body : Perf) (r : Result Conn ConnFault) → IsHere here (in_turn k channel body) → IsHere here (turn_by k channel body r)
+turn_here : (here : ℕ → Bool) (k : Finds) (channel : ℕ) (body : Perf) (r : Result (Unit {0}) ConnFault) → IsHere here (in_turn k channel body) → IsHere here (turn_by k channel body r)
 turn_here here k channel body (Ok q) it = it
 turn_here here k channel body (Err f) it = out_of_turn_here here f
 
@@ -185,12 +184,12 @@ in_turn_here here k channel (perf.End x) place = end_here here (k.places channel
 in_turn_here here k channel _ place = tt
 
 perf_here : (here : ℕ → Bool) (p : Conn) (k : Finds) (channel : ℕ) (body : Perf) → IsHere here (in_turn k channel body) → IsHere here (perf_reply p k channel body)
-perf_here here p k channel (perf.Open x) it = open_here here x (after_open x p)
-perf_here here p k channel (perf.Close x) it = close_here here (after_close channel p)
-perf_here here p k channel body it = turn_here here k channel body (after_frame channel p) it
+perf_here here p k channel (perf.Open x) it = open_here here x (open_in_turn x p)
+perf_here here p k channel (perf.Close x) it = close_here here (close_in_turn channel p)
+perf_here here p k channel body it = turn_here here k channel body (frame_in_turn channel p) it
 
 item_here : (here : ℕ → Bool) (p : Conn) (k : Finds) (i : Item) → PlaceIsHere here (k.places (channel_of i)) → IsHere here (item_reply p k i)
-item_here here p k (item.Header x y z w) place = header_here here (after_header p)
+item_here here p k (item.Header x y z w) place = header_here here (header_in_turn p)
 item_here here p k (item.Frame true channel body payload) place = tt
 item_here here p k (item.Frame false channel body payload) place = perf_here here p k channel body (in_turn_here here k channel body place)
 item_here here p k (item.Beat channel) place = by_test (nat_lt 14 channel) (λ e. rw e tt) (λ e. rw e tt)

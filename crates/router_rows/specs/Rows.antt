@@ -18,7 +18,7 @@ use Rattle.amqp_frames.specs.declared.item.Item.TheVariants as item
 use Rattle.amqp_conn.specs.declared.conn.Conn.{Conn}
 use Rattle.amqp_conn.specs.declared.fault.ConnFault.{ConnFault}
 use Rattle.amqp_conn.specs.declared.fault.ConnFault.TheVariants.{ChannelTooHigh}
-use Rattle.amqp_conn.specs.Phase.{after_header, after_open, after_frame, after_close}
+use Rattle.amqp_conn.specs.Phase.{header_in_turn, open_in_turn, frame_in_turn, close_in_turn}
 use Rattle.amqp_session.specs.Session.{Session, TheirFlow}
 use Rattle.router_trace.specs.declared.condition.Condition.{Condition}
 use Rattle.router_trace.specs.declared.condition.Condition.TheVariants.{NotAllowed, FramingError, DecodeError, ResourceLimitExceeded}
@@ -45,12 +45,12 @@ said id p (LinkFlow own told at) = link_flow_item own told at ∷ []
 said id p _ = []
 
 -- a header: the first is answered by the header, a later one is a framing error
-abbrev pub header_by : Result Conn ConnFault → Answer
+abbrev pub header_by : Result (Unit {0}) ConnFault → Answer
 header_by (Ok q) = Header
 header_by (Err f) = CloseWith FramingError
 
 abbrev pub header_reply : Conn → Answer
-header_reply p = header_by (after_header p)
+header_reply p = header_by (header_in_turn p)
 
 -- a faulty frame: its body is faulty, or the frame itself
 abbrev pub condition_of : FrameFault → Condition
@@ -62,12 +62,12 @@ bad_frame_reply f = CloseWith (condition_of f)
 
 -- an open: a second one, or one whose largest frame is below 512 bytes, isn't allowed; a container-id has at most 1,024
 -- bytes; else the router's open
-abbrev pub open_by : AnOpen → Result Conn ConnFault → Answer
+abbrev pub open_by : AnOpen → Result (Unit {0}) ConnFault → Answer
 open_by o (Ok q) = if nat_lt 1024 (length o.container_id) then CloseWith ResourceLimitExceeded else Open
 open_by o (Err f) = CloseWith NotAllowed
 
 abbrev pub open_reply : Conn → AnOpen → Answer
-open_reply p o = open_by o (after_open o p)
+open_reply p o = open_by o (open_in_turn o p)
 
 -- a SASL frame, a SASL body, or a performative before the open
 abbrev pub early_frame_reply : Answer
@@ -87,12 +87,12 @@ out_of_turn ChannelTooHigh = channel_reply
 out_of_turn _ = early_frame_reply
 
 -- a close: the router's close, which ends the connection; where it isn't in turn, what any frame gets there
-abbrev pub close_by : Result Conn ConnFault → Answer
+abbrev pub close_by : Result (Unit {0}) ConnFault → Answer
 close_by (Ok q) = Close
 close_by (Err f) = out_of_turn f
 
 abbrev pub close_reply : Conn → ℕ → Answer
-close_reply p channel = close_by (after_close channel p)
+close_reply p channel = close_by (close_in_turn channel p)
 
 -- events without an answer
 abbrev pub silent_reply : Answer
@@ -186,14 +186,14 @@ in_turn k channel (perf.Detach x) = detach_reply (k.places channel) k.links x
 in_turn k channel (perf.End x) = end_reply (k.places channel)
 in_turn k channel _ = early_frame_reply
 
-abbrev pub turn_by : Finds → ℕ → Perf → Result Conn ConnFault → Answer
+abbrev pub turn_by : Finds → ℕ → Perf → Result (Unit {0}) ConnFault → Answer
 turn_by k channel body (Ok q) = in_turn k channel body
 turn_by k channel body (Err f) = out_of_turn f
 
 abbrev pub perf_reply : Conn → Finds → ℕ → Perf → Answer
 perf_reply p k channel (perf.Open o) = open_reply p o
 perf_reply p k channel (perf.Close x) = close_reply p channel
-perf_reply p k channel body = turn_by k channel body (after_frame channel p)
+perf_reply p k channel body = turn_by k channel body (frame_in_turn channel p)
 
 -- an item on a live connection in this phase
 abbrev pub item_reply : Conn → Finds → Item → Answer

@@ -1,6 +1,6 @@
 //! The choice of the row that answers an item.
 ghost use Rattle.std.specs.Prelude.{◌≡◌, List};
-ghost use Rattle.amqp_conn.specs.Phase.{after_frame};
+ghost use Rattle.amqp_conn.specs.Phase.{frame_in_turn};
 ghost use Rattle.router_trace.specs.Trace.{Entry};
 ghost use Rattle.router_trace.specs.Sessions.{Place as At};
 ghost use Rattle.router_trace.specs.Links.{link_place, free_handle};
@@ -123,10 +123,10 @@ fn in_turn(state: &State, conn: u64, channel: u16, perf: &Perf) -> Answer
 /// The answer to a performative other than open and close, on this channel.
 fn turn_by(state: &State, conn: u64, phase: Conn, channel: u16, perf: &Perf) -> Answer
     ensures { (t : List Entry) → TablesFind state.now t
-        → result ≡ turn_by (finds t conn) channel perf.now (after_frame channel phase) }
+        → result ≡ turn_by (finds t conn) channel perf.now (frame_in_turn channel phase) }
 {
     match phase.take_frame(channel) {
-        Ok(_) => in_turn(state, conn, channel, perf),
+        Ok(()) => in_turn(state, conn, channel, perf),
         Err(fault) => out_of_turn(fault),
     }
 }

@@ -27,7 +27,7 @@ pub fn header_reply(phase: Conn) -> Answer
     ensures { result ≡ header_reply phase }
 {
     match phase.take_header() {
-        Ok(_) => Answer::Header,
+        Ok(()) => Answer::Header,
         Err(_) => Answer::CloseWith(Condition::FramingError),
     }
 }
@@ -56,7 +56,7 @@ pub fn open_reply(phase: Conn, open: &Open) -> Answer
 {
     let long = open.container_id.as_str().len() > CONTAINER_ID;
     match phase.take_open(open) {
-        Ok(_) => {
+        Ok(()) => {
             if long {
                 Answer::CloseWith(Condition::ResourceLimitExceeded)
             } else {
@@ -104,7 +104,7 @@ pub fn close_reply(phase: Conn, channel: u16) -> Answer
     ensures { result ≡ close_reply phase channel }
 {
     match phase.take_close(channel) {
-        Ok(_) => Answer::Close,
+        Ok(()) => Answer::Close,
         Err(fault) => out_of_turn(fault),
     }
 }

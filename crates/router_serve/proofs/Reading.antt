@@ -11,7 +11,7 @@ use Rattle.router_core.specs.declared.counts.Counts.{Counts}
 use Rattle.router_serve.specs.declared.end.ReadEnd.{ReadEnd}
 use Rattle.router_serve.specs.declared.end.ReadEnd.TheVariants as end
 use Rattle.router_serve.specs.Greeting.{Gives, Stops}
-use Rattle.router_shared.specs.Adding.{with_items}
+use Rattle.router_seats.specs.Adding.{with_items}
 use Rattle.router_serve.specs.Submitting.{CountsSome, ends_badly, HandsIn, Hinders, is_bad, is_whole}
 use Rattle.router_serve.proofs.Streams.{at_end, Came, gives_more, gives_nothing, gives_the_same, none_behind}
 use Rattle.router_serve.proofs.Submits.{items_added, none_counted}

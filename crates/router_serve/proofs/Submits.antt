@@ -9,7 +9,7 @@ use Rattle.amqp_frames.specs.Cuts.{Stream}
 use Rattle.router_core.specs.declared.counts.Counts.{Counts}
 use Rattle.router_serve.specs.declared.end.ReadEnd.{ReadEnd}
 use Rattle.router_serve.specs.declared.end.ReadEnd.TheVariants as end
-use Rattle.router_shared.specs.Adding.{Handled, with_items}
+use Rattle.router_seats.specs.Adding.{Handled, with_items}
 use Rattle.router_serve.specs.Submitting.{CountsGone, CountsSome, HandsIn, Hinders, IsCore, with_downs, needs_down, Submitted}
 
 -- items, then more of them

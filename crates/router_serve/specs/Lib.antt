@@ -2,8 +2,8 @@ pub mod Ends
 pub mod Greeting
 pub mod Submitting
 pub mod Wrote
-pub use Rattle.router_shared.specs.Adding
-pub use Rattle.router_shared.specs.History
+pub use Rattle.router_seats.specs.Adding
+pub use Rattle.router_locked.specs.History
 pub use Rattle.router_core.specs.Handling
 pub use Rattle.router_core.specs.Moves
 pub use Rattle.router_core.specs.Counting

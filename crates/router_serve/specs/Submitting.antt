@@ -6,7 +6,7 @@ use Rattle.amqp_frames.specs.declared.item.Item.TheVariants as item
 use Rattle.amqp_frames.specs.Cuts.{Stream}
 use Rattle.router_core.specs.declared.counts.Counts.{Counts}
 use Rattle.router_core.specs.declared.fault.CoreFault.TheVariants.{Failed, NoConnection}
-use Rattle.router_shared.specs.Adding.{with_items}
+use Rattle.router_seats.specs.Adding.{with_items}
 use Rattle.router_serve.specs.declared.end.ReadEnd.{ReadEnd}
 use Rattle.router_serve.specs.declared.end.ReadEnd.TheVariants as end
 use Rattle.router_serve.specs.Greeting.{Gives}

@@ -5,8 +5,8 @@ ghost use Rattle.router_store.specs.Store.{journal_of};
 ghost use Rattle.router_trace.specs.declared.event.Event.TheVariants as event;
 ghost use Rattle.router_core.specs.Handling.{counts_of, store_of};
 ghost use Rattle.router_core.specs.Counting.{uncounted, with_event};
-ghost use Rattle.router_shared.specs.History.{HasHistory, IsOpened};
-ghost use Rattle.router_shared.specs.Blank.{AreOf};
+ghost use Rattle.router_locked.specs.History.{HasHistory, IsOpened};
+ghost use Rattle.router_seats.specs.Blank.{AreOf};
 
 use disk_core::Disk;
 use router_core::{ConnectionId, Core, CoreFault, Event, Peer};

@@ -2,7 +2,7 @@
 ghost use Rattle.std.specs.Prelude.{◌≡◌, ℕ, List, [], false, length, OnOk, OnErr, IfOk, IfErr};
 ghost use Rattle.std.specs.Io.KnownBytes.{Consumes};
 ghost use Rattle.router_serve.specs.Greeting.{Gives, Stops};
-ghost use Rattle.router_shared.specs.Adding.{with_items};
+ghost use Rattle.router_seats.specs.Adding.{with_items};
 ghost use Rattle.router_serve.specs.Submitting.{CountsGone, CountsSome, ends_badly, HandsIn, Hinders, IsCore, needs_down, Submitted};
 
 use crate::end::ReadEnd;

@@ -1,17 +1,8 @@
-//! The router under one lock, with its history, the threads' seats beside it, and their counts.
+//! The router under one lock, and the threads' seats beside it.
 #![tactic(auto)]
 
-mod bells;
-mod kind;
-mod ledgers;
-mod locked;
-mod router;
-mod seat;
 mod shared;
-mod tally;
-mod totals;
 
-pub use ledgers::{Blanks, Ledgers, Names, SEATS};
-pub use locked::{Closed, Log, NoLog, Receipt};
-pub use seat::Seat;
+pub use router_locked::{Closed, Log, NoLog, Receipt};
+pub use router_seats::{Blanks, Ledgers, Names, SEATS, Seat};
 pub use shared::Shared;

@@ -15,7 +15,8 @@ use Rattle.router_rows.specs.Rows.{said}
 use Rattle.router_rows.proofs.Mapped.{IsHere, answer_here}
 use Rattle.router_reply.specs.Acts.{found_journal, full_at}
 use Rattle.router_reply.specs.Heard.{ids_named, ids_found}
-use Rattle.router_reply.specs.Replies.{attach_put, given_behind, behind_answer, settled_put, disposition_in, row_found}
+use Rattle.router_transfers.specs.Transfers.{given_behind, disposition_in}
+use Rattle.router_reply.specs.Replies.{attach_put, behind_answer, settled_put, row_found}
 use Rattle.router_reply.proofs.Behind.{taken_is, settled_is, other_is, taken_left, settled_left}
 use Rattle.router_reply.proofs.events.begin_item.Goals as goal
 

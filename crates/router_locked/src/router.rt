@@ -1,0 +1,111 @@
+//! The router with its history: the data under the lock.
+ghost use Rattle.std.specs.Prelude.{◌≡◌, ◌≤◌, ◌+◌, if◌then◌else◌, length, OnOk, OnErr, IfOk};
+ghost use Rattle.router_trace.specs.Trace.{Trace, step_of};
+ghost use Rattle.router_core.specs.Handling.{Fits, counts_of, id_of, is_failed};
+ghost use Rattle.router_core.specs.Replies.{handled};
+ghost use Rattle.router_core.specs.Counting.{uncounted, with_event, with_batch};
+ghost use Rattle.router_locked.specs.Handing.{batches_of};
+ghost use Rattle.router_locked.specs.History.{IsOpened, HasHistory};
+
+use disk_core::Disk;
+use router_core::{Batch, ConnectionId, Core, CoreFault, Counts, Event};
+
+/// The number of items taken at a time.
+pub const MOST: usize = 64;
+
+/// A router whose tables agree with one order of events and takes, each of which its counts contain once. After a fault of
+/// the disk or of memory its contents are unspecified, and it does nothing.
+#[derive(Drop)]
+pub struct Router<D: Disk> {
+    core: Core<D>,
+    ghost history: { ∥ HasHistory core ∥₁ },
+}
+
+impl<D: Disk> Router<D> {
+    /// A new router.
+    pub fn new(core: Core<D>) -> Router<D>
+        requires opened { IsOpened core }
+        requires counts { counts_of core ≡ uncounted }
+        ensures { result.core ≡ core }
+    {
+        Router { core }
+    }
+
+    /// Handles an event, and returns whether it wrote to the journal.
+    pub fn handle(&mut self, event: Event) -> Result<bool, CoreFault>
+        ensures counted { OnOk result (counts_of self.new.core ≡ with_event event (counts_of self.old.core)) }
+        ensures uncounted { OnErr result (counts_of self.new.core ≡ counts_of self.old.core) }
+        ensures fits { OnOk result ((t : Trace) → Fits self.old.core t → Fits self.new.core (handled (id_of self.old.core) t (step_of event))) }
+        ensures wrote { IfOk result (λ wrote. (t : Trace) → Fits self.old.core t → batches_of self.new.core ≡ batches_of self.old.core + (if wrote then 1 else 0)) }
+        ensures named { id_of self.new.core ≡ id_of self.old.core }
+    {
+        let before = self.core.batch();
+        match self.core.handle(event) {
+            Ok(done) => {
+                drop(done);
+                Ok(self.core.batch() != before)
+            }
+            Err(fault) => Err(fault),
+        }
+    }
+
+    /// Takes up to 64 items of a connection.
+    pub fn take(&mut self, conn: ConnectionId) -> Result<Batch, CoreFault>
+        ensures whose { IfOk result (λ b. b.conn ≡ conn) }
+        ensures most { IfOk result (λ b. length b.items.items ≤ 64) }
+        ensures counted { OnOk result (counts_of self.new.core ≡ with_batch (counts_of self.old.core)) }
+        ensures uncounted { OnErr result (counts_of self.new.core ≡ counts_of self.old.core) }
+    {
+        self.core.take(conn, MOST)
+    }
+
+    /// Whether `take` would answer with items, the end or a fault: the connection is ready or unknown, or
+    /// the router failed.
+    pub fn is_ready(&self, conn: ConnectionId) -> bool {
+        self.core.is_failed() || self.core.is_ready(conn) || !self.core.knows(conn)
+    }
+
+    /// The lowest ready connection: an item is waiting in its outbox, or the router ended it.
+    pub fn ready(&self) -> Option<ConnectionId> {
+        self.core.ready()
+    }
+
+    /// The lowest ready connection above another.
+    pub fn ready_behind(&self, conn: ConnectionId) -> Option<ConnectionId> {
+        self.core.ready_behind(conn)
+    }
+
+    /// Whether a connection is up and the router didn't end it.
+    pub fn is_live(&self, conn: ConnectionId) -> bool {
+        self.core.is_live(conn)
+    }
+
+    /// Whether it failed.
+    pub fn is_failed(&self) -> bool
+        ensures { result ≡ is_failed self.now.core }
+    {
+        self.core.is_failed()
+    }
+
+    /// Its counts.
+    pub fn counts(&self) -> Counts
+        ensures { result ≡ counts_of self.now.core }
+    {
+        self.core.counts()
+    }
+
+    /// The number of the last batch in its journal; 0 where there is none.
+    pub fn batch(&self) -> u64
+        ensures { result ≡ batches_of self.now.core }
+    {
+        self.core.batch()
+    }
+
+    /// The router without its history.
+    pub fn into_core(self) -> Core<D>
+        ensures same { result ≡ self.core }
+        ensures history { ∥ HasHistory result ∥₁ }
+    {
+        self.core
+    }
+}

@@ -1,0 +1,3 @@
+pub mod Adding
+pub mod Blank
+pub use Rattle.router_core.specs.Counting

@@ -1,7 +1,0 @@
-pub mod Adding
-pub mod Blank
-pub mod Handing
-pub mod History
-pub use Rattle.router_core.specs.Handling
-pub use Rattle.router_core.specs.Moves
-pub use Rattle.router_core.specs.Counting
