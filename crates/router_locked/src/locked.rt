@@ -15,7 +15,7 @@ use crate::router::{MOST, Router};
 use amqp_frames::Item;
 use disk_core::Disk;
 use router_core::{Batch, ConnectionId, Core, CoreFault, Counts, Event};
-use router_seats::{Kind, Ledgers, Seat, Totals};
+use router_seats::{Kind, Ledgers, Returned, Seat, Totals};
 use std::collections::VecDeque;
 
 /// The most items that write to the journal while the lock is taken once.
@@ -213,13 +213,10 @@ impl<D: Disk, L: Log, G: Ledgers> Locked<D, L, G> {
             opened,
             asleep: _,
         } = self;
-        let mut gathering = totals.gather();
-        for seat in seats {
-            gathering.take_back(seat);
-        }
+        let Returned { all, counts } = totals.add_up(seats);
         Closed {
-            all: gathering.is_whole(),
-            counts: gathering.counts(),
+            all,
+            counts,
             appended: router.batch(),
             opened,
             core: router.into_core(),

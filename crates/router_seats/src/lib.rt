@@ -10,4 +10,4 @@ mod totals;
 pub use kind::Kind;
 pub use ledgers::{Blanks, Ledgers, Names, SEATS};
 pub use seat::Seat;
-pub use totals::{Gathering, Totals};
+pub use totals::{Returned, Totals};

@@ -1,7 +1,7 @@
 //! All totals that threads count together.
 ghost use Rattle.std.specs.Prelude.{◌≡◌, true, IfSome};
 ghost use Rattle.router_core.specs.Counting.{uncounted, with_batch};
-ghost use Rattle.router_seats.specs.Adding.{with_kind, plus};
+ghost use Rattle.router_seats.specs.Adding.{with_kind, plus, sums};
 
 use crate::kind::Kind;
 use crate::ledgers::{Blanks, Ledgers};
@@ -36,9 +36,18 @@ impl<G: Ledgers> Model for Totals<G> {
     } };
 }
 
+/// The counts of the seats that came back.
+#[derive(Clone, Copy, Debug, PartialEq, Eq)]
+pub struct Returned {
+    /// Whether every seat came back.
+    pub all: bool,
+    /// The sum of their counts.
+    pub counts: Counts,
+}
+
 /// The totals, and the counts of the seats that came back. Contracts see it as both.
 #[derive(Drop)]
-pub struct Gathering<G: Ledgers> {
+struct Gathering<G: Ledgers> {
     ups: Gathered<G::Ups>,
     items: Gathered<G::Items>,
     downs: Gathered<G::Downs>,
@@ -138,8 +147,24 @@ impl<G: Ledgers> Totals<G> {
         self.batches.add(&mut seat.batches, counts.batches);
     }
 
+    /// Adds up the counts of the seats that come back: where all do, the sums are the totals, number by number.
+    pub fn add_up(self, seats: Vec<Seat<G>>) -> Returned
+        requires cut { (G.Ups.seats ≡ G.Ups.parts) × (G.Items.seats ≡ G.Items.parts) × (G.Downs.seats ≡ G.Downs.parts) × (G.Ticks.seats ≡ G.Ticks.parts) × (G.Starts.seats ≡ G.Starts.parts) × (G.Batches.seats ≡ G.Batches.parts) }
+        ensures counts { result.counts ≡ sums seats.items }
+        ensures all { result.all ≡ true → self ≡ result.counts }
+    {
+        let mut gathering = self.gather();
+        for seat in seats {
+            gathering.take_back(seat);
+        }
+        Returned {
+            all: gathering.is_whole(),
+            counts: gathering.counts(),
+        }
+    }
+
     /// Starts to gather the seats' counts.
-    pub fn gather(self) -> Gathering<G>
+    fn gather(self) -> Gathering<G>
         ensures total { result.0 ≡ self }
         ensures none { result.1 ≡ uncounted }
     {
@@ -164,7 +189,7 @@ impl<G: Ledgers> Totals<G> {
 
 impl<G: Ledgers> Gathering<G> {
     /// Takes back a seat.
-    pub fn take_back(&mut self, seat: Seat<G>)
+    fn take_back(&mut self, seat: Seat<G>)
         requires cut { (G.Ups.seats ≡ G.Ups.parts) × (G.Items.seats ≡ G.Items.parts) × (G.Downs.seats ≡ G.Downs.parts) × (G.Ticks.seats ≡ G.Ticks.parts) × (G.Starts.seats ≡ G.Starts.parts) × (G.Batches.seats ≡ G.Batches.parts) }
         ensures total { self.new.0 ≡ self.old.0 }
         ensures count { self.new.1 ≡ plus self.old.1 seat }
@@ -186,7 +211,7 @@ impl<G: Ledgers> Gathering<G> {
     }
 
     /// The sum of the counts of the seats that came back.
-    pub fn counts(&self) -> Counts
+    fn counts(&self) -> Counts
         ensures { result ≡ self.now.1 }
     {
         Counts {
@@ -200,7 +225,7 @@ impl<G: Ledgers> Gathering<G> {
     }
 
     /// Whether all seats came back; then their counts add up to the totals.
-    pub fn is_whole(&mut self) -> bool
+    fn is_whole(&mut self) -> bool
         requires cut { (G.Ups.seats ≡ G.Ups.parts) × (G.Items.seats ≡ G.Items.parts) × (G.Downs.seats ≡ G.Downs.parts) × (G.Ticks.seats ≡ G.Ticks.parts) × (G.Starts.seats ≡ G.Starts.parts) × (G.Batches.seats ≡ G.Batches.parts) }
         ensures whole { result ≡ true → self.new.0 ≡ self.new.1 }
         ensures same { self.new ≡ self.old }
