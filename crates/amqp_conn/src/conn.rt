@@ -72,7 +72,7 @@ impl Conn {
         }
     }
 
-    /// Takes a header, which the phase must allow. Fails with `WrongPhase` where headers were exchanged or the connection is over.
+    /// Asks whether a header is in turn. `WrongPhase` where headers were exchanged or the connection is over.
     pub fn take_header(self) -> Result<(), ConnFault>
         ensures { result ≡ header_in_turn self }
     {
@@ -85,7 +85,7 @@ impl Conn {
         Ok(())
     }
 
-    /// Takes an open, on any channel. Fails with `WrongPhase` where opens were exchanged or the connection is over, else with
+    /// Asks whether an open is in turn, on any channel. `WrongPhase` where opens were exchanged or the connection is over, else
     /// `FrameSizeTooSmall` where its max-frame-size is below 512 bytes.
     pub fn take_open(self, open: &Open) -> Result<(), ConnFault>
         ensures { result ≡ open_in_turn «open».now self }
@@ -102,8 +102,8 @@ impl Conn {
         Ok(())
     }
 
-    /// Takes a frame on this channel that is neither open nor close. Fails with `WrongPhase` before the open and where the connection
-    /// is over, else with `ChannelTooHigh` above channel 14.
+    /// Asks whether a frame on this channel that is neither open nor close is in turn. `WrongPhase` before the open and where the
+    /// connection is over, else `ChannelTooHigh` above channel 14.
     pub fn take_frame(self, channel: u16) -> Result<(), ConnFault>
         ensures { result ≡ frame_in_turn channel self }
     {
@@ -119,7 +119,7 @@ impl Conn {
         Ok(())
     }
 
-    /// Takes a close on this channel. Fails as `take_frame` does.
+    /// Asks whether a close on this channel is in turn. It is where another frame is, and fails as `take_frame` does.
     pub fn take_close(self, channel: u16) -> Result<(), ConnFault>
         ensures { result ≡ close_in_turn channel self }
     {

@@ -20,20 +20,6 @@ pub enum SaslCode {
 }
 
 impl SaslCode {
-    /// The code of this number.
-    pub fn from_number(number: u8) -> SaslCode
-        ensures { number_of result ≡ number }
-    {
-        match number {
-            0 => SaslCode::Ok,
-            1 => SaslCode::Auth,
-            2 => SaslCode::Sys,
-            3 => SaslCode::SysPerm,
-            4 => SaslCode::SysTemp,
-            _ => SaslCode::Other(number),
-        }
-    }
-
     /// Its number in the field `code` of an outcome.
     pub fn number(self) -> u8
         ensures { result ≡ number_of self }

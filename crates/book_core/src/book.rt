@@ -1,7 +1,7 @@
 //! The book.
-ghost use Rattle.std.specs.Prelude.{◌≡◌, None, Some, OnOk, OnErr, IfErr, filter, is_none, length};
+ghost use Rattle.std.specs.Prelude.{◌≡◌, None, Some, OnOk, OnErr, IfErr, filter, length};
 ghost use Rattle.std.specs.Option.{option_copied};
-ghost use Rattle.book_core.specs.Book.{empty_book, first_fault, effects, make_refusal, admit_refusal, drop_refusal, is_of, row_at, row_named, terminus_at, terminus_of};
+ghost use Rattle.book_core.specs.Book.{empty_book, first_fault, effects, make_refusal, admit_refusal, is_of, row_at, row_named, terminus_at, terminus_of};
 ghost use Rattle.book_core.specs.Rising.{Rises};
 ghost use Rattle.book_core.specs.Rows.{rows_left};
 ghost use Rattle.book_core.specs.declared.fault.BookFault.TheVariants as fault;
@@ -78,13 +78,6 @@ impl Book {
         ensures { result ≡ admit_refusal self.now admission.now }
     {
         self.tables.why_not_admit(admission)
-    }
-
-    /// Whether the book lets go of a terminus: it is there, and keeps no row.
-    pub fn lets_go(&self, number: TerminusNumber) -> bool
-        ensures { result ≡ is_none (drop_refusal (terminus_at number.0 self.now.termini) self.now.rows) }
-    {
-        self.tables.why_not_drop(number).is_none()
     }
 
     /// The rows that came on the link of a terminus or are bound to it, forgotten ones too, by number. It allocates

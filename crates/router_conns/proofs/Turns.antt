@@ -18,8 +18,8 @@ use Rattle.router_trace.specs.declared.event.Peer.{Peer}
 use Rattle.router_trace.specs.declared.event.Event.{Event}
 use Rattle.router_trace.specs.declared.event.Event.TheVariants as event
 use Rattle.router_trace.specs.Trace.{Entry, Did, Out, Took, Bound, Booked, Began, did, ups, with_up, newest}
-use Rattle.router_trace.specs.Connection.{Connection, conn, behind, behind_perf, with_item, fresh, took, ended, standing, is_live, is_full, is_due, has, due, unless_due, found, live_of, at_event}
-use Rattle.router_conns.proofs.Lists.{by_test, filter_both, filter_none, filter_agree_in, from_push, has_push, has_pushed, has_filter, has_no_filter}
+use Rattle.router_trace.specs.Connection.{Connection, conn, behind, behind_perf, with_item, fresh, took, ended, standing, is_live, is_full, is_due, has, due, unless_due, found, phase_before, phase_found, live_of, at_event}
+use Rattle.router_conns.proofs.Lists.{by_test, filter_both, filter_none, filter_agree_in, from_push, has_push, has_pushed, has_filter}
 
 -- no connection is due if no outbox is full
 pub due_none : (e : Event) (c : ℕ) (v : Option Connection) → is_full v ≡ false → is_due e c v ≡ false
@@ -161,35 +161,17 @@ turned_at old new t e ends fit turned =
           (λ f. f));
     }
 
--- only a full connection is due
-due_full_only : (e : Event) (c : ℕ) (v : Option Connection) → is_due e c v ≡ true → is_full v ≡ true
-due_full_only (event.Up d p) c v h = h
-due_full_only (event.Item d i) c v h = h
-due_full_only (event.Down d) c v h = by_test (d.0 == c) (λ e. absurd (true≢false (sym (rw e at h)))) (λ e. rw e at h)
-due_full_only (event.Tick ms) c v h = h
-due_full_only event.Start c v h = h
+-- an item's connection that its event didn't end first is found as it was
+pub found_unended : (t : List Entry) (e : Event) (d : ConnectionId) (i : Item) (before : Option Conn) (ends : List ℕ) → e ≡ event.Item d i → has d.0 ends ≡ false → ends ≡ due t e
+    → before ≡ phase_before t e → before ≡ phase_found t e
+found_unended t e d i before ends is spared = subst (λ (x : Event). ends ≡ due t x → before ≡ phase_before t x → before ≡ phase_found t x) (sym is) by
+  where
+    stands : (b : Bool) (v : Option Connection) → b ≡ false → standing v ≡ standing (if b then option_map ended v else v)
+    stands true v h = absurd cc
+    stands false v h = refl
 
--- a connection ends before an event exactly if it is due
-due_ends : (t : List Entry) (e : Event) (c : ℕ) (b : Bool) → is_due e c (conn t c) ≡ b → has c (due t e) ≡ b
-due_ends t e c true h = has_filter (λ k. is_due e k (conn t k)) c (ups t) h (known t c (full_some (conn t c) (due_full_only e c (conn t c) h)))
-due_ends t e c false h = has_no_filter (λ k. is_due e k (conn t k)) c (ups t) h
-
--- the phase of a live connection as an event finds it, if it is due and if it isn't
-over_stands : (b : Bool) (v : Option Connection) → b ≡ true → None ≡ standing (if b then option_map ended v else v)
-over_stands true None h = refl
-over_stands true (Some v) h = refl
-over_stands false v h = absurd cc
-
-left_stands : (b : Bool) (v w : Option Connection) → b ≡ false → v ≡ w → standing v ≡ standing (if b then option_map ended w else w)
-left_stands true v w h e = absurd cc
-left_stands false v w h e = ap standing e
-
-pub found_over : (s : Connections) (t : List Entry) (e : Event) (c : ℕ) → ConnectionsFit s t → is_due e c (get nat_cmp s.rows c) ≡ true → None ≡ standing (found t e c)
-found_over s t e c fit h = over_stands (has c (due t e)) (conn t c) (due_ends t e c true (ap (is_due e c) (sym (fit.rows c)) ∙ h))
-
-pub found_left : (s : Connections) (t : List Entry) (e : Event) (c : ℕ) → ConnectionsFit s t → is_due e c (get nat_cmp s.rows c) ≡ false
-    → standing (get nat_cmp s.rows c) ≡ standing (found t e c)
-found_left s t e c fit h = left_stands (has c (due t e)) (get nat_cmp s.rows c) (conn t c) (due_ends t e c false (ap (is_due e c) (sym (fit.rows c)) ∙ h)) (fit.rows c)
+    by : ends ≡ due t (event.Item d i) → before ≡ phase_before t (event.Item d i) → before ≡ phase_found t (event.Item d i)
+    by are was = was ∙ stands (has d.0 (due t (event.Item d i))) (conn t d.0) (ap (has d.0) (sym are) ∙ spared)
 
 -- how an Up changes the table
 pub record CameUp (old new : Connections) (c : ℕ) : Type 0 where

@@ -1,11 +1,11 @@
 //! The table of connections, with their outboxes.
-ghost use Rattle.std.specs.Prelude.{◌≡◌, ◌==◌, ◌≤◌, ◌∷◌, ◌++◌, ℕ, List, [], Some, None, length, nat_eq, nat_lt, true, false, not, filter, option_map, option_and_then, OnOk, IfOk, if◌then◌else◌};
+ghost use Rattle.std.specs.Prelude.{◌≡◌, ◌==◌, ◌≤◌, ◌∷◌, ◌++◌, ℕ, List, [], Some, None, length, nat_eq, nat_lt, true, false, not, filter, option_map, option_and_then, OnOk, OnErr, IfOk, if◌then◌else◌};
 ghost use Rattle.std.specs.Ordering.{nat_cmp};
 ghost use Rattle.std.specs.BTreeMap.{get};
 ghost use Rattle.router_trace.specs.Trace.{Beginning};
 ghost use Rattle.router_trace.specs.Configuration.{beginning};
 ghost use Rattle.router_trace.specs.Trace.{Entry, Out, Took, did, newest};
-ghost use Rattle.router_trace.specs.Connection.{conn as known, took, standing, is_live, is_full, is_ready, with_item, is_due, has, ended, unless_due, due, found};
+ghost use Rattle.router_trace.specs.Connection.{conn as known, took, standing, is_live, is_full, is_ready, with_item, is_due, has, ended, unless_due, due, phase_before, phase_found};
 ghost use Rattle.router_conns.specs.Emptied.{emptied, NoneWaits};
 ghost use Rattle.router_conns.specs.Fits.{IsBatch, count, ConnectionsFit, ConnectionsAt};
 ghost use Rattle.router_trace.specs.Refusing.{refuses, rises, is_loss};
@@ -17,6 +17,10 @@ use amqp_frames::Item;
 use router_trace::{ConnectionId, Event, Peer};
 use std::alloc::{AllocError, Global};
 use std::collections::BTreeMap;
+
+/// The router refuses an event: one about a connection that isn't live, or about a new one whose number doesn't rise.
+#[derive(Clone, Copy, Debug, PartialEq, Eq)]
+pub struct Refused;
 
 /// The table of connections: those that are live, and those that are over and still have items waiting.
 #[derive(Drop)]
@@ -45,19 +49,27 @@ impl Connections {
         }
     }
 
-    /// Whether an event is refused.
-    pub fn refuses(&self, event: &Event) -> bool
-        ensures { (t : List Entry) → ConnectionsFit self.now t → result ≡ refuses t event.now }
+    /// The phase of the connection of an event's item, before the event; none of another event. `Refused` exactly if the event is refused.
+    pub fn phase_before(&self, event: &Event) -> Result<Option<Conn>, Refused>
+        ensures refused { OnErr result ((t : List Entry) → ConnectionsFit self.now t → refuses t event.now ≡ true) }
+        ensures free { OnOk result ((t : List Entry) → ConnectionsFit self.now t → refuses t event.now ≡ false) }
+        ensures phase { IfOk result (λ phase. (t : List Entry) → ConnectionsFit self.now t → phase ≡ phase_before t event.now) }
     {
         match event {
             Event::Up(conn, _) => match self.newest {
-                None => false,
-                Some(newest) => conn.0 <= newest,
+                Some(newest) if conn.0 <= newest => Err(Refused),
+                _ => Ok(None),
             },
-            Event::Item(conn, _) => self.standing(conn.0).is_none(),
-            Event::Down(conn) => self.standing(conn.0).is_none(),
-            Event::Tick(_) => false,
-            Event::Start => false,
+            Event::Item(conn, _) => match self.standing(conn.0) {
+                None => Err(Refused),
+                Some(phase) => Ok(Some(phase)),
+            },
+            Event::Down(conn) => match self.standing(conn.0) {
+                None => Err(Refused),
+                Some(_) => Ok(None),
+            },
+            Event::Tick(_) => Ok(None),
+            Event::Start => Ok(None),
         }
     }
 
@@ -69,18 +81,6 @@ impl Connections {
             None => None,
             Some(row) => row.standing(),
         }
-    }
-
-    /// The phase of a live connection as an event finds it: a connection whose outbox is full is over then, unless the event is its
-    /// own loss.
-    #[tactic(auto, using(crate::proofs::Turns::found_over, crate::proofs::Turns::found_left))]
-    pub fn found(&self, event: &Event, conn: u64) -> Option<Conn>
-        ensures { (t : List Entry) → ConnectionsFit self.now t → result ≡ standing (found t event.now conn) }
-    {
-        if self.is_due(event, conn) {
-            return None;
-        }
-        self.standing(conn)
     }
 
     /// The live connections, by number.
@@ -361,6 +361,20 @@ fn leave_all(live: &mut Vec<u64>, ends: &[u64])
 
 /// Drops an item.
 fn discard(_item: Item) {}
+
+/// The phase of the connection of an event's item as the event finds it, once these connections ended because their outboxes were full;
+/// none of another event. `before` is its phase before the event (`Connections::phase_before`).
+pub fn phase_found(event: &Event, ends: &[u64], before: Option<Conn>) -> Option<Conn>
+    ensures { (t : List Entry) → ends.now ≡ due t event.now → before ≡ phase_before t event.now → result ≡ phase_found t event.now }
+{
+    let Event::Item(conn, _) = event else {
+        return before;
+    };
+    if ends.contains(&conn.0) {
+        return None;
+    }
+    before
+}
 
 /// Whether an event reports a lost connection.
 fn is_loss(event: &Event) -> bool

@@ -8,7 +8,7 @@ mod ready;
 mod row;
 
 pub use clocks::Clocks;
-pub use connections::Connections;
+pub use connections::{Connections, Refused, phase_found};
 pub use peers::Peers;
 pub use ready::Ready;
 pub use row::{CONNECTIONS, OUTBOX, Taken};

@@ -1,5 +1,5 @@
 -- What is planned and admitted for an event is what its acts are.
-use Rattle.std.proofs.Common.{◌≡◌, ◌∙◌, ap, refl, sym, subst, ℕ, List, [], ◌∷◌, length, Bool, true, false, arith}
+use Rattle.std.proofs.Common.{◌≡◌, ◌∙◌, ap, refl, sym, subst, ℕ, List, [], ◌∷◌, length, Bool, true, arith}
 use Rattle.std.specs.Prelude.{Option, Some, None, ◌==◌}
 use Rattle.std.proofs.lemmas.Bool.Decides.{nat_tests}
 use Rattle.amqp_frames.specs.declared.item.Item.{Item}
@@ -15,7 +15,7 @@ use Rattle.router_store.specs.Store.{used_of, kept_of}
 use Rattle.router_trace.specs.declared.event.ConnectionId.{ConnectionId}
 use Rattle.router_trace.specs.declared.event.Event.{Event}
 use Rattle.router_trace.specs.declared.event.Event.TheVariants as event
-use Rattle.router_trace.specs.Trace.{Entry, did}
+use Rattle.router_trace.specs.Trace.{Entry}
 use Rattle.router_trace.specs.Connection.{due, standing, found}
 use Rattle.router_trace.specs.Sessions.{theirs, maps}
 use Rattle.router_links.specs.Fits.{channel_of}

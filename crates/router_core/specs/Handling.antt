@@ -8,6 +8,7 @@ use Rattle.router_store.specs.Store.{OpensTo, book_of, count_of, used_of, kept_o
 use Rattle.router_core.specs.declared.router.Core.{Core}
 use Rattle.router_core.specs.declared.router.Batch.{Batch}
 use Rattle.router_core.specs.declared.counts.Counts.{Counts}
+use Rattle.amqp_conn.specs.declared.conn.Conn.{Conn}
 use Rattle.router_trace.specs.declared.event.Event.{Event}
 use Rattle.router_trace.specs.declared.event.Event.TheVariants as event
 use Rattle.router_trace.specs.Sessions.{theirs, maps}
@@ -15,13 +16,13 @@ use Rattle.router_links.specs.Fits.{channel_of}
 use Rattle.router_rows.specs.declared.answer.Answer.{Answer}
 use Rattle.router_rows.specs.declared.answer.Answer.TheVariants.{Taken}
 use Rattle.router_trace.specs.Trace.{Trace, did}
-use Rattle.router_trace.specs.Connection.{Connection, Batched, due}
+use Rattle.router_trace.specs.Connection.{Connection, Batched, due, phase_before}
 use Rattle.router_state.specs.declared.tables.State.{State}
 use Rattle.router_state.specs.Tables.{TablesFit}
 use Rattle.router_reply.specs.Acts.{journaled, book_in, book_behind, answer_to_event}
 use Rattle.router_reply.specs.Heard.{IsHeard}
 use Rattle.router_core.specs.declared.router.Ready.{Ready}
-use Rattle.router_core.specs.Turns.{is_started}
+use Rattle.router_core.specs.Turns.{is_started, declines}
 
 -- a router's journal agrees with the trace: its book, how many batches it has, how long it is, and what it keeps free
 pub record Journals {D : Type 0} (core : Core D) (t : Trace) : Type 0 where
@@ -35,6 +36,11 @@ pub record Fits {D : Type 0} (core : Core D) (t : Trace) : Type 0 where
   pub tables : TablesFit core.state t
   pub started : core.started ≡ is_started t
   pub journal : Journals core t
+
+-- an event isn't declined, and this is the phase of its item's connection before it
+pub record IsTaken (t : Trace) (e : Event) (before : Option Conn) : Type 0 where
+  pub taken : declines t e ≡ false
+  pub phase : before ≡ phase_before t e
 
 -- An event was handled in tables that agreed with the trace, and nothing was put: what is ready for its answer.
 pub record IsReady (s : State) (t : Trace) (e : Event) (r : Ready) : Type 0 where

@@ -7,7 +7,7 @@ ghost use Rattle.router_store.specs.Store.{OpensTo, Stands, Writable, journal_of
 ghost use Rattle.route_table.specs.Places.{routing_of};
 ghost use Rattle.router_trace.specs.Configuration.{beginning};
 ghost use Rattle.router_trace.specs.Trace.{Entry, Took, did, step_of};
-ghost use Rattle.router_trace.specs.Connection.{conn as known, is_ready, is_live, due};
+ghost use Rattle.router_trace.specs.Connection.{conn as known, is_ready, is_live, due, phase_before, phase_found};
 ghost use Rattle.router_conns.specs.Fits.{IsLeast};
 ghost use Rattle.book_core.specs.Book.{effects};
 ghost use Rattle.gate_journal.specs.Reserve.{reserve};
@@ -19,18 +19,20 @@ ghost use Rattle.router_core.specs.Turns.{declines};
 ghost use Rattle.router_core.specs.Replies.{Replies, answered, handled};
 ghost use Rattle.router_state.specs.Tables.{TablesFit, TablesAt};
 ghost use Rattle.router_state.specs.Waiting.{NothingWaits};
-ghost use Rattle.router_core.specs.Handling.{Fits, IsReady, TakenIn, with_admission, is_failed, id_of, store_of, kept_book, state_of, counts_of, IsBatchOf, BeforeOrBehind};
+ghost use Rattle.router_core.specs.Handling.{Fits, IsTaken, IsReady, TakenIn, with_admission, is_failed, id_of, store_of, kept_book, state_of, counts_of, IsBatchOf, BeforeOrBehind};
 ghost use Rattle.router_core.specs.Counting.{uncounted, with_event, with_batch};
 ghost use Rattle.router_core.specs.declared.fault.CoreFault.TheVariants.{Disk as DiskFailed, Memory, Failed, NoConnection};
 
 use crate::counts::Counts;
 use crate::fault::CoreFault;
+use amqp_conn::Conn;
 use amqp_frames::Item;
 use book_core::{Act, Book, RowNumber};
 use disk_core::{Crash, Disk};
 use gate_journal::{JournalFault, OpenFault};
 use route_table::{Config, Table};
 use router_after::after;
+use router_conns::{Refused, phase_found};
 use router_reply::{Heard, Plan, admission_for, hear, make_plan, reply, row_in};
 use router_rows::Answer;
 use router_state::State;
@@ -283,11 +285,11 @@ impl<D: Disk> Core<D> {
             drop(event);
             return Err(CoreFault::Failed);
         }
-        if self.declines(&event) {
+        let Ok(phase) = self.phase_before(&event) else {
             drop(event);
             return Err(CoreFault::NoConnection);
-        }
-        match self.carry_out(event) {
+        };
+        match self.carry_out(event, phase) {
             Ok(journal) => Ok(Done { journal }),
             Err(fault) => {
                 self.state.give_up();
@@ -297,28 +299,34 @@ impl<D: Disk> Core<D> {
         }
     }
 
-    /// Whether an event comes out of turn, or is refused.
-    fn declines(&self, event: &Event) -> bool
-        ensures { (t : List Entry) → Fits self.now t → result ≡ declines t event.now }
+    /// The phase of the connection of an event's item, before the event; none of another event. `Refused` exactly if the event comes out of
+    /// turn, or is refused.
+    fn phase_before(&self, event: &Event) -> Result<Option<Conn>, Refused>
+        ensures refused { OnErr result ((t : List Entry) → Fits self.now t → declines t event.now ≡ true) }
+        ensures taken { IfOk result (λ phase. (t : List Entry) → Fits self.now t → IsTaken t event.now phase) }
     {
         let out_of_turn = match event {
             Event::Start => self.started,
             _ => !self.started,
         };
-        out_of_turn || self.state.refuses(event)
+        if out_of_turn {
+            return Err(Refused);
+        }
+        self.state.phase_before(event)
     }
 
-    /// Handles an event that is not declined: it is planned and heard, its acts are written as one batch, and only then it is answered.
-    fn carry_out(&mut self, event: Event) -> Result<Written, CoreFault>
-        ensures fits { OnOk result ((t : List Entry) → Fits self.old t → declines t event ≡ false → Fits self.new (handled (id_of self.old) t (step_of event))) }
+    /// Handles an event that is not declined, which finds its item's connection in this phase: it is planned and heard, its acts are written as
+    /// one batch, and only then it is answered.
+    fn carry_out(&mut self, event: Event, phase: Option<Conn>) -> Result<Written, CoreFault>
+        ensures fits { OnOk result ((t : List Entry) → Fits self.old t → IsTaken t event phase → Fits self.new (handled (id_of self.old) t (step_of event))) }
         ensures works { is_failed self.new ≡ is_failed self.old }
         ensures named { id_of self.new ≡ id_of self.old }
         ensures stands { OnOk result (Stands D.seen D.may_leave (store_of self.old) → Stands D.seen D.may_leave (store_of self.new)) }
-        ensures book { OnOk result ((t : List Entry) → Fits self.old t → declines t event ≡ false → kept_book self.new ≡ book_behind t event) }
-        ensures written { IfOk result (λ journal. (t : List Entry) → Fits self.old t → declines t event ≡ false → IfSome journal (λ batch.
+        ensures book { OnOk result ((t : List Entry) → Fits self.old t → IsTaken t event phase → kept_book self.new ≡ book_behind t event) }
+        ensures written { IfOk result (λ journal. (t : List Entry) → Fits self.old t → IsTaken t event phase → IfSome journal (λ batch.
             (batch.0 ≡ batch_count (journal_of (store_of self.old)) + 1) × (batch.1.items ≡ acts_of t event))) }
-        ensures silent { IfOk result (λ journal. (t : List Entry) → Fits self.old t → declines t event ≡ false → IfNone journal (acts_of t event ≡ [])) }
-        ensures any_moment { (t : List Entry) → Fits self.old t → declines t event ≡ false → Stands D.seen D.may_leave (store_of self.old)
+        ensures silent { IfOk result (λ journal. (t : List Entry) → Fits self.old t → IsTaken t event phase → IfNone journal (acts_of t event ≡ [])) }
+        ensures any_moment { (t : List Entry) → Fits self.old t → IsTaken t event phase → Stands D.seen D.may_leave (store_of self.old)
             → LeavesOnly D.moment D.left_since (disk_of (store_of self.old)) (disk_of (store_of self.new)) (BeforeOrBehind t event) }
         ensures counted { OnOk result (counts_of self.new ≡ with_event event (counts_of self.old)) }
         ensures uncounted { OnErr result (counts_of self.new ≡ counts_of self.old) }
@@ -326,7 +334,7 @@ impl<D: Disk> Core<D> {
         ensures not_failed { IfErr result (λ f. f ≢ Failed) }
         ensures cause { IfErr result (λ f. f ≡ DiskFailed → D.failures (disk_of (store_of self.old)) < D.failures (disk_of (store_of self.new))) }
     {
-        let Ok(prepared) = self.prepare(&event) else {
+        let Ok(prepared) = self.prepare(&event, phase) else {
             drop(event);
             return Err(CoreFault::Memory);
         };
@@ -347,16 +355,17 @@ impl<D: Disk> Core<D> {
         Ok(journal)
     }
 
-    /// Plans an event that is not declined, and handles it; nothing is put and nothing written. Gives what its answer needs, and the acts that it has.
-    fn prepare(&mut self, event: &Event) -> Result<Prepared, AllocError>
+    /// Plans an event that is not declined, with its connection in this phase before it, and handles it; nothing is put and nothing written. Gives what its answer needs, and the acts that it has.
+    fn prepare(&mut self, event: &Event, before: Option<Conn>) -> Result<Prepared, AllocError>
         ensures rest { self.new ≡ record self.old { state = state_of self.new } }
-        ensures ready { IfOk result (λ p. (t : List Entry) → Fits self.old t → declines t event.now ≡ false → IsReady (state_of self.new) (booked t event.now) event.now p.ready) }
-        ensures acts { IfOk result (λ p. (t : List Entry) → Fits self.old t → declines t event.now ≡ false → p.acts.items ≡ acts_of t event.now) }
+        ensures ready { IfOk result (λ p. (t : List Entry) → Fits self.old t → IsTaken t event.now before → IsReady (state_of self.new) (booked t event.now) event.now p.ready) }
+        ensures acts { IfOk result (λ p. (t : List Entry) → Fits self.old t → IsTaken t event.now before → p.acts.items ≡ acts_of t event.now) }
         ensures writable { IfOk result (λ p. Writable (kept_book self.old) p.acts.items) }
     {
         let ends = self.state.turn(event)?;
-        let Planned { full, answer, acts } = self.plan(&ends, event)?;
-        let heard = hear(&mut self.state, event, &ends, &answer)?;
+        let phase = phase_found(event, &ends, before);
+        let Planned { full, answer, acts } = self.plan(&ends, phase, event)?;
+        let heard = hear(&mut self.state, event, &ends, phase, &answer)?;
         let acts = self.admit(full, &ends, event, &answer, &heard, acts)?;
         Ok(Prepared {
             ready: Ready {
@@ -370,26 +379,32 @@ impl<D: Disk> Core<D> {
 
     /// Plans an event: the answer to its item, and what it does to the book but for an admission; by what it would do to a journal with room if there
     /// is room for that, else by what it does to a full one.
-    fn plan(&self, ends: &[u64], event: &Event) -> Result<Planned, AllocError>
-        ensures full { IfOk result (λ p. (t : List Entry) → TablesAt (state_of self.now) t event.now ends.now
+    fn plan(&self, ends: &[u64], phase: Option<Conn>, event: &Event) -> Result<Planned, AllocError>
+        ensures full { IfOk result (λ p. (t : List Entry) → TablesAt (state_of self.now) t event.now ends.now → phase ≡ phase_found t event.now
             → p.full ≡ exceeds (used_of (store_of self.now)) (kept_of (store_of self.now)) (planned_acts false (kept_book self.now) t event.now)) }
-        ensures answer { IfOk result (λ p. (t : List Entry) → TablesAt (state_of self.now) t event.now ends.now → p.answer ≡ event_answer p.full (kept_book self.now) t event.now) }
-        ensures acts { IfOk result (λ p. (t : List Entry) → TablesAt (state_of self.now) t event.now ends.now → p.acts.items ≡ planned_acts p.full (kept_book self.now) t event.now) }
+        ensures answer { IfOk result (λ p. (t : List Entry) → TablesAt (state_of self.now) t event.now ends.now → phase ≡ phase_found t event.now → p.answer ≡ event_answer p.full (kept_book self.now) t event.now) }
+        ensures acts { IfOk result (λ p. (t : List Entry) → TablesAt (state_of self.now) t event.now ends.now → phase ≡ phase_found t event.now → p.acts.items ≡ planned_acts p.full (kept_book self.now) t event.now) }
         ensures writable { IfOk result (λ p. Writable (kept_book self.now) p.acts.items) }
     {
-        let planned = self.plan_as(false, ends, event)?;
+        let planned = self.plan_as(false, ends, phase, event)?;
         if !self.store.exceeds(&planned.acts)? {
             return Ok(planned);
         }
         drop(planned);
-        self.plan_as(true, ends, event)
+        self.plan_as(true, ends, phase, event)
     }
 
     /// Plans an event that finds the journal full, or one that finds room.
-    fn plan_as(&self, full: bool, ends: &[u64], event: &Event) -> Result<Planned, AllocError>
+    fn plan_as(
+        &self,
+        full: bool,
+        ends: &[u64],
+        phase: Option<Conn>,
+        event: &Event,
+    ) -> Result<Planned, AllocError>
         ensures full { IfOk result (λ p. p.full ≡ full) }
-        ensures answer { IfOk result (λ p. (t : List Entry) → TablesAt (state_of self.now) t event.now ends.now → p.answer ≡ event_answer full (kept_book self.now) t event.now) }
-        ensures acts { IfOk result (λ p. (t : List Entry) → TablesAt (state_of self.now) t event.now ends.now → p.acts.items ≡ planned_acts full (kept_book self.now) t event.now) }
+        ensures answer { IfOk result (λ p. (t : List Entry) → TablesAt (state_of self.now) t event.now ends.now → phase ≡ phase_found t event.now → p.answer ≡ event_answer full (kept_book self.now) t event.now) }
+        ensures acts { IfOk result (λ p. (t : List Entry) → TablesAt (state_of self.now) t event.now ends.now → phase ≡ phase_found t event.now → p.acts.items ≡ planned_acts full (kept_book self.now) t event.now) }
         ensures writable { IfOk result (λ p. Writable (kept_book self.now) p.acts.items) }
     {
         if let Event::Start = event {
@@ -404,7 +419,7 @@ impl<D: Disk> Core<D> {
             decided,
             forgotten,
             terminus,
-        } = make_plan(&self.state, self.store.book(), full, ends, event)?;
+        } = make_plan(&self.state, self.store.book(), full, ends, phase, event)?;
         let acts = self
             .store
             .event_acts(self.alloc, decided, forgotten, terminus)?;

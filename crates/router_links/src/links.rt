@@ -17,7 +17,7 @@ ghost use Rattle.std.specs.BTreeMap.{get};
 ghost use Rattle.router_links.specs.Touching.{Touches, is_touched, IsLowest};
 ghost use Rattle.std.specs.Option.{option_map};
 ghost use Rattle.router_trace.specs.declared.event.Event.TheVariants as event;
-ghost use Rattle.router_links.specs.Fits.{LinksFit, owes_drain, key_in, key_by, channel_of};
+ghost use Rattle.router_links.specs.Fits.{LinksFit, key_in, key_by, channel_of};
 
 use crate::handles::HandleTable;
 use crate::link::Link;
@@ -98,20 +98,6 @@ impl Links {
         ensures { (t : List Entry) → LinksFit self.now t → result ≡ free_handle t conn own }
     {
         self.handles.free_handle(conn, own)
-    }
-
-    /// Whether any link may owe a drain: false only if none does.
-    pub fn may_owe(&self) -> bool
-        ensures { result ≡ false → (t : List Entry) → LinksFit self.now t → (c o h : ℕ) → owes_drain (link t c o h) ≡ false }
-    {
-        !self.table.is_calm()
-    }
-
-    /// Whether a link of a connection may owe a drain: false only if none does.
-    pub fn may_owe_on(&self, conn: u64) -> bool
-        ensures { result ≡ false → (t : List Entry) → LinksFit self.now t → (o h : ℕ) → owes_drain (link t conn o h) ≡ false }
-    {
-        self.table.is_marked(conn)
     }
 
     /// The attachment with a key.

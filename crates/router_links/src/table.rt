@@ -192,20 +192,6 @@ impl LinkTable {
         }
     }
 
-    /// Whether no connection is marked, so that no link owes a drain.
-    pub fn is_calm(&self) -> bool
-        ensures { result ≡ true → (c : ℕ) → contains nat_cmp self.now.owing c ≡ false }
-    {
-        self.owing.is_empty()
-    }
-
-    /// Whether a connection is marked; on an unmarked one no link owes a drain.
-    pub fn is_marked(&self, conn: u64) -> bool
-        ensures { result ≡ contains nat_cmp self.now.owing conn }
-    {
-        self.owing.contains(&conn)
-    }
-
     /// The attachments of the links that owe a drain and on which the router is the sender, by connection and by channel.
     pub fn owed(&self) -> Result<Vec<Attachment>, AllocError>
         ensures { IfOk result (λ xs. xs.items ≡ owed_of (get nat_cmp self.now.links.rows) self.now.owing.keys) }

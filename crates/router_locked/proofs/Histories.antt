@@ -14,12 +14,12 @@ use Rattle.router_core.specs.declared.router.Core.{Core}
 use Rattle.router_core.specs.declared.router.Batch.{Batch}
 use Rattle.router_core.specs.declared.counts.Counts.{Counts}
 use Rattle.router_core.specs.Replies.{Replies}
-use Rattle.router_core.specs.Runs.{Taking, taking, items_of, waiting_of, took_one}
+use Rattle.router_core.specs.Runs.{taking, items_of, waiting_of, took_one}
 use Rattle.router_core.specs.Moves.{Move, handles, takes, Goes}
 use Rattle.router_core.specs.Counting.{uncounted, with_event, with_batch}
 use Rattle.router_core.specs.Handling.{Fits, is_failed, id_of, counts_of, IsBatchOf}
 use Rattle.router_core.proofs.Moves.{goes_on}
-use Rattle.router_locked.specs.History.{tally, IsOpened, IsHistory, HasHistory}
+use Rattle.router_locked.specs.History.{tally, IsOpened, HasHistory}
 
 -- the counts of moves, then of more moves
 tally_more : (ms ns : List Move) (n : Counts) → tally (ms ++ ns) n ≡ tally ns (tally ms n)

@@ -1,5 +1,5 @@
 -- What happened to a router since it was opened: the events that it handled and the batches that were taken, in one order.
-use Rattle.std.specs.Prelude.{◌≡◌, ℕ, false, List, [], ◌∷◌}
+use Rattle.std.specs.Prelude.{◌≡◌, false, List, [], ◌∷◌}
 use Rattle.router_trace.specs.Trace.{Beginning}
 use Rattle.router_trace.specs.Configuration.{beginning}
 use Rattle.router_trace.specs.Trace.{Trace}

@@ -1,15 +1,14 @@
 -- What an event decides and forgets of durable deliveries, and which terminus it makes or drops: by the event and by the answer to its item.
-use Rattle.std.specs.Prelude.{ℕ, Bool, true, false, ◌&&◌, if◌then◌else◌, List, [], ◌∷◌, ◌++◌, map, filter, Option, Some, None, option_map, option_and_then}
+use Rattle.std.specs.Prelude.{ℕ, true, false, if◌then◌else◌, List, [], ◌∷◌, ◌++◌, map, filter, Option, Some, None, option_map, option_and_then}
 use Rattle.amqp_perf.specs.declared.perf.Attach.{Attach as AnAttach}
 use Rattle.amqp_perf.specs.declared.perf.Disposition.{Disposition as ADisposition}
 use Rattle.amqp_perf.specs.declared.perf.Perf.{Perf}
 use Rattle.amqp_perf.specs.declared.perf.Perf.TheVariants as perf
 use Rattle.amqp_perf.specs.declared.perf.Role.{Role}
-use Rattle.amqp_perf.specs.declared.perf.Role.TheVariants.{Sender, Receiver}
+use Rattle.amqp_perf.specs.declared.perf.Role.TheVariants.{Sender}
 use Rattle.amqp_frames.specs.declared.item.Item.{Item}
 use Rattle.amqp_frames.specs.declared.item.Item.TheVariants as item
 use Rattle.book_core.specs.declared.act.Decision.{Decision}
-use Rattle.book_core.specs.declared.row.Row.{Row}
 use Rattle.book_core.specs.declared.row.RowNumber.{RowNumber}
 use Rattle.book_core.specs.declared.terminus.LinkKey.{LinkKey}
 use Rattle.book_core.specs.declared.terminus.LinkRole.{LinkRole}

@@ -5,10 +5,7 @@ use Rattle.amqp_perf.specs.declared.perf.Perf.{Perf}
 use Rattle.amqp_perf.specs.declared.perf.Perf.TheVariants as perf
 use Rattle.amqp_perf.specs.Parts.{attach_of}
 use Rattle.amqp_perf.specs.declared.perf.Disposition.{Disposition as ADisposition}
-use Rattle.amqp_perf.specs.declared.state.DeliveryState.{DeliveryState}
 use Rattle.amqp_perf.specs.declared.state.DeliveryState.TheVariants as state
-use Rattle.amqp_link.specs.declared.part.Part.{Part}
-use Rattle.amqp_link.specs.declared.part.Part.TheVariants as part
 use Rattle.amqp_frames.specs.declared.item.Item.{Item}
 use Rattle.amqp_frames.specs.declared.item.Item.TheVariants as item
 use Rattle.amqp_conn.specs.declared.conn.Conn.{Conn}
@@ -26,7 +23,7 @@ use Rattle.router_trace.specs.Deliveries.{terminal, last_of}
 use Rattle.router_trace.specs.Settling.{open_ids, part_of}
 use Rattle.router_trace.specs.Durable.{is_durable}
 use Rattle.router_trace.specs.LinkFrames.{attach_item, detach_item, answer_to, refusal_of, fits}
-use Rattle.router_trace.specs.Links.{link, link_place, free_handle, holder, key_at}
+use Rattle.router_trace.specs.Links.{link_place, free_handle, holder, key_at}
 use Rattle.router_trace.specs.Peers.{largest_frame}
 use Rattle.router_state.specs.Tables.{beats}
 use Rattle.router_passing.specs.Passing.{with_bound}

@@ -1,6 +1,7 @@
 //! An event is handled before anything is put: what its answer needs is kept.
 ghost use Rattle.std.specs.Prelude.{◌≡◌, ◌∷◌, ℕ, List, IfOk, OnOk, true, false};
 ghost use Rattle.router_trace.specs.Trace.{Entry, did, puts_of};
+ghost use Rattle.router_trace.specs.Connection.{phase_found};
 ghost use Rattle.router_trace.specs.Deliveries.{ended_first};
 ghost use Rattle.router_trace.specs.Refusing.{refuses};
 ghost use Rattle.router_trace.specs.declared.event.Event.TheVariants as event;
@@ -54,18 +55,18 @@ fn ids_in(state: &State, conn: u64, item: &Item, answer: &Answer) -> Result<Vec<
     }
 }
 
-/// Handles an item, by an event that ended these connections first.
+/// Handles an item, by an event that ended these connections first and finds the item's connection in this phase.
 fn hear_item(
     state: &mut State,
     conn: ConnectionId,
     item: &Item,
     ends: &[u64],
+    phase: Option<Conn>,
     answer: &Answer,
 ) -> Result<Heard, AllocError>
-    ensures heard { IfOk result (λ heard. (t : List Entry) (ends : List ℕ) → TablesAt state.old t (event.Item conn item.now) ends → ItemHeard t conn item.now answer.now heard) }
+    ensures heard { IfOk result (λ heard. (t : List Entry) (ends : List ℕ) → TablesAt state.old t (event.Item conn item.now) ends → phase ≡ phase_found t (event.Item conn item.now) → ItemHeard t conn item.now answer.now heard) }
     ensures fits { OnOk result ((t : List Entry) → TablesAt state.old t (event.Item conn item.now) ends.now → ended_first t ≡ ends.now → TablesFit state.new (did (event.Item conn item.now) ∷ t)) }
 {
-    let phase = state.standing(conn.0);
     let ids = ids_in(state, conn.0, item, answer)?;
     let Ok(part) = state.hear(conn, item, ends) else {
         drop(ids);
@@ -95,7 +96,7 @@ fn hear_tick(state: &mut State, moment: u64) -> Result<Heard, AllocError>
 }
 
 /// Handles an event that is not refused, and puts nothing, after the turn that ended these connections because their outboxes were full
-/// (`State::turn`). Returns what the answer to it needs.
+/// (`State::turn`); `phase` is the phase of the item's connection as the event finds it. Returns what the answer to it needs.
 ///
 /// # Errors
 ///
@@ -104,9 +105,10 @@ pub fn hear(
     state: &mut State,
     event: &Event,
     ends: &[u64],
+    phase: Option<Conn>,
     answer: &Answer,
 ) -> Result<Heard, AllocError>
-    ensures heard { IfOk result (λ heard. (t : List Entry) (ends : List ℕ) → TablesAt state.old t event.now ends → IsHeard t event.now answer.now heard) }
+    ensures heard { IfOk result (λ heard. (t : List Entry) (ends : List ℕ) → TablesAt state.old t event.now ends → phase ≡ phase_found t event.now → IsHeard t event.now answer.now heard) }
     ensures fits { OnOk result ((t : List Entry) → TablesAt state.old t event.now ends.now → ended_first t ≡ ends.now → refuses t event.now ≡ false → TablesFit state.new (did event.now ∷ t)) }
 {
     match event {
@@ -114,7 +116,7 @@ pub fn hear(
             state.up(*conn, peer)?;
             Ok(Heard::nothing(state.alloc()))
         }
-        Event::Item(conn, item) => hear_item(state, *conn, item, ends, answer),
+        Event::Item(conn, item) => hear_item(state, *conn, item, ends, phase, answer),
         Event::Down(conn) => {
             state.down(*conn)?;
             Ok(Heard::nothing(state.alloc()))

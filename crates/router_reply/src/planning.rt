@@ -2,6 +2,7 @@
 ghost use Rattle.std.specs.Prelude.{◌≡◌, ℕ, [], List, option_map, unwrap_or, IfOk};
 ghost use Rattle.book_core.specs.Book.{terminus_of};
 ghost use Rattle.router_trace.specs.Trace.{Entry};
+ghost use Rattle.router_trace.specs.Connection.{phase_found};
 ghost use Rattle.router_trace.specs.Links.{free_handle};
 ghost use Rattle.router_state.specs.Tables.{TablesFind, TablesAt};
 ghost use Rattle.router_rows.specs.Booking.{wanted_key, wanted_address, new_terminus, has_room, durable_refusal, attach_unless, booked_perf, book_refusal, answer_at};
@@ -217,12 +218,18 @@ fn item_answer(
     }
 }
 
-/// The answer to an event's item.
-fn event_answer(state: &State, book: &Book, full: bool, event: &Event) -> Result<Answer, AllocError>
-    ensures { IfOk result (λ answer. (t : List Entry) (ends : List ℕ) → TablesAt state.now t event.now ends → answer ≡ event_answer full book.now t event.now) }
+/// The answer to an event's item; `phase` is the phase of its connection as the event finds it.
+fn event_answer(
+    state: &State,
+    book: &Book,
+    full: bool,
+    phase: Option<Conn>,
+    event: &Event,
+) -> Result<Answer, AllocError>
+    ensures { IfOk result (λ answer. (t : List Entry) (ends : List ℕ) → TablesAt state.now t event.now ends → phase ≡ phase_found t event.now → answer ≡ event_answer full book.now t event.now) }
 {
     match event {
-        Event::Item(conn, item) => match state.standing(conn.0) {
+        Event::Item(conn, item) => match phase {
             Some(phase) => item_answer(state, book, full, conn.0, phase, item),
             None => Ok(Answer::Nothing),
         },
@@ -256,7 +263,8 @@ fn planned(
 
 /// Plans an event that isn't refused, after the turn that ended these connections because their outboxes were full (`State::turn`): what its item is
 /// answered with, by the tables as the event finds them and by the book, and what the event decides, forgets, makes or drops. `full` says that
-/// the journal has no room for the acts that the event would have else.
+/// the journal has no room for the acts that the event would have else; `phase` is the phase of the item's connection as the event finds it
+/// (`router_conns::phase_found`).
 ///
 /// # Errors
 ///
@@ -266,13 +274,14 @@ pub fn make_plan(
     book: &Book,
     full: bool,
     ends: &[u64],
+    phase: Option<Conn>,
     event: &Event,
 ) -> Result<Plan, AllocError>
-    ensures answer { IfOk result (λ plan. (t : List Entry) → TablesAt state.now t event.now ends.now → plan.answer ≡ event_answer full book.now t event.now) }
-    ensures decided { IfOk result (λ plan. (t : List Entry) → TablesAt state.now t event.now ends.now → plan.decided.items ≡ decided t event.now (event_answer full book.now t event.now)) }
-    ensures forgotten { IfOk result (λ plan. (t : List Entry) → TablesAt state.now t event.now ends.now → plan.forgotten.items ≡ forgotten book.now t event.now (event_answer full book.now t event.now)) }
-    ensures terminus { IfOk result (λ plan. (t : List Entry) → TablesAt state.now t event.now ends.now → plan.terminus ≡ terminus_of_event book.now t event.now (event_answer full book.now t event.now)) }
+    ensures answer { IfOk result (λ plan. (t : List Entry) → TablesAt state.now t event.now ends.now → phase ≡ phase_found t event.now → plan.answer ≡ event_answer full book.now t event.now) }
+    ensures decided { IfOk result (λ plan. (t : List Entry) → TablesAt state.now t event.now ends.now → phase ≡ phase_found t event.now → plan.decided.items ≡ decided t event.now (event_answer full book.now t event.now)) }
+    ensures forgotten { IfOk result (λ plan. (t : List Entry) → TablesAt state.now t event.now ends.now → phase ≡ phase_found t event.now → plan.forgotten.items ≡ forgotten book.now t event.now (event_answer full book.now t event.now)) }
+    ensures terminus { IfOk result (λ plan. (t : List Entry) → TablesAt state.now t event.now ends.now → phase ≡ phase_found t event.now → plan.terminus ≡ terminus_of_event book.now t event.now (event_answer full book.now t event.now)) }
 {
-    let answer = event_answer(state, book, full, event)?;
+    let answer = event_answer(state, book, full, phase, event)?;
     planned(state, book, ends, event, answer)
 }

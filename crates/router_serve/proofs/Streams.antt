@@ -1,5 +1,5 @@
 -- Bytes that a frame reader reads, and the items that it gives for them.
-use Rattle.std.proofs.Common.{◌≡◌, ◌∙◌, sym, ap, refl, subst, ℕ, ◌<◌, Bool, true, false, List, [], ◌++◌, Option, Some, None, append_assoc, append-nil, ◌⊎◌, inl, inr, suc, zero, ◌∷◌, length, take, drop, arith}
+use Rattle.std.proofs.Common.{◌≡◌, ◌∙◌, sym, ap, refl, subst, ℕ, ◌<◌, Bool, true, false, List, [], ◌++◌, Option, append_assoc, append-nil, ◌⊎◌, inl, inr, suc, zero, ◌∷◌, length, take, drop, arith}
 use Rattle.std.specs.Io.KnownBytes.{Consumes}
 use Rattle.amqp_frames.specs.declared.item.Item.{Item}
 use Rattle.amqp_frames.specs.Cuts.{Cuts, Stream}

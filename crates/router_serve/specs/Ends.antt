@@ -1,15 +1,9 @@
--- The numbers of sides and ends.
+-- The numbers of ends.
 use Rattle.std.specs.Prelude.{ℕ}
-use Rattle.router_serve.specs.declared.gate.Side.{Side}
-use Rattle.router_serve.specs.declared.gate.Side.TheVariants as side
 use Rattle.router_serve.specs.declared.end.ReadEnd.{ReadEnd}
 use Rattle.router_serve.specs.declared.end.ReadEnd.TheVariants as read
 use Rattle.router_serve.specs.declared.end.WriteEnd.{WriteEnd}
 use Rattle.router_serve.specs.declared.end.WriteEnd.TheVariants as write
-
-abbrev pub side_number : Side → ℕ
-side_number side.Reader = 0
-side_number side.Writer = 1
 
 abbrev pub read_number : ReadEnd → ℕ
 read_number read.End = 1

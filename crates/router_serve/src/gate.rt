@@ -1,6 +1,4 @@
 //! Observation points of readers and writers.
-ghost use Rattle.std.specs.Prelude.{◌≡◌};
-ghost use Rattle.router_serve.specs.Ends.{side_number};
 
 use amqp_frames::Item;
 use router_core::ConnectionId;
@@ -13,18 +11,6 @@ pub enum Side {
     Reader,
     /// The writer.
     Writer,
-}
-
-impl Side {
-    /// The side's number: 0 for the reader, 1 for the writer.
-    pub fn number(self) -> u8
-        ensures { result ≡ side_number self }
-    {
-        match self {
-            Side::Reader => 0,
-            Side::Writer => 1,
-        }
-    }
 }
 
 /// The gate that readers and writers pass: it may hold them, and it sees the items that they carry.

@@ -1,5 +1,5 @@
 //! All tables, changed together.
-ghost use Rattle.std.specs.Prelude.{◌≡◌, ◌==◌, ◌≤◌, ◌&&◌, nat_lt, if◌then◌else◌, ◌∷◌, ◌++◌, ℕ, List, [], true, Option, option_map, OnOk, IfOk};
+ghost use Rattle.std.specs.Prelude.{◌≡◌, ◌==◌, ◌≤◌, ◌&&◌, nat_lt, if◌then◌else◌, ◌∷◌, ◌++◌, ℕ, List, [], true, false, Option, option_map, OnOk, OnErr, IfOk};
 ghost use Rattle.std.specs.Ordering.{nat_cmp};
 ghost use Rattle.std.specs.Prelude.{is_some};
 ghost use Rattle.route_table.specs.Places.{FindsAs};
@@ -28,7 +28,7 @@ ghost use Rattle.router_conns.specs.Timing.{ClocksFit};
 ghost use Rattle.amqp_session.specs.Session.{Session};
 ghost use Rattle.router_sessions.specs.Fits.{SessionsFit, found_of, window_by};
 ghost use Rattle.router_sessions.specs.Windows.{windows};
-ghost use Rattle.router_trace.specs.Connection.{conn as known, standing, found, is_ready, has};
+ghost use Rattle.router_trace.specs.Connection.{conn as known, standing, phase_before, is_ready, has};
 ghost use Rattle.router_conns.specs.Fits.{IsLeast, IsBatch, count};
 ghost use Rattle.router_trace.specs.Refusing.{rises, refuses};
 ghost use Rattle.router_state.specs.Tables.{TablesFit, TablesAt, TablesFind, beat_if, beats_over, beats};
@@ -44,7 +44,7 @@ use amqp_session::{FlowState, Window};
 use book_core::{LinkKey, RowNumber};
 use bytes::Bytes;
 use route_table::Table;
-use router_conns::{Clocks, Connections, Peers, Ready, Taken};
+use router_conns::{Clocks, Connections, Peers, Ready, Refused, Taken};
 use router_deliveries::Delivery as Bound;
 use router_passing::{LinkGrant, Passing};
 use router_sessions::{Place, Sessions};
@@ -87,26 +87,20 @@ impl State {
         self.alloc
     }
 
-    /// Whether an event is refused.
-    pub fn refuses(&self, event: &Event) -> bool
-        ensures { (t : List Entry) → TablesFit self.now t → result ≡ refuses t event.now }
+    /// The phase of the connection of an event's item, before the event; none of another event. `Refused` exactly if the event is refused.
+    pub fn phase_before(&self, event: &Event) -> Result<Option<Conn>, Refused>
+        ensures refused { OnErr result ((t : List Entry) → TablesFit self.now t → refuses t event.now ≡ true) }
+        ensures free { OnOk result ((t : List Entry) → TablesFit self.now t → refuses t event.now ≡ false) }
+        ensures phase { IfOk result (λ phase. (t : List Entry) → TablesFit self.now t → phase ≡ phase_before t event.now) }
     {
-        self.connections.refuses(event)
+        self.connections.phase_before(event)
     }
 
-    /// The phase of a connection as an event finds it; none if it isn't live.
+    /// The phase of a connection; none if it isn't live.
     pub fn standing(&self, conn: u64) -> Option<Conn>
-        ensures now { (t : List Entry) → TablesFit self.now t → result ≡ standing (known t conn) }
-        ensures at { (t : List Entry) (e : E) (ends : List ℕ) → TablesAt self.now t e ends → result ≡ standing (found t e conn) }
+        ensures { (t : List Entry) → TablesFit self.now t → result ≡ standing (known t conn) }
     {
         self.connections.standing(conn)
-    }
-
-    /// The phase of a live connection as this event finds it: a connection whose outbox is full is over then, unless the event is its own loss.
-    pub fn found(&self, event: &Event, conn: u64) -> Option<Conn>
-        ensures { (t : List Entry) → TablesFit self.now t → result ≡ standing (found t event.now conn) }
-    {
-        self.connections.found(event, conn)
     }
 
     /// The phase of a connection, whether live or over; none if the connection is unknown.

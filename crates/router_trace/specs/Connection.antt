@@ -130,6 +130,16 @@ due t e = due_of e (ups t) (conn t)
 abbrev pub found : Trace → Event → ℕ → Option Connection
 found t e c = unless_due (due t e) (conn t) c
 
+-- the phase of the live connection of an event's item, before the event; none of another event
+abbrev pub phase_before : Trace → Event → Option Conn
+phase_before t (event.Item c i) = standing (conn t c.0)
+phase_before t _ = None
+
+-- the same as the event finds it: none if the event ended the connection first
+abbrev pub phase_found : Trace → Event → Option Conn
+phase_found t (event.Item c i) = standing (found t (event.Item c i) c.0)
+phase_found t _ = None
+
 -- the live connections, by number
 abbrev pub live : Trace → List ℕ
 live t = live_of (ups t) (conn t)

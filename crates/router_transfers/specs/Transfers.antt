@@ -14,8 +14,6 @@ use Rattle.amqp_frames.specs.declared.item.Item.TheVariants as item
 use Rattle.book_core.specs.declared.row.RowNumber.{RowNumber}
 use Rattle.router_trace.specs.declared.condition.Condition.{Condition}
 use Rattle.router_trace.specs.declared.condition.Condition.TheVariants.{ResourceLimitExceeded, MessageSizeExceeded}
-use Rattle.router_trace.specs.declared.event.Event.{Event}
-use Rattle.router_trace.specs.declared.event.Event.TheVariants as event
 use Rattle.router_trace.specs.Trace.{Trace, puts}
 use Rattle.router_trace.specs.Connection.{conn}
 use Rattle.router_trace.specs.declared.binding.Binding.{Binding}

@@ -3,6 +3,7 @@ use Rattle.std.proofs.lemmas.Result.{IfOk-weaker, on_ok_weaker}
 use Rattle.std.specs.Prelude.{not}
 use Rattle.router_trace.specs.declared.event.Event.{Event}
 use Rattle.router_trace.specs.Trace.{did}
+use Rattle.router_trace.specs.Connection.{phase_found}
 use Rattle.router_trace.specs.Deliveries.{ended_first}
 use Rattle.router_trace.specs.Refusing.{refuses}
 use Rattle.router_state.specs.Tables.{TablesFit, TablesAt}
@@ -20,7 +21,7 @@ returns-in_ok-up-in-Up-clause-fits c = λ t.
 
 pub returns-in-Item-clause-heard : goal.returns-in-Item-clause-heard
 returns-in-Item-clause-heard c = IfOk-weaker c.hear_item.result _ _
-    (λ heard is t ends. subst (λ (e : Event). TablesAt c.args.state.now t e ends → IsHeard t e c.args.answer.now heard) (sym c.in-Item.is) (is t ends))
+    (λ heard is t ends. subst (λ (e : Event). TablesAt c.args.state.now t e ends → c.args.phase ≡ phase_found t e → IsHeard t e c.args.answer.now heard) (sym c.in-Item.is) (is t ends))
     c.hear_item.ensures.heard
 
 pub returns-in-Item-clause-fits : goal.returns-in-Item-clause-fits

@@ -2,8 +2,8 @@ use Rattle.router_state.specs.Tables.{at_finds}
 use Rattle.router_reply.proofs.heard.hear_item.Goals as goal
 
 pub returns-clause-heard : goal.returns-clause-heard
-returns-clause-heard c = λ t ends at. record {
-  phase = c.standing-phase.ensures.at t _ ends at;
+returns-clause-heard c = λ t ends at found. record {
+  phase = found;
   part = λ own here. c.in-Ok.ensures.part t ends own at here;
   ids = c.in_ok-ids.ensures t (at_finds at);
 }

@@ -4,15 +4,15 @@ use Rattle.router_reply.specs.Deciding.{decided, forgotten, terminus_of_event}
 use Rattle.router_reply.proofs.planning.make_plan.Goals as goal
 
 pub returns-clause-answer : goal.returns-clause-answer
-returns-clause-answer c = IfOk-weaker c.planned.result _ _ (λ p is t at. is ∙ c.in_ok-answer.ensures t _ at) c.planned.ensures.answer
+returns-clause-answer c = IfOk-weaker c.planned.result _ _ (λ p is t at found. is ∙ c.in_ok-answer.ensures t _ at found) c.planned.ensures.answer
 
 pub returns-clause-decided : goal.returns-clause-decided
-returns-clause-decided c = IfOk-weaker c.planned.result _ _ (λ p is t at. is t at ∙ ap (decided t c.args.event.now) (c.in_ok-answer.ensures t _ at)) c.planned.ensures.decided
+returns-clause-decided c = IfOk-weaker c.planned.result _ _ (λ p is t at found. is t at ∙ ap (decided t c.args.event.now) (c.in_ok-answer.ensures t _ at found)) c.planned.ensures.decided
 
 pub returns-clause-forgotten : goal.returns-clause-forgotten
 returns-clause-forgotten c =
-    IfOk-weaker c.planned.result _ _ (λ p is t at. is t at ∙ ap (forgotten c.args.book.now t c.args.event.now) (c.in_ok-answer.ensures t _ at)) c.planned.ensures.forgotten
+    IfOk-weaker c.planned.result _ _ (λ p is t at found. is t at ∙ ap (forgotten c.args.book.now t c.args.event.now) (c.in_ok-answer.ensures t _ at found)) c.planned.ensures.forgotten
 
 pub returns-clause-terminus : goal.returns-clause-terminus
 returns-clause-terminus c =
-    IfOk-weaker c.planned.result _ _ (λ p is t at. is t at ∙ ap (terminus_of_event c.args.book.now t c.args.event.now) (c.in_ok-answer.ensures t _ at)) c.planned.ensures.terminus
+    IfOk-weaker c.planned.result _ _ (λ p is t at found. is t at ∙ ap (terminus_of_event c.args.book.now t c.args.event.now) (c.in_ok-answer.ensures t _ at found)) c.planned.ensures.terminus

@@ -32,7 +32,7 @@ returns-clause-fits g c = λ t f taken.
     let journal : Journals c.write.new.self (booked t e) =
     journals_behind c.prepare.new.self c.write.new.self t e c.in-Ok.prepared.acts.items (journals_stored core c.prepare.new.self t (ap store_of c.prepare.ensures.rest) f.journal) acts
     c.in-Ok-write.ensures.book c.in-Ok-write.ensures.count c.in-Ok-write.ensures.used c.in-Ok-write.ensures.kept in
-    fits_handled c.answer.new.self (id_of core) t e taken tables c.in-Ok-answer.ensures.started (journals_stored c.write.new.self c.answer.new.self (booked t e) c.answer.ensures.store journal)
+    fits_handled c.answer.new.self (id_of core) t e taken.taken tables c.in-Ok-answer.ensures.started (journals_stored c.write.new.self c.answer.new.self (booked t e) c.answer.ensures.store journal)
 
 pub returns-clause-written : goal.returns-clause-written
 returns-clause-written g c = λ t f taken.

@@ -1,4 +1,4 @@
-use Rattle.std.proofs.Common.{◌≡◌, ◌∙◌, refl, ap, rules}
+use Rattle.std.proofs.Common.{◌∙◌, refl, ap}
 use Rattle.book_core.specs.Book.{BookView}
 use Rattle.router_reply.specs.Acts.{event_answer}
 use Rattle.router_core.specs.Handling.{kept_book}
@@ -8,9 +8,9 @@ use Rattle.router_core.proofs.router.Core.plan_as.Goals as goal
 pub returns : goal.returns
 returns g c = record {
   full = refl;
-  answer = λ t at. c.in_ok-answer.ensures.answer t at ∙ ap (λ (b : BookView). event_answer c.args.full b t c.args.event.now) c.book.ensures;
-  acts = λ t at.
+  answer = λ t at found. c.in_ok-answer.ensures.answer t at found ∙ ap (λ (b : BookView). event_answer c.args.full b t c.args.event.now) c.book.ensures;
+  acts = λ t at found.
       planned_told c.args.full (kept_book c.args.self.now) c.book.result.now t c.args.event.now _ _ _ _ c.book.ensures c.in_default.not-Start c.in_ok-acts.ensures.acts
-      (c.in_ok-answer.ensures.decided t at) (c.in_ok-answer.ensures.forgotten t at) (c.in_ok-answer.ensures.terminus t at);
+      (c.in_ok-answer.ensures.decided t at found) (c.in_ok-answer.ensures.forgotten t at found) (c.in_ok-answer.ensures.terminus t at found);
   writable = c.in_ok-acts.ensures.writable;
 }
