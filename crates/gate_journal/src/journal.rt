@@ -63,6 +63,7 @@ fn added<D: Disk>(
     ensures room_at_fault { IsErrOf result JournalFault.Disk → IsFull (figures.place + 1) figures.reserve acts.now → ⊥ }
     ensures untouched { IsFull (figures.place + 1) figures.reserve acts.now → disk.new ≡ disk.old }
     ensures disk { IsErrOf result JournalFault.Disk → D.failures disk.old < D.failures disk.new }
+    ensures no_other { (IsErrOf result JournalFault.Disk → ⊥) → D.failures disk.new ≡ D.failures disk.old }
     ensures not_failed { IsErrOf result JournalFault.Failed → ⊥ }
 {
     let block = block_of(alloc, acts)?;
@@ -122,7 +123,9 @@ impl<D: Disk> Journal<D> {
         ensures still_failed { IsErrOf result JournalFault.Failed → self.new ≡ self.old }
         ensures figures { OnErr result (self.new ≡ record self.old { disk = disk_of self.new; failed = has_failed self.new }) }
 
+        // The disk failed meanwhile exactly where `Disk` is answered.
         ensures disk { IsErrOf result JournalFault.Disk → D.failures (disk_of self.old) < D.failures (disk_of self.new) }
+        ensures no_other { (IsErrOf result JournalFault.Disk → ⊥) → D.failures (disk_of self.new) ≡ D.failures (disk_of self.old) }
         ensures failed { IsErrOf result JournalFault.Failed ↔ (has_failed self.old ≡ true) }
         ensures fails_at_disk { IsErrOf result JournalFault.Disk → has_failed self.new ≡ true }
         ensures fails_at_memory { IsErrOf result JournalFault.Memory → has_failed self.new ≡ true }

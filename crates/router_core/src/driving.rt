@@ -1,5 +1,5 @@
 //! Running a list of events.
-ghost use Rattle.std.specs.Prelude.{◌≡◌, ◌≢◌, ◌≤◌, ◌⊎◌, ◌+◌, ◌∷◌, ◌++◌, ℕ, List, map, length, true, false, None, vec_len, vec_capacity, OnOk, OnErr, IfErr, IfSome};
+ghost use Rattle.std.specs.Prelude.{◌≡◌, ◌≢◌, ◌≤◌, ◌<◌, ◌⊎◌, ◌+◌, ◌∷◌, ◌++◌, ℕ, List, map, length, true, false, Some, None, vec_len, vec_capacity, OnOk, OnErr, IfErr, IfSome, IsErrOf};
 ghost use Rattle.router_trace.specs.Trace.{Entry};
 ghost use Rattle.router_trace.specs.Connection.{conn as known, is_ready};
 ghost use Rattle.disk_core.specs.Disk.{LeavesOnly};
@@ -122,6 +122,8 @@ fn step<D: Disk>(
     ensures failed { IfErr result (λ f. f ≡ CoreFault.Failed → is_failed core.old ≡ true) }
     ensures memory { IfErr result (λ f. f ≡ CoreFault.Memory → ((t : List Entry) → Fits core.new t → Waits t) ⊎ (is_failed core.new ≡ true)) }
     ensures disk { IfErr result (λ f. f ≡ CoreFault.Disk → is_failed core.new ≡ true) }
+    ensures cause { IfErr result (λ f. f ≡ CoreFault.Disk → D.failures (disk_of (store_of core.old)) < D.failures (disk_of (store_of core.new))) }
+    ensures no_other { (IsErrOf result CoreFault.Disk → ⊥) → D.failures (disk_of (store_of core.new)) ≡ D.failures (disk_of (store_of core.old)) }
 
     ensures stands { OnOk result (Stands D.seen D.may_leave (store_of core.old) → Stands D.seen D.may_leave (store_of core.new)) }
     ensures any_moment { (t : List Entry) → Fits core.old t → Stands D.seen D.may_leave (store_of core.old)
@@ -142,6 +144,8 @@ fn hear<D: Disk>(core: &mut Core<D>, event: Event) -> Result<(), CoreFault>
     ensures failed { IfErr result (λ f. f ≡ CoreFault.Failed → is_failed core.old ≡ true) }
     ensures memory { IfErr result (λ f. f ≡ CoreFault.Memory → is_failed core.new ≡ true) }
     ensures disk { IfErr result (λ f. f ≡ CoreFault.Disk → is_failed core.new ≡ true) }
+    ensures cause { IfErr result (λ f. f ≡ CoreFault.Disk → D.failures (disk_of (store_of core.old)) < D.failures (disk_of (store_of core.new))) }
+    ensures no_other { (IsErrOf result CoreFault.Disk → ⊥) → D.failures (disk_of (store_of core.new)) ≡ D.failures (disk_of (store_of core.old)) }
 
     ensures stands { OnOk result (Stands D.seen D.may_leave (store_of core.old) → Stands D.seen D.may_leave (store_of core.new)) }
     ensures any_moment { (t : List Entry) → Fits core.old t → Stands D.seen D.may_leave (store_of core.old)
@@ -173,6 +177,10 @@ pub fn drive<D: Disk>(alloc: Global, core: &mut Core<D>, events: Vec<Event>) -> 
     ensures failed { IfSome result.fault (λ f. f ≡ CoreFault.Failed → is_failed core.old ≡ true) }
     ensures memory { IfSome result.fault (λ f. f ≡ CoreFault.Memory → ((t : List Entry) → Fits core.new t → Waits t) ⊎ (is_failed core.new ≡ true)) }
     ensures disk { IfSome result.fault (λ f. f ≡ CoreFault.Disk → is_failed core.new ≡ true) }
+
+    // The disk failed meanwhile exactly where the fault is `Disk`.
+    ensures cause { IfSome result.fault (λ f. f ≡ CoreFault.Disk → D.failures (disk_of (store_of core.old)) < D.failures (disk_of (store_of core.new))) }
+    ensures no_other { result.fault ≢ Some CoreFault.Disk → D.failures (disk_of (store_of core.new)) ≡ D.failures (disk_of (store_of core.old)) }
 
     // Whatever happens, a crash at any moment of the call leaves the book behind some first events, or that book after the acts of the
     // event that comes next. Without a fault it leaves, at the end, the book behind all of them.

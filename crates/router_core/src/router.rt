@@ -1,5 +1,5 @@
 //! The router: one event or one take at a time.
-ghost use Rattle.std.specs.Prelude.{◌≡◌, ◌≢◌, ◌⊎◌, ◌+◌, ◌<◌, ◌≤◌, ◌∷◌, ◌&&◌, nat_lt, List, [], length, true, false, Ok, Err, None, option_map, is_some, OnOk, OnErr, IfOk, IfErr, IfSome, IfNone};
+ghost use Rattle.std.specs.Prelude.{◌≡◌, ◌≢◌, ◌⊎◌, ◌+◌, ◌<◌, ◌≤◌, ◌∷◌, ◌&&◌, nat_lt, List, [], length, true, false, Ok, Err, None, option_map, is_some, OnOk, OnErr, IfOk, IfErr, IfSome, IfNone, IsErrOf};
 ghost use Rattle.disk_core.specs.Disk.{LeavesOnly, NoMore};
 ghost use Rattle.gate_journal.specs.Journal.{batch_count};
 ghost use Rattle.gate_journal.specs.Opening.{Explains};
@@ -279,7 +279,10 @@ impl<D: Disk> Core<D> {
         ensures unchanged { IfErr result (λ f. f ≡ Failed → (self.new ≡ self.old) × (is_failed self.old ≡ true)) }
         ensures memory { IfErr result (λ f. f ≡ Memory → is_failed self.new ≡ true) }
         ensures disk { IfErr result (λ f. f ≡ DiskFailed → is_failed self.new ≡ true) }
+
+        // The disk failed meanwhile exactly where `Disk` is answered.
         ensures cause { IfErr result (λ f. f ≡ DiskFailed → D.failures (disk_of (store_of self.old)) < D.failures (disk_of (store_of self.new))) }
+        ensures no_other { (IsErrOf result DiskFailed → ⊥) → D.failures (disk_of (store_of self.new)) ≡ D.failures (disk_of (store_of self.old)) }
     {
         if self.failed {
             drop(event);
@@ -333,6 +336,7 @@ impl<D: Disk> Core<D> {
         ensures not_refused { IfErr result (λ f. f ≢ NoConnection) }
         ensures not_failed { IfErr result (λ f. f ≢ Failed) }
         ensures cause { IfErr result (λ f. f ≡ DiskFailed → D.failures (disk_of (store_of self.old)) < D.failures (disk_of (store_of self.new))) }
+        ensures no_other { (IsErrOf result DiskFailed → ⊥) → D.failures (disk_of (store_of self.new)) ≡ D.failures (disk_of (store_of self.old)) }
     {
         let Ok(prepared) = self.prepare(&event, phase) else {
             drop(event);
@@ -517,6 +521,7 @@ impl<D: Disk> Core<D> {
         ensures not_refused { IfErr result (λ f. f ≢ NoConnection) }
         ensures not_failed { IfErr result (λ f. f ≢ Failed) }
         ensures cause { IfErr result (λ f. f ≡ DiskFailed → D.failures (disk_of (store_of self.old)) < D.failures (disk_of (store_of self.new))) }
+        ensures no_other { (IsErrOf result DiskFailed → ⊥) → D.failures (disk_of (store_of self.new)) ≡ D.failures (disk_of (store_of self.old)) }
     {
         match self.store.commit(acts) {
             Ok(batch) => Ok(batch),

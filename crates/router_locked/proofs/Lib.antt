@@ -1,3 +1,5 @@
 pub mod Histories
 pub mod Queues
 pub mod Writes
+pub mod Ringings
+pub mod Wakings

@@ -1,5 +1,6 @@
 pub mod Handing
 pub mod History
+pub mod Ringing
 pub use Rattle.router_core.specs.Handling
 pub use Rattle.router_core.specs.Moves
 pub use Rattle.router_core.specs.Counting

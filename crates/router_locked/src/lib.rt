@@ -3,8 +3,11 @@
 
 mod bells;
 mod locked;
+mod readiness;
 mod router;
+mod sleepers;
 
 pub use bells::{BELLS, Bells, bell_of};
 pub use locked::{Closed, Locked, Log, NoLog, Receipt};
+pub use readiness::Readiness;
 pub use router::Router;

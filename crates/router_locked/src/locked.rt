@@ -1,17 +1,23 @@
 //! The data under the lock.
-ghost use Rattle.std.specs.Prelude.{◌≡◌, ◌≤◌, ◌<◌, ◌+◌, if◌then◌else◌, [], true, length, OnOk, OnErr, IfOk, IfSome};
+ghost use Rattle.std.specs.Prelude.{◌≡◌, ◌≤◌, ◌<◌, ◌+◌, ◌%◌, ◌==◌, ◌⊎◌, ◌&&◌, ◌||◌, not, ℕ, if◌then◌else◌, [], None, true, is_some, length, OnOk, OnErr, IfOk, IfErr, IfSome};
 ghost use Rattle.gate_journal.specs.Journal.{batch_count};
-ghost use Rattle.router_store.specs.Store.{journal_of};
+ghost use Rattle.router_store.specs.Store.{disk_of, journal_of};
 ghost use Rattle.router_trace.specs.Trace.{Trace, step_of};
-ghost use Rattle.router_core.specs.Handling.{Fits, counts_of, id_of, store_of};
+ghost use Rattle.router_trace.specs.Connection.{conn as known, is_ready, is_live};
+ghost use Rattle.router_core.specs.Turns.{declines};
+ghost use Rattle.router_core.specs.Handling.{Fits, counts_of, id_of, is_failed, store_of};
 ghost use Rattle.router_core.specs.Replies.{handled};
 ghost use Rattle.router_core.specs.Counting.{uncounted, with_event, with_batch};
+ghost use Rattle.router_core.specs.declared.fault.CoreFault.TheVariants.{Disk as DiskFailed, Memory, Failed, NoConnection};
 ghost use Rattle.router_seats.specs.Adding.{sums, Handled};
 ghost use Rattle.router_locked.specs.Handing.{Enough, Stopped, batches_of, gone, handed};
 ghost use Rattle.router_locked.specs.History.{HasHistory};
+ghost use Rattle.router_locked.specs.Ringing.{is_set};
 
-use crate::bells::{BELLS, Bells, bell_of};
+use crate::bells::Bells;
+use crate::readiness::Readiness;
 use crate::router::{MOST, Router};
+use crate::sleepers::Sleepers;
 use amqp_frames::Item;
 use disk_core::Disk;
 use router_core::{Batch, ConnectionId, Core, CoreFault, Counts, Event};
@@ -61,8 +67,7 @@ pub struct Locked<D: Disk, L: Log, G: Ledgers> {
     log: L,
     // the number of the journal's last batch when the router was opened
     opened: u64,
-    // the bells at which a writer may sleep
-    asleep: Bells,
+    sleepers: Sleepers,
     ghost counted: { counts_of router.core ≡ totals },
 }
 
@@ -78,7 +83,7 @@ impl<D: Disk, L: Log, G: Ledgers> Locked<D, L, G> {
             totals,
             log,
             opened,
-            asleep: Bells::none(),
+            sleepers: Sleepers::none(),
         }
     }
 
@@ -96,6 +101,13 @@ impl<D: Disk, L: Log, G: Ledgers> Locked<D, L, G> {
         ensures fits { OnOk result ((t : Trace) → Fits self.old.router.core t → Fits self.new.router.core (handled (id_of self.old.router.core) t (step_of event))) }
         ensures wrote { IfOk result (λ wrote. (t : Trace) → Fits self.old.router.core t → batches_of self.new.router.core ≡ batches_of self.old.router.core + (if wrote then 1 else 0)) }
         ensures named { id_of self.new.router.core ≡ id_of self.old.router.core }
+
+        // Which fault occurs, and what it leaves.
+        ensures refused { IfErr result (λ f. f ≡ NoConnection → (self.new.router.core ≡ self.old.router.core) × ((t : Trace) → Fits self.old.router.core t → declines t event ≡ true)) }
+        ensures failed { IfErr result (λ f. f ≡ Failed → (self.new.router.core ≡ self.old.router.core) × (is_failed self.old.router.core ≡ true)) }
+        ensures memory { IfErr result (λ f. f ≡ Memory → is_failed self.new.router.core ≡ true) }
+        ensures disk { IfErr result (λ f. f ≡ DiskFailed → is_failed self.new.router.core ≡ true) }
+        ensures cause { IfErr result (λ f. f ≡ DiskFailed → D.failures (disk_of (store_of self.old.router.core)) < D.failures (disk_of (store_of self.new.router.core))) }
     {
         let kind = Kind::of(&event);
         let wrote = self.router.handle(event)?;
@@ -140,6 +152,12 @@ impl<D: Disk, L: Log, G: Ledgers> Locked<D, L, G> {
         ensures most { IfOk result (λ b. length b.items.items ≤ 64) }
         ensures counted { OnOk result (seat.new ≡ with_batch seat.old) }
         ensures uncounted { OnErr result (seat.new ≡ seat.old) }
+
+        // Which fault occurs, and what it leaves.
+        ensures refused { IfErr result (λ f. f ≡ NoConnection → (self.new.router.core ≡ self.old.router.core) × ((t : Trace) → Fits self.old.router.core t → known t conn.0 ≡ None)) }
+        ensures failed { IfErr result (λ f. f ≡ Failed → (self.new.router.core ≡ self.old.router.core) × (is_failed self.old.router.core ≡ true)) }
+        ensures memory { IfErr result (λ f. f ≡ Memory → is_failed self.new.router.core ≡ true) }
+        ensures no_disk { IfErr result (λ f. f ≡ DiskFailed → ⊥) }
     {
         let batch = self.router.take(conn)?;
         self.totals.add_batch(seat, self.router.counts());
@@ -147,54 +165,40 @@ impl<D: Disk, L: Log, G: Ledgers> Locked<D, L, G> {
     }
 
     /// Whether a connection is up and the router didn't end it.
-    pub fn is_live(&self, conn: ConnectionId) -> bool {
+    pub fn is_live(&self, conn: ConnectionId) -> bool
+        ensures { (t : Trace) → Fits self.now.router.core t → result ≡ is_live (known t conn.0) }
+    {
         self.router.is_live(conn)
     }
 
     /// Whether the router failed.
-    pub fn is_failed(&self) -> bool {
+    pub fn is_failed(&self) -> bool
+        ensures { result ≡ is_failed self.now.router.core }
+    {
         self.router.is_failed()
     }
 
-    /// Whether a writer has to wait; if so, it is noted as asleep.
-    pub fn sleeps(&mut self, conn: ConnectionId) -> bool {
-        let waits = !self.router.is_ready(conn);
-        if waits {
-            self.asleep.add(bell_of(conn));
-        }
-        waits
+    /// Whether the writer of a connection has to wait: the connection is known and not ready, and the router works. If so, its bell is noted as
+    /// one at which a writer sleeps.
+    pub fn sleeps(&mut self, conn: ConnectionId) -> bool
+        ensures router { self.new.router ≡ self.old.router }
+        ensures waits { (t : Trace) → Fits self.old.router.core t → result ≡ not (is_failed self.old.router.core || is_ready (known t conn.0) || not (is_some (known t conn.0))) }
+        ensures noted { (b : ℕ) → is_set self.new.sleepers.noted.words b ≡ ((result && (conn.0 % 256 == b)) || is_set self.old.sleepers.noted.words b) }
+    {
+        self.sleepers.sleeps(&self.router, conn)
     }
 
     /// The bells of the writers that sleep and needn't: of connections that are ready, of one that is lost, and all of
-    /// them if the router failed.
-    pub fn wake(&mut self, lost: Option<ConnectionId>) -> Bells {
-        let mut woken = Bells::none();
-        if self.asleep.is_empty() {
-            return woken;
-        }
-        if self.router.is_failed() {
-            return self.wake_all();
-        }
-        if let Some(conn) = lost {
-            self.asleep.give(&mut woken, bell_of(conn));
-        }
-        let mut next = self.router.ready();
-        for _turn in 0..BELLS {
-            match next {
-                None => return woken,
-                Some(conn) => {
-                    self.asleep.give(&mut woken, bell_of(conn));
-                    next = self.router.ready_behind(conn);
-                }
-            }
-        }
-        self.wake_all()
-    }
-
-    /// All bells at which a writer may sleep.
-    fn wake_all(&mut self) -> Bells {
-        self.asleep = Bells::none();
-        Bells::all()
+    /// them if the router failed. No bell that was noted is forgotten: it is given, or is still noted.
+    pub fn wake(&mut self, lost: Option<ConnectionId>) -> Bells
+        ensures router { self.new.router ≡ self.old.router }
+        ensures ready { (t : Trace) → Fits self.old.router.core t → (c : ℕ) → is_ready (known t c) ≡ true
+            → is_set self.old.sleepers.noted.words (c % 256) ≡ true → is_set result.words (c % 256) ≡ true }
+        ensures lost { IfSome lost (λ conn. is_set self.old.sleepers.noted.words (conn.0 % 256) ≡ true → is_set result.words (conn.0 % 256) ≡ true) }
+        ensures failed { is_failed self.old.router.core ≡ true → (b : ℕ) → b < 256 → is_set self.old.sleepers.noted.words b ≡ true → is_set result.words b ≡ true }
+        ensures still { (b : ℕ) → b < 256 → is_set self.old.sleepers.noted.words b ≡ true → (is_set result.words b ≡ true) ⊎ (is_set self.new.sleepers.noted.words b ≡ true) }
+    {
+        self.sleepers.wake(&self.router, lost)
     }
 
     /// Adds up the seats' counts, beside the router's.
@@ -211,7 +215,7 @@ impl<D: Disk, L: Log, G: Ledgers> Locked<D, L, G> {
             totals,
             log,
             opened,
-            asleep: _,
+            sleepers: _,
         } = self;
         let Returned { all, counts } = totals.add_up(seats);
         Closed {

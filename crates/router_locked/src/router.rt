@@ -1,12 +1,18 @@
 //! The router with its history: the data under the lock.
-ghost use Rattle.std.specs.Prelude.{◌≡◌, ◌≤◌, ◌+◌, if◌then◌else◌, length, OnOk, OnErr, IfOk};
+ghost use Rattle.std.specs.Prelude.{◌≡◌, ◌≤◌, ◌<◌, ◌+◌, ◌&&◌, ◌||◌, not, nat_lt, if◌then◌else◌, None, true, option_map, is_some, length, OnOk, OnErr, IfOk, IfErr};
+ghost use Rattle.router_store.specs.Store.{disk_of};
 ghost use Rattle.router_trace.specs.Trace.{Trace, step_of};
-ghost use Rattle.router_core.specs.Handling.{Fits, counts_of, id_of, is_failed};
+ghost use Rattle.router_trace.specs.Connection.{conn as known, is_ready, is_live};
+ghost use Rattle.router_conns.specs.Fits.{IsLeast};
+ghost use Rattle.router_core.specs.Turns.{declines};
+ghost use Rattle.router_core.specs.Handling.{Fits, counts_of, id_of, is_failed, store_of};
 ghost use Rattle.router_core.specs.Replies.{handled};
 ghost use Rattle.router_core.specs.Counting.{uncounted, with_event, with_batch};
+ghost use Rattle.router_core.specs.declared.fault.CoreFault.TheVariants.{Disk as DiskFailed, Memory, Failed, NoConnection};
 ghost use Rattle.router_locked.specs.Handing.{batches_of};
 ghost use Rattle.router_locked.specs.History.{IsOpened, HasHistory};
 
+use crate::readiness::Readiness;
 use disk_core::Disk;
 use router_core::{Batch, ConnectionId, Core, CoreFault, Counts, Event};
 
@@ -38,6 +44,13 @@ impl<D: Disk> Router<D> {
         ensures fits { OnOk result ((t : Trace) → Fits self.old.core t → Fits self.new.core (handled (id_of self.old.core) t (step_of event))) }
         ensures wrote { IfOk result (λ wrote. (t : Trace) → Fits self.old.core t → batches_of self.new.core ≡ batches_of self.old.core + (if wrote then 1 else 0)) }
         ensures named { id_of self.new.core ≡ id_of self.old.core }
+
+        // Which fault occurs, and what it leaves.
+        ensures refused { IfErr result (λ f. f ≡ NoConnection → (self.new.core ≡ self.old.core) × ((t : Trace) → Fits self.old.core t → declines t event ≡ true)) }
+        ensures failed { IfErr result (λ f. f ≡ Failed → (self.new.core ≡ self.old.core) × (is_failed self.old.core ≡ true)) }
+        ensures memory { IfErr result (λ f. f ≡ Memory → is_failed self.new.core ≡ true) }
+        ensures disk { IfErr result (λ f. f ≡ DiskFailed → is_failed self.new.core ≡ true) }
+        ensures cause { IfErr result (λ f. f ≡ DiskFailed → D.failures (disk_of (store_of self.old.core)) < D.failures (disk_of (store_of self.new.core))) }
     {
         let before = self.core.batch();
         match self.core.handle(event) {
@@ -55,36 +68,21 @@ impl<D: Disk> Router<D> {
         ensures most { IfOk result (λ b. length b.items.items ≤ 64) }
         ensures counted { OnOk result (counts_of self.new.core ≡ with_batch (counts_of self.old.core)) }
         ensures uncounted { OnErr result (counts_of self.new.core ≡ counts_of self.old.core) }
+
+        // Which fault occurs, and what it leaves.
+        ensures refused { IfErr result (λ f. f ≡ NoConnection → (self.new.core ≡ self.old.core) × ((t : Trace) → Fits self.old.core t → known t conn.0 ≡ None)) }
+        ensures failed { IfErr result (λ f. f ≡ Failed → (self.new.core ≡ self.old.core) × (is_failed self.old.core ≡ true)) }
+        ensures memory { IfErr result (λ f. f ≡ Memory → is_failed self.new.core ≡ true) }
+        ensures no_disk { IfErr result (λ f. f ≡ DiskFailed → ⊥) }
     {
         self.core.take(conn, MOST)
     }
 
-    /// Whether `take` would answer with items, the end or a fault: the connection is ready or unknown, or
-    /// the router failed.
-    pub fn is_ready(&self, conn: ConnectionId) -> bool {
-        self.core.is_failed() || self.core.is_ready(conn) || !self.core.knows(conn)
-    }
-
-    /// The lowest ready connection: an item is waiting in its outbox, or the router ended it.
-    pub fn ready(&self) -> Option<ConnectionId> {
-        self.core.ready()
-    }
-
-    /// The lowest ready connection above another.
-    pub fn ready_behind(&self, conn: ConnectionId) -> Option<ConnectionId> {
-        self.core.ready_behind(conn)
-    }
-
     /// Whether a connection is up and the router didn't end it.
-    pub fn is_live(&self, conn: ConnectionId) -> bool {
-        self.core.is_live(conn)
-    }
-
-    /// Whether it failed.
-    pub fn is_failed(&self) -> bool
-        ensures { result ≡ is_failed self.now.core }
+    pub fn is_live(&self, conn: ConnectionId) -> bool
+        ensures { (t : Trace) → Fits self.now.core t → result ≡ is_live (known t conn.0) }
     {
-        self.core.is_failed()
+        self.core.is_live(conn)
     }
 
     /// Its counts.
@@ -107,5 +105,35 @@ impl<D: Disk> Router<D> {
         ensures history { ∥ HasHistory result ∥₁ }
     {
         self.core
+    }
+}
+
+impl<D: Disk> Readiness for Router<D> {
+    ghost fits = { λ router. Fits router.core };
+
+    ghost failed = { λ router. is_failed router.core };
+
+    fn is_failed(&self) -> bool
+        ensures { result ≡ is_failed self.now.core }
+    {
+        self.core.is_failed()
+    }
+
+    fn answers(&self, conn: ConnectionId) -> bool
+        ensures { (t : Trace) → Fits self.now.core t → result ≡ (is_failed self.now.core || is_ready (known t conn.0) || not (is_some (known t conn.0))) }
+    {
+        self.core.is_failed() || self.core.is_ready(conn) || !self.core.knows(conn)
+    }
+
+    fn ready(&self) -> Option<ConnectionId>
+        ensures { (t : Trace) → Fits self.now.core t → IsLeast (λ c. is_ready (known t c)) (option_map (λ c. c.0) result) }
+    {
+        self.core.ready()
+    }
+
+    fn ready_behind(&self, conn: ConnectionId) -> Option<ConnectionId>
+        ensures { (t : Trace) → Fits self.now.core t → IsLeast (λ c. nat_lt conn.0 c && is_ready (known t c)) (option_map (λ c. c.0) result) }
+    {
+        self.core.ready_behind(conn)
     }
 }

@@ -155,12 +155,11 @@ impl<D: Disk, L: Log, G: Ledgers> Shared<D, L, G> {
 
     /// Rings these bells.
     fn ring(&self, woken: Bells) {
-        if woken.is_empty() {
-            return;
-        }
-        for place in 0..BELLS {
-            if woken.has(place) {
-                self.bells[place].notify_all();
+        let mut woken = woken;
+        for _turn in 0..BELLS {
+            match woken.pop() {
+                None => return,
+                Some(bell) => self.bells[bell].notify_all(),
             }
         }
     }

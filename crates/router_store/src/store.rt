@@ -91,6 +91,7 @@ impl<D: Disk> Store<D> {
         ensures length_at_memory { IsErrOf result JournalFault.Memory → IsAsLong self.old self.new ⊎ IsLonger self.old acts.now self.new }
 
         ensures disk { IsErrOf result JournalFault.Disk → D.failures (disk_of self.old) < D.failures (disk_of self.new) }
+        ensures no_other { (IsErrOf result JournalFault.Disk → ⊥) → D.failures (disk_of self.new) ≡ D.failures (disk_of self.old) }
         ensures failed { IsErrOf result JournalFault.Failed → has_failed (journal_of self.old) ≡ true }
         ensures works { OnOk result (has_failed (journal_of self.new) ≡ false) }
     {
@@ -129,6 +130,7 @@ impl<D: Disk> Store<D> {
         ensures length_at_memory { IsErrOf result JournalFault.Memory → IsAsLong self.old self.new ⊎ IsLonger self.old acts.items self.new }
 
         ensures disk { IsErrOf result JournalFault.Disk → D.failures (disk_of self.old) < D.failures (disk_of self.new) }
+        ensures no_other { (IsErrOf result JournalFault.Disk → ⊥) → D.failures (disk_of self.new) ≡ D.failures (disk_of self.old) }
         ensures failed { IsErrOf result JournalFault.Failed → has_failed (journal_of self.old) ≡ true }
         ensures works { has_failed (journal_of self.old) ≡ false → OnOk result (has_failed (journal_of self.new) ≡ false) }
     {
@@ -167,6 +169,7 @@ impl<D: Disk> Store<D> {
         ensures length_at_fault { IfErr result (λ fault. (fault ≡ JournalFault.Memory → ⊥) → IsAsLong self.old self.new) }
         ensures length_at_memory { IsErrOf result JournalFault.Memory → IsAsLong self.old self.new ⊎ IsLonger self.old (start_acts (book_of self.old)) self.new }
         ensures disk { IsErrOf result JournalFault.Disk → D.failures (disk_of self.old) < D.failures (disk_of self.new) }
+        ensures no_other { (IsErrOf result JournalFault.Disk → ⊥) → D.failures (disk_of self.new) ≡ D.failures (disk_of self.old) }
         ensures failed { IsErrOf result JournalFault.Failed → has_failed (journal_of self.old) ≡ true }
         ensures works { has_failed (journal_of self.old) ≡ false → OnOk result (has_failed (journal_of self.new) ≡ false) }
     {

@@ -34,6 +34,7 @@ loop-event-preserved g c = record {
       next_moment g.D.Disk.seen g.D.Disk.may_leave g.D.Disk.moment g.D.Disk.left_since _ _ _ (id_of c.args.core.now) t c.args.events.items w.0 c.loop-event.taken.items w.1 c.in-Some.event
       (into_iter_items c.next.new.self) (w.2 ∙ ap (λ (fs : List Event). w.0 ++ fs) c.in-Some.ensures.steps.0) w.4 (c.loop-event.invariant.moments t f s)
       (c.step.ensures.any_moment w.1 w.5 (c.loop-event.invariant.stands s));
+  failures = search rules;
   count = let h = c.in-Some.ensures.steps in grind (arith, h, rules);
 }
 

@@ -19,5 +19,6 @@ invariant-loop-event g l = record {
   stands : Stands g.D.Disk.seen g.D.Disk.may_leave (store_of l.fn.core) → Stands g.D.Disk.seen g.D.Disk.may_leave (store_of l.core);
   moments : (t : List Entry) → Fits l.fn.core t → Stands g.D.Disk.seen g.D.Disk.may_leave (store_of l.fn.core)
       → LeavesOnly g.D.Disk.moment g.D.Disk.left_since (disk_of (store_of l.fn.core)) (disk_of (store_of l.core)) (LeftBy (id_of l.fn.core) t l.fn.events.items);
+  failures : g.D.Disk.failures (disk_of (store_of l.core)) ≡ g.D.Disk.failures (disk_of (store_of l.fn.core));
   count : l.handled + length (into_iter_items l.event-iterator) ≡ length l.fn.events.items;
 }
