@@ -1,12 +1,12 @@
 -- Bytes that come behind change nothing of what was read of a performative, nor of a fault other than their end.
 use Rattle.std.proofs.Common.{◌≡◌, ℕ, ◌-◌, Bool, true, false, cond, nat_lt, ◌⊎◌, inl, inr, List, ◌++◌, length, Option, Some, None, Result, Ok, Err, refl, sym, ap, subst, ◌∙◌, true≢false}
-use Rattle.amqp_types.specs.declared.fault.TypeFault.{TypeFault}
-use Rattle.amqp_types.specs.declared.fault.TypeFault.TheVariants as type_fault
-use Rattle.amqp_types.specs.declared.code.Leaf.TheVariants as leaf
-use Rattle.amqp_types.specs.declared.code.Code.{Code}
-use Rattle.amqp_types.specs.declared.code.Code.TheVariants as code
-use Rattle.amqp_types.specs.Data.{Data}
-use Rattle.amqp_types.specs.View.{plain_part}
+use Rattle.amqp_values.specs.declared.fault.TypeFault.{TypeFault}
+use Rattle.amqp_values.specs.declared.fault.TypeFault.TheVariants as type_fault
+use Rattle.amqp_values.specs.declared.code.Leaf.TheVariants as leaf
+use Rattle.amqp_values.specs.declared.code.Code.{Code}
+use Rattle.amqp_values.specs.declared.code.Code.TheVariants as code
+use Rattle.amqp_values.specs.Data.{Data}
+use Rattle.amqp_values.specs.View.{plain_part}
 use Rattle.amqp_types.specs.Reading.{to, after, code_at, size_at, sized_at, value_at}
 use Rattle.amqp_types.specs.Spelling.{spelling}
 use Rattle.amqp_types.proofs.Staying.{Stays as TypeStays, to_stays, code_stays, sized_stays, value_at_stays}

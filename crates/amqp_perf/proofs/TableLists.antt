@@ -1,17 +1,17 @@
 -- Described lists: what is spelled so is opened so, and what was opened is spelled so.
 use Rattle.std.proofs.Common.{◌≡◌, ℕ, suc, ◌-◌, ◌≤◌, Bool, true, false, cond, nat_lt, List, [], ◌∷◌, ◌++◌, length, Option, Some, None, Result, Ok, Err, refl, sym, ap, subst, ◌∙◌, append_assoc, arith}
 use Rattle.std.proofs.lemmas.Bool.{ltb-false}
-use Rattle.amqp_types.specs.declared.code.Leaf.{Leaf}
-use Rattle.amqp_types.specs.declared.code.Leaf.TheVariants as leaf
-use Rattle.amqp_types.specs.declared.code.Code.{Code}
-use Rattle.amqp_types.specs.declared.code.Code.TheVariants as code
-use Rattle.amqp_types.specs.declared.code.Size.{Size}
-use Rattle.amqp_types.specs.Codes.{code_of as constructor_of, leaf_kind}
-use Rattle.amqp_types.specs.declared.code.Kind.TheVariants as kind
-use Rattle.amqp_types.specs.declared.code.Kind.{Kind}
-use Rattle.amqp_types.specs.Data as d
-use Rattle.amqp_types.specs.Data.{Data, Items, no_items, item}
-use Rattle.amqp_types.specs.View.{plain_part}
+use Rattle.amqp_values.specs.declared.code.Leaf.{Leaf}
+use Rattle.amqp_values.specs.declared.code.Leaf.TheVariants as leaf
+use Rattle.amqp_values.specs.declared.code.Code.{Code}
+use Rattle.amqp_values.specs.declared.code.Code.TheVariants as code
+use Rattle.amqp_values.specs.declared.code.Size.{Size}
+use Rattle.amqp_values.specs.Codes.{code_of as constructor_of, leaf_kind}
+use Rattle.amqp_values.specs.declared.code.Kind.TheVariants as kind
+use Rattle.amqp_values.specs.declared.code.Kind.{Kind}
+use Rattle.amqp_values.specs.Data as d
+use Rattle.amqp_values.specs.Data.{Data, Items, no_items, item}
+use Rattle.amqp_values.specs.View.{plain_part}
 use Rattle.amqp_types.specs.Reading.{to, code_at, size_at, sized_at, value_at}
 use Rattle.amqp_types.specs.Spells.{Spells, Behind, AreItems, count}
 use Rattle.amqp_types.proofs.Typed.{leaf_meant}

@@ -2,16 +2,16 @@
 use Rattle.std.proofs.Common.{◌≡◌, ℕ, suc, ◌-◌, Bool, true, false, cond, ◌==◌, inl, inr, List, [], ◌∷◌, ◌++◌, length, Option, Some, None, Result, Ok, Err, refl, sym, ap, subst, ◌∙◌, true≢false}
 use Rattle.std.proofs.lemmas.Bool.{eqb-true}
 use Rattle.std.proofs.lemmas.List.{nil_from_length}
-use Rattle.amqp_types.specs.declared.code.Leaf.{Leaf}
-use Rattle.amqp_types.specs.declared.code.Leaf.TheVariants as leaf
-use Rattle.amqp_types.specs.declared.code.Code.{Code}
-use Rattle.amqp_types.specs.declared.code.Code.TheVariants as code
-use Rattle.amqp_types.specs.declared.code.Kind.{Kind}
-use Rattle.amqp_types.specs.declared.code.Kind.TheVariants as kind
-use Rattle.amqp_types.specs.Codes.{code_of as constructor_of, leaf_kind}
-use Rattle.amqp_types.specs.Data as d
-use Rattle.amqp_types.specs.Data.{Data, Items, no_items, item}
-use Rattle.amqp_types.specs.View.{plain_part}
+use Rattle.amqp_values.specs.declared.code.Leaf.{Leaf}
+use Rattle.amqp_values.specs.declared.code.Leaf.TheVariants as leaf
+use Rattle.amqp_values.specs.declared.code.Code.{Code}
+use Rattle.amqp_values.specs.declared.code.Code.TheVariants as code
+use Rattle.amqp_values.specs.declared.code.Kind.{Kind}
+use Rattle.amqp_values.specs.declared.code.Kind.TheVariants as kind
+use Rattle.amqp_values.specs.Codes.{code_of as constructor_of, leaf_kind}
+use Rattle.amqp_values.specs.Data as d
+use Rattle.amqp_values.specs.Data.{Data, Items, no_items, item}
+use Rattle.amqp_values.specs.View.{plain_part}
 use Rattle.amqp_types.specs.Reading.{to, after, code_at, value_at}
 use Rattle.amqp_types.specs.Spelling.{spelling}
 use Rattle.amqp_types.specs.Spells.{Spells, Behind, AreItems, count}

@@ -1,7 +1,7 @@
 -- Sources and targets against their tables.
 use Rattle.std.proofs.Common.{◌≡◌, ℕ, suc, false, List, [], ◌∷◌, ◌++◌, Option, Some, None, Ok, refl, sym, ap, subst, ◌∙◌}
-use Rattle.amqp_types.specs.Data as d
-use Rattle.amqp_types.specs.Data.{Data}
+use Rattle.amqp_values.specs.Data as d
+use Rattle.amqp_values.specs.Data.{Data}
 use Rattle.amqp_types.specs.Spells.{Spells}
 use Rattle.amqp_perf.specs.declared.descriptor.Descriptor.{Descriptor}
 use Rattle.amqp_perf.specs.declared.descriptor.Descriptor.TheVariants as is

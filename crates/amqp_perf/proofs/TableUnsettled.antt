@@ -2,16 +2,16 @@
 use Rattle.std.proofs.Common.{◌≡◌, ℕ, suc, ◌*◌, ◌-◌, ◌/◌, Bool, true, false, cond, inl, inr, List, [], ◌∷◌, ◌++◌, Option, Some, None, Ok, Err, refl, sym, ap, subst, ◌∙◌, append_assoc, arith}
 use Rattle.std.proofs.lemmas.List.{append-nil}
 use Rattle.arrayvec.specs.ArrayVec.{ArrayVec}
-use Rattle.amqp_types.specs.declared.code.Leaf.{Leaf}
-use Rattle.amqp_types.specs.declared.code.Leaf.TheVariants as leaf
-use Rattle.amqp_types.specs.declared.code.Code.{Code}
-use Rattle.amqp_types.specs.declared.code.Code.TheVariants as code
-use Rattle.amqp_types.specs.declared.code.Size.{Size}
-use Rattle.amqp_types.specs.declared.code.Kind.{Kind}
-use Rattle.amqp_types.specs.declared.code.Kind.TheVariants as kind
-use Rattle.amqp_types.specs.Codes.{leaf_kind}
-use Rattle.amqp_types.specs.Data as d
-use Rattle.amqp_types.specs.Data.{Data, Items, no_items, item, Pairs, no_pairs, pair}
+use Rattle.amqp_values.specs.declared.code.Leaf.{Leaf}
+use Rattle.amqp_values.specs.declared.code.Leaf.TheVariants as leaf
+use Rattle.amqp_values.specs.declared.code.Code.{Code}
+use Rattle.amqp_values.specs.declared.code.Code.TheVariants as code
+use Rattle.amqp_values.specs.declared.code.Size.{Size}
+use Rattle.amqp_values.specs.declared.code.Kind.{Kind}
+use Rattle.amqp_values.specs.declared.code.Kind.TheVariants as kind
+use Rattle.amqp_values.specs.Codes.{leaf_kind}
+use Rattle.amqp_values.specs.Data as d
+use Rattle.amqp_values.specs.Data.{Data, Items, no_items, item, Pairs, no_pairs, pair}
 use Rattle.amqp_types.specs.Reading.{after, code_at, size_at, value_at, found_before}
 use Rattle.amqp_types.specs.Spells.{Spelling, Spells, Behind, AreItems, ArePairs, Fills, IsMapInside, count, pair_count}
 use Rattle.amqp_types.proofs.Tools.{bind_ok as type_bind_ok, ok_is as type_ok_is}

@@ -3,10 +3,10 @@ use Rattle.std.proofs.Common.{◌≡◌, ℕ, suc, ◌^◌, ◌<◌, ◌≤◌, 
 use Rattle.std.specs.Option.{unwrap_or}
 use Rattle.std.proofs.lemmas.Bool.{le-ltb, eqb-true}
 use Rattle.arrayvec.specs.ArrayVec.{ArrayVec}
-use Rattle.amqp_types.specs.declared.code.Kind.TheVariants as kind
-use Rattle.amqp_types.specs.Data as d
-use Rattle.amqp_types.specs.Data.{Data, Items, no_items, item}
-use Rattle.amqp_types.specs.View.{plain_part}
+use Rattle.amqp_values.specs.declared.code.Kind.TheVariants as kind
+use Rattle.amqp_values.specs.Data as d
+use Rattle.amqp_values.specs.Data.{Data, Items, no_items, item}
+use Rattle.amqp_values.specs.View.{plain_part}
 use Rattle.amqp_types.specs.Spells.{count}
 use Rattle.amqp_types.specs.Fitting.{FitsIn, AllItems, AreOf}
 use Rattle.amqp_perf.specs.declared.fault.PerfFault.{PerfFault}

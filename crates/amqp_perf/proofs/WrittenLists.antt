@@ -2,14 +2,14 @@
 use Rattle.std.proofs.Common.{◌≡◌, ℕ, suc, ◌+◌, ◌-◌, ◌^◌, ◌<◌, ◌≤◌, Bool, true, false, cond, ◌&&◌, nat_lt, List, [], ◌∷◌, ◌++◌, length, Some, None, Result, Ok, Err, refl, sym, ap, subst, ◌∙◌, arith}
 use Rattle.std.proofs.lemmas.Bool.{le-ltb}
 use Rattle.std.proofs.Math.Dec.{eqb-suc-zero}
-use Rattle.amqp_types.specs.declared.code.Size.{Size}
-use Rattle.amqp_types.specs.declared.code.Size.TheVariants as size
-use Rattle.amqp_types.specs.declared.code.Code.TheVariants as code
-use Rattle.amqp_types.specs.declared.code.Kind.TheVariants as kind
-use Rattle.amqp_types.specs.Codes.{code_of as constructor_of}
-use Rattle.amqp_types.specs.Data as d
-use Rattle.amqp_types.specs.Data.{Data}
-use Rattle.amqp_types.specs.View.{plain_part}
+use Rattle.amqp_values.specs.declared.code.Size.{Size}
+use Rattle.amqp_values.specs.declared.code.Size.TheVariants as size
+use Rattle.amqp_values.specs.declared.code.Code.TheVariants as code
+use Rattle.amqp_values.specs.declared.code.Kind.TheVariants as kind
+use Rattle.amqp_values.specs.Codes.{code_of as constructor_of}
+use Rattle.amqp_values.specs.Data as d
+use Rattle.amqp_values.specs.Data.{Data}
+use Rattle.amqp_values.specs.View.{plain_part}
 use Rattle.amqp_types.specs.Reading.{to, size_at, value_at}
 use Rattle.amqp_types.specs.Spells.{Spelling, IsNumber, Fills}
 use Rattle.amqp_types.specs.Spelling.{constructed, compound_piece, wide_sizes, list_text, spelling}

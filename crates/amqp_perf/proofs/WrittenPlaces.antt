@@ -1,9 +1,9 @@
 -- Fields that were written, read again: the places among them.
 use Rattle.std.proofs.Common.{◌≡◌, ℕ, suc, ◌-◌, cond, ◌==◌, List, [], ◌∷◌, ◌++◌, length, Option, Some, None, Result, Ok, refl, ap, ◌∙◌, arith}
 use Rattle.std.proofs.Math.Dec.{eqb-suc-zero}
-use Rattle.amqp_types.specs.Data as d
-use Rattle.amqp_types.specs.Data.{Data}
-use Rattle.amqp_types.specs.View.{plain_part}
+use Rattle.amqp_values.specs.Data as d
+use Rattle.amqp_values.specs.Data.{Data}
+use Rattle.amqp_values.specs.View.{plain_part}
 use Rattle.amqp_types.specs.Reading.{to}
 use Rattle.amqp_types.specs.Spelling.{spelling}
 use Rattle.amqp_types.specs.Fitting.{FitsIn}

@@ -1,11 +1,11 @@
 -- Errors and delivery states that were written, read again.
 use Rattle.std.proofs.Common.{◌≡◌, ℕ, suc, ◌-◌, ◌≤◌, Bool, true, false, cond, nat_lt, ◌==◌, List, [], ◌∷◌, ◌++◌, length, Option, Some, None, Ok, refl, sym, ap, subst, ◌∙◌, append_assoc, true≢false, arith}
-use Rattle.amqp_types.specs.Codes.{code_of as constructor_of}
-use Rattle.amqp_types.specs.Data as d
-use Rattle.amqp_types.specs.Data.{Data}
-use Rattle.amqp_types.specs.View.{plain_part}
+use Rattle.amqp_values.specs.Codes.{code_of as constructor_of}
+use Rattle.amqp_values.specs.Data as d
+use Rattle.amqp_values.specs.Data.{Data}
+use Rattle.amqp_values.specs.View.{plain_part}
 use Rattle.amqp_types.specs.Reading.{to, value_at}
-use Rattle.amqp_types.specs.declared.code.Kind.TheVariants as kind
+use Rattle.amqp_values.specs.declared.code.Kind.TheVariants as kind
 use Rattle.amqp_types.specs.Spelling.{constructed, piece_by, spelling}
 use Rattle.std.specs.Int.{w32, w64, to_be_bytes}
 use Rattle.std.proofs.lemmas.List.{length-append}

@@ -3,9 +3,9 @@ use Rattle.std.proofs.Common.{◌≡◌, ℕ, suc, Bool, true, false, cond, nat_
 use Rattle.std.specs.Option.{unwrap_or}
 use Rattle.std.specs.Cmp.Lexicographic.{pointwise, pointwise_decides}
 use Rattle.std.proofs.lemmas.Bool.Decides.{Decides-eqb}
-use Rattle.amqp_types.specs.Data as d
-use Rattle.amqp_types.specs.Data.{Data}
-use Rattle.amqp_types.specs.View.{plain_part}
+use Rattle.amqp_values.specs.Data as d
+use Rattle.amqp_values.specs.Data.{Data}
+use Rattle.amqp_values.specs.View.{plain_part}
 use Rattle.amqp_types.specs.Spelling.{spelling}
 use Rattle.amqp_types.specs.Fitting.{FitsIn}
 use Rattle.amqp_perf.specs.declared.fault.PerfFault.TheVariants as fault

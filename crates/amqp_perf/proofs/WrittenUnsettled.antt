@@ -5,13 +5,13 @@ use Rattle.std.proofs.lemmas.Bool.Decides.{Decides-eqb}
 use Rattle.std.proofs.lemmas.List.{append-nil}
 use Rattle.std.proofs.lemmas.List.Folds.{list_any-append}
 use Rattle.arrayvec.specs.ArrayVec.{ArrayVec}
-use Rattle.amqp_types.specs.declared.code.Size.{Size}
-use Rattle.amqp_types.specs.declared.code.Size.TheVariants as size
-use Rattle.amqp_types.specs.declared.code.Code.TheVariants as code
-use Rattle.amqp_types.specs.declared.code.Kind.TheVariants as kind
-use Rattle.amqp_types.specs.Codes.{code_of as constructor_of}
-use Rattle.amqp_types.specs.Data as d
-use Rattle.amqp_types.specs.Data.{Data, Pairs, no_pairs, pair}
+use Rattle.amqp_values.specs.declared.code.Size.{Size}
+use Rattle.amqp_values.specs.declared.code.Size.TheVariants as size
+use Rattle.amqp_values.specs.declared.code.Code.TheVariants as code
+use Rattle.amqp_values.specs.declared.code.Kind.TheVariants as kind
+use Rattle.amqp_values.specs.Codes.{code_of as constructor_of}
+use Rattle.amqp_values.specs.Data as d
+use Rattle.amqp_values.specs.Data.{Data, Pairs, no_pairs, pair}
 use Rattle.amqp_types.specs.Reading.{after, code_at, size_at, value_at}
 use Rattle.amqp_types.specs.Spells.{pair_count, Fills}
 use Rattle.amqp_types.specs.Spelling.{constructed, compound_piece, wide_sizes, spelling, pair_spellings}

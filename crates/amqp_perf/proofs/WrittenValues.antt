@@ -1,7 +1,7 @@
 -- What is written of an error or a delivery state encodes a value.
 use Rattle.std.proofs.Common.{◌≡◌, ℕ, suc, ◌+◌, ◌^◌, ◌<◌, Bool, true, false, List, [], ◌∷◌, ◌++◌, length, Option, Some, None, refl, sym, ap, subst, ◌∙◌, arith}
-use Rattle.amqp_types.specs.Data as d
-use Rattle.amqp_types.specs.Data.{Data, Items, no_items, item}
+use Rattle.amqp_values.specs.Data as d
+use Rattle.amqp_values.specs.Data.{Data, Items, no_items, item}
 use Rattle.amqp_types.specs.Spells.{count}
 use Rattle.amqp_types.specs.Spelling.{list_text, spelling, spellings}
 use Rattle.amqp_types.specs.Fitting.{FitsIn, AllItems}

@@ -1,7 +1,7 @@
 -- The faults of performatives, and what becomes of a value's own.
 use Rattle.std.specs.Prelude.{ℕ, Result, Ok, Err}
-use Rattle.amqp_types.specs.declared.fault.TypeFault.{TypeFault}
-use Rattle.amqp_types.specs.declared.fault.TypeFault.TheVariants as type_fault
+use Rattle.amqp_values.specs.declared.fault.TypeFault.{TypeFault}
+use Rattle.amqp_values.specs.declared.fault.TypeFault.TheVariants as type_fault
 use Rattle.amqp_perf.specs.declared.fault.PerfFault.{PerfFault}
 use Rattle.amqp_perf.specs.declared.fault.PerfFault.TheVariants as fault
 

@@ -5,10 +5,10 @@
 use Rattle.std.specs.Prelude.{◌≡◌, ℕ, ◌+◌, ◌-◌, ◌*◌, ◌^◌, ◌<◌, ◌≤◌, Bool, true, false, List, [], ◌∷◌, length, Option, Some, None, Result, Ok}
 use Rattle.std.specs.Str.{is_utf8}
 use Rattle.arrayvec.specs.ArrayVec.{ArrayVec}
-use Rattle.amqp_types.specs.declared.code.Kind.TheVariants as kind
-use Rattle.amqp_types.specs.Data as d
-use Rattle.amqp_types.specs.Data.{Data, Pairs}
-use Rattle.amqp_types.specs.View.{plain_part}
+use Rattle.amqp_values.specs.declared.code.Kind.TheVariants as kind
+use Rattle.amqp_values.specs.Data as d
+use Rattle.amqp_values.specs.Data.{Data, Pairs}
+use Rattle.amqp_values.specs.View.{plain_part}
 use Rattle.amqp_types.specs.Reading.{all_ascii}
 use Rattle.amqp_types.specs.Spelling.{constructed, spelling, pieces}
 use Rattle.amqp_types.specs.Fitting.{FitsIn}

@@ -2,8 +2,8 @@
 -- section 5.3.3), and which bytes encode a performative, a SASL body or a delivery state by them. A number of a few choices,
 -- as a settle mode, is any number of its type.
 use Rattle.std.specs.Prelude.{◌≡◌, ℕ, false, List, [], ◌∷◌, ◌++◌, codes}
-use Rattle.amqp_types.specs.Data as d
-use Rattle.amqp_types.specs.Data.{Data, Pairs, no_pairs, pair}
+use Rattle.amqp_values.specs.Data as d
+use Rattle.amqp_values.specs.Data.{Data, Pairs, no_pairs, pair}
 use Rattle.amqp_types.specs.Spells.{Spells}
 use Rattle.amqp_perf.specs.declared.descriptor.Descriptor.{Descriptor}
 use Rattle.amqp_perf.specs.declared.descriptor.Descriptor.TheVariants as is

@@ -4,9 +4,9 @@ use Rattle.std.specs.Prelude.{ℕ, nat_eq, zero, suc, ◌-◌, ◌/◌, Bool, Li
 use Rattle.std.specs.List.{list_any}
 use Rattle.std.specs.Cmp.Lexicographic.{pointwise}
 use Rattle.arrayvec.specs.ArrayVec.{ArrayVec}
-use Rattle.amqp_types.specs.declared.code.Leaf.TheVariants as leaf
-use Rattle.amqp_types.specs.declared.code.Code.{Code}
-use Rattle.amqp_types.specs.declared.code.Code.TheVariants as code
+use Rattle.amqp_values.specs.declared.code.Leaf.TheVariants as leaf
+use Rattle.amqp_values.specs.declared.code.Code.{Code}
+use Rattle.amqp_values.specs.declared.code.Code.TheVariants as code
 use Rattle.amqp_types.specs.Reading.{after, code_at, size_at, sized_at, value_at}
 use Rattle.amqp_perf.specs.declared.fault.PerfFault.{PerfFault}
 use Rattle.amqp_perf.specs.declared.fault.PerfFault.TheVariants as fault

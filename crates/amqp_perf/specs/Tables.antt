@@ -2,9 +2,9 @@
 -- default (AMQP 1.0 part 1, section 1.4). The fields hold by the table where each value is one that its line allows.
 use Rattle.std.specs.Prelude.{◌≡◌, ◌⊎◌, ℕ, ◌≤◌, Bool, true, false, List, [], ◌∷◌, length, Option, Some, None, codes}
 use Rattle.arrayvec.specs.ArrayVec.{ArrayVec}
-use Rattle.amqp_types.specs.declared.code.Kind.TheVariants as kind
-use Rattle.amqp_types.specs.Data as d
-use Rattle.amqp_types.specs.Data.{Data, Items, no_items, item, Pairs}
+use Rattle.amqp_values.specs.declared.code.Kind.TheVariants as kind
+use Rattle.amqp_values.specs.Data as d
+use Rattle.amqp_values.specs.Data.{Data, Items, no_items, item, Pairs}
 use Rattle.amqp_types.specs.Spells.{Spells}
 use Rattle.amqp_types.specs.Spelling.{spelling}
 use Rattle.amqp_perf.specs.declared.descriptor.Descriptor.{Descriptor}

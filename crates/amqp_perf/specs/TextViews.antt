@@ -1,6 +1,6 @@
 -- What a writer's field stands for.
 use Rattle.std.specs.Prelude.{List, map, Some, None}
-use Rattle.amqp_types.specs.View.{plain_view}
+use Rattle.amqp_values.specs.View.{plain_view}
 use Rattle.amqp_types.specs.Spelling.{spelling}
 use Rattle.amqp_perf.specs.declared.text.Field.{Field}
 use Rattle.amqp_perf.specs.declared.text.Field.TheVariants as field

@@ -1,9 +1,9 @@
 -- The canonical encoding of a described list: its descriptor as a smallulong, then its fields without the nulls at its end
 -- (AMQP 1.0 part 1, sections 1.4 and 1.6.22). A field's text is none where the field is null.
 use Rattle.std.specs.Prelude.{ℕ, Bool, true, List, [], ◌∷◌, ◌++◌, length, Option, Some, None, ◌==◌, if◌then◌else◌}
-use Rattle.amqp_types.specs.declared.code.Kind.TheVariants as kind
-use Rattle.amqp_types.specs.Data as d
-use Rattle.amqp_types.specs.Data.{Data, Items, no_items, item}
+use Rattle.amqp_values.specs.declared.code.Kind.TheVariants as kind
+use Rattle.amqp_values.specs.Data as d
+use Rattle.amqp_values.specs.Data.{Data, Items, no_items, item}
 use Rattle.amqp_types.specs.Spelling.{spelling, list_text}
 use Rattle.amqp_perf.specs.declared.descriptor.Descriptor.{Descriptor}
 use Rattle.amqp_perf.specs.Descriptors.{code_of}

@@ -1,7 +1,7 @@
 //! Reading fields, front to back over the bytes of a list: one reader for each kind of field. No value is built for the
 //! list, and none for a field that holds no other values.
 ghost use Rattle.std.specs.Prelude.{◌≡◌, option_map, IfOk};
-ghost use Rattle.amqp_types.specs.View.{items_view, plain_view, view};
+ghost use Rattle.amqp_values.specs.View.{items_view, plain_view, view};
 ghost use Rattle.amqp_types.specs.Spelling.{spelling};
 ghost use Rattle.amqp_perf.specs.Contract.{Gives};
 ghost use Rattle.amqp_perf.specs.Places.{Took, at_of};

@@ -1,7 +1,7 @@
 //! What holds of all that is written. These functions do nothing: their contracts are the laws.
 
 ghost use Rattle.std.specs.Prelude.{◌≡◌, ◌≤◌, ◌++◌, length, take, List, ℕ, Err};
-ghost use Rattle.amqp_types.specs.declared.fault.TypeFault.TheVariants as type_fault;
+ghost use Rattle.amqp_values.specs.declared.fault.TypeFault.TheVariants as type_fault;
 ghost use Rattle.amqp_perf.specs.declared.fault.PerfFault.{PerfFault};
 ghost use Rattle.amqp_perf.specs.declared.fault.PerfFault.TheVariants as fault;
 ghost use Rattle.amqp_perf.specs.declared.perf.Perf.{Perf};

@@ -1,7 +1,7 @@
 //! The length of an encoding, without writing it.
 ghost use Rattle.std.specs.Prelude.{◌≡◌, ◌^◌, ◌-◌, ◌+◌, nat_lt, if◌then◌else◌, length, min, is_none, true, IfOk, IsOk};
 ghost use Rattle.amqp_types.specs.Spelling as values;
-ghost use Rattle.amqp_types.specs.View.{plain_view};
+ghost use Rattle.amqp_values.specs.View.{plain_view};
 ghost use Rattle.amqp_perf.specs.declared.descriptor.Descriptor.{Descriptor};
 ghost use Rattle.amqp_perf.specs.declared.perf.Perf.TheVariants as perf;
 ghost use Rattle.amqp_perf.specs.Texts as texts;

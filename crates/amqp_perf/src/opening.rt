@@ -3,7 +3,7 @@ ghost use Rattle.std.specs.Prelude.{◌≡◌, option_map};
 ghost use Rattle.amqp_perf.specs.Contract.{GivesAs, Refuses};
 ghost use Rattle.amqp_perf.specs.Fields as fields;
 ghost use Rattle.amqp_perf.specs.Places.{at_of};
-ghost use Rattle.amqp_types.specs.View.{plain_view};
+ghost use Rattle.amqp_values.specs.View.{plain_view};
 
 use crate::descriptor::Descriptor;
 use crate::fault::{PerfFault, within_list};

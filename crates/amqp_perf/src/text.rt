@@ -1,7 +1,7 @@
 //! Writing a described list from a slice of its fields, each in its shortest encoding and without the nulls at the end.
 ghost use Rattle.std.specs.Prelude.{◌≡◌, ◌+◌, ◌-◌, ◌^◌, ◌<◌, ◌&&◌, ◌++◌, ◌∷◌, nat_lt, ℕ, List, [], length, min, is_none, option_map, IfOk, OnOk};
-ghost use Rattle.amqp_types.specs.Data as d;
-ghost use Rattle.amqp_types.specs.View.{items_view};
+ghost use Rattle.amqp_values.specs.Data as d;
+ghost use Rattle.amqp_values.specs.View.{items_view};
 ghost use Rattle.amqp_types.specs.Spelling.{list_text, wide_sizes};
 ghost use Rattle.amqp_perf.specs.Texts as texts;
 ghost use Rattle.amqp_perf.specs.Spelling as spellings;

@@ -3,7 +3,7 @@ ghost use Rattle.std.specs.Prelude.{◌≡◌, ◌++◌, option_map, is_none, tr
 ghost use Rattle.amqp_perf.specs.declared.descriptor.Descriptor.TheVariants as is;
 ghost use Rattle.amqp_perf.specs.Texts as texts;
 ghost use Rattle.amqp_perf.specs.Spelling as spellings;
-ghost use Rattle.amqp_types.specs.Data as d;
+ghost use Rattle.amqp_values.specs.Data as d;
 ghost use Rattle.amqp_perf.specs.NestedViews.{nested_view};
 
 use crate::boxed::Boxed;

@@ -8,6 +8,5 @@ pub mod Complete
 pub mod Lengths
 pub mod Writing
 pub mod RoundTrip
-pub mod CallerLemmas
 pub mod Typed
 pub mod Staying

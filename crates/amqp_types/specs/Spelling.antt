@@ -1,65 +1,12 @@
--- The one encoding that is written for each value: the shortest (AMQP 1.0 part 1, section 1.6).
+-- The one encoding that is written for each value: the canonical one (AMQP 1.0 part 1, section 1.6).
 use Rattle.std.specs.Prelude.{ℕ, ℤ, pos, negsuc, int_le, ◌+◌, ◌*◌, Bool, true, false, List, [], ◌∷◌, ◌++◌, length, nat_lt, ◌&&◌, ◌==◌, if◌then◌else◌}
 use Rattle.std.specs.Int.{Width, w8, w16, w32, w64, to_be_bytes, cast_unsigned}
-use Rattle.amqp_types.specs.declared.code.Kind.{Kind}
-use Rattle.amqp_types.specs.declared.code.Kind.TheVariants as kind
-use Rattle.amqp_types.specs.Data as d
-use Rattle.amqp_types.specs.Data.{Data, Items, no_items, item, Pairs, no_pairs, pair}
+use Rattle.amqp_values.specs.Codes.{narrow_code, wide_code}
+use Rattle.amqp_values.specs.declared.code.Kind.{Kind}
+use Rattle.amqp_values.specs.declared.code.Kind.TheVariants as kind
+use Rattle.amqp_values.specs.Data as d
+use Rattle.amqp_values.specs.Data.{Data, Items, no_items, item, Pairs, no_pairs, pair}
 use Rattle.amqp_types.specs.Spells.{count, pair_count}
-
--- The shorter and the longer constructor of each type that has bytes after it; the same one where
--- there is only one. Null has only its own.
-abbrev pub narrow_code : Kind → ℕ
-narrow_code kind.Null = 0x40
-narrow_code kind.Boolean = 0x56
-narrow_code kind.Ubyte = 0x50
-narrow_code kind.Ushort = 0x60
-narrow_code kind.Uint = 0x52
-narrow_code kind.Ulong = 0x53
-narrow_code kind.Byte = 0x51
-narrow_code kind.Short = 0x61
-narrow_code kind.Int = 0x54
-narrow_code kind.Long = 0x55
-narrow_code kind.Float = 0x72
-narrow_code kind.Double = 0x82
-narrow_code kind.Decimal32 = 0x74
-narrow_code kind.Decimal64 = 0x84
-narrow_code kind.Decimal128 = 0x94
-narrow_code kind.Char = 0x73
-narrow_code kind.Timestamp = 0x83
-narrow_code kind.Uuid = 0x98
-narrow_code kind.Binary = 0xA0
-narrow_code kind.String = 0xA1
-narrow_code kind.Symbol = 0xA3
-narrow_code kind.List = 0xC0
-narrow_code kind.Map = 0xC1
-narrow_code kind.Array = 0xE0
-
-abbrev pub wide_code : Kind → ℕ
-wide_code kind.Null = 0x40
-wide_code kind.Boolean = 0x56
-wide_code kind.Ubyte = 0x50
-wide_code kind.Ushort = 0x60
-wide_code kind.Uint = 0x70
-wide_code kind.Ulong = 0x80
-wide_code kind.Byte = 0x51
-wide_code kind.Short = 0x61
-wide_code kind.Int = 0x71
-wide_code kind.Long = 0x81
-wide_code kind.Float = 0x72
-wide_code kind.Double = 0x82
-wide_code kind.Decimal32 = 0x74
-wide_code kind.Decimal64 = 0x84
-wide_code kind.Decimal128 = 0x94
-wide_code kind.Char = 0x73
-wide_code kind.Timestamp = 0x83
-wide_code kind.Uuid = 0x98
-wide_code kind.Binary = 0xB0
-wide_code kind.String = 0xB1
-wide_code kind.Symbol = 0xB3
-wide_code kind.List = 0xD0
-wide_code kind.Map = 0xD1
-wide_code kind.Array = 0xF0
 
 -- The bytes of values of one type after their constructor: after the longer one always, and
 -- after the shorter one where each of them fits it.

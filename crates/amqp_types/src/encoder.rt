@@ -1,15 +1,14 @@
 //! Encoding values: each in the one encoding that is the shortest.
 
 ghost use Rattle.std.specs.Prelude.{◌≡◌, ◌++◌, ◌∷◌, [], ◌*◌, OnOk, OnErr, IfOk};
-ghost use Rattle.amqp_types.specs.Data as d;
-ghost use Rattle.amqp_types.specs.View.{view, items_view, pairs_view, plain_view, pieces_view};
+ghost use Rattle.amqp_values.specs.Data as d;
+ghost use Rattle.amqp_values.specs.View.{view, items_view, pairs_view, plain_view};
+ghost use Rattle.amqp_types.specs.Pieces.{pieces_view};
 ghost use Rattle.amqp_types.specs.Spelling.{spelling, spellings, pair_spellings, piece, pieces, join, constructed, sized_piece, compound_piece, list_text};
-ghost use Rattle.amqp_types.specs.declared.code.Kind.TheVariants as kind;
+ghost use Rattle.amqp_values.specs.declared.code.Kind.TheVariants as kind;
 
-use crate::code::Kind;
 use crate::pieces::{Pieces, put_wide_sizes};
-use crate::plain::Plain;
-use crate::value::Value;
+use amqp_values::{Kind, Plain, Value};
 use std::alloc::{AllocError, Global};
 
 /// Bytes reserved before the contents of a compound are written.

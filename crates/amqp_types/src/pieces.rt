@@ -2,10 +2,10 @@
 
 ghost use Rattle.std.specs.Prelude.{◌≡◌, ◌++◌, ◌*◌, OnOk};
 ghost use Rattle.std.specs.Int.{w32, w64};
-ghost use Rattle.amqp_types.specs.View.{pieces_view};
+ghost use Rattle.amqp_types.specs.Pieces.{pieces_view};
 ghost use Rattle.amqp_types.specs.Spelling.{no_piece, join, single, number_piece, signed_piece, sized_piece, compound_piece, wide_sizes, constructed};
 
-use crate::code::Kind;
+use amqp_values::Kind;
 use std::alloc::{AllocError, Global};
 
 /// Elements of an array, without their constructor.

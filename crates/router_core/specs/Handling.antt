@@ -100,3 +100,7 @@ IsBatchOf (Some v) most b = Batched v most b.first b.items.items b.ended
 -- a file opens to the book before an event, or to the book after it
 abbrev pub BeforeOrBehind : Trace → Event → List ℕ → Type 0
 BeforeOrBehind t e file = OpensTo file (book_in t) ⊎ OpensTo file (book_behind t e)
+
+-- the book before an event, or the one after it: what a fault leaves
+abbrev pub LeftBook : Trace → Event → BookView → Type 0
+LeftBook t e book = (book ≡ book_in t) ⊎ (book ≡ book_behind t e)

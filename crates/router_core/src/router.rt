@@ -19,7 +19,7 @@ ghost use Rattle.router_core.specs.Turns.{declines};
 ghost use Rattle.router_core.specs.Replies.{Replies, answered, handled};
 ghost use Rattle.router_state.specs.Tables.{TablesFit, TablesAt};
 ghost use Rattle.router_state.specs.Waiting.{NothingWaits};
-ghost use Rattle.router_core.specs.Handling.{Fits, IsTaken, IsReady, TakenIn, with_admission, is_failed, id_of, store_of, kept_book, state_of, counts_of, IsBatchOf, BeforeOrBehind};
+ghost use Rattle.router_core.specs.Handling.{Fits, IsTaken, IsReady, TakenIn, with_admission, is_failed, id_of, store_of, kept_book, state_of, counts_of, IsBatchOf, BeforeOrBehind, LeftBook};
 ghost use Rattle.router_core.specs.Counting.{uncounted, with_event, with_batch};
 ghost use Rattle.router_core.specs.declared.fault.CoreFault.TheVariants.{Disk as DiskFailed, Memory, Failed, NoConnection};
 
@@ -272,6 +272,10 @@ impl<D: Disk> Core<D> {
         ensures counted { OnOk result (counts_of self.new ≡ with_event event (counts_of self.old)) }
         ensures uncounted { OnErr result (counts_of self.new ≡ counts_of self.old) }
 
+        // A fault leaves the book as it was before the event, or as it is after it. Where the disk failed, it is as before.
+        ensures left { OnErr result ((t : List Entry) → Fits self.old t → LeftBook t event (kept_book self.new)) }
+        ensures unwritten { IfErr result (λ f. f ≡ DiskFailed → kept_book self.new ≡ kept_book self.old) }
+
         // Which fault occurs, and what it leaves.
         ensures refused { IfErr result (λ f. f ≡ NoConnection → (self.new ≡ self.old) × ((t : List Entry) → Fits self.old t → declines t event ≡ true)) }
         ensures refuses { (t : List Entry) → Fits self.old t → is_failed self.old ≡ false → declines t event ≡ true → result ≡ Err NoConnection }
@@ -333,6 +337,8 @@ impl<D: Disk> Core<D> {
             → LeavesOnly D.moment D.left_since (disk_of (store_of self.old)) (disk_of (store_of self.new)) (BeforeOrBehind t event) }
         ensures counted { OnOk result (counts_of self.new ≡ with_event event (counts_of self.old)) }
         ensures uncounted { OnErr result (counts_of self.new ≡ counts_of self.old) }
+        ensures left { OnErr result ((t : List Entry) → Fits self.old t → IsTaken t event phase → LeftBook t event (kept_book self.new)) }
+        ensures unwritten { IfErr result (λ f. f ≡ DiskFailed → kept_book self.new ≡ kept_book self.old) }
         ensures not_refused { IfErr result (λ f. f ≢ NoConnection) }
         ensures not_failed { IfErr result (λ f. f ≢ Failed) }
         ensures cause { IfErr result (λ f. f ≡ DiskFailed → D.failures (disk_of (store_of self.old)) < D.failures (disk_of (store_of self.new))) }
@@ -518,6 +524,7 @@ impl<D: Disk> Core<D> {
         ensures silent { IfOk result (λ w. IfNone w (acts.items ≡ [])) }
         ensures any_moment { Stands D.seen D.may_leave (store_of self.old) → LeavesOnly D.moment D.left_since (disk_of (store_of self.old)) (disk_of (store_of self.new))
             (λ file. OpensTo file (kept_book self.old) ⊎ OpensTo file (effects (kept_book self.old) acts.items)) }
+        ensures unwritten { OnErr result (kept_book self.new ≡ kept_book self.old) }
         ensures not_refused { IfErr result (λ f. f ≢ NoConnection) }
         ensures not_failed { IfErr result (λ f. f ≢ Failed) }
         ensures cause { IfErr result (λ f. f ≡ DiskFailed → D.failures (disk_of (store_of self.old)) < D.failures (disk_of (store_of self.new))) }

@@ -1,8 +1,8 @@
 -- A transfer that says that more is to come is no shorter than one that doesn't.
 use Rattle.std.proofs.Common.{◌≡◌, ◌≤◌, ℕ, ◌+◌, Bool, true, false, List, [], ◌∷◌, ◌++◌, length, length-append, Some, None, true≢false, refl, sym, subst, arith}
 use Rattle.std.specs.Prelude.{◌==◌, ◌&&◌, nat_lt, if◌then◌else◌}
-use Rattle.amqp_types.specs.declared.code.Kind.TheVariants as kind
-use Rattle.amqp_types.specs.Data as d
+use Rattle.amqp_values.specs.declared.code.Kind.TheVariants as kind
+use Rattle.amqp_values.specs.Data as d
 use Rattle.amqp_types.specs.Spelling.{constructed, compound_piece, piece_by, wide_sizes, list_text, spelling as value_spelling}
 use Rattle.amqp_perf.specs.declared.descriptor.Descriptor.TheVariants as is
 use Rattle.amqp_perf.specs.declared.perf.Perf.TheVariants as perf

@@ -1,11 +1,11 @@
 //! The data under the lock.
-ghost use Rattle.std.specs.Prelude.{◌≡◌, ◌≤◌, ◌<◌, ◌+◌, ◌%◌, ◌==◌, ◌⊎◌, ◌&&◌, ◌||◌, not, ℕ, if◌then◌else◌, [], None, true, is_some, length, OnOk, OnErr, IfOk, IfErr, IfSome};
+ghost use Rattle.std.specs.Prelude.{◌≡◌, ◌≤◌, ◌<◌, ◌+◌, ◌∷◌, ◌%◌, ◌==◌, ◌⊎◌, ◌&&◌, ◌||◌, not, ℕ, if◌then◌else◌, [], None, true, is_some, length, OnOk, OnErr, IfOk, IfErr, IfSome, IsErrOf};
 ghost use Rattle.gate_journal.specs.Journal.{batch_count};
 ghost use Rattle.router_store.specs.Store.{disk_of, journal_of};
-ghost use Rattle.router_trace.specs.Trace.{Trace, step_of};
+ghost use Rattle.router_trace.specs.Trace.{Trace, Took, step_of};
 ghost use Rattle.router_trace.specs.Connection.{conn as known, is_ready, is_live};
 ghost use Rattle.router_core.specs.Turns.{declines};
-ghost use Rattle.router_core.specs.Handling.{Fits, counts_of, id_of, is_failed, store_of};
+ghost use Rattle.router_core.specs.Handling.{Fits, IsBatchOf, counts_of, id_of, is_failed, store_of};
 ghost use Rattle.router_core.specs.Replies.{handled};
 ghost use Rattle.router_core.specs.Counting.{uncounted, with_event, with_batch};
 ghost use Rattle.router_core.specs.declared.fault.CoreFault.TheVariants.{Disk as DiskFailed, Memory, Failed, NoConnection};
@@ -108,6 +108,7 @@ impl<D: Disk, L: Log, G: Ledgers> Locked<D, L, G> {
         ensures memory { IfErr result (λ f. f ≡ Memory → is_failed self.new.router.core ≡ true) }
         ensures disk { IfErr result (λ f. f ≡ DiskFailed → is_failed self.new.router.core ≡ true) }
         ensures cause { IfErr result (λ f. f ≡ DiskFailed → D.failures (disk_of (store_of self.old.router.core)) < D.failures (disk_of (store_of self.new.router.core))) }
+        ensures no_other { (IsErrOf result DiskFailed → ⊥) → D.failures (disk_of (store_of self.new.router.core)) ≡ D.failures (disk_of (store_of self.old.router.core)) }
     {
         let kind = Kind::of(&event);
         let wrote = self.router.handle(event)?;
@@ -148,6 +149,8 @@ impl<D: Disk, L: Log, G: Ledgers> Locked<D, L, G> {
 
     /// Handles one take.
     pub fn take(&mut self, seat: &mut Seat<G>, conn: ConnectionId) -> Result<Batch, CoreFault>
+        ensures fits { IfOk result (λ batch. (t : Trace) → Fits self.old.router.core t → Fits self.new.router.core (Took conn.0 (length batch.items.items) ∷ t)) }
+        ensures batch { IfOk result (λ batch. (t : Trace) → Fits self.old.router.core t → IsBatchOf (known t conn.0) 64 batch) }
         ensures whose { IfOk result (λ b. b.conn ≡ conn) }
         ensures most { IfOk result (λ b. length b.items.items ≤ 64) }
         ensures counted { OnOk result (seat.new ≡ with_batch seat.old) }

@@ -1,11 +1,11 @@
 //! The router with its history: the data under the lock.
-ghost use Rattle.std.specs.Prelude.{◌≡◌, ◌≤◌, ◌<◌, ◌+◌, ◌&&◌, ◌||◌, not, nat_lt, if◌then◌else◌, None, true, option_map, is_some, length, OnOk, OnErr, IfOk, IfErr};
+ghost use Rattle.std.specs.Prelude.{◌≡◌, ◌≤◌, ◌<◌, ◌+◌, ◌∷◌, ◌&&◌, ◌||◌, not, nat_lt, if◌then◌else◌, None, true, option_map, is_some, length, OnOk, OnErr, IfOk, IfErr, IsErrOf};
 ghost use Rattle.router_store.specs.Store.{disk_of};
-ghost use Rattle.router_trace.specs.Trace.{Trace, step_of};
+ghost use Rattle.router_trace.specs.Trace.{Trace, Took, step_of};
 ghost use Rattle.router_trace.specs.Connection.{conn as known, is_ready, is_live};
 ghost use Rattle.router_conns.specs.Fits.{IsLeast};
 ghost use Rattle.router_core.specs.Turns.{declines};
-ghost use Rattle.router_core.specs.Handling.{Fits, counts_of, id_of, is_failed, store_of};
+ghost use Rattle.router_core.specs.Handling.{Fits, IsBatchOf, counts_of, id_of, is_failed, store_of};
 ghost use Rattle.router_core.specs.Replies.{handled};
 ghost use Rattle.router_core.specs.Counting.{uncounted, with_event, with_batch};
 ghost use Rattle.router_core.specs.declared.fault.CoreFault.TheVariants.{Disk as DiskFailed, Memory, Failed, NoConnection};
@@ -51,6 +51,7 @@ impl<D: Disk> Router<D> {
         ensures memory { IfErr result (λ f. f ≡ Memory → is_failed self.new.core ≡ true) }
         ensures disk { IfErr result (λ f. f ≡ DiskFailed → is_failed self.new.core ≡ true) }
         ensures cause { IfErr result (λ f. f ≡ DiskFailed → D.failures (disk_of (store_of self.old.core)) < D.failures (disk_of (store_of self.new.core))) }
+        ensures no_other { (IsErrOf result DiskFailed → ⊥) → D.failures (disk_of (store_of self.new.core)) ≡ D.failures (disk_of (store_of self.old.core)) }
     {
         let before = self.core.batch();
         match self.core.handle(event) {
@@ -64,6 +65,8 @@ impl<D: Disk> Router<D> {
 
     /// Takes up to 64 items of a connection.
     pub fn take(&mut self, conn: ConnectionId) -> Result<Batch, CoreFault>
+        ensures fits { IfOk result (λ batch. (t : Trace) → Fits self.old.core t → Fits self.new.core (Took conn.0 (length batch.items.items) ∷ t)) }
+        ensures batch { IfOk result (λ batch. (t : Trace) → Fits self.old.core t → IsBatchOf (known t conn.0) 64 batch) }
         ensures whose { IfOk result (λ b. b.conn ≡ conn) }
         ensures most { IfOk result (λ b. length b.items.items ≤ 64) }
         ensures counted { OnOk result (counts_of self.new.core ≡ with_batch (counts_of self.old.core)) }

@@ -1,5 +1,5 @@
 use Rattle.std.proofs.Common.{◌≡◌, take}
-use Rattle.amqp_types.specs.View.{items_view}
+use Rattle.amqp_values.specs.View.{items_view}
 use Rattle.amqp_perf.specs.Texts.{symbol_items}
 use Rattle.amqp_perf.proofs.text.elements_of.Given as goal
 

@@ -1,4 +1,4 @@
-use Rattle.amqp_types.specs.View.{pieces_view}
+use Rattle.amqp_types.specs.Pieces.{pieces_view}
 use Rattle.amqp_types.proofs.Writing.{spellings_none, pair_spellings_none, pieces_none, put_items_more, put_pairs_more, put_pieces_more}
 use Rattle.amqp_types.proofs.encoder.+put.Goals as goal
 

@@ -1,8 +1,8 @@
 //! Why bytes encode no value.
 
 ghost use Rattle.std.specs.Prelude.{◌≡◌};
-ghost use Rattle.amqp_types.specs.Faults.{fault_number, inner};
-ghost use Rattle.amqp_types.specs.declared.fault.TypeFault.TheVariants.{Memory};
+ghost use Rattle.amqp_values.specs.Faults.{fault_number, inner};
+ghost use Rattle.amqp_values.specs.declared.fault.TypeFault.TheVariants.{Memory};
 
 use std::alloc::{AllocError, AllocFailed};
 use thiserror::Error;

@@ -1,16 +1,16 @@
 -- Which byte is which constructor, and what follows it (AMQP 1.0 part 1, section 1.6).
 use Rattle.std.specs.Prelude.{ℕ, Bool, true, false, List, length, ◌≡◌, Option, Some, None, ◌==◌, if◌then◌else◌}
 use Rattle.std.specs.Int.{Width, w8, w32}
-use Rattle.amqp_types.specs.declared.code.Size.{Size}
-use Rattle.amqp_types.specs.declared.code.Size.TheVariants as size
-use Rattle.amqp_types.specs.declared.code.Leaf.{Leaf}
-use Rattle.amqp_types.specs.declared.code.Leaf.TheVariants as leaf
-use Rattle.amqp_types.specs.declared.code.Code.{Code}
-use Rattle.amqp_types.specs.declared.code.Code.TheVariants as code
-use Rattle.amqp_types.specs.declared.code.Layout.{Layout}
-use Rattle.amqp_types.specs.declared.code.Layout.TheVariants as layout
-use Rattle.amqp_types.specs.declared.code.Kind.{Kind}
-use Rattle.amqp_types.specs.declared.code.Kind.TheVariants as kind
+use Rattle.amqp_values.specs.declared.code.Size.{Size}
+use Rattle.amqp_values.specs.declared.code.Size.TheVariants as size
+use Rattle.amqp_values.specs.declared.code.Leaf.{Leaf}
+use Rattle.amqp_values.specs.declared.code.Leaf.TheVariants as leaf
+use Rattle.amqp_values.specs.declared.code.Code.{Code}
+use Rattle.amqp_values.specs.declared.code.Code.TheVariants as code
+use Rattle.amqp_values.specs.declared.code.Layout.{Layout}
+use Rattle.amqp_values.specs.declared.code.Layout.TheVariants as layout
+use Rattle.amqp_values.specs.declared.code.Kind.{Kind}
+use Rattle.amqp_values.specs.declared.code.Kind.TheVariants as kind
 
 -- the constructor that a byte is
 unfoldable pub code_of : ℕ → Option Code
@@ -152,3 +152,57 @@ is_without_bytes (code.List s) = false
 is_without_bytes (code.Map s) = false
 is_without_bytes (code.Array s) = false
 is_without_bytes code.Described = false
+
+-- The shorter and the longer constructor of each type that has bytes after it; the same one where
+-- there is only one. Null has only its own.
+abbrev pub narrow_code : Kind → ℕ
+narrow_code kind.Null = 0x40
+narrow_code kind.Boolean = 0x56
+narrow_code kind.Ubyte = 0x50
+narrow_code kind.Ushort = 0x60
+narrow_code kind.Uint = 0x52
+narrow_code kind.Ulong = 0x53
+narrow_code kind.Byte = 0x51
+narrow_code kind.Short = 0x61
+narrow_code kind.Int = 0x54
+narrow_code kind.Long = 0x55
+narrow_code kind.Float = 0x72
+narrow_code kind.Double = 0x82
+narrow_code kind.Decimal32 = 0x74
+narrow_code kind.Decimal64 = 0x84
+narrow_code kind.Decimal128 = 0x94
+narrow_code kind.Char = 0x73
+narrow_code kind.Timestamp = 0x83
+narrow_code kind.Uuid = 0x98
+narrow_code kind.Binary = 0xA0
+narrow_code kind.String = 0xA1
+narrow_code kind.Symbol = 0xA3
+narrow_code kind.List = 0xC0
+narrow_code kind.Map = 0xC1
+narrow_code kind.Array = 0xE0
+
+abbrev pub wide_code : Kind → ℕ
+wide_code kind.Null = 0x40
+wide_code kind.Boolean = 0x56
+wide_code kind.Ubyte = 0x50
+wide_code kind.Ushort = 0x60
+wide_code kind.Uint = 0x70
+wide_code kind.Ulong = 0x80
+wide_code kind.Byte = 0x51
+wide_code kind.Short = 0x61
+wide_code kind.Int = 0x71
+wide_code kind.Long = 0x81
+wide_code kind.Float = 0x72
+wide_code kind.Double = 0x82
+wide_code kind.Decimal32 = 0x74
+wide_code kind.Decimal64 = 0x84
+wide_code kind.Decimal128 = 0x94
+wide_code kind.Char = 0x73
+wide_code kind.Timestamp = 0x83
+wide_code kind.Uuid = 0x98
+wide_code kind.Binary = 0xB0
+wide_code kind.String = 0xB1
+wide_code kind.Symbol = 0xB3
+wide_code kind.List = 0xD0
+wide_code kind.Map = 0xD1
+wide_code kind.Array = 0xF0

@@ -1,7 +1,7 @@
 -- The numbers of the faults.
 use Rattle.std.specs.Prelude.{ℕ}
-use Rattle.amqp_types.specs.declared.fault.TypeFault.{TypeFault}
-use Rattle.amqp_types.specs.declared.fault.TypeFault.TheVariants as fault
+use Rattle.amqp_values.specs.declared.fault.TypeFault.{TypeFault}
+use Rattle.amqp_values.specs.declared.fault.TypeFault.TheVariants as fault
 
 abbrev pub fault_number : TypeFault → ℕ
 fault_number fault.Truncated = 1

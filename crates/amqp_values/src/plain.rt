@@ -1,7 +1,7 @@
 //! Values that hold no others, borrowed from the bytes that encode them.
 
 ghost use Rattle.std.specs.Prelude.{◌≡◌, IfOk};
-ghost use Rattle.amqp_types.specs.View.{view, plain_view};
+ghost use Rattle.amqp_values.specs.View.{view, plain_view};
 
 use crate::value::Value;
 use std::alloc::{AllocError, Global};

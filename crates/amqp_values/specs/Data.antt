@@ -1,6 +1,6 @@
 -- What a value is, apart from where it lies in memory (AMQP 1.0 part 1, section 1.6).
 use Rattle.std.specs.Prelude.{ℕ, ℤ, Bool, List}
-use Rattle.amqp_types.specs.declared.code.Kind.{Kind}
+use Rattle.amqp_values.specs.declared.code.Kind.{Kind}
 
 mutual
   -- Texts are their bytes, and so are numbers with a binary point; a char is its number, a timestamp

@@ -1,13 +1,11 @@
 -- What a `Value` stands for.
 use Rattle.std.specs.Prelude.{List, [], ◌∷◌, map, string_bytes, Option, Some, None}
-use Rattle.amqp_types.specs.Data as d
-use Rattle.amqp_types.specs.Data.{Data, Items, no_items, item, Pairs, no_pairs, pair}
-use Rattle.amqp_types.specs.declared.value.Value.{Value, fold-Value}
-use Rattle.amqp_types.specs.declared.value.Value.TheOpen.{Value-F}
-use Rattle.amqp_types.specs.declared.pieces.Pieces.{Pieces}
-use Rattle.amqp_types.specs.Spelling.{Piece}
-use Rattle.amqp_types.specs.declared.plain.Plain.{Plain}
-use Rattle.amqp_types.specs.declared.plain.Plain.TheVariants as plain
+use Rattle.amqp_values.specs.Data as d
+use Rattle.amqp_values.specs.Data.{Data, Items, no_items, item, Pairs, no_pairs, pair}
+use Rattle.amqp_values.specs.declared.value.Value.{Value, fold-Value}
+use Rattle.amqp_values.specs.declared.value.Value.TheOpen.{Value-F}
+use Rattle.amqp_values.specs.declared.plain.Plain.{Plain}
+use Rattle.amqp_values.specs.declared.plain.Plain.TheVariants as plain
 
 abbrev pub items_of : List Data → Items
 items_of [] = no_items
@@ -84,6 +82,3 @@ plain_part (d.map ps) = None
 plain_part (d.array k vs) = None
 plain_part (d.described a b) = None
 plain_part v = Some v
-
-abbrev pub pieces_view : Pieces → Piece
-pieces_view p = record { fits = p.fits; narrow = p.narrow.items; wide = p.wide.items }

@@ -1,8 +1,7 @@
 //! The constructor codes: which byte says what follows it (AMQP 1.0 part 1, section 1.6).
 
 ghost use Rattle.std.specs.Prelude.{◌≡◌};
-ghost use Rattle.amqp_types.specs.Codes.{code_of, layout_of, leaf_kind, kind_of, is_without_bytes};
-ghost use Rattle.amqp_types.specs.Spelling.{narrow_code, wide_code};
+ghost use Rattle.amqp_values.specs.Codes.{code_of, layout_of, leaf_kind, kind_of, is_without_bytes, narrow_code, wide_code};
 
 /// The width of a size and of a count, in bytes.
 #[derive(Clone, Copy, Debug, PartialEq, Eq)]
@@ -95,7 +94,7 @@ pub enum Kind {
 /// The constructor that a byte is.
 #[inline(always)]
 #[tactic(auto, unfolding(crate::specs::Codes::code_of))]
-pub(crate) fn constructor(byte: u8) -> Option<Code>
+pub fn constructor(byte: u8) -> Option<Code>
     ensures { result ≡ code_of byte }
 {
     match byte {
@@ -145,7 +144,7 @@ pub(crate) fn constructor(byte: u8) -> Option<Code>
 
 impl Leaf {
     /// The type of a value after this constructor.
-    pub(crate) fn kind(self) -> Kind
+    pub fn kind(self) -> Kind
         ensures { result ≡ leaf_kind self }
     {
         match self {
@@ -175,7 +174,7 @@ impl Leaf {
 
     /// Where the bytes after the constructor are.
     #[inline(always)]
-    pub(crate) fn layout(self) -> Layout
+    pub fn layout(self) -> Layout
         ensures { result ≡ layout_of self }
     {
         match self {
@@ -215,7 +214,7 @@ impl Code {
     }
 
     /// Whether nothing follows this constructor.
-    pub(crate) fn is_without_bytes(self) -> bool
+    pub fn is_without_bytes(self) -> bool
         ensures { result ≡ is_without_bytes self }
     {
         match self {
@@ -229,7 +228,7 @@ impl Code {
 impl Kind {
     /// The byte of the shorter constructor of this type that has bytes after it.
     #[inline(always)]
-    pub(crate) fn narrow_code(self) -> u8
+    pub fn narrow_code(self) -> u8
         ensures { result ≡ narrow_code self }
     {
         match self {
@@ -262,7 +261,7 @@ impl Kind {
 
     /// The byte of the longer constructor of this type.
     #[inline(always)]
-    pub(crate) fn wide_code(self) -> u8
+    pub fn wide_code(self) -> u8
         ensures { result ≡ wide_code self }
     {
         match self {

@@ -1,0 +1,4 @@
+pub mod Faults
+pub mod Codes
+pub mod Data
+pub mod View
