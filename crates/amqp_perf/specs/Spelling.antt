@@ -1,4 +1,4 @@
--- The one encoding that is written of each performative, delivery state, error and terminus: each field in its shortest
+-- The one encoding that is written of each performative, delivery state, error and terminus: each field in its canonical
 -- encoding, null where it has its default (AMQP 1.0 part 2, section 2.7; part 3, sections 3.4 and 3.5; part 5, section
 -- 5.3.3).
 use Rattle.std.specs.Prelude.{ℕ, ◌*◌, true, false, List, [], ◌∷◌, ◌++◌, length, Option, Some, None, if◌then◌else◌}

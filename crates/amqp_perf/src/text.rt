@@ -1,4 +1,4 @@
-//! Writing a described list from a slice of its fields, each in its shortest encoding and without the nulls at the end.
+//! Writing a described list from a slice of its fields, each in its canonical encoding and without the nulls at the end.
 ghost use Rattle.std.specs.Prelude.{◌≡◌, ◌+◌, ◌-◌, ◌^◌, ◌<◌, ◌&&◌, ◌++◌, ◌∷◌, nat_lt, ℕ, List, [], length, min, is_none, option_map, IfOk, OnOk};
 ghost use Rattle.amqp_values.specs.Data as d;
 ghost use Rattle.amqp_values.specs.View.{items_view};

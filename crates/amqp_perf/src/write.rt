@@ -12,7 +12,7 @@ use crate::write_perfs::{
 use crate::write_states::put_state;
 use std::alloc::{AllocError, Global};
 
-/// Appends the shortest encoding of a performative: a field that has its default is null, and the nulls at the end are left
+/// Appends the canonical encoding of a performative: a field that has its default is null, and the nulls at the end are left
 /// out (AMQP 1.0 part 1, section 1.4).
 ///
 /// # Errors
@@ -34,7 +34,7 @@ pub fn write_perf(alloc: Global, perf: &Perf, out: &mut Vec<u8>) -> Result<(), A
     out.extend_from_slice(&text)
 }
 
-/// Appends the shortest encoding of a delivery state.
+/// Appends the canonical encoding of a delivery state.
 ///
 /// # Errors
 ///

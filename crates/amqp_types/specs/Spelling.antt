@@ -1,4 +1,4 @@
--- The one encoding that is written for each value: the canonical one (AMQP 1.0 part 1, section 1.6).
+-- The one encoding that is written for each value, the canonical one: the shortest code that fits (AMQP 1.0 part 1, section 1.6).
 use Rattle.std.specs.Prelude.{ℕ, ℤ, pos, negsuc, int_le, ◌+◌, ◌*◌, Bool, true, false, List, [], ◌∷◌, ◌++◌, length, nat_lt, ◌&&◌, ◌==◌, if◌then◌else◌}
 use Rattle.std.specs.Int.{Width, w8, w16, w32, w64, to_be_bytes, cast_unsigned}
 use Rattle.amqp_values.specs.Codes.{narrow_code, wide_code}

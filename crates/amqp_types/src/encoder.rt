@@ -1,4 +1,4 @@
-//! Encoding values: each in the one encoding that is the shortest.
+//! Encoding values: each in its one canonical encoding.
 
 ghost use Rattle.std.specs.Prelude.{◌≡◌, ◌++◌, ◌∷◌, [], ◌*◌, OnOk, OnErr, IfOk};
 ghost use Rattle.amqp_values.specs.Data as d;
@@ -14,7 +14,7 @@ use std::alloc::{AllocError, Global};
 /// Bytes reserved before the contents of a compound are written.
 const FIRST_ROOM: usize = 64;
 
-/// Appends the shortest encoding of the value.
+/// Appends the canonical encoding of the value.
 ///
 /// A text or a compound of 2^32 bytes or more has no encoding, and is answered as if memory ran
 /// out. Elements of an array that are not of its type are written as what they are, after the
@@ -170,7 +170,7 @@ fn put_piece(alloc: Global, all: &mut Pieces, value: &Value) -> Result<(), Alloc
     }
 }
 
-/// Appends the shortest encoding of a value that holds no others.
+/// Appends the canonical encoding of a value that holds no others.
 #[inline(always)]
 #[tactic(auto, unfolding(crate::specs::Spelling::spelling))]
 pub fn put_plain(out: &mut Vec<u8>, plain: Plain<'_>) -> Result<(), AllocError>

@@ -21,7 +21,7 @@ fn question_of(case: &Case<'_>) -> Result<Question, CaseFault> {
     }
 }
 
-/// The answer to a question on performatives: the shortest encoding of what is at the front, and the length of the
+/// The answer to a question on performatives: the canonical encoding of what is at the front, and the length of the
 /// encoding there.
 ///
 /// # Errors

@@ -11,7 +11,7 @@ const DEPTH: u32 = 32;
 enum Question {
     /// The value at their front, and its length.
     Decode,
-    /// The shortest encoding of the value in the bytes.
+    /// The canonical encoding of the value in the bytes.
     Rewrite,
     /// The values in the bytes, one after another.
     Each,
