@@ -24,7 +24,7 @@ use Rattle.router_passing.specs.Passing.{with_bound}
 use Rattle.router_state.specs.Tables.{TablesFit}
 use Rattle.router_core.specs.Replies.{answered, handled}
 use Rattle.router_core.specs.Turns.{is_start, is_started, is_out_of_turn, declines}
-use Rattle.router_core.specs.Handling.{Journals, Fits, with_admission, BeforeOrBehind, LeftBook, kept_book, state_of}
+use Rattle.router_core.specs.Handling.{Journals, Fits, with_admission, BeforeOrBehind, kept_book, state_of}
 use Rattle.router_core.specs.declared.router.Core.{Core}
 use Rattle.router_core.proofs.Booking.{booked_same}
 use Rattle.router_core.proofs.Committing.{chosen}
@@ -179,14 +179,6 @@ journals_behind old new t e acts j are book count used kept =
       used = used ∙ ap (λ (u : ℕ). used_behind u acts) j.used ∙ ap (used_behind (journaled t).used) are;
       kept = kept (j.kept ∙ ap reserve (sym j.book)) ∙ ap reserve now;
     }
-
--- a fault before the acts of an event were written leaves the book as it was, and one behind them the book after them
-pub left_before : {D : Type 0} (core : Core D) (t : List Entry) (e : Event) (book : BookView) → Fits core t → book ≡ kept_book core → LeftBook t e book
-left_before core t e book f is = inl (is ∙ f.journal.book)
-
-pub left_behind : {D : Type 0} (core : Core D) (t : List Entry) (e : Event) (acts : List Act) (book : BookView) → Fits core t → acts ≡ acts_of t e
-    → book ≡ effects (kept_book core) acts → LeftBook t e book
-left_behind core t e acts book f are is = inr (is ∙ ap (λ (x : BookView). effects x acts) f.journal.book ∙ ap (effects (book_in t)) are)
 
 -- a file opens to the book before the event or after it
 pub before_or_behind : {D : Type 0} (core : Core D) (t : List Entry) (e : Event) (acts : List Act) (file : List ℕ) → Fits core t → acts ≡ acts_of t e
