@@ -1,6 +1,5 @@
 pub mod Handing
 pub mod History
-pub mod Ringing
 pub use Rattle.router_core.specs.Handling
 pub use Rattle.router_core.specs.Moves
 pub use Rattle.router_core.specs.Counting

@@ -12,14 +12,12 @@ ghost use Rattle.router_core.specs.declared.fault.CoreFault.TheVariants.{Disk as
 ghost use Rattle.router_seats.specs.Adding.{sums, Handled};
 ghost use Rattle.router_locked.specs.Handing.{Enough, Stopped, batches_of, gone, handed};
 ghost use Rattle.router_locked.specs.History.{HasHistory};
-ghost use Rattle.router_locked.specs.Ringing.{is_set};
+ghost use Rattle.router_bells.specs.Ringing.{is_set};
 
-use crate::bells::Bells;
-use crate::readiness::Readiness;
 use crate::router::{MOST, Router};
-use crate::sleepers::Sleepers;
 use amqp_frames::Item;
 use disk_core::Disk;
+use router_bells::{Bells, Sleepers};
 use router_core::{Batch, ConnectionId, Core, CoreFault, Counts, Event};
 use router_seats::{Kind, Ledgers, Returned, Seat, Totals};
 use std::collections::VecDeque;

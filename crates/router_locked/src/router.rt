@@ -12,8 +12,8 @@ ghost use Rattle.router_core.specs.declared.fault.CoreFault.TheVariants.{Disk as
 ghost use Rattle.router_locked.specs.Handing.{batches_of};
 ghost use Rattle.router_locked.specs.History.{IsOpened, HasHistory};
 
-use crate::readiness::Readiness;
 use disk_core::Disk;
+use router_bells::Readiness;
 use router_core::{Batch, ConnectionId, Core, CoreFault, Counts, Event};
 
 /// The number of items taken at a time.

@@ -10,8 +10,9 @@ ghost use Rattle.router_locked.specs.History.{IsOpened, HasHistory};
 
 use amqp_frames::Item;
 use disk_core::Disk;
+use router_bells::{BELLS, Bells, bell_of};
 use router_core::{Batch, ConnectionId, Core, CoreFault, Event};
-use router_locked::{BELLS, Bells, Closed, Locked, Log, Receipt, Router, bell_of};
+use router_locked::{Closed, Locked, Log, Receipt, Router};
 use router_seats::{Blanks, Ledgers, Seat, Totals};
 use std::alloc::{AllocError, Global};
 use std::collections::VecDeque;

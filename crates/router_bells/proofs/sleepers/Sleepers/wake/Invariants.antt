@@ -1,9 +1,9 @@
 use Rattle.std.proofs.Common.{◌≡◌, ◌%◌, ◌⊎◌, ℕ, true, option_map, IfSome}
 use Rattle.router_trace.specs.Trace.{Trace}
 use Rattle.router_trace.specs.Connection.{conn as known, is_ready}
-use Rattle.router_locked.specs.Ringing.{is_set}
-use Rattle.router_locked.proofs.Wakings.{IsBefore}
-use Rattle.router_locked.proofs.sleepers.Sleepers.wake.Given as goal
+use Rattle.router_bells.specs.Ringing.{is_set}
+use Rattle.router_bells.proofs.Wakings.{IsBefore}
+use Rattle.router_bells.proofs.sleepers.Sleepers.wake.Given as goal
 
 -- the sleepers of ready connections before the next one were woken, and that of the lost one
 abbrev pub invariant-loop-turn : goal.invariant-loop-turn

@@ -1,9 +1,9 @@
 //! The sleeping writers that must be woken.
 ghost use Rattle.std.specs.Prelude.{◌≡◌, ◌==◌, ◌<◌, ◌%◌, ◌&&◌, ◌||◌, not, ℕ, length, true, false, IfSome, IfNone};
 ghost use Rattle.std.specs.Int.{bit_at};
-ghost use Rattle.router_locked.specs.Ringing.{is_set};
+ghost use Rattle.router_bells.specs.Ringing.{is_set};
 
-use router_core::ConnectionId;
+use router_trace::ConnectionId;
 
 /// The number of bells beside the lock.
 pub const BELLS: usize = 256;

@@ -1,6 +1,6 @@
 use Rattle.std.proofs.Common.{◌<◌, arith, w64}
 use Rattle.std.proofs.lemmas.Nat.Bits.{bit_at-trailing_zeros}
-use Rattle.router_locked.proofs.bells.lowest_bit.Goals as goal
+use Rattle.router_bells.proofs.bells.lowest_bit.Goals as goal
 
 pub returns-clause-bit : goal.returns-clause-bit
 returns-clause-bit c =

@@ -1,8 +1,8 @@
 use Rattle.std.proofs.Common.{◌≡◌, ◌∙◌, ap, subst, ℕ, true, not, ◌==◌, ◌&&◌, ◌+◌, ◌*◌, ◌/◌, arith}
-use Rattle.router_locked.specs.declared.bells.Bells.{Bells}
-use Rattle.router_locked.specs.Ringing.{is_set}
-use Rattle.router_locked.proofs.Ringings.{bell_of_bit, no_bell}
-use Rattle.router_locked.proofs.bells.Bells.pop.Goals as goal
+use Rattle.router_bells.specs.declared.bells.Bells.{Bells}
+use Rattle.router_bells.specs.Ringing.{is_set}
+use Rattle.router_bells.proofs.Ringings.{bell_of_bit, no_bell}
+use Rattle.router_bells.proofs.bells.Bells.pop.Goals as goal
 
 pub returns-in-Some-clause-taken : goal.returns-in-Some-clause-taken
 returns-in-Some-clause-taken c =

@@ -4,7 +4,7 @@ ghost use Rattle.router_trace.specs.Trace.{Trace};
 ghost use Rattle.router_trace.specs.Connection.{conn as known, is_ready};
 ghost use Rattle.router_conns.specs.Fits.{IsLeast};
 
-use router_core::ConnectionId;
+use router_trace::ConnectionId;
 
 /// Of which connections of a router something can be taken.
 pub trait Readiness {

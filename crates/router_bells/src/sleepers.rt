@@ -2,11 +2,11 @@
 ghost use Rattle.std.specs.Prelude.{◌≡◌, ◌==◌, ◌<◌, ◌%◌, ◌⊎◌, ◌&&◌, ◌||◌, not, ℕ, true, false, is_some, IfSome};
 ghost use Rattle.router_trace.specs.Trace.{Trace};
 ghost use Rattle.router_trace.specs.Connection.{conn as known, is_ready};
-ghost use Rattle.router_locked.specs.Ringing.{is_set};
+ghost use Rattle.router_bells.specs.Ringing.{is_set};
 
 use crate::bells::{BELLS, Bells, bell_of};
 use crate::readiness::Readiness;
-use router_core::ConnectionId;
+use router_trace::ConnectionId;
 
 /// The bells at which a writer may sleep.
 #[derive(Drop)]
@@ -16,7 +16,7 @@ pub struct Sleepers {
 
 impl Sleepers {
     /// Nobody sleeps.
-    pub(crate) fn none() -> Sleepers
+    pub fn none() -> Sleepers
         ensures { (b : ℕ) → is_set result.noted.words b ≡ false }
     {
         Sleepers {
@@ -25,7 +25,7 @@ impl Sleepers {
     }
 
     /// Whether the writer of a connection has to wait: the connection is known and not ready, and the router works. If so, its bell is noted.
-    pub(crate) fn sleeps<R: Readiness>(&mut self, router: &R, conn: ConnectionId) -> bool
+    pub fn sleeps<R: Readiness>(&mut self, router: &R, conn: ConnectionId) -> bool
         ensures waits { (t : Trace) → R.fits router.now t → result ≡ not (R.failed router.now || is_ready (known t conn.0) || not (is_some (known t conn.0))) }
         ensures noted { (b : ℕ) → is_set self.new.noted.words b ≡ ((result && (conn.0 % 256 == b)) || is_set self.old.noted.words b) }
     {
@@ -38,7 +38,7 @@ impl Sleepers {
 
     /// The bells of the writers that sleep and needn't: of connections that are ready, of one that is lost, and all of
     /// them if the router failed. No bell that was noted is forgotten: it is given, or is still noted.
-    pub(crate) fn wake<R: Readiness>(&mut self, router: &R, lost: Option<ConnectionId>) -> Bells
+    pub fn wake<R: Readiness>(&mut self, router: &R, lost: Option<ConnectionId>) -> Bells
         ensures ready { (t : Trace) → R.fits router.now t → (c : ℕ) → is_ready (known t c) ≡ true
             → is_set self.old.noted.words (c % 256) ≡ true → is_set result.words (c % 256) ≡ true }
         ensures lost { IfSome lost (λ conn. is_set self.old.noted.words (conn.0 % 256) ≡ true → is_set result.words (conn.0 % 256) ≡ true) }

@@ -1,0 +1,2 @@
+pub mod Ringings
+pub mod Wakings
