@@ -17,7 +17,7 @@ ghost use Rattle.router_bells.specs.Ringing.{is_set};
 use crate::router::{MOST, Router};
 use amqp_frames::Item;
 use disk_core::Disk;
-use router_bells::{Bells, Sleepers};
+use router_bells::{Bells, Readiness, Sleepers};
 use router_core::{Batch, ConnectionId, Core, CoreFault, Counts, Event};
 use router_seats::{Kind, Ledgers, Returned, Seat, Totals};
 use std::collections::VecDeque;
