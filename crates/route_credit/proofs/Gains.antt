@@ -1,6 +1,6 @@
 -- The sums of all grants.
 use Rattle.std.proofs.Common.{◌≡◌, ◌∙◌, sym, ap, refl, subst, ℕ, zero, suc, Bool, true, false, cond, ◌&&◌, ◌+◌, ◌<◌, Option, Some, None, Result, Ok, Err, OnOk, IfOk, List, [], ◌∷◌, arith}
-use Rattle.std.specs.Prelude.{◌==◌, nat_lt, is_some}
+use Rattle.std.specs.Prelude.{◌==◌, nat_lt, is_some, if◌then◌else◌}
 use Rattle.std.specs.BTreeMap.{is_at}
 use Rattle.std.specs.List.{list_any}
 use Rattle.std.specs.List.Sorted.{IsStrictlySortedBy}
@@ -9,9 +9,9 @@ use Rattle.std.specs.Ordering.{nat_cmp}
 use Rattle.std.proofs.lemmas.Bool.{eqb-true, lt-ltb}
 use Rattle.std.proofs.lemmas.Map.Made.{is_some-lookup}
 use Rattle.route_credit.specs.Giving.{IsGiving}
-use Rattle.route_credit.specs.Granting.{all_granted, gain, gains, granting, granted, given_to, grants_of, next, room}
+use Rattle.route_credit.specs.Granting.{all_granted, gain, gains, granting, granted, given_to, grants_of, least, next, room}
 use Rattle.route_credit.specs.Links.{amount_at, link_at}
-use Rattle.route_credit.specs.Pool.{given, IsNext, lent_at, part_of, Sharing}
+use Rattle.route_credit.specs.Pool.{given, is_short, IsNext, lent_at, need, part_of, Sharing}
 use Rattle.route_credit.specs.declared.demand.Demand.{Demand}
 use Rattle.route_credit.proofs.Entries.{Above, InOrder, keys_with, same_entries}
 use Rattle.route_credit.proofs.Grants.{all_done, all_keys, kept_by_all, none_granted, one_of_all}
@@ -137,6 +137,10 @@ pub no_grants : (pool : Sharing) → next pool ≡ None → grants_of pool ≡ [
 no_grants pool none = no_gains (gain pool (all_granted pool)) (keys_of pool.producers) (λ id.
     let same : lent_at (all_granted pool) id ≡ lent_at pool id = ap (λ p. lent_at p id) (none_granted pool none) in
     omega (arith, same))
+
+-- nor where no credit is to be given
+pub none_where_enough : (pool : Sharing) → is_short pool ≡ false → grants_of pool ≡ []
+none_where_enough pool enough = no_grants pool (ap (λ b. if b then least (need pool) pool.producers else None) enough)
 
 -- and so after all grants
 pub no_more_grants : (pool : Sharing) → InOrder pool.producers → grants_of (all_granted pool) ≡ []

@@ -1,5 +1,5 @@
 -- What is known of links after a change of one.
-use Rattle.std.proofs.Common.{◌≡◌, ◌∙◌, sym, ap, refl, ℕ, Bool, true, false, true≢false, not, cond, Some, None, List, [], ◌∷◌}
+use Rattle.std.proofs.Common.{◌≡◌, ◌∙◌, sym, ap, refl, ℕ, Bool, true, false, true≢false, not, cond, Option, Some, None, is_some, List, [], ◌∷◌}
 use Rattle.std.specs.Prelude.{◌==◌, filter}
 use Rattle.std.specs.BTreeMap.{is_at}
 use Rattle.std.specs.Map.{remove_entry}
@@ -60,6 +60,14 @@ none_gone {X} (e ∷ es) id none = by_head (is_at (nat_cmp id) e.0) (same_test i
     by_head : (b : Bool) → b ≡ (id == e.0) → cond b (Some e.1) (link_at es id) ≡ None → (link_at es id ≡ None → without_link es id ≡ es) → without_link (e ∷ es) id ≡ e ∷ es
     by_head true is none rest = absurd cc
     by_head false is none rest = rw (sym is) (ap (λ l. e ∷ l) (rest none))
+
+-- where the link isn't there nothing goes
+pub absent_gone : {X : Type 0} (links : List (ℕ × X)) (id : ℕ) → not (is_some (link_at links id)) ≡ true → links ≡ without_link links id
+absent_gone {X} links id absent = sym (none_gone links id (nothing (link_at links id) absent))
+  where
+    nothing : (x : Option X) → not (is_some x) ≡ true → x ≡ None
+    nothing None e = refl
+    nothing (Some x) e = absurd cc
 
 -- the first of a number is the only one where none is left
 pub without_first : {X : Type 0} (links : List (ℕ × X)) (id : ℕ) → link_at (remove_entry (is_at (nat_cmp id)) links) id ≡ None → remove_entry (is_at (nat_cmp id)) links ≡ without_link links id

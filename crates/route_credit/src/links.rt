@@ -90,6 +90,9 @@ impl<T: Weigh> Links<T> {
         ensures whole { IsIndexed (T.rank distribution) T.amount self.old → IsIndexed (T.rank distribution) T.amount self.new }
     {
         let old = self.get(id);
+        if old.is_none() {
+            return;
+        }
         self.ranking.unset(id, rank_of(distribution, old));
         self.total = self.total.saturating_sub(amount_of(old));
         let _ = self.rows.remove(&id);

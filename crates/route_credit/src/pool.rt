@@ -1,5 +1,5 @@
 //! The pool of an address.
-ghost use Rattle.std.specs.Prelude.{◌≡◌, ◌+◌, ◌⊎◌, ℕ, List, [], None, Some, OnOk, OnErr, IfOk, option_map, nat_lt, ◌==◌, if◌then◌else◌};
+ghost use Rattle.std.specs.Prelude.{◌≡◌, ◌+◌, ◌⊎◌, ℕ, List, [], false, None, Some, OnOk, OnErr, IfOk, option_map, nat_lt, ◌==◌, if◌then◌else◌};
 ghost use Rattle.std.specs.BTreeMap.{get};
 ghost use Rattle.std.specs.List.Sorted.{IsStrictlySortedBy};
 ghost use Rattle.std.specs.Map.{keys_of};
@@ -174,9 +174,11 @@ impl Pool {
         }
     }
 
-    /// Whether any credit is to be given.
-    fn is_short(&self) -> bool
+    /// Whether any credit is to be given. If not, it has no grants.
+    #[tactic(auto, using(crate::proofs::Gains::none_where_enough))]
+    pub fn is_short(&self) -> bool
         ensures short { result ≡ is_short self.now }
+        ensures quiet { result ≡ false → grants_of self.now ≡ [] }
         ensures ordered { IsStrictlySortedBy nat_cmp (keys_of self.now.producers) }
     {
         match self.distribution {

@@ -8,3 +8,4 @@ pub use Rattle.router_trace.specs.Refusing
 pub use Rattle.router_trace.specs.Order
 pub use Rattle.router_trace.specs.Frames
 pub use Rattle.router_trace.specs.Clocks
+pub mod Noting

@@ -2,7 +2,7 @@
 use Rattle.std.proofs.Common.{◌≡◌, ◌∙◌, ℕ, Bool, sym, ap, Option, Some, None}
 use Rattle.std.specs.Ordering.{nat_cmp}
 use Rattle.std.specs.BTreeMap.{get}
-use Rattle.std.specs.BTreeSet.{contains}
+use Rattle.router_places.specs.Marks.{has as is_marked}
 use Rattle.router_trace.specs.Trace.{Trace}
 use Rattle.router_trace.specs.Deliveries.{delivery, is_number, waits_on, undecided_on, held_from, is_to_tell}
 use Rattle.router_trace.specs.Following.{is_unsent_on}
@@ -30,7 +30,7 @@ pub held_in : (s : Store) (t : Trace) → StoreFit s t → (k : ℕ) → IsCount
 held_in s t fit k = count_same (λ n. is_number (standing (get nat_cmp s.deliveries n)).held k) (λ n. held_from k (delivery t n))
     (λ n. held_is k (get nat_cmp s.deliveries n) ∙ ap (held_from k) (fit.deliveries n)) (tally s.index.held k) (fit.indexed.indexes.held.counts k)
 
-pub to_tell_in : (s : Store) (t : Trace) → StoreFit s t → (n : ℕ) → contains nat_cmp s.index.to_tell n ≡ is_to_tell (delivery t n)
+pub to_tell_in : (s : Store) (t : Trace) → StoreFit s t → (n : ℕ) → is_marked s.index.to_tell n ≡ is_to_tell (delivery t n)
 to_tell_in s t fit n = fit.indexed.indexes.to_tell n ∙ to_tell_is (get nat_cmp s.deliveries n) ∙ ap is_to_tell (fit.deliveries n)
 
 -- and its names with the trace's

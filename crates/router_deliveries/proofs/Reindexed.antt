@@ -3,8 +3,7 @@ use Rattle.std.proofs.Common.{◌≡◌, ◌∙◌, ℕ, Bool, true, false, refl
 use Rattle.std.specs.Prelude.{◌==◌, if◌then◌else◌}
 use Rattle.std.proofs.lemmas.Bool.{eqb-true}
 use Rattle.router_trace.specs.Deliveries.{Delivery, is_number}
-use Rattle.std.specs.Ordering.{nat_cmp}
-use Rattle.std.specs.BTreeSet.{contains}
+use Rattle.router_places.specs.Marks.{has as is_marked}
 use Rattle.router_deliveries.specs.declared.by_link.ByLink.{ByLink}
 use Rattle.router_deliveries.specs.declared.index.Index.{Index}
 use Rattle.router_deliveries.specs.declared.index.Keys.{Keys}
@@ -47,7 +46,7 @@ SpotMoves s t m before after = (known : ℕ → Option Spot) → known m ≡ bef
 pub indexes_moved : (s t : Index) (m : ℕ) (before after : Keys) (known : ℕ → Keys)
     → TallyMoves s.waiting t.waiting before.waiting after.waiting → GroupMoves s.unsent t.unsent m before.unsent after.unsent
     → TallyMoves s.undecided t.undecided before.undecided after.undecided → TallyMoves s.held t.held before.held after.held
-    → (contains nat_cmp s.to_tell m ≡ before.to_tell → (n : ℕ) → contains nat_cmp t.to_tell n ≡ (if m == n then after.to_tell else contains nat_cmp s.to_tell n))
+    → (is_marked s.to_tell m ≡ before.to_tell → (n : ℕ) → is_marked t.to_tell n ≡ (if m == n then after.to_tell else is_marked s.to_tell n))
     → SpotMoves s.on t.on m before.on after.on → SpotMoves s.from t.from m before.from after.from → SpotMoves s.by_id t.by_id m before.by_id after.by_id
     → SpotMoves s.durable t.durable m before.durable after.durable
     → known m ≡ before → Indexes s known → Indexes t (λ n. if m == n then after else known n)

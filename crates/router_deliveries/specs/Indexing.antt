@@ -6,6 +6,7 @@ use Rattle.std.specs.declared.ops.Bound.{Bound}
 use Rattle.std.specs.declared.ops.Bound.TheVariants.{Excluded, Unbounded}
 use Rattle.std.specs.BTreeMap.Range.{IsFromStart}
 use Rattle.std.specs.BTreeSet.{BTreeSet, contains}
+use Rattle.router_places.specs.Marks.{has as is_marked}
 use Rattle.router_trace.specs.declared.binding.Origin.{Origin}
 use Rattle.router_trace.specs.Deliveries.{Delivery, has_row, source, sender, holder, is_over, is_undecided, unless_over, is_number}
 use Rattle.router_deliveries.specs.declared.by_link.ByLink.{ByLink}
@@ -91,7 +92,7 @@ pub record Indexes (s : Index) (known : ℕ → Keys) : Type 0 where
   pub unsent : (k n : ℕ) → in_group s.unsent k n ≡ is_number (known n).unsent k
   pub undecided : IsTallied s.undecided (λ n. (known n).undecided)
   pub held : IsTallied s.held (λ n. (known n).held)
-  pub to_tell : (n : ℕ) → contains nat_cmp s.to_tell n ≡ (known n).to_tell
+  pub to_tell : (n : ℕ) → is_marked s.to_tell n ≡ (known n).to_tell
   pub on : SpotsFit s.on (λ n. (known n).on)
   pub from : SpotsFit s.from (λ n. (known n).from)
   pub by_id : SpotsFit s.by_id (λ n. (known n).by_id)

@@ -2,7 +2,7 @@
 use Rattle.std.specs.Prelude.{◌≡◌, ℕ, Bool, false, Option}
 use Rattle.std.specs.Ordering.{nat_cmp}
 use Rattle.std.specs.BTreeMap.{get}
-use Rattle.std.specs.BTreeSet.{contains}
+use Rattle.router_places.specs.Marks.{has as is_marked}
 use Rattle.router_trace.specs.Deliveries.{Delivery, is_number, waits_on, undecided_on, held_from}
 use Rattle.router_deliveries.specs.declared.deliveries.Deliveries.{Deliveries}
 use Rattle.router_deliveries.specs.declared.index.Keys.{Keys}
@@ -11,7 +11,7 @@ use Rattle.router_deliveries.specs.declared.touched.Touched.{Touched}
 
 -- a link was touched
 abbrev pub is_touched_in : Touched → ℕ → Bool
-is_touched_in s k = contains nat_cmp s.links k
+is_touched_in s k = is_marked s.links k
 
 abbrev pub is_touched : Deliveries → ℕ → Bool
 is_touched s k = is_touched_in s.store.touched k

@@ -2,6 +2,7 @@
 ghost use Rattle.std.specs.Prelude.{◌≡◌, ◌==◌, ℕ, Bool, None, true, false, if◌then◌else◌, OnOk, IfOk, ◌||◌};
 ghost use Rattle.std.specs.Ordering.{nat_cmp};
 ghost use Rattle.std.specs.BTreeSet.{contains};
+ghost use Rattle.router_places.specs.Marks.{has as is_marked};
 ghost use Rattle.router_deliveries.specs.declared.index.Keys.{Keys as TheKeys};
 ghost use Rattle.router_deliveries.specs.Deciding.{decides, decide};
 ghost use Rattle.router_trace.specs.Deliveries.{unless_over};
@@ -15,6 +16,7 @@ use crate::delivery::Delivery;
 use crate::sets::add;
 use crate::spots::{Spot, Spots};
 use crate::tallies::Tallies;
+use router_places::Marks;
 use router_trace::{Attachment, DeliveryName, Origin};
 use std::alloc::{AllocError, Global};
 use std::collections::BTreeSet;
@@ -67,7 +69,7 @@ pub(crate) struct Index {
     // how many are held from a producer's link
     pub(crate) held: Tallies,
     // those whose outcome must be reported to their producer
-    pub(crate) to_tell: BTreeSet<u64>,
+    pub(crate) to_tell: Marks,
     // those changed by the end of a consumer's link, those by the end of a producer's link, and those by a producer's delivery-id
     on: Spots,
     from: Spots,
@@ -238,7 +240,7 @@ impl Index {
             unsent: ByLink::new(alloc),
             undecided: Tallies::new(alloc),
             held: Tallies::new(alloc),
-            to_tell: BTreeSet::new(alloc),
+            to_tell: Marks::new(alloc),
             on: Spots::new(alloc),
             from: Spots::new(alloc),
             by_id: Spots::new(alloc),
@@ -381,21 +383,16 @@ fn add_all(numbers: &mut BTreeSet<u64>, more: &[u64]) -> Result<(), AllocError>
 }
 
 /// Puts a number into a set or removes it, where it isn't there or is.
-fn mark(
-    numbers: &mut BTreeSet<u64>,
-    number: u64,
-    before: bool,
-    after: bool,
-) -> Result<(), AllocError>
-    ensures { OnOk result (contains nat_cmp numbers.old number ≡ before
-        → (n : ℕ) → contains nat_cmp numbers.new n ≡ (if number == n then after else contains nat_cmp numbers.old n)) }
+fn mark(numbers: &mut Marks, number: u64, before: bool, after: bool) -> Result<(), AllocError>
+    ensures { OnOk result (is_marked numbers.old number ≡ before
+        → (n : ℕ) → is_marked numbers.new n ≡ (if number == n then after else is_marked numbers.old n)) }
 {
     if before == after {
         return Ok(());
     }
     if after {
-        return add(numbers, number);
+        return numbers.insert(number);
     }
-    let _ = numbers.remove(&number);
+    numbers.remove(number);
     Ok(())
 }

@@ -2,11 +2,12 @@
 ghost use Rattle.std.specs.Prelude.{◌≡◌, ◌==◌, ℕ, true, if◌then◌else◌, OnOk, ◌&&◌, nat_lt};
 ghost use Rattle.std.specs.Ordering.{nat_cmp};
 ghost use Rattle.std.specs.BTreeSet.{contains};
+ghost use Rattle.router_places.specs.Marks.{has as is_marked};
 ghost use Rattle.router_deliveries.specs.Finding.{IsFirst};
 
+use router_places::Marks;
 use std::alloc::AllocError;
 use std::collections::BTreeSet;
-use std::ops::Bound;
 
 /// Puts a number into a set.
 pub(crate) fn add(numbers: &mut BTreeSet<u64>, number: u64) -> Result<(), AllocError>
@@ -19,19 +20,15 @@ pub(crate) fn add(numbers: &mut BTreeSet<u64>, number: u64) -> Result<(), AllocE
 }
 
 /// The lowest number of a set.
-pub(crate) fn first(numbers: &BTreeSet<u64>) -> Option<u64>
-    ensures { IsFirst (contains nat_cmp numbers.now) result }
+pub(crate) fn first(numbers: &Marks) -> Option<u64>
+    ensures { IsFirst (is_marked numbers.now) result }
 {
-    numbers.first().copied()
+    numbers.first()
 }
 
 /// The lowest number of a set above `number`.
-pub(crate) fn behind(numbers: &BTreeSet<u64>, number: u64) -> Option<u64>
-    ensures { IsFirst (λ n. nat_lt number n && contains nat_cmp numbers.now n) result }
+pub(crate) fn behind(numbers: &Marks, number: u64) -> Option<u64>
+    ensures { IsFirst (λ n. nat_lt number n && is_marked numbers.now n) result }
 {
-    let mut above = numbers.range((Bound::Excluded(number), Bound::Unbounded));
-    match above.next() {
-        None => None,
-        Some(next) => Some(*next),
-    }
+    numbers.behind(number)
 }

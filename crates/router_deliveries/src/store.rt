@@ -18,6 +18,7 @@ ghost use Rattle.router_deliveries.specs.declared.index.Keys.{Keys as TheKeys};
 ghost use Rattle.router_deliveries.specs.Indexing.{Indexes, keys, moved, standing, in_group, is_by_place, are_by_place, concerns};
 ghost use Rattle.router_deliveries.specs.Placing.{is_id_there};
 ghost use Rattle.std.specs.BTreeSet.{contains};
+ghost use Rattle.router_places.specs.Marks.{has as is_marked};
 ghost use Rattle.router_deliveries.specs.Finding.{IsFirst, IsFirstLink, is_above};
 ghost use Rattle.router_deliveries.specs.Touching.{is_touched_in, StandsSame, StoreTouches};
 ghost use Rattle.router_deliveries.specs.Hearing.{id_of};
@@ -131,7 +132,7 @@ impl Store {
 
     /// The lowest delivery, above this one or of all, whose outcome must be reported to its producer.
     pub(crate) fn to_tell_behind(&self, number: Option<u64>) -> Option<u64>
-        ensures { IsFirst (λ n. is_above number n && contains nat_cmp self.now.index.to_tell n) result }
+        ensures { IsFirst (λ n. is_above number n && is_marked self.now.index.to_tell n) result }
     {
         match number {
             None => first(&self.index.to_tell),

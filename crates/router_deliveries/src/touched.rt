@@ -7,14 +7,14 @@ ghost use Rattle.router_deliveries.specs.Finding.{IsFirst};
 ghost use Rattle.router_deliveries.specs.Touching.{is_touched_in, StandsSame};
 
 use crate::index::Keys;
-use crate::sets::{add, first};
+use crate::sets::first;
+use router_places::Marks;
 use std::alloc::{AllocError, Global};
-use std::collections::BTreeSet;
 
 /// The numbers of links whose waiting, undecided or held deliveries may have changed since they were last forgotten.
 #[derive(Drop)]
 pub(crate) struct Touched {
-    links: BTreeSet<u64>,
+    links: Marks,
 }
 
 impl Touched {
@@ -23,7 +23,7 @@ impl Touched {
         ensures { (k : ℕ) → is_touched_in result k ≡ false }
     {
         Touched {
-            links: BTreeSet::new(alloc),
+            links: Marks::new(alloc),
         }
     }
 
@@ -38,7 +38,7 @@ impl Touched {
     pub(crate) fn forget(&mut self, link: u64)
         ensures { (k : ℕ) → is_touched_in self.new k ≡ (if link == k then false else is_touched_in self.old k) }
     {
-        let _ = self.links.remove(&link);
+        self.links.remove(link);
     }
 
     /// Notes the links on which a delivery's entries have changed.
@@ -81,7 +81,7 @@ impl Touched {
     {
         match link {
             None => Ok(()),
-            Some(link) => add(&mut self.links, link),
+            Some(link) => self.links.insert(link),
         }
     }
 }

@@ -1,5 +1,5 @@
 -- How the pools follow what each link has.
-use Rattle.std.proofs.Common.{◌≡◌, ◌∙◌, sym, ap, refl, subst, ℕ, Bool, true, false, true≢false, ◌||◌, ◌<◌, ◌⊎◌, inl, inr, ⊎_elim, cond, if◌then◌else◌, Option, Some, None, option_map, is_some, List, []}
+use Rattle.std.proofs.Common.{◌≡◌, ◌∙◌, sym, ap, refl, subst, ℕ, Bool, true, false, true≢false, not, ◌&&◌, ◌||◌, ◌<◌, ◌⊎◌, inl, inr, ⊎_elim, cond, if◌then◌else◌, Option, Some, None, option_map, is_some, List, []}
 use Rattle.std.specs.Prelude.{◌==◌}
 use Rattle.std.specs.BTreeMap.{is_at}
 use Rattle.std.specs.Ordering.{nat_cmp}
@@ -135,8 +135,9 @@ module _ (apart : ℕ → Bool) (table share : List ℕ → Distribution) (pools
         quiet = quiet_still due' is_due later;
       }
 
-    -- A link gets other figures at its place.
-    module _ (n : ℕ) (at : place n ≡ Some q) (is_due : due q ≡ true)
+    -- A link gets other figures at its place, which is due then or has no grants.
+    module _ (n : ℕ) (at : place n ≡ Some q)
+        (due' : List ℕ → Bool) (still_due : (a : List ℕ) → due' a ≡ false → due a ≡ false) (quiet_here : due' q ≡ false → grants_of (pools' q) ≡ [])
         (apart' : ℕ → Bool) (less : (m : ℕ) → apart' m ≡ false → (n == m) ≡ false → apart m ≡ false)
         (known' : ℕ → Option Figure) (others : (m : ℕ) → (n == m) ≡ false → known' m ≡ known m) (is_actual : actual n ≡ known' n)
         (consumer_there : (m : ℕ) (a : List ℕ) → link_at (change (pools a)).consumers m ≡ cond (n == m) (offer_at q (known' n)) (link_at (pools a).consumers m))
@@ -162,7 +163,7 @@ module _ (apart : ℕ → Bool) (table share : List ℕ → Distribution) (pools
       other_is : (m : ℕ) (a : List ℕ) → (n == m) ≡ false → link_at (change (pools a)).consumers m ≡ link_at (pools a).consumers m
       other_is m a e = consumer_there m a ∙ ap (λ b. cond b (offer_at q (known' n)) (link_at (pools a).consumers m)) e
 
-      pub changed : Fits apart' table share pools' place due known' actual last
+      pub changed : Fits apart' table share pools' place due' known' actual last
       changed = record {
         consumers = λ m a is. by_test (n == m)
             (λ e. let same : n ≡ m = eqb-true n m e in keeps (λ a p. link_at p.consumers m ≡ offer_at a (known' m))
@@ -202,7 +203,9 @@ module _ (apart : ℕ → Bool) (table share : List ℕ → Distribution) (pools
             (λ a f. fits.later m a);
         consumers_rise = keeps (λ a p. InOrder p.consumers) (λ a e. consumers_ordered a (fits.consumers_rise a)) (λ a e. fits.consumers_rise a);
         producers_rise = keeps (λ a p. InOrder p.producers) (λ a e. producers_ordered a (fits.producers_rise a)) (λ a e. fits.producers_rise a);
-        quiet = quiet_still due is_due (λ a none. none);
+        quiet = λ a none. by_test (bytes_eq q a)
+            (λ f. subst (λ b. grants_of (pools' b) ≡ []) (same_bytes q a f) (quiet_here (ap due' (same_bytes q a f) ∙ none)))
+            (λ f. ap grants_of (elsewhere a f) ∙ fits.quiet a (still_due a none));
       }
 
   -- a pool may be removed if it has no links
@@ -352,14 +355,15 @@ module _ (apart : ℕ → Bool) (table share : List ℕ → Distribution) (pools
 
 -- a consumer's figures
 module _ (apart : ℕ → Bool) (table share : List ℕ → Distribution) (pools : List ℕ → Sharing) (place : ℕ → Option (List ℕ)) (due : List ℕ → Bool) (known actual : ℕ → Option Figure) (last : List ℕ → ℕ) (fits : Fits apart table share pools place due known actual last)
-    (pools' : List ℕ → Sharing) (q : List ℕ) (n : ℕ) (at : place n ≡ Some q) (is_due : due q ≡ true)
+    (pools' : List ℕ → Sharing) (q : List ℕ) (n : ℕ) (at : place n ≡ Some q)
+    (due' : List ℕ → Bool) (still_due : (a : List ℕ) → due' a ≡ false → due a ≡ false) (quiet_here : due' q ≡ false → grants_of (pools' q) ≡ [])
     (apart' : ℕ → Bool) (less : (m : ℕ) → apart' m ≡ false → (n == m) ≡ false → apart m ≡ false)
     (known' : ℕ → Option Figure) (others : (m : ℕ) → (n == m) ≡ false → known' m ≡ known m) (is_actual : actual n ≡ known' n) where
   pub offered_fits : (free undecided : ℕ) → ((a : List ℕ) → pools' a ≡ with_pool pools q (λ pool. offered (without_producer pool n) n free undecided) a) → known' n ≡ Some (consumer q free undecided)
-      → Fits apart' table share pools' place due known' actual last
+      → Fits apart' table share pools' place due' known' actual last
   offered_fits free undecided changes is =
       let offer : Offer = record { free = free; undecided = undecided } in
-      changed apart table share pools place due known actual last fits pools' q (λ pool. offered (without_producer pool n) n free undecided) changes n at is_due apart' less known' others is_actual
+      changed apart table share pools place due known actual last fits pools' q (λ pool. offered (without_producer pool n) n free undecided) changes n at due' still_due quiet_here apart' less known' others is_actual
       (λ m a. link_with (pools a).consumers n offer m ∙ ap (λ x. cond (n == m) x (link_at (pools a).consumers m)) (sym (ap (offer_at q) is ∙ ap (λ b. if b then Some offer else None) (equal_bytes q q refl))))
       (λ m a. link_without (pools a).producers n m ∙ ap (λ x. cond (n == m) x (link_at (pools a).producers m)) (sym (ap (demand_at q) is)))
       (λ a e. ap (offer_at a) is ∙ ap (λ b. if b then Some offer else None) e)
@@ -370,10 +374,10 @@ module _ (apart : ℕ → Bool) (table share : List ℕ → Distribution) (pools
 
   -- a producer's figures
   pub wanted_fits : (unused held : ℕ) → ((a : List ℕ) → pools' a ≡ with_pool pools q (λ pool. wanted (without_consumer pool n) n unused 0 held) a) → known' n ≡ Some (producer q unused held)
-      → Fits apart' table share pools' place due known' actual last
+      → Fits apart' table share pools' place due' known' actual last
   wanted_fits unused held changes is =
       let demand : Demand = demand_of unused 0 held in
-      changed apart table share pools place due known actual last fits pools' q (λ pool. wanted (without_consumer pool n) n unused 0 held) changes n at is_due apart' less known' others is_actual
+      changed apart table share pools place due known actual last fits pools' q (λ pool. wanted (without_consumer pool n) n unused 0 held) changes n at due' still_due quiet_here apart' less known' others is_actual
       (λ m a. link_without (pools a).consumers n m ∙ ap (λ x. cond (n == m) x (link_at (pools a).consumers m)) (sym (ap (offer_at q) is)))
       (λ m a. link_with (pools a).producers n demand m ∙ ap (λ x. cond (n == m) x (link_at (pools a).producers m)) (sym (ap (demand_at q) is ∙ ap (λ b. if b then Some demand else None) (equal_bytes q q refl))))
       (λ a e. ap (offer_at a) is)
@@ -423,8 +427,8 @@ places_moved read f g n x moves m = ap (option_map read) (moves m ∙ ap (λ b. 
     inside true = refl
     inside false = refl
 
-pub untouched : (f g : ℕ → Bool) (n : ℕ) → ((q : ℕ) → g q ≡ cond (is_at (nat_cmp n) q) false (f q)) → (m : ℕ) → g m ≡ false → (n == m) ≡ false → (n == m || f m) ≡ false
-untouched f g n less m is other = ap (λ b. b || f m) other ∙ sym (less m ∙ ap (λ b. cond b false (f m)) (same_test n m ∙ other)) ∙ is
+pub untouched : (f g : ℕ → Bool) (n : ℕ) → ((q : ℕ) → g q ≡ (not (n == q) && f q)) → (m : ℕ) → g m ≡ false → (n == m) ≡ false → (n == m || f m) ≡ false
+untouched f g n less m is other = ap (λ b. b || f m) other ∙ sym (less m ∙ ap (λ b. not b && f m) other) ∙ is
 
 -- all but one link
 pub but_one : (n : ℕ) (f : ℕ → Bool) (known : ℕ → Option Figure) (m : ℕ) → (n == m || f m) ≡ false → (f m ≡ false) × (known m ≡ known m)

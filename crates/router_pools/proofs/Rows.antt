@@ -1,5 +1,5 @@
 -- The pools of all addresses after a change in one row.
-use Rattle.std.proofs.Common.{◌≡◌, ◌∙◌, sym, ap, refl, subst, ℕ, Bool, true, false, true≢false, cond, if◌then◌else◌, Option, Some, None, IfSome, is_some, List, [], ◌∷◌, length, arith}
+use Rattle.std.proofs.Common.{◌≡◌, ◌∙◌, sym, ap, refl, subst, ℕ, Bool, true, false, true≢false, cond, if◌then◌else◌, Option, Some, None, is_some, List}
 use Rattle.std.specs.Prelude.{◌==◌}
 use Rattle.std.specs.BTreeMap.{BTreeMap, get, UpdatesBy, WritesThrough}
 use Rattle.std.specs.Ordering.{nat_cmp}
@@ -68,6 +68,10 @@ module _ (share : List ℕ → Distribution) where
         -- equal bytes have equal digests
         other : (key == digest_of a) ≡ false → bytes_eq q a ≡ false
         other e = by_test (bytes_eq q a) (λ f. absurd (true≢false (sym (eq-eqb key (digest_of a) (is ∙ ap digest_of (same_bytes q a f))) ∙ e))) (λ f. f)
+
+    -- what the pool of that address is then
+    pub here_then : (rows' : ℕ → Option Row) (row : Option Row) → ((d : ℕ) → rows' d ≡ (if key == d then row else rows d)) → row_pools (rows' (digest_of q)) q ≡ row_pools row q
+    here_then rows' row set = ap (λ r. row_pools r q) (there rows rows' key row q is set)
 
     -- no row was there to be changed
     pub unchanged : (rows' : ℕ → Option Row) → rows' ≡ rows → (change : Sharing → Sharing) → change (no_links (share q)) ≡ no_links (share q) → None ≡ rows key

@@ -17,21 +17,19 @@ other_way a b h = by_test (b == a) wrong (λ e. e)
     wrong : (b == a) ≡ true → (b == a) ≡ false
     wrong e = e ∙ sym (eq-eqb a b (sym (eqb-true b a e))) ∙ h
 
-one_more : (old : Bool) (k n v : ℕ) (x : Option ℕ) → (cond (is_at (nat_cmp k) n) true old || is_some x) ≡ (old || is_some (cond (is_at (nat_cmp n) k) (Some v) x))
+one_more : (old : Bool) (k n v : ℕ) (x : Option ℕ) → ((k == n || old) || is_some x) ≡ (old || is_some (cond (is_at (nat_cmp n) k) (Some v) x))
 one_more old k n v x = by_test (k == n)
-    (λ e. let a : is_at (nat_cmp k) n ≡ true = same_test k n ∙ e in
-    let b : is_at (nat_cmp n) k ≡ true = same_test n k ∙ eq-eqb n k (sym (eqb-true k n e)) in
-    rw (a, b) (right old))
-    (λ e. let a : is_at (nat_cmp k) n ≡ false = same_test k n ∙ e in
-    let b : is_at (nat_cmp n) k ≡ false = same_test n k ∙ other_way k n e in
-    rw (a, b) refl)
+    (λ e. let b : is_at (nat_cmp n) k ≡ true = same_test n k ∙ eq-eqb n k (sym (eqb-true k n e)) in
+    rw (e, b) (right old))
+    (λ e. let b : is_at (nat_cmp n) k ≡ false = same_test n k ∙ other_way k n e in
+    rw (e, b) refl)
   where
     right : (b : Bool) → true ≡ (b || true)
     right true = refl
     right false = refl
 
 pub touched_more : (sums : List (ProducerId × ℕ)) (i : ℕ) (d : ProducerId × ℕ) (n : ℕ) (old new all : Bool) → i < length sums
-    → new ≡ cond (is_at (nat_cmp (get_or sums i d).0.0) n) true old → (old || is_some (link_at (by_id (drop i sums)) n)) ≡ all → (new || is_some (link_at (by_id (drop (i + 1) sums)) n)) ≡ all
+    → new ≡ ((get_or sums i d).0.0 == n || old) → (old || is_some (link_at (by_id (drop i sums)) n)) ≡ all → (new || is_some (link_at (by_id (drop (i + 1) sums)) n)) ≡ all
 touched_more sums i d n old new all below is before =
     ap (λ b. b || is_some (link_at (by_id (drop (i + 1) sums)) n)) is
     ∙ one_more old (get_or sums i d).0.0 n (get_or sums i d).1 (link_at (by_id (drop (i + 1) sums)) n)

@@ -10,7 +10,7 @@ use Rattle.std.proofs.lemmas.Bool.{eqb-true}
 use Rattle.route_credit.specs.Pool.{has_no_links, no_links, Sharing}
 use Rattle.router_pools.specs.Addresses.{at_address, pool_or, rested, with_pool}
 use Rattle.route_table.specs.declared.sections.Distribution.{Distribution}
-use Rattle.router_pools.proofs.AtAddress.{by_test, insert_at, lookup_is, removed_elsewhere, same_bytes, set_at}
+use Rattle.router_pools.proofs.AtAddress.{by_test, equal_bytes, insert_at, lookup_is, removed_elsewhere, same_bytes, set_at}
 
 module _ {K : Type 0} (read : K → List ℕ) (es : List (K × Sharing)) (q : List ℕ) where
   abbrev found : Option Sharing
@@ -72,6 +72,10 @@ module _ {K : Type 0} (read : K → List ℕ) (share : List ℕ → Distribution
       let at : at_address es read a ≡ Some pool = ap (at_address es read) (sym same) ∙ sym (lookup_is read es q) ∙ sym is in
       rw (e, at) changed)
       (λ e. rw e refl)
+
+  -- what is at its address then
+  pub written_there : (fs : List (K × Sharing)) (pool new : Sharing) → Some pool ≡ found read es q → fs ≡ set_value (λ k. is_eq (slice_cmp nat_cmp q (read k))) es new → pools_of fs q ≡ new
+  written_there fs pool new is set = written fs pool new (λ old. new) is set refl q ∙ ap (λ b. if b then new else pools_of es q) (equal_bytes q q refl)
 
   -- none was there to be written
   pub unwritten : (fs : List (K × Sharing)) → fs ≡ es → (change : Sharing → Sharing) → change (no_links (share q)) ≡ no_links (share q) → None ≡ found read es q → (a : List ℕ) → pools_of fs a ≡ with_pool (pools_of es) q change a

@@ -1,7 +1,6 @@
 -- When the pools agree with what each link has.
 use Rattle.std.specs.Prelude.{◌≡◌, ◌==◌, ◌||◌, ◌<◌, ◌⊎◌, ℕ, Bool, true, false, List, [], Option, None, Some, option_map, is_some, length, if◌then◌else◌}
 use Rattle.std.specs.BTreeMap.{get}
-use Rattle.std.specs.BTreeSet.{contains}
 use Rattle.std.specs.List.Sorted.{IsStrictlySortedBy}
 use Rattle.std.specs.Map.{keys_of}
 use Rattle.std.specs.Ordering.{nat_cmp}
@@ -10,6 +9,7 @@ use Rattle.route_credit.specs.Granting.{grants_of}
 use Rattle.route_credit.specs.Links.{link_at}
 use Rattle.route_credit.specs.Pool.{Sharing}
 use Rattle.route_credit.specs.declared.offer.Offer.{Offer}
+use Rattle.router_places.specs.Marks.{has as has_mark, size}
 use Rattle.router_pools.specs.Addresses.{among, at_address, pool_or}
 use Rattle.route_table.specs.declared.sections.Distribution.{Distribution}
 use Rattle.route_table.specs.Places.{distribution_of}
@@ -48,11 +48,11 @@ pool_at pools address = pool_in (table_of pools) pools.pools address
 
 -- whether the figures of a link may have changed
 abbrev pub is_touched : Pools → ℕ → Bool
-is_touched pools number = contains nat_cmp pools.touched number
+is_touched pools number = has_mark pools.touched number
 
--- how many may have changed
+-- a measure of how many may have changed
 abbrev pub touched_count : Pools → ℕ
-touched_count pools = length pools.touched.keys
+touched_count pools = size pools.touched
 
 -- whether an address may have grants
 abbrev pub is_due : Pools → List ℕ → Bool

@@ -39,6 +39,17 @@ impl Addresses {
         Ok(())
     }
 
+    /// Adds an address if this is wanted.
+    pub(crate) fn add_if(&mut self, address: &[u8], wanted: bool) -> Result<(), AllocError>
+        ensures without { OnOk result (among self.new.addresses.keys (λ k. k.items) address.now ≡ false → wanted ≡ false) }
+        ensures others { OnOk result ((a : List ℕ) → among self.new.addresses.keys (λ k. k.items) a ≡ false → among self.old.addresses.keys (λ k. k.items) a ≡ false) }
+    {
+        if !wanted {
+            return Ok(());
+        }
+        self.add(address)
+    }
+
     /// Removes and returns the first address.
     pub(crate) fn pop(&mut self) -> Option<Vec<u8>>
         ensures none { IfNone result ((a : List ℕ) → among self.old.addresses.keys (λ k. k.items) a ≡ false) }

@@ -1,5 +1,5 @@
 //! Pools by address.
-ghost use Rattle.std.specs.Prelude.{◌≡◌, ◌==◌, ℕ, List, Bool, true, false, if◌then◌else◌, None, Some, OnOk, IfOk, IfSome, option_map, is_some};
+ghost use Rattle.std.specs.Prelude.{◌≡◌, ◌==◌, ℕ, List, [], Bool, true, false, if◌then◌else◌, None, Some, OnOk, IfOk, IfSome, option_map, is_some};
 ghost use Rattle.std.specs.BTreeMap.{get};
 ghost use Rattle.std.specs.Ordering.{nat_cmp};
 ghost use Rattle.route_table.specs.declared.sections.Distribution.{Distribution};
@@ -45,6 +45,7 @@ impl ByAddress {
     }
 
     /// Sets what a consumer offers to an address, whose pool is shared as this table says. It is no producer there.
+    /// Returns whether the address may have grants then.
     pub(crate) fn offer(
         &mut self,
         table: &Table,
@@ -52,8 +53,9 @@ impl ByAddress {
         number: u64,
         free: u64,
         undecided: u64,
-    ) -> Result<(), AllocError>
-        ensures { OnOk result ((share : List ℕ → Distribution) → distribution_of table.now address.now ≡ share address.now → (a : List ℕ) → pool_in share self.new a ≡ with_pool (pool_in share self.old) address.now (λ pool. offered (without_producer pool number) number free undecided) a) }
+    ) -> Result<bool, AllocError>
+        ensures quiet { IfOk result (λ may. may ≡ false → (share : List ℕ → Distribution) → grants_of (pool_in share self.new address.now) ≡ []) }
+        ensures changed { OnOk result ((share : List ℕ → Distribution) → distribution_of table.now address.now ≡ share address.now → (a : List ℕ) → pool_in share self.new a ≡ with_pool (pool_in share self.old) address.now (λ pool. offered (without_producer pool number) number free undecided) a) }
     {
         let place = digest(address.as_bytes());
         if let Some(row) = self.rows.get_mut(&place) {
@@ -61,10 +63,12 @@ impl ByAddress {
         }
         let mut row = Row::new(self.alloc);
         row.offer(table, address, number, free, undecided)?;
-        self.put(place, row)
+        self.put(place, row)?;
+        Ok(true)
     }
 
     /// Sets what a producer wants of an address, whose pool is shared as this table says. It is no consumer there.
+    /// Returns whether the address may have grants then.
     pub(crate) fn want(
         &mut self,
         table: &Table,
@@ -72,8 +76,9 @@ impl ByAddress {
         number: u64,
         unused: u32,
         held: u32,
-    ) -> Result<(), AllocError>
-        ensures { OnOk result ((share : List ℕ → Distribution) → distribution_of table.now address.now ≡ share address.now → (a : List ℕ) → pool_in share self.new a ≡ with_pool (pool_in share self.old) address.now (λ pool. wanted (without_consumer pool number) number unused 0 held) a) }
+    ) -> Result<bool, AllocError>
+        ensures quiet { IfOk result (λ may. may ≡ false → (share : List ℕ → Distribution) → grants_of (pool_in share self.new address.now) ≡ []) }
+        ensures changed { OnOk result ((share : List ℕ → Distribution) → distribution_of table.now address.now ≡ share address.now → (a : List ℕ) → pool_in share self.new a ≡ with_pool (pool_in share self.old) address.now (λ pool. wanted (without_consumer pool number) number unused 0 held) a) }
     {
         let place = digest(address.as_bytes());
         if let Some(row) = self.rows.get_mut(&place) {
@@ -81,7 +86,8 @@ impl ByAddress {
         }
         let mut row = Row::new(self.alloc);
         row.want(table, address, number, unused, held)?;
-        self.put(place, row)
+        self.put(place, row)?;
+        Ok(true)
     }
 
     /// Removes a link from the pool of an address.

@@ -9,7 +9,7 @@ ghost use Rattle.route_table.specs.Places.{FindsAs, Routing, distribution_of};
 ghost use Rattle.route_credit.specs.Granting.{choice, grants_of};
 ghost use Rattle.route_credit.specs.Links.{link_at};
 ghost use Rattle.route_credit.specs.Pool.{by_id};
-ghost use Rattle.std.specs.BTreeSet.{contains};
+ghost use Rattle.router_places.specs.Marks.{has};
 ghost use Rattle.router_pools.specs.Fits.{AgreeBut, chosen_at, is_due, is_place, is_touched, is_granted, NoneTouched, offers, place_of, pool_at, PoolsFit, PoolsFitBut, touched_count};
 ghost use Rattle.router_pools.specs.Sharing.{AreNumbered, Figure, sharing};
 ghost use Rattle.router_pools.specs.Sharing.Figure.{consumer, producer};
@@ -18,8 +18,9 @@ use crate::addresses::Addresses;
 use crate::by_address::ByAddress;
 use route_credit::{ConsumerId, ProducerId};
 use route_table::{Distribution, Table};
+use router_places::Marks;
 use std::alloc::{AllocError, Global};
-use std::collections::{BTreeMap, BTreeSet};
+use std::collections::BTreeMap;
 
 /// The pools of all addresses, with the links that may have changed, and the addresses that may have grants.
 ///
@@ -34,7 +35,7 @@ pub struct Pools {
     pools: ByAddress,
     places: BTreeMap<u64, Vec<u8>>,
     due: Addresses,
-    touched: BTreeSet<u64>,
+    touched: Marks,
 }
 
 /// The credit granted to the producers of an address, in order of attach.
@@ -55,7 +56,7 @@ impl Pools {
             pools: ByAddress::new(alloc),
             places: BTreeMap::new(alloc),
             due: Addresses::new(alloc),
-            touched: BTreeSet::new(alloc),
+            touched: Marks::new(alloc),
         }
     }
 
@@ -71,8 +72,7 @@ impl Pools {
         ensures fits { OnOk result ((share : List ℕ → Distribution) (known other actual : ℕ → Option Figure) (last : List ℕ → ℕ) → PoolsFit self.old share known actual last → AgreeBut number other known → PoolsFit self.new share other actual last) }
         ensures touched { OnOk result ((n : ℕ) → is_touched self.new n ≡ (number == n || is_touched self.old n)) }
     {
-        let _ = self.touched.insert(number)?;
-        Ok(())
+        self.touched.insert(number)
     }
 
     /// The first link that may have changed.
@@ -81,7 +81,7 @@ impl Pools {
         ensures first { IfSome result (λ first. is_touched self.now first ≡ true) }
         ensures below { IfSome result (λ first. (n : ℕ) → n < first → is_touched self.now n ≡ false) }
     {
-        self.touched.first().copied()
+        self.touched.first()
     }
 
     /// Sets what a consumer has: its free credit and its undecided deliveries, at an address.
@@ -99,9 +99,11 @@ impl Pools {
     {
         let place = address.as_bytes();
         self.place(number, place)?;
-        self.pools
+        let may = self
+            .pools
             .offer(&self.table, address, number, free, undecided)?;
-        let _ = self.touched.remove(&number);
+        self.due.add_if(place, may)?;
+        self.touched.remove(number);
         Ok(())
     }
 
@@ -120,8 +122,9 @@ impl Pools {
     {
         let place = address.as_bytes();
         self.place(number, place)?;
-        self.pools.want(&self.table, address, number, unused, held)?;
-        let _ = self.touched.remove(&number);
+        let may = self.pools.want(&self.table, address, number, unused, held)?;
+        self.due.add_if(place, may)?;
+        self.touched.remove(number);
         Ok(())
     }
 
@@ -133,7 +136,7 @@ impl Pools {
         ensures fewer { OnOk result (is_touched self.old number ≡ true → touched_count self.new < touched_count self.old) }
     {
         self.take_out(number)?;
-        let _ = self.touched.remove(&number);
+        self.touched.remove(number);
         Ok(())
     }
 
@@ -228,18 +231,18 @@ impl Pools {
         }
     }
 
-    /// Places a link at an address, which may then have grants, and removes it from where it was before.
+    /// Places a link at an address, and removes it from where it was before, which may then have grants.
     fn place(&mut self, number: u64, address: &[u8]) -> Result<(), AllocError>
         ensures fits { OnOk result ((share : List ℕ → Distribution) (known actual : ℕ → Option Figure) (last : List ℕ → ℕ) → PoolsFitBut number self.old share known actual last
             → ((a : List ℕ) → bytes_eq address.now a ≡ false → offers (actual number) a ≡ false) → PoolsFitBut number self.new share known actual last) }
         ensures there { OnOk result (place_of self.new number ≡ Some address.now) }
-        ensures due { OnOk result (is_due self.new address.now ≡ true) }
+        ensures due { OnOk result ((a : List ℕ) → is_due self.new a ≡ false → is_due self.old a ≡ false) }
         ensures touched { OnOk result (self.new.touched ≡ self.old.touched) }
     {
         if !self.stands_at(number, address) {
             self.move_to(number, address)?;
         }
-        self.due.add(address)
+        Ok(())
     }
 
     /// Places a link at an address where it isn't yet.
@@ -270,11 +273,11 @@ impl Pools {
 }
 
 /// Touches each link that was granted credit.
-fn touch_all(touched: &mut BTreeSet<u64>, sums: &[(ProducerId, u32)]) -> Result<(), AllocError>
-    ensures { OnOk result ((n : ℕ) → contains nat_cmp touched.new n ≡ (contains nat_cmp touched.old n || is_some (link_at (by_id sums.now) n))) }
+fn touch_all(touched: &mut Marks, sums: &[(ProducerId, u32)]) -> Result<(), AllocError>
+    ensures { OnOk result ((n : ℕ) → has touched.new n ≡ (has touched.old n || is_some (link_at (by_id sums.now) n))) }
 {
     for sum in sums {
-        let _ = touched.insert(sum.0.0)?;
+        touched.insert(sum.0.0)?;
     }
     Ok(())
 }

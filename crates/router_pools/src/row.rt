@@ -1,5 +1,5 @@
 //! The pools of the addresses of one digest, by the bytes of the addresses.
-ghost use Rattle.std.specs.Prelude.{◌≡◌, ℕ, List, Bool, true, false, None, Some, OnOk, IfOk, option_map, is_some};
+ghost use Rattle.std.specs.Prelude.{◌≡◌, ℕ, List, [], Bool, true, false, None, Some, OnOk, IfOk, option_map, is_some};
 ghost use Rattle.route_table.specs.declared.sections.Distribution.{Distribution};
 ghost use Rattle.route_table.specs.Places.{distribution_of};
 ghost use Rattle.route_credit.specs.Granting.{all_granted, choice, grants_of};
@@ -41,6 +41,7 @@ impl Row {
     }
 
     /// Sets what a consumer offers to an address, whose pool is shared as this table says. It is no producer there.
+    /// Returns whether the address may have grants then.
     pub(crate) fn offer(
         &mut self,
         table: &Table,
@@ -48,20 +49,24 @@ impl Row {
         number: u64,
         free: u64,
         undecided: u64,
-    ) -> Result<(), AllocError>
-        ensures { OnOk result ((share : List ℕ → Distribution) → distribution_of table.now address.now ≡ share address.now → (a : List ℕ) → pool_in_row share self.new a ≡ with_pool (pool_in_row share self.old) address.now (λ pool. offered (without_producer pool number) number free undecided) a) }
+    ) -> Result<bool, AllocError>
+        ensures quiet { IfOk result (λ may. may ≡ false → (share : List ℕ → Distribution) → grants_of (pool_in_row share self.new address.now) ≡ []) }
+        ensures changed { OnOk result ((share : List ℕ → Distribution) → distribution_of table.now address.now ≡ share address.now → (a : List ℕ) → pool_in_row share self.new a ≡ with_pool (pool_in_row share self.old) address.now (λ pool. offered (without_producer pool number) number free undecided) a) }
     {
         let place = address.as_bytes();
-        if let Some(pool) = self.pools.get_mut(place) {
-            pool.drop_producer(ProducerId(number));
-            return pool.offer(ConsumerId(number), free, undecided);
+        if let Some(there) = self.pools.get_mut(place) {
+            there.drop_producer(ProducerId(number));
+            there.offer(ConsumerId(number), free, undecided)?;
+            return Ok(there.is_short());
         }
         let mut pool = Pool::new(self.alloc, table.distribution(address));
         pool.offer(ConsumerId(number), free, undecided)?;
-        self.put(place, pool)
+        self.put(place, pool)?;
+        Ok(true)
     }
 
     /// Sets what a producer wants of an address, whose pool is shared as this table says. It is no consumer there.
+    /// Returns whether the address may have grants then.
     pub(crate) fn want(
         &mut self,
         table: &Table,
@@ -69,17 +74,20 @@ impl Row {
         number: u64,
         unused: u32,
         held: u32,
-    ) -> Result<(), AllocError>
-        ensures { OnOk result ((share : List ℕ → Distribution) → distribution_of table.now address.now ≡ share address.now → (a : List ℕ) → pool_in_row share self.new a ≡ with_pool (pool_in_row share self.old) address.now (λ pool. wanted (without_consumer pool number) number unused 0 held) a) }
+    ) -> Result<bool, AllocError>
+        ensures quiet { IfOk result (λ may. may ≡ false → (share : List ℕ → Distribution) → grants_of (pool_in_row share self.new address.now) ≡ []) }
+        ensures changed { OnOk result ((share : List ℕ → Distribution) → distribution_of table.now address.now ≡ share address.now → (a : List ℕ) → pool_in_row share self.new a ≡ with_pool (pool_in_row share self.old) address.now (λ pool. wanted (without_consumer pool number) number unused 0 held) a) }
     {
         let place = address.as_bytes();
-        if let Some(pool) = self.pools.get_mut(place) {
-            pool.drop_consumer(ConsumerId(number));
-            return pool.want(ProducerId(number), unused, 0, held);
+        if let Some(there) = self.pools.get_mut(place) {
+            there.drop_consumer(ConsumerId(number));
+            there.want(ProducerId(number), unused, 0, held)?;
+            return Ok(there.is_short());
         }
         let mut pool = Pool::new(self.alloc, table.distribution(address));
         pool.want(ProducerId(number), unused, 0, held)?;
-        self.put(place, pool)
+        self.put(place, pool)?;
+        Ok(true)
     }
 
     /// Removes a link from the pool of an address.

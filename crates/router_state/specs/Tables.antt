@@ -1,7 +1,6 @@
 -- When all of the router's tables agree with a trace.
 use Rattle.std.specs.Prelude.{◌≡◌, ℕ, Bool, if◌then◌else◌, List, [], ◌∷◌, ◌++◌}
 use Rattle.std.specs.Ordering.{nat_cmp}
-use Rattle.std.specs.BTreeSet.{contains}
 use Rattle.router_trace.specs.declared.event.Event.{Event}
 use Rattle.router_state.specs.declared.tables.State.{State}
 use Rattle.router_trace.specs.Trace.{Trace, Put, ups}
@@ -9,6 +8,7 @@ use Rattle.router_trace.specs.Frames.{beat_item}
 use Rattle.router_trace.specs.Clocks.{terms, written, needs_beat}
 use Rattle.router_trace.specs.Connection.{conn, due, found, live_of, is_ready}
 use Rattle.router_conns.specs.Fits.{ConnectionsFit, ConnectionsAt}
+use Rattle.router_conns.specs.Noting.{is_noted}
 use Rattle.router_conns.specs.Peering.{PeersFit}
 use Rattle.router_conns.specs.Timing.{ClocksFit}
 use Rattle.router_passing.specs.Fits.{PassingFit}
@@ -17,7 +17,7 @@ use Rattle.router_sessions.specs.Fits.{SessionsFit}
 -- all tables agree with the trace
 pub record TablesFit (s : State) (t : Trace) : Type 0 where
   pub connections : ConnectionsFit s.connections t
-  pub ready : (c : ℕ) → contains nat_cmp s.ready.set c ≡ is_ready (conn t c)
+  pub ready : (c : ℕ) → is_noted s.ready c ≡ is_ready (conn t c)
   pub clocks : ClocksFit s.clocks t
   pub peers : PeersFit s.peers t
   pub sessions : SessionsFit s.sessions t
@@ -36,7 +36,7 @@ fit_finds f = record { clocks = f.clocks; peers = f.peers; sessions = f.sessions
 -- all tables are what an event finds after the trace; it ends these connections first
 pub record TablesAt (s : State) (t : Trace) (e : Event) (ends : List ℕ) : Type 0 where
   pub connections : ConnectionsAt s.connections t e
-  pub ready : (c : ℕ) → contains nat_cmp s.ready.set c ≡ is_ready (found t e c)
+  pub ready : (c : ℕ) → is_noted s.ready c ≡ is_ready (found t e c)
   pub clocks : ClocksFit s.clocks t
   pub peers : PeersFit s.peers t
   pub sessions : SessionsFit s.sessions t

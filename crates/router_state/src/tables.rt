@@ -16,7 +16,6 @@ ghost use Rattle.router_deliveries.specs.Finding.{IsFirst, is_above};
 ghost use Rattle.router_passing.specs.Passing.{attachment_at, consumer_of, passing, with_bound, grants_due, grant_flow};
 ghost use Rattle.router_passing.specs.Asking.{has_unsent, goes_on, owes_drain, drained_state};
 ghost use Rattle.std.specs.BTreeMap.{get};
-ghost use Rattle.std.specs.BTreeSet.{contains};
 ghost use Rattle.router_trace.specs.Trace.{Entry, Out, Took, did, newest, goes, puts_of};
 ghost use Rattle.router_trace.specs.Sessions.{place, free_channel};
 ghost use Rattle.router_trace.specs.Clocks.{terms, channel_max_of};
@@ -30,6 +29,7 @@ ghost use Rattle.router_sessions.specs.Fits.{SessionsFit, found_of, window_by};
 ghost use Rattle.router_sessions.specs.Windows.{windows};
 ghost use Rattle.router_trace.specs.Connection.{conn as known, standing, phase_before, is_ready, has};
 ghost use Rattle.router_conns.specs.Fits.{IsLeast, IsBatch, count};
+ghost use Rattle.router_conns.specs.Noting.{is_noted};
 ghost use Rattle.router_trace.specs.Refusing.{rises, refuses};
 ghost use Rattle.router_state.specs.Tables.{TablesFit, TablesAt, TablesFind, beat_if, beats_over, beats};
 ghost use Rattle.router_trace.specs.declared.event.Event.{Event as E};
@@ -677,14 +677,14 @@ fn settle_all(sessions: &mut Sessions, conns: &[u64])
 
 /// Notes whether a connection is ready.
 fn note(ready: &mut Ready, connections: &Connections, conn: u64) -> Result<(), AllocError>
-    ensures { OnOk result ((c : ℕ) → contains nat_cmp ready.new.set c ≡ (if conn == c then is_ready (get nat_cmp connections.now.rows c) else contains nat_cmp ready.old.set c)) }
+    ensures { OnOk result ((c : ℕ) → is_noted ready.new c ≡ (if conn == c then is_ready (get nat_cmp connections.now.rows c) else is_noted ready.old c)) }
 {
     ready.note(conn, connections.is_ready(conn))
 }
 
 /// Notes whether each of these connections is ready.
 fn note_all(ready: &mut Ready, connections: &Connections, ends: &[u64]) -> Result<(), AllocError>
-    ensures { OnOk result ((c : ℕ) → contains nat_cmp ready.new.set c ≡ (if has c ends.now then is_ready (get nat_cmp connections.now.rows c) else contains nat_cmp ready.old.set c)) }
+    ensures { OnOk result ((c : ℕ) → is_noted ready.new c ≡ (if has c ends.now then is_ready (get nat_cmp connections.now.rows c) else is_noted ready.old c)) }
 {
     for conn in ends {
         note(ready, connections, *conn)?;

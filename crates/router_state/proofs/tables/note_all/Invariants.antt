@@ -2,11 +2,11 @@ use Rattle.std.proofs.Common.{◌≡◌, ℕ, drop}
 use Rattle.std.specs.Prelude.{if◌then◌else◌}
 use Rattle.std.specs.Ordering.{nat_cmp}
 use Rattle.std.specs.BTreeMap.{get}
-use Rattle.std.specs.BTreeSet.{contains}
 use Rattle.router_trace.specs.Connection.{is_ready, has}
+use Rattle.router_conns.specs.Noting.{is_noted}
 use Rattle.router_state.proofs.tables.note_all.Given as goal
 
 -- once the rest is noted too, all are
 abbrev pub invariant-loop-conn : goal.invariant-loop-conn
-invariant-loop-conn l = (c : ℕ) → (if has c (drop l.conn-index l.ends) then is_ready (get nat_cmp l.connections.rows c) else contains nat_cmp l.ready.set c)
-    ≡ (if has c l.fn.ends then is_ready (get nat_cmp l.fn.connections.rows c) else contains nat_cmp l.fn.ready.set c)
+invariant-loop-conn l = (c : ℕ) → (if has c (drop l.conn-index l.ends) then is_ready (get nat_cmp l.connections.rows c) else is_noted l.ready c)
+    ≡ (if has c l.fn.ends then is_ready (get nat_cmp l.fn.connections.rows c) else is_noted l.fn.ready c)

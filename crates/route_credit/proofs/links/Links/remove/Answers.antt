@@ -1,9 +1,9 @@
-use Rattle.std.proofs.Common.{◌∙◌, sym, ap, ◌-◌}
+use Rattle.std.proofs.Common.{◌∙◌, sym, ap, ◌-◌, not, is_some}
 use Rattle.std.specs.Prelude.{option_and_then}
 use Rattle.route_credit.specs.Ranks.{rank_at}
 use Rattle.route_credit.specs.Links.{amount_at, link_at}
 use Rattle.route_credit.proofs.Indices.{indexed_less}
-use Rattle.route_credit.proofs.Lookups.{without_first}
+use Rattle.route_credit.proofs.Lookups.{absent_gone, without_first}
 use Rattle.route_credit.proofs.links.Links.remove.Goals as goal
 
 pub returns-clause-whole : goal.returns-clause-whole
@@ -16,3 +16,6 @@ returns-clause-whole g c is =
 
 pub returns-clause-removed : goal.returns-clause-removed
 returns-clause-removed g c = c.remove.ensures.entries ∙ without_first c.args.self.now.rows.entries c.args.id (ap (λ es. link_at es c.args.id) (sym c.remove.ensures.entries) ∙ c.remove.ensures.updates.1)
+
+pub returns-then-is_none-clause-removed : goal.returns-then-is_none-clause-removed
+returns-then-is_none-clause-removed g c = absent_gone c.args.self.now.rows.entries c.args.id (ap (λ x. not (is_some x)) (sym c.get-old.ensures) ∙ ap not c.is_none.ensures ∙ ap (λ b. not (not b)) c.if-is_none.true)

@@ -1,4 +1,4 @@
-use Rattle.std.proofs.Common.{ap, refl, None, Some}
+use Rattle.std.proofs.Common.{ap, refl, Some}
 use Rattle.std.specs.BTreeMap.{get}
 use Rattle.std.specs.Ordering.{nat_cmp}
 use Rattle.router_pools.specs.Addresses.{without}

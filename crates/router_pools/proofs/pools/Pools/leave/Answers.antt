@@ -10,4 +10,4 @@ returns-clause-fits c share known other actual last fits nothing really others =
     gone (λ m. c.args.number == m || is_touched mid m) (table_of mid) share (pool_at mid) (place_of mid) (is_due mid) known actual last
     (c.in_ok-take_out.ensures.fits share known actual last (widened (is_touched old) (table_of old) share (pool_at old) (place_of old) (is_due old) known actual last fits (λ m. c.args.number == m || is_touched old m) (is_due old) known (but_one c.args.number (is_touched old) known) (λ a is. is))
     (λ a at. ap (λ figure. offers figure a) (really ∙ nothing)))
-    c.args.number c.in_ok-take_out.ensures.nowhere _ (untouched (is_touched mid) _ c.args.number c.remove.ensures.updates.0) other nothing others
+    c.args.number c.in_ok-take_out.ensures.nowhere _ (untouched (is_touched mid) _ c.args.number c.remove.ensures.gone) other nothing others
