@@ -1,1 +1,3 @@
-mod Placed
+pub mod Placed
+pub mod Among
+pub mod Leasts

@@ -1,6 +1,9 @@
-//! Values by connection, the router's channel of a session, and a handle.
+//! What the router's tables are made of: values by place, and small sets of numbers.
 #![tactic(auto)]
 
 mod by_handle;
+mod few;
+mod marks;
 
 pub use by_handle::{ByHandle, InConnection, InSession};
+pub use marks::Marks;

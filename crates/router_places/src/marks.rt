@@ -1,0 +1,105 @@
+//! Sets of numbers of which there are mostly few.
+ghost use Rattle.std.specs.Prelude.{◌≡◌, ◌==◌, ◌&&◌, ◌||◌, not, nat_lt, ℕ, true, false, OnOk};
+ghost use Rattle.std.specs.Ordering.{nat_cmp};
+ghost use Rattle.std.specs.BTreeSet.{contains};
+ghost use Rattle.router_places.specs.Among.{IsLeast};
+ghost use Rattle.router_places.specs.Marks.{has};
+
+use crate::few::{Few, lower};
+use std::alloc::{AllocError, Global};
+use std::collections::BTreeSet;
+use std::ops::Bound;
+
+/// A set of numbers. The first few stand in place, and only what comes beyond them in an ordered set.
+#[derive(Drop)]
+pub struct Marks {
+    few: Few,
+    more: BTreeSet<u64>,
+}
+
+impl Marks {
+    /// No number.
+    pub fn new(alloc: Global) -> Marks
+        ensures { (n : ℕ) → has result n ≡ false }
+    {
+        Marks {
+            few: Few::new(),
+            more: BTreeSet::new(alloc),
+        }
+    }
+
+    /// Whether a number is one of them.
+    pub fn contains(&self, number: u64) -> bool
+        ensures { result ≡ has self.now number }
+    {
+        self.few.has(number) || self.more.contains(&number)
+    }
+
+    /// Adds a number.
+    pub fn insert(&mut self, number: u64) -> Result<(), AllocError>
+        ensures { OnOk result ((n : ℕ) → has self.new n ≡ (number == n || has self.old n)) }
+    {
+        if self.few.has(number) || self.few.put(number) {
+            return Ok(());
+        }
+        match self.more.insert(number) {
+            Ok(_) => Ok(()),
+            Err(_) => Err(AllocError),
+        }
+    }
+
+    /// Takes a number away.
+    pub fn remove(&mut self, number: u64)
+        ensures { (n : ℕ) → has self.new n ≡ (not (number == n) && has self.old n) }
+    {
+        self.few.remove(number);
+        if !self.more.is_empty() {
+            let _ = self.more.remove(&number);
+        }
+    }
+
+    /// Whether there is none.
+    pub fn is_empty(&self) -> bool
+        ensures { result ≡ true → (n : ℕ) → has self.now n ≡ false }
+    {
+        self.first().is_none()
+    }
+
+    /// The lowest.
+    pub fn first(&self) -> Option<u64>
+        ensures { IsLeast (has self.now) result }
+    {
+        lower(self.few.lowest(), first(&self.more))
+    }
+
+    /// The lowest above a number.
+    pub fn behind(&self, number: u64) -> Option<u64>
+        ensures { IsLeast (λ n. nat_lt number n && has self.now n) result }
+    {
+        lower(
+            self.few.lowest_above(number),
+            first_above(&self.more, number),
+        )
+    }
+}
+
+/// The lowest number of an ordered set.
+fn first(numbers: &BTreeSet<u64>) -> Option<u64>
+    ensures { IsLeast (contains nat_cmp numbers.now) result }
+{
+    numbers.first().copied()
+}
+
+/// The lowest number of an ordered set above another.
+fn first_above(numbers: &BTreeSet<u64>, number: u64) -> Option<u64>
+    ensures { IsLeast (λ n. nat_lt number n && contains nat_cmp numbers.now n) result }
+{
+    if numbers.is_empty() {
+        return None;
+    }
+    let mut above = numbers.range((Bound::Excluded(number), Bound::Unbounded));
+    match above.next() {
+        None => None,
+        Some(next) => Some(*next),
+    }
+}
