@@ -1,19 +1,23 @@
 -- What is looked up of a table's link agrees with the view's.
-use Rattle.std.proofs.Common.{◌≡◌, ◌∙◌, ℕ, refl, ap, List, [], ◌∷◌, Option, Some, None}
-use Rattle.std.specs.Prelude.{is_some, option_map}
+use Rattle.std.proofs.Common.{◌≡◌, ◌∙◌, ℕ, Bool, true, false, refl, sym, ap, List, [], ◌∷◌, Option, Some, None}
+use Rattle.std.specs.Prelude.{◌==◌, if◌then◌else◌, is_some, option_map}
 use Rattle.amqp_link.specs.Deliveries.{Frame}
 use Rattle.amqp_link.specs.Gathering.{gathered}
 use Rattle.amqp_link.specs.Receiving.{middle}
 use Rattle.router_trace.specs.declared.handle.PeerHandle.{PeerHandle}
 use Rattle.router_trace.specs.declared.handle.PeerHandle.TheVariants.{Mapped, Detaching}
 use Rattle.router_trace.specs.Links as view
-use Rattle.router_trace.specs.Links.{Happened, sends, receives, link_place_by, on_link, durable_key}
+use Rattle.router_trace.specs.declared.handle.Attachment.{Attachment}
+use Rattle.router_trace.specs.Trace.{Trace}
+use Rattle.router_trace.specs.Links.{Happened, sends, receives, link, link_place_by, on_link, durable_key, numbered, place_of, has_number, if_attached}
 use Rattle.router_trace.specs.Settling.{told_first, middle_by, middle_on}
 use Rattle.router_trace.specs.Following.{is_sending}
 use Rattle.router_links.specs.declared.link.Link.{Link}
 use Rattle.router_links.specs.Ends.{end_of, link_of}
 use Rattle.router_links.specs.Giving.{handle_of}
-use Rattle.router_links.specs.Looking.{credit_on, credit_at, unused_on, unused_end, count_on, count_at, sends_at, middle_at, middle_here, middle_named, is_new, is_in_middle, durable_at, attachment_of, attachment_on}
+use Rattle.router_links.specs.Looking.{credit_on, credit_at, unused_on, unused_end, count_on, count_at, sends_at, middle_at, middle_here, middle_named, is_new, is_in_middle, durable_at, attachment_of, attachment_on, link_on, numbered_link, numbered_here}
+use Rattle.router_links.specs.Naming.{Remembers}
+use Rattle.router_links.specs.Touching.{if_number}
 
 credit_same : (h : Happened) → credit_at (end_of h) ≡ credit_on h
 credit_same (sends list) = refl
@@ -85,3 +89,21 @@ attached_there c o h (Some l) = refl
 
 pub attachment_follows : (c o h : ℕ) (k : Option Link) (v : Option view.Link) → k ≡ option_map link_of v → option_map (attachment_of c o h) k ≡ attachment_on c o h v
 attachment_follows c o h k v is = ap (option_map (attachment_of c o h)) is ∙ attached_there c o h v
+
+-- the link with a number
+numbered_there : (t : Trace) (a : Attachment) (n : ℕ) (v : Option view.Link) → v ≡ link t a.conn.0 a.channel a.handle
+    → if_number n (option_map link_of v) ≡ option_map link_of (link_on t (if has_number n v then Some a else None))
+numbered_there t a n None is = refl
+numbered_there t a n (Some l) is = either (l.number == n)
+  where
+    either : (b : Bool) → (if b then Some (link_of l) else None) ≡ option_map link_of (link_on t (if b then Some a else None))
+    either true = ap (option_map link_of) is
+    either false = refl
+
+pub numbered_follows : (t : Trace) (n : ℕ) (known : ℕ → ℕ → ℕ → Option Link) (v : Option Attachment) → Remembers v (numbered t n) (place_of t n)
+    → ((c o h : ℕ) → known c o h ≡ option_map link_of (link t c o h)) → numbered_here known v ≡ option_map link_of (numbered_link t n)
+numbered_follows t n known None there fit = ap (λ p. option_map link_of (link_on t p)) (sym there)
+numbered_follows t n known (Some a) there fit =
+    ap (if_number a.number) (fit a.conn.0 a.channel a.handle)
+    ∙ numbered_there t a a.number (link t a.conn.0 a.channel a.handle) refl
+    ∙ ap (λ p. option_map link_of (link_on t (if_attached t p))) (sym there)

@@ -1,7 +1,6 @@
 -- A table of links after the router's flow or transfer.
 use Rattle.std.proofs.Common.{◌≡◌, ◌∙◌, ℕ, Bool, true, false, refl, sym, ap, subst, List, ◌∷◌, Option, Some, None}
 use Rattle.std.specs.Prelude.{◌&&◌, ◌==◌, not, if◌then◌else◌, option_map}
-use Rattle.std.specs.BTreeSet.{BTreeSet}
 use Rattle.amqp_perf.specs.declared.perf.Perf.{Perf}
 use Rattle.amqp_perf.specs.declared.perf.Perf.TheVariants as perf
 use Rattle.amqp_frames.specs.declared.item.Item.TheVariants as item
@@ -9,6 +8,7 @@ use Rattle.router_trace.specs.Trace.{Trace, Out}
 use Rattle.router_trace.specs.Links as view
 use Rattle.router_trace.specs.Links.{link, is_handle}
 use Rattle.router_places.specs.declared.by_handle.ByHandle.{ByHandle}
+use Rattle.router_places.specs.declared.marks.Marks.{Marks}
 use Rattle.router_links.specs.declared.link.Link.{Link}
 use Rattle.router_links.specs.declared.link.Side.TheVariants.{Router}
 use Rattle.router_links.specs.declared.table.LinkTable.{LinkTable}
@@ -49,7 +49,7 @@ put_owes true true false body payload x old is o = ap owes is ∙ o
 put_owes true true true body payload x old is o = ap owes is ∙ our_owes body payload old o
 
 -- a table after the router's flow or transfer
-pub put_noted : (conn own : ℕ) (handle : Option ℕ) (sasl : Bool) (body : Perf) (payload : List ℕ) (s : LinkTable) (rows : ByHandle Link) (touched : BTreeSet ℕ) (t : Trace)
+pub put_noted : (conn own : ℕ) (handle : Option ℕ) (sasl : Bool) (body : Perf) (payload : List ℕ) (s : LinkTable) (rows : ByHandle Link) (touched : Marks) (t : Trace)
     → ((c o h : ℕ) → at rows c o h ≡ (if conn == c then (if own == o then (if is_handle handle h then option_map (noted Router body payload) (at s.links c o h) else at s.links c o h) else at s.links c o h) else at s.links c o h))
     → IsNoted body handle → TableFit s t → TableFit (record s { links = rows; touched = touched }) (Out conn (item.Frame sasl own body payload) ∷ t)
 put_noted conn own handle sasl (perf.Flow f) payload s rows touched t links is fit = record {

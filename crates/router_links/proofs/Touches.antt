@@ -5,7 +5,7 @@ use Rattle.std.specs.List.{list_any}
 use Rattle.std.specs.Map.{lookup}
 use Rattle.std.specs.Ordering.{nat_cmp}
 use Rattle.std.specs.BTreeMap.{BTreeMap, get, is_at}
-use Rattle.std.specs.BTreeSet.{contains}
+use Rattle.router_places.specs.Marks.{has}
 use Rattle.std.proofs.lemmas.Bool.{eqb-true}
 use Rattle.amqp_perf.specs.declared.perf.Perf.{Perf}
 use Rattle.amqp_perf.specs.declared.perf.Perf.TheVariants as perf
@@ -72,11 +72,11 @@ noted_unnumbered side body payload k None e = refl
 noted_unnumbered side body payload k (Some l) e = ap (λ n. n == k) (keeps_number side body payload l) ∙ e
 
 pub noted_touches : (side : Side) (body : Perf) (payload : List ℕ) (conn : ℕ) (own handle : Option ℕ) (old new : LinkTable)
-    → ((k : ℕ) → contains nat_cmp new.touched k ≡ (if is_numbered k (named_link own handle (at old.links conn)) then true else contains nat_cmp old.touched k))
+    → ((k : ℕ) → has new.touched k ≡ (if is_numbered k (named_link own handle (at old.links conn)) then true else has old.touched k))
     → ((c o h : ℕ) → at new.links c o h ≡ (if conn == c then (if is_channel own o then (if is_handle handle h then option_map (noted side body payload) (at old.links c o h) else at old.links c o h) else at old.links c o h) else at old.links c o h))
     → new.names ≡ old.names → Touched old new
 noted_touches side body payload conn own handle old new touched links names =
-    let un : (k : ℕ) → contains nat_cmp new.touched k ≡ false → (is_numbered k (named_link own handle (at old.links conn)) ≡ false) × (contains nat_cmp old.touched k ≡ false) =
+    let un : (k : ℕ) → has new.touched k ≡ false → (is_numbered k (named_link own handle (at old.links conn)) ≡ false) × (has old.touched k ≡ false) =
     λ k e. untrue _ _ (sym (touched k) ∙ e) in
     record {
       before = λ k e. (un k e).1;
@@ -87,12 +87,12 @@ noted_touches side body payload conn own handle old new touched links names =
 
 -- after a link is removed at a place
 pub left_touches : (conn own handle : ℕ) (old new : LinkTable)
-    → ((k : ℕ) → contains nat_cmp new.touched k ≡ (if is_numbered k (at old.links conn own handle) then true else contains nat_cmp old.touched k))
+    → ((k : ℕ) → has new.touched k ≡ (if is_numbered k (at old.links conn own handle) then true else has old.touched k))
     → ((c o h : ℕ) → at new.links c o h ≡ (if conn == c then (if own == o then (if handle == h then None else at old.links c o h) else at old.links c o h) else at old.links c o h))
     → ((k : ℕ) → is_numbered k (at old.links conn own handle) ≡ false → get nat_cmp old.names.numbers.entries k ≡ get nat_cmp new.names.numbers.entries k)
     → Touched old new
 left_touches conn own handle old new touched links numbers =
-    let un : (k : ℕ) → contains nat_cmp new.touched k ≡ false → (is_numbered k (at old.links conn own handle) ≡ false) × (contains nat_cmp old.touched k ≡ false) =
+    let un : (k : ℕ) → has new.touched k ≡ false → (is_numbered k (at old.links conn own handle) ≡ false) × (has old.touched k ≡ false) =
     λ k e. untrue _ _ (sym (touched k) ∙ e) in
     record {
       before = λ k e. (un k e).1;
@@ -103,15 +103,15 @@ left_touches conn own handle old new touched links numbers =
 
 -- after a link is taken at a place where another may have been
 pub joined_touches : (conn own handle : ℕ) (l : Link) (a : Attachment) (old new : LinkTable) (touched : ℕ → Bool) (middle : ℕ → Option Attachment)
-    → ((k : ℕ) → touched k ≡ (if is_numbered k (at old.links conn own handle) then true else contains nat_cmp old.touched k))
-    → ((k : ℕ) → contains nat_cmp new.touched k ≡ (if l.number == k then true else touched k))
+    → ((k : ℕ) → touched k ≡ (if is_numbered k (at old.links conn own handle) then true else has old.touched k))
+    → ((k : ℕ) → has new.touched k ≡ (if l.number == k then true else touched k))
     → ((c o h : ℕ) → at new.links c o h ≡ (if conn == c then (if own == o then (if handle == h then Some l else at old.links c o h) else at old.links c o h) else at old.links c o h))
     → ((k : ℕ) → is_numbered k (at old.links conn own handle) ≡ false → get nat_cmp old.names.numbers.entries k ≡ middle k)
     → ((k : ℕ) → get nat_cmp new.names.numbers.entries k ≡ (if l.number == k then Some a else middle k))
     → Touched old new
 joined_touches conn own handle l a old new touched middle left joined links before behind =
-    let un : (k : ℕ) → contains nat_cmp new.touched k ≡ false → ((l.number == k) ≡ false) × (touched k ≡ false) = λ k e. untrue _ _ (sym (joined k) ∙ e) in
-    let gone : (k : ℕ) → contains nat_cmp new.touched k ≡ false → (is_numbered k (at old.links conn own handle) ≡ false) × (contains nat_cmp old.touched k ≡ false) =
+    let un : (k : ℕ) → has new.touched k ≡ false → ((l.number == k) ≡ false) × (touched k ≡ false) = λ k e. untrue _ _ (sym (joined k) ∙ e) in
+    let gone : (k : ℕ) → has new.touched k ≡ false → (is_numbered k (at old.links conn own handle) ≡ false) × (has old.touched k ≡ false) =
     λ k e. untrue _ _ (sym (left k) ∙ (un k e).1) in
     record {
       before = λ k e. (gone k e).1;
@@ -174,13 +174,13 @@ lost_row k true x old is un = unnumbered k old (un refl) ∙ ap (if_number k) (s
 
 pub ended_touches : (conn own : ℕ) (ended : Option (BTreeMap ℕ Link)) (old new : LinkTable)
     → ended ≡ in_map (get nat_cmp old.links.rows conn) own
-    → ((k : ℕ) → contains nat_cmp new.touched k ≡ (in_ended k ended || contains nat_cmp old.touched k))
+    → ((k : ℕ) → has new.touched k ≡ (in_ended k ended || has old.touched k))
     → ((c o h : ℕ) → at new.links c o h ≡ (if conn == c then (if own == o then None else at old.links c o h) else at old.links c o h))
     → ((k : ℕ) → in_ended k ended ≡ false → get nat_cmp old.names.numbers.entries k ≡ get nat_cmp new.names.numbers.entries k)
     → Touched old new
 ended_touches conn own ended old new gives touched links numbers =
-    let un : (k : ℕ) → contains nat_cmp new.touched k ≡ false → (in_ended k ended ≡ false) × (contains nat_cmp old.touched k ≡ false) = λ k e. neither _ _ (sym (touched k) ∙ e) in
-    let row : (k c o h : ℕ) → contains nat_cmp new.touched k ≡ false → (conn == c) ≡ true → (own == o) ≡ true → is_numbered k (at old.links c o h) ≡ false =
+    let un : (k : ℕ) → has new.touched k ≡ false → (in_ended k ended ≡ false) × (has old.touched k ≡ false) = λ k e. neither _ _ (sym (touched k) ∙ e) in
+    let row : (k c o h : ℕ) → has new.touched k ≡ false → (conn == c) ≡ true → (own == o) ≡ true → is_numbered k (at old.links c o h) ≡ false =
     λ k c o h e f g. ap (λ d. is_numbered k (at old.links d o h)) (sym (eqb-true conn c f)) ∙ ap (λ d. is_numbered k (at old.links conn d h)) (sym (eqb-true own o g))
     ∙ ap (λ m. is_numbered k (in_map m h)) (sym gives) ∙ ended_unnumbered k h ended (un k e).0 in
     record {
@@ -191,13 +191,13 @@ ended_touches conn own ended old new gives touched links numbers =
 
 pub lost_touches : (conn : ℕ) (lost : Option (BTreeMap ℕ (BTreeMap ℕ Link))) (old new : LinkTable)
     → lost ≡ get nat_cmp old.links.rows conn
-    → ((k : ℕ) → contains nat_cmp new.touched k ≡ (in_lost k lost || contains nat_cmp old.touched k))
+    → ((k : ℕ) → has new.touched k ≡ (in_lost k lost || has old.touched k))
     → ((c o h : ℕ) → at new.links c o h ≡ (if conn == c then None else at old.links c o h))
     → ((k : ℕ) → in_lost k lost ≡ false → get nat_cmp old.names.numbers.entries k ≡ get nat_cmp new.names.numbers.entries k)
     → Touched old new
 lost_touches conn lost old new gives touched links numbers =
-    let un : (k : ℕ) → contains nat_cmp new.touched k ≡ false → (in_lost k lost ≡ false) × (contains nat_cmp old.touched k ≡ false) = λ k e. neither _ _ (sym (touched k) ∙ e) in
-    let row : (k c o h : ℕ) → contains nat_cmp new.touched k ≡ false → (conn == c) ≡ true → is_numbered k (at old.links c o h) ≡ false =
+    let un : (k : ℕ) → has new.touched k ≡ false → (in_lost k lost ≡ false) × (has old.touched k ≡ false) = λ k e. neither _ _ (sym (touched k) ∙ e) in
+    let row : (k c o h : ℕ) → has new.touched k ≡ false → (conn == c) ≡ true → is_numbered k (at old.links c o h) ≡ false =
     λ k c o h e f. ap (λ d. is_numbered k (at old.links d o h)) (sym (eqb-true conn c f))
     ∙ ap (λ m. is_numbered k (in_map (in_map m o) h)) (sym gives) ∙ lost_unnumbered k o h lost (un k e).0 in
     record {

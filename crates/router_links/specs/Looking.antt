@@ -1,4 +1,4 @@
--- What can be looked up of a link: its credit state, the delivery in its middle, and its attachment.
+-- What can be looked up of a link: its credit state, the delivery in its middle, and its attachment; and the link with a number.
 use Rattle.std.specs.Prelude.{ℕ, Bool, true, false, not, if◌then◌else◌, Option, Some, None, option_map}
 use Rattle.amqp_link.specs.declared.part.Delivery.{Delivery as Told}
 use Rattle.amqp_link.specs.Credit as credit
@@ -6,12 +6,14 @@ use Rattle.amqp_link.specs.Figures.{left_at, unused_at}
 use Rattle.amqp_link.specs.Receiving as receiving
 use Rattle.book_core.specs.declared.terminus.LinkKey.{LinkKey}
 use Rattle.router_trace.specs.declared.handle.Attachment.{Attachment}
-use Rattle.router_trace.specs.Links.{Link as View, Happened, sends, receives}
+use Rattle.router_trace.specs.Trace.{Trace}
+use Rattle.router_trace.specs.Links.{Link as View, Happened, sends, receives, link, place_of}
 use Rattle.router_trace.specs.Settling.{middle_by}
 use Rattle.router_links.specs.declared.link.Link.{Link}
 use Rattle.router_links.specs.declared.link.LinkEnd.{LinkEnd}
 use Rattle.router_links.specs.declared.link.LinkEnd.TheVariants as ends
 use Rattle.router_links.specs.Fits.{attachment}
+use Rattle.router_links.specs.Touching.{if_number}
 
 -- the link credit left, if the router is the sender
 abbrev pub credit_on : Happened → ℕ
@@ -78,3 +80,16 @@ attachment_of c o h l = attachment l.number c o h
 abbrev pub attachment_on : ℕ → ℕ → ℕ → Option View → Option Attachment
 attachment_on c o h None = None
 attachment_on c o h (Some l) = Some (attachment l.number c o h)
+
+-- the link of the attachment with a number, while it has it
+abbrev pub link_on : Trace → Option Attachment → Option View
+link_on t None = None
+link_on t (Some a) = link t a.conn.0 a.channel a.handle
+
+abbrev pub numbered_link : Trace → ℕ → Option View
+numbered_link t n = link_on t (place_of t n)
+
+-- the same in a table
+abbrev pub numbered_here : (ℕ → ℕ → ℕ → Option Link) → Option Attachment → Option Link
+numbered_here known None = None
+numbered_here known (Some a) = if_number a.number (known a.conn.0 a.channel a.handle)

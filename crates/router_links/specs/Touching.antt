@@ -3,7 +3,7 @@ use Rattle.std.specs.Prelude.{◌≡◌, ◌≤◌, ℕ, Bool, true, false, ◌=
 use Rattle.std.specs.List.{list_any}
 use Rattle.std.specs.Ordering.{nat_cmp}
 use Rattle.std.specs.BTreeMap.{BTreeMap, get}
-use Rattle.std.specs.BTreeSet.{contains}
+use Rattle.router_places.specs.Marks.{has}
 use Rattle.router_links.specs.declared.link.Link.{Link}
 use Rattle.router_links.specs.declared.links.Links.{Links}
 use Rattle.router_links.specs.declared.table.LinkTable.{LinkTable}
@@ -33,13 +33,13 @@ abbrev pub in_connection : ℕ → BTreeMap ℕ (BTreeMap ℕ Link) → Bool
 in_connection k sessions = list_any (λ e. in_session k e.1) sessions.entries
 
 pub record Touched (old new : LinkTable) : Type 0 where
-  pub before : (k : ℕ) → contains nat_cmp new.touched k ≡ false → contains nat_cmp old.touched k ≡ false
-  pub links : (k : ℕ) → contains nat_cmp new.touched k ≡ false → (c o h : ℕ) → if_number k (at old.links c o h) ≡ if_number k (at new.links c o h)
-  pub numbers : (k : ℕ) → contains nat_cmp new.touched k ≡ false → get nat_cmp old.names.numbers.entries k ≡ get nat_cmp new.names.numbers.entries k
+  pub before : (k : ℕ) → has new.touched k ≡ false → has old.touched k ≡ false
+  pub links : (k : ℕ) → has new.touched k ≡ false → (c o h : ℕ) → if_number k (at old.links c o h) ≡ if_number k (at new.links c o h)
+  pub numbers : (k : ℕ) → has new.touched k ≡ false → get nat_cmp old.names.numbers.entries k ≡ get nat_cmp new.names.numbers.entries k
 
 -- the number of a link that may have changed
 abbrev pub is_touched : Links → ℕ → Bool
-is_touched s k = contains nat_cmp s.table.touched k
+is_touched s k = has s.table.touched k
 
 -- for each number that the new table hasn't touched: the old one hasn't either, and link and attachment are the same in both
 abbrev pub Touches : Links → Links → Type 0

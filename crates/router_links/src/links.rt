@@ -8,7 +8,7 @@ ghost use Rattle.router_trace.specs.Sessions.{is_channel, maps, theirs};
 ghost use Rattle.router_trace.specs.Links.{link, link_place, found_link, free_handle, holder, place_of, durable_key, holds_durable};
 ghost use Rattle.router_trace.specs.Settling.{part_at, middle_on};
 ghost use Rattle.router_links.specs.Ends.{link_of};
-ghost use Rattle.router_links.specs.Looking.{attachment_on};
+ghost use Rattle.router_links.specs.Looking.{attachment_on, numbered_link};
 ghost use Rattle.router_links.specs.Owed.{is_listed, is_marked, owes_on};
 ghost use Rattle.router_trace.specs.Following.{owes_one};
 ghost use Rattle.router_trace.specs.declared.handle.Attachment.{Attachment as Attached};
@@ -119,6 +119,14 @@ impl Links {
         ensures { (t : List Entry) → LinksFit self.now t → result ≡ place_of t number }
     {
         self.table.place_of(number)
+    }
+
+    /// The link of the attachment with a number, if it still has it.
+    #[tactic(auto, using(crate::proofs::Looks::numbered_follows))]
+    pub fn by_number(&self, number: u64) -> Option<&Link>
+        ensures { (t : List Entry) → LinksFit self.now t → option_map (λ l. l.now) result ≡ option_map link_of (numbered_link t number) }
+    {
+        self.table.by_number(number)
     }
 
     /// The attachments of the links that owe a drain and on which the router is the sender, by connection and by channel. Only

@@ -4,6 +4,7 @@ ghost use Rattle.std.specs.Option.{option_map};
 ghost use Rattle.std.specs.Ordering.{nat_cmp, is_eq};
 ghost use Rattle.std.specs.BTreeMap.{get};
 ghost use Rattle.std.specs.BTreeSet.{contains};
+ghost use Rattle.router_places.specs.Marks.{has};
 ghost use Rattle.amqp_perf.specs.declared.perf.Perf.TheVariants as perf;
 ghost use Rattle.amqp_perf.specs.declared.perf.End.{End};
 ghost use Rattle.amqp_perf.specs.declared.perf.Close.{Close};
@@ -19,7 +20,7 @@ ghost use Rattle.router_trace.specs.declared.event.Event.TheVariants as event;
 ghost use Rattle.router_links.specs.declared.link.Side.TheVariants.{Peer, Router};
 ghost use Rattle.router_links.specs.Ends.{begun, noted};
 ghost use Rattle.router_links.specs.Giving.{part_here, part_named};
-ghost use Rattle.router_links.specs.Looking.{middle_named, durable_at, attachment_of};
+ghost use Rattle.router_links.specs.Looking.{middle_named, durable_at, attachment_of, numbered_here};
 ghost use Rattle.router_links.specs.Fits.{TableFit, with_mark, asks_drain, names_in, key_in, found_at, attachment, IsNoted};
 ghost use Rattle.router_links.specs.Naming.{on_conn, on_session, on_handle, Thinned};
 ghost use Rattle.router_places.specs.Places.{at};
@@ -34,7 +35,7 @@ use amqp_link::{Delivery, Part};
 use amqp_perf::{Attach, Detach, Perf, Text};
 use book_core::LinkKey;
 use bytes::Bytes;
-use router_places::{ByHandle, InConnection, InSession};
+use router_places::{ByHandle, InConnection, InSession, Marks};
 use router_trace::{Asked, Attachment, ConnectionId, LinkAt};
 use std::alloc::{AllocError, Global};
 use std::collections::BTreeSet;
@@ -51,14 +52,14 @@ pub struct LinkTable {
     // the connections that may have a link that owes a drain
     owing: BTreeSet<u64>,
     // the numbers of links that may have changed
-    touched: BTreeSet<u64>,
+    touched: Marks,
 }
 
 impl LinkTable {
     /// An empty table.
     pub fn new(alloc: Global) -> LinkTable
         ensures fits { (g : Beginning) → TableFit result (beginning g) }
-        ensures untouched { (k : ℕ) → contains nat_cmp result.touched k ≡ false }
+        ensures untouched { (k : ℕ) → has result.touched k ≡ false }
     {
         LinkTable {
             alloc,
@@ -66,7 +67,7 @@ impl LinkTable {
             names: Names::new(alloc),
             count: 0,
             owing: BTreeSet::new(alloc),
-            touched: BTreeSet::new(alloc),
+            touched: Marks::new(alloc),
         }
     }
 
@@ -167,6 +168,19 @@ impl LinkTable {
         self.if_attached(self.names.of_number(number))
     }
 
+    /// The link of the attachment with a number, if it still has it.
+    pub fn by_number(&self, number: u64) -> Option<&Link>
+        ensures { option_map (λ l. l.now) result ≡ numbered_here (at self.now.links) (get nat_cmp self.now.names.numbers.entries number) }
+    {
+        let place = self.names.of_number(number)?;
+        let link = self.links.get(place.conn.0, place.channel, place.handle)?;
+        if link.number == place.number {
+            Some(link)
+        } else {
+            None
+        }
+    }
+
     /// The attachment, if it still has its link.
     fn if_attached(&self, attachment: Option<Attachment>) -> Option<Attachment>
         ensures { (t : List Entry) → TableFit self.now t → result ≡ if_attached t attachment }
@@ -211,17 +225,17 @@ impl LinkTable {
 
     /// The lowest number of a link that may have changed since its number was forgotten.
     pub fn touched(&self) -> Option<u64>
-        ensures { IsLowest (contains nat_cmp self.now.touched) result }
+        ensures { IsLowest (has self.now.touched) result }
     {
-        self.touched.first().copied()
+        self.touched.first()
     }
 
     /// Forgets that the link with a number may have changed.
     pub fn forget_touched(&mut self, number: u64)
         ensures rest { self.new ≡ record self.old { touched = self.new.touched } }
-        ensures gone { (k : ℕ) → contains nat_cmp self.new.touched k ≡ (if number == k then false else contains nat_cmp self.old.touched k) }
+        ensures gone { (k : ℕ) → has self.new.touched k ≡ (if number == k then false else has self.old.touched k) }
     {
-        let _ = self.touched.remove(&number);
+        self.touched.remove(number);
     }
 
     /// A connection is lost.
@@ -344,7 +358,7 @@ impl LinkTable {
         ensures numbers { OnOk result ((n : ℕ) → get nat_cmp self.new.names.numbers.entries n
             ≡ (if self.old.count + 1 == n then Some (attachment (self.old.count + 1) conn own attach.now.handle) else get nat_cmp self.old.names.numbers.entries n)) }
         ensures owing { self.new.owing ≡ self.old.owing }
-        ensures touched { OnOk result ((k : ℕ) → contains nat_cmp self.new.touched k ≡ (if self.old.count + 1 == k then true else contains nat_cmp self.old.touched k)) }
+        ensures touched { OnOk result ((k : ℕ) → has self.new.touched k ≡ (if self.old.count + 1 == k then true else has self.old.touched k)) }
     {
         let Some(number) = self.count.checked_add(1) else {
             return Err(AllocError);
@@ -445,14 +459,14 @@ fn leave(links: &mut ByHandle<Link>, names: &mut Names, conn: u64, own: u16, han
 /// Removes the names of the links of a session that ended, and touches the links.
 fn leave_session(
     names: &mut Names,
-    touched: &mut BTreeSet<u64>,
+    touched: &mut Marks,
     conn: u64,
     own: u16,
     handles: InSession<Link>,
 ) -> Result<(), AllocError>
     ensures names { Thinned (on_session conn own) names.old names.new }
     ensures others { (k : ℕ) → in_session k handles ≡ false → get nat_cmp names.old.numbers.entries k ≡ get nat_cmp names.new.numbers.entries k }
-    ensures touched { OnOk result ((k : ℕ) → contains nat_cmp touched.new k ≡ (in_session k handles || contains nat_cmp touched.old k)) }
+    ensures touched { OnOk result ((k : ℕ) → has touched.new k ≡ (in_session k handles || has touched.old k)) }
 {
     names.forget_session(conn, own, &handles);
     touch_session(touched, &handles)
@@ -461,13 +475,13 @@ fn leave_session(
 /// Removes the names of the links of a connection that ended, and touches the links.
 fn leave_connection(
     names: &mut Names,
-    touched: &mut BTreeSet<u64>,
+    touched: &mut Marks,
     conn: u64,
     sessions: InConnection<Link>,
 ) -> Result<(), AllocError>
     ensures names { Thinned (on_conn conn) names.old names.new }
     ensures others { (k : ℕ) → in_connection k sessions ≡ false → get nat_cmp names.old.numbers.entries k ≡ get nat_cmp names.new.numbers.entries k }
-    ensures touched { OnOk result ((k : ℕ) → contains nat_cmp touched.new k ≡ (in_connection k sessions || contains nat_cmp touched.old k)) }
+    ensures touched { OnOk result ((k : ℕ) → has touched.new k ≡ (in_connection k sessions || has touched.old k)) }
 {
     names.forget_connection(conn, &sessions);
     touch_connection(touched, &sessions)

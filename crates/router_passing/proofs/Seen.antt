@@ -22,6 +22,7 @@ use Rattle.router_links.specs.declared.link.LinkEnd.TheVariants as ends
 use Rattle.router_links.specs.declared.links.Links.{Links}
 use Rattle.router_links.specs.Ends.{end_of, link_of}
 use Rattle.router_links.specs.Fits.{LinksFit}
+use Rattle.router_links.specs.Looking.{link_on, numbered_link}
 use Rattle.router_links.specs.Naming.{Remembers}
 use Rattle.router_places.specs.Places.{at}
 use Rattle.router_links.specs.Touching.{if_number}
@@ -137,17 +138,21 @@ figure_there t n a e = by_number (numbered t n) refl e
         attached None = false
         attached (Some d) = is_attached t d
 
--- if nothing is attached on an attachment's handle, its number has nothing
-pub figure_empty : (t : Trace) (n : ℕ) (a : Attachment) (v : Option Link) → place_of t n ≡ Some a → v ≡ None → v ≡ option_map link_of (view_of t a) → figure t n ≡ None
-figure_empty t n a v place none is =
-    let there : (numbered t n ≡ Some a) × (has_number n (view_of t a) ≡ true) = figure_there t n a place in
-    ap (figure_at t n) there.0 ∙ by_view (view_of t a) (sym none ∙ is)
+-- if a number has no link, it has nothing
+pub figure_nowhere : (t : Trace) (n : ℕ) → None ≡ option_map link_of (numbered_link t n) → figure t n ≡ None
+figure_nowhere t n none = by_place (place_of t n) refl none
   where
     by_view : (w : Option view.Link) → None ≡ option_map link_of w → figure_on t n w ≡ None
     by_view None e = refl
     by_view (Some l) e = absurd cc
 
--- otherwise it has what the link there has
+    by_place : (v : Option Attachment) → place_of t n ≡ v → None ≡ option_map link_of (link_on t v) → figure t n ≡ None
+    by_place None place e = nowhere t n place
+    by_place (Some a) place e =
+        let there : (numbered t n ≡ Some a) × (has_number n (view_of t a) ≡ true) = figure_there t n a place in
+        ap (figure_at t n) there.0 ∙ by_view (view_of t a) e
+
+-- otherwise it has what its link has
 pub record IsThere (t : Trace) (n : ℕ) (k : Link) : Type 0 where
   pub link : view.Link
   pub is : k ≡ link_of link
@@ -157,10 +162,8 @@ pub record IsThere (t : Trace) (n : ℕ) (k : Link) : Type 0 where
 same_option : {A : Type 0} (x y : A) → Some x ≡ Some y → x ≡ y
 same_option {A = A} x y e = ap (λ (v : Option A). unwrap_or v x) e
 
-pub figure_here : (t : Trace) (n : ℕ) (a : Attachment) (k : Link) → place_of t n ≡ Some a → Some k ≡ option_map link_of (view_of t a) → IsThere t n k
-figure_here t n a k place is =
-    let there : (numbered t n ≡ Some a) × (has_number n (view_of t a) ≡ true) = figure_there t n a place in
-    by_view (view_of t a) is there.1 (ap (figure_at t n) there.0)
+pub figure_here : (t : Trace) (n : ℕ) (k : Link) → Some k ≡ option_map link_of (numbered_link t n) → IsThere t n k
+figure_here t n k is = by_place (place_of t n) refl is
   where
     by_view : (w : Option view.Link) → Some k ≡ option_map link_of w → has_number n w ≡ true → figure t n ≡ figure_on t n w → IsThere t n k
     by_view None e f g = absurd cc
@@ -170,3 +173,9 @@ figure_here t n a k place is =
       number = eqb-true l.number n f;
       figure = g ∙ ap (λ b. if b then Some (figure_by t l l.happened) else None) f;
     }
+
+    by_place : (v : Option Attachment) → place_of t n ≡ v → Some k ≡ option_map link_of (link_on t v) → IsThere t n k
+    by_place None place e = absurd cc
+    by_place (Some a) place e =
+        let there : (numbered t n ≡ Some a) × (has_number n (view_of t a) ≡ true) = figure_there t n a place in
+        by_view (view_of t a) e there.1 (ap (figure_at t n) there.0)

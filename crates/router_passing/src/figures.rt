@@ -1,7 +1,7 @@
 //! What each link offers and wants.
 ghost use Rattle.std.specs.Prelude.{◌≡◌, ℕ, List, Option, Some, OnOk, IfOk};
 ghost use Rattle.router_trace.specs.Trace.{Entry};
-ghost use Rattle.router_trace.specs.Links.{Link as View, place_of};
+ghost use Rattle.router_trace.specs.Links.{Link as View};
 ghost use Rattle.router_links.specs.Ends.{link_of};
 ghost use Rattle.router_links.specs.Fits.{LinksFit};
 ghost use Rattle.router_links.specs.Looking.{credit_on};
@@ -12,7 +12,6 @@ ghost use Rattle.router_passing.specs.Figures.{figure, figure_by, free_of, unuse
 use router_deliveries::Deliveries;
 use router_links::{Link, Links};
 use router_pools::Pools;
-use router_trace::Attachment;
 use std::alloc::AllocError;
 
 /// The most undecided deliveries that a link may have at once.
@@ -27,25 +26,7 @@ pub(crate) fn tell(
 ) -> Result<(), AllocError>
     ensures { OnOk result ((t : List Entry) → LinksFit links.now t → DeliveriesFit deliveries.now t → IsTold pools.old pools.new number (figure t number)) }
 {
-    match links.place_of(number) {
-        None => pools.leave(number)?,
-        Some(at) => tell_at(pools, links, deliveries, number, at)?,
-    }
-    Ok(())
-}
-
-/// Tells the pools what the link of this attachment has now.
-fn tell_at(
-    pools: &mut Pools,
-    links: &Links,
-    deliveries: &Deliveries,
-    number: u64,
-    at: Attachment,
-) -> Result<(), AllocError>
-    ensures { OnOk result ((t : List Entry) → LinksFit links.now t → DeliveriesFit deliveries.now t → place_of t number ≡ Some at
-        → IsTold pools.old pools.new number (figure t number)) }
-{
-    match links.link(at) {
+    match links.by_number(number) {
         None => pools.leave(number)?,
         Some(link) => tell_link(pools, deliveries, number, link)?,
     }

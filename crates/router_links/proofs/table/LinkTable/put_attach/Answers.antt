@@ -3,6 +3,7 @@ use Rattle.std.specs.Prelude.{◌==◌, if◌then◌else◌, option_map, is_some
 use Rattle.std.specs.Ordering.{nat_cmp, is_eq}
 use Rattle.std.specs.BTreeMap.{get}
 use Rattle.std.specs.BTreeSet.{contains}
+use Rattle.router_places.specs.Marks.{has}
 use Rattle.std.proofs.lemmas.Bool.{eqb-true}
 use Rattle.amqp_frames.specs.declared.item.Item.TheVariants as item
 use Rattle.amqp_perf.specs.declared.perf.Perf.TheVariants as perf
@@ -69,7 +70,7 @@ returns-clause-touches c =
     let count = c.args.self.now.count in
     let n = begun (count + 1) c.in-Some-key.key a (initial_of c.args.last) c.in-Some.address.now in
     joined_touches c.args.conn c.args.own a.handle n (attachment (count + 1) c.args.conn c.args.own a.handle) _ _
-    (contains nat_cmp c.touch_at.new.touched) (get nat_cmp c.leave.new.names.numbers.entries)
+    (has c.touch_at.new.touched) (get nat_cmp c.leave.new.names.numbers.entries)
     c.in_ok-touch_at.ensures c.in_ok-join.ensures.touched
     (λ d o h. over (c.args.conn == d) (c.args.own == o) (a.handle == h) (Some n) _ _ (at c.args.self.now.links d o h) (c.in_ok-join.ensures.links d o h) (c.leave.ensures.links d o h))
     c.leave.ensures.others c.in_ok-join.ensures.numbers
