@@ -45,10 +45,6 @@ others_stay (None ∷ few) zero k is n other = refl
 others_stay (Some m ∷ few) zero k is n other = rw (eqb-true m k is, other) refl
 others_stay (x ∷ few) (suc place) k is n other = ap (λ b. is_number x n || b) (others_stay few place k is n other)
 
-pub or_assoc : (a b c : Bool) → ((a || b) || c) ≡ (a || (b || c))
-or_assoc true b c = refl
-or_assoc false b c = refl
-
 -- a number that is nowhere now, where the others stay, was taken away
 pub taken : (k n : ℕ) (new old : List (Option ℕ)) → is_among new k ≡ false → ((k == n) ≡ false → is_among new n ≡ is_among old n)
     → is_among new n ≡ (not (k == n) && is_among old n)

@@ -59,13 +59,6 @@ impl Marks {
         }
     }
 
-    /// Whether there is none.
-    pub fn is_empty(&self) -> bool
-        ensures { result ≡ true → (n : ℕ) → has self.now n ≡ false }
-    {
-        self.first().is_none()
-    }
-
     /// The lowest.
     pub fn first(&self) -> Option<u64>
         ensures { IsLeast (has self.now) result }
