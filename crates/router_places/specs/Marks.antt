@@ -9,5 +9,6 @@ use Rattle.router_places.specs.declared.marks.Marks.{Marks}
 abbrev pub size : Marks → ℕ
 size s = filled s.few.places + length s.more.keys
 
+-- a number is in it
 abbrev pub has : Marks → ℕ → Bool
 has s n = is_among s.few.places n || contains nat_cmp s.more n

@@ -10,7 +10,8 @@ use std::alloc::{AllocError, Global};
 use std::collections::BTreeSet;
 use std::ops::Bound;
 
-/// A set of numbers. The first few stand in place, and only what comes beyond them in an ordered set.
+/// A set of numbers. Up to four stand in place, and only what comes beyond them in an ordered set: a set that never has more takes no memory
+/// and gives none back. Each call costs a logarithm of the count at most. If an operation fails to allocate, the contents are unspecified.
 #[derive(Drop)]
 pub struct Marks {
     few: Few,
@@ -35,7 +36,7 @@ impl Marks {
         self.few.has(number) || self.more.contains(&number)
     }
 
-    /// Adds a number.
+    /// Adds a number. Fails if memory is refused, which it asks for only where four others stand in place.
     pub fn insert(&mut self, number: u64) -> Result<(), AllocError>
         ensures { OnOk result ((n : ℕ) → has self.new n ≡ (number == n || has self.old n)) }
     {
@@ -59,14 +60,14 @@ impl Marks {
         }
     }
 
-    /// The lowest.
+    /// The lowest number.
     pub fn first(&self) -> Option<u64>
         ensures { IsLeast (has self.now) result }
     {
         lower(self.few.lowest(), first(&self.more))
     }
 
-    /// The lowest above a number.
+    /// The lowest number above another.
     pub fn behind(&self, number: u64) -> Option<u64>
         ensures { IsLeast (λ n. nat_lt number n && has self.now n) result }
     {
