@@ -1,5 +1,5 @@
 -- When the table of connections agrees with a trace.
-use Rattle.std.specs.Prelude.{◌≡◌, ◌<◌, ℕ, Bool, true, false, length, Option, Some, None}
+use Rattle.std.specs.Prelude.{◌≡◌, ℕ, true, false, length, Option, Some, None}
 use Rattle.std.specs.Ordering.{nat_cmp}
 use Rattle.std.specs.BTreeMap.{get}
 use Rattle.router_trace.specs.declared.event.Event.{Event}
@@ -8,6 +8,7 @@ use Rattle.router_conns.specs.declared.connections.Connections.{Connections}
 use Rattle.router_trace.specs.Trace.{Trace, ups, newest}
 use Rattle.router_trace.specs.Connection.{Connection, Batched, conn, found, live, live_of, is_full, has}
 use Rattle.router_trace.specs.Refusing.{reaches}
+pub use Rattle.router_places.specs.Among.{IsLeast}
 
 -- the table of connections agrees with the trace
 pub record ConnectionsFit (s : Connections) (t : Trace) : Type 0 where
@@ -36,8 +37,3 @@ IsBatch most (Some v) (Some taken) = Batched v most taken.first taken.items.item
 abbrev pub count : Option Taken → ℕ
 count None = 0
 count (Some taken) = length taken.items.items
-
--- the lowest number that passes a test, if any does
-abbrev pub IsLeast : (ℕ → Bool) → Option ℕ → Type 0
-IsLeast test None = (c : ℕ) → test c ≡ false
-IsLeast test (Some first) = (test first ≡ true) × ((c : ℕ) → c < first → test c ≡ false)

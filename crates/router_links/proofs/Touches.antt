@@ -1,22 +1,17 @@
 -- A link that wasn't touched hasn't changed.
 use Rattle.std.proofs.Common.{◌≡◌, ◌∙◌, ℕ, Bool, true, false, refl, sym, ap, List, [], ◌∷◌, Option, Some, None}
-use Rattle.std.specs.Prelude.{◌||◌, ◌==◌, if◌then◌else◌, option_map, Result, Ok, Err, OnOk}
+use Rattle.std.specs.Prelude.{◌||◌, ◌==◌, if◌then◌else◌, Result, Ok, Err, OnOk}
 use Rattle.std.specs.List.{list_any}
 use Rattle.std.specs.Map.{lookup}
 use Rattle.std.specs.Ordering.{nat_cmp}
 use Rattle.std.specs.BTreeMap.{BTreeMap, get, is_at}
 use Rattle.router_places.specs.Marks.{has}
 use Rattle.std.proofs.lemmas.Bool.{eqb-true}
-use Rattle.amqp_perf.specs.declared.perf.Perf.{Perf}
-use Rattle.amqp_perf.specs.declared.perf.Perf.TheVariants as perf
 use Rattle.router_trace.specs.Links.{is_handle}
 use Rattle.router_trace.specs.Sessions.{is_channel}
 use Rattle.router_trace.specs.declared.handle.Attachment.{Attachment}
 use Rattle.router_links.specs.declared.link.Link.{Link}
-use Rattle.router_links.specs.declared.link.Side.{Side}
-use Rattle.router_links.specs.declared.link.Side.TheVariants.{Peer, Router}
 use Rattle.router_links.specs.declared.table.LinkTable.{LinkTable}
-use Rattle.router_links.specs.Ends.{noted}
 use Rattle.router_places.specs.Places.{in_map, at}
 use Rattle.router_links.specs.Touching.{is_numbered, if_number, named_link, in_session, in_connection, Touched}
 
@@ -58,32 +53,6 @@ place_same links conn d o h None handle e f g = absurd cc
 place_same links conn d o h (Some p) None e f g = absurd cc
 place_same links conn d o h (Some p) (Some q) e f g =
     ap (λ c. links c o h) (sym (eqb-true conn d e)) ∙ ap (λ c. links conn c h) (sym (eqb-true p o f)) ∙ ap (links conn p) (sym (eqb-true q h g))
-
--- after a performative is applied to a link
-keeps_number : (side : Side) (body : Perf) (payload : List ℕ) (l : Link) → (noted side body payload l).number ≡ l.number
-keeps_number Peer (perf.Flow f) payload l = refl
-keeps_number Peer (perf.Transfer x) payload l = refl
-keeps_number Router (perf.Flow f) payload l = refl
-keeps_number Router (perf.Transfer x) payload l = refl
-keeps_number _ _ payload l = refl
-
-noted_unnumbered : (side : Side) (body : Perf) (payload : List ℕ) (k : ℕ) (v : Option Link) → is_numbered k v ≡ false → is_numbered k (option_map (noted side body payload) v) ≡ false
-noted_unnumbered side body payload k None e = refl
-noted_unnumbered side body payload k (Some l) e = ap (λ n. n == k) (keeps_number side body payload l) ∙ e
-
-pub noted_touches : (side : Side) (body : Perf) (payload : List ℕ) (conn : ℕ) (own handle : Option ℕ) (old new : LinkTable)
-    → ((k : ℕ) → has new.touched k ≡ (if is_numbered k (named_link own handle (at old.links conn)) then true else has old.touched k))
-    → ((c o h : ℕ) → at new.links c o h ≡ (if conn == c then (if is_channel own o then (if is_handle handle h then option_map (noted side body payload) (at old.links c o h) else at old.links c o h) else at old.links c o h) else at old.links c o h))
-    → new.names ≡ old.names → Touched old new
-noted_touches side body payload conn own handle old new touched links names =
-    let un : (k : ℕ) → has new.touched k ≡ false → (is_numbered k (named_link own handle (at old.links conn)) ≡ false) × (has old.touched k ≡ false) =
-    λ k e. untrue _ _ (sym (touched k) ∙ e) in
-    record {
-      before = λ k e. (un k e).1;
-      links = λ k e c o h. changed_row k (conn == c) (is_channel own o) (is_handle handle h) _ _ (at old.links c o h) (named_link own handle (at old.links conn))
-          (links c o h) (place_same (at old.links) conn c o h own handle) (un k e).0 (noted_unnumbered side body payload k (at old.links c o h));
-      numbers = λ k e. ap (λ s. get nat_cmp s.numbers.entries k) (sym names);
-    }
 
 -- after a link is removed at a place
 pub left_touches : (conn own handle : ℕ) (old new : LinkTable)
