@@ -135,13 +135,13 @@ impl Keys {
 
 impl Moved {
     /// A delivery that was changed and had these entries before.
-    pub(crate) fn of(delivery: &Delivery, before: Keys) -> Moved
-        ensures { result ≡ moved before delivery.now }
+    pub(crate) fn of(delivery: &Delivery, before: &Keys) -> Moved
+        ensures { result ≡ moved before.now delivery.now }
     {
         Moved {
             name: delivery.name,
             over: delivery.is_over(),
-            before,
+            before: *before,
             after: kept_keys(delivery),
         }
     }
@@ -249,8 +249,13 @@ impl Index {
     }
 
     /// Replaces the entries of a delivery.
-    pub(crate) fn shift(&mut self, number: u64, before: Keys, after: Keys) -> Result<(), AllocError>
-        ensures { OnOk result ((known : ℕ → TheKeys) → known number ≡ before → Indexes self.old known → Indexes self.new (λ n. if number == n then after else known n)) }
+    pub(crate) fn shift(
+        &mut self,
+        number: u64,
+        before: &Keys,
+        after: &Keys,
+    ) -> Result<(), AllocError>
+        ensures { OnOk result ((known : ℕ → TheKeys) → known number ≡ before.now → Indexes self.old known → Indexes self.new (λ n. if number == n then after.now else known n)) }
     {
         self.waiting.shift(before.waiting, after.waiting)?;
         self.unsent.shift(number, before.unsent, after.unsent)?;
