@@ -24,7 +24,7 @@ ghost use Rattle.router_deliveries.specs.Touching.{is_touched_in, StandsSame, St
 ghost use Rattle.router_deliveries.specs.Hearing.{id_of};
 ghost use Rattle.router_deliveries.specs.Naming.{is_open, is_detached, is_detached_in};
 ghost use Rattle.router_deliveries.specs.Stepping.{behind, behind_any, changed, IsKept};
-ghost use Rattle.router_deliveries.specs.Tallying.{tally};
+ghost use Rattle.router_deliveries.specs.Tallying.{tally, waiting_at, undecided_at};
 
 use crate::by_name::ByName;
 use crate::change::{Change, Gone, behind_put};
@@ -73,9 +73,9 @@ impl Store {
 
     /// How many deliveries of a link are undecided.
     pub(crate) fn undecided(&self, link: u64) -> usize
-        ensures { result ≡ tally self.now.index.undecided link }
+        ensures { result ≡ undecided_at self.now.index.consumers link }
     {
-        self.index.undecided.count(link)
+        self.index.consumers.undecided(link)
     }
 
     /// How many deliveries of a producer's link are undecided.
@@ -87,9 +87,9 @@ impl Store {
 
     /// How many deliveries wait to start on a link.
     pub(crate) fn waiting(&self, link: u64) -> usize
-        ensures { result ≡ tally self.now.index.waiting link }
+        ensures { result ≡ waiting_at self.now.index.consumers link }
     {
-        self.index.waiting.count(link)
+        self.index.consumers.waiting(link)
     }
 
     /// The first delivery of a link of which frames remain to be sent.
