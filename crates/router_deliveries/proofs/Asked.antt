@@ -10,21 +10,21 @@ use Rattle.router_deliveries.specs.declared.store.Store.{Store}
 use Rattle.router_deliveries.specs.Finding.{IsCount, IsFirstLink}
 use Rattle.router_deliveries.specs.Fits.{StoreFit}
 use Rattle.router_deliveries.specs.Indexing.{in_group, standing}
-use Rattle.router_deliveries.specs.Tallying.{tally}
+use Rattle.router_deliveries.specs.Tallying.{tally, waiting_at, undecided_at}
 use Rattle.router_deliveries.specs.Calling.{NumbersFit}
 use Rattle.router_deliveries.proofs.Called.{called_same, numbers_fit}
 use Rattle.router_deliveries.proofs.Found.{count_same, waits_is, unsent_is, undecided_is, held_is, to_tell_is}
 
-pub waits_in : (s : Store) (t : Trace) → StoreFit s t → (k : ℕ) → IsCount (λ n. waits_on k (delivery t n)) (tally s.index.waiting k)
+pub waits_in : (s : Store) (t : Trace) → StoreFit s t → (k : ℕ) → IsCount (λ n. waits_on k (delivery t n)) (waiting_at s.index.consumers k)
 waits_in s t fit k = count_same (λ n. is_number (standing (get nat_cmp s.deliveries n)).waiting k) (λ n. waits_on k (delivery t n))
-    (λ n. waits_is k (get nat_cmp s.deliveries n) ∙ ap (waits_on k) (fit.deliveries n)) (tally s.index.waiting k) (fit.indexed.indexes.waiting.counts k)
+    (λ n. waits_is k (get nat_cmp s.deliveries n) ∙ ap (waits_on k) (fit.deliveries n)) (waiting_at s.index.consumers k) (fit.indexed.indexes.consumers.waiting k)
 
 pub unsent_in : (s : Store) (t : Trace) → StoreFit s t → (k n : ℕ) → in_group s.index.unsent k n ≡ is_unsent_on k (delivery t n)
 unsent_in s t fit k n = fit.indexed.indexes.unsent k n ∙ unsent_is k (get nat_cmp s.deliveries n) ∙ ap (is_unsent_on k) (fit.deliveries n)
 
-pub undecided_in : (s : Store) (t : Trace) → StoreFit s t → (k : ℕ) → IsCount (λ n. undecided_on k (delivery t n)) (tally s.index.undecided k)
+pub undecided_in : (s : Store) (t : Trace) → StoreFit s t → (k : ℕ) → IsCount (λ n. undecided_on k (delivery t n)) (undecided_at s.index.consumers k)
 undecided_in s t fit k = count_same (λ n. is_number (standing (get nat_cmp s.deliveries n)).undecided k) (λ n. undecided_on k (delivery t n))
-    (λ n. undecided_is k (get nat_cmp s.deliveries n) ∙ ap (undecided_on k) (fit.deliveries n)) (tally s.index.undecided k) (fit.indexed.indexes.undecided.counts k)
+    (λ n. undecided_is k (get nat_cmp s.deliveries n) ∙ ap (undecided_on k) (fit.deliveries n)) (undecided_at s.index.consumers k) (fit.indexed.indexes.consumers.undecided k)
 
 pub held_in : (s : Store) (t : Trace) → StoreFit s t → (k : ℕ) → IsCount (λ n. held_from k (delivery t n)) (tally s.index.held k)
 held_in s t fit k = count_same (λ n. is_number (standing (get nat_cmp s.deliveries n)).held k) (λ n. held_from k (delivery t n))

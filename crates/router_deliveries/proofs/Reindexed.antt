@@ -5,6 +5,7 @@ use Rattle.std.proofs.lemmas.Bool.{eqb-true}
 use Rattle.router_trace.specs.Deliveries.{Delivery, is_number}
 use Rattle.router_places.specs.Marks.{has as is_marked}
 use Rattle.router_deliveries.specs.declared.by_link.ByLink.{ByLink}
+use Rattle.router_deliveries.specs.declared.consumers.Consumers.{Consumers}
 use Rattle.router_deliveries.specs.declared.index.Index.{Index}
 use Rattle.router_deliveries.specs.declared.index.Keys.{Keys}
 use Rattle.router_deliveries.specs.declared.spots.Spot.{Spot}
@@ -12,15 +13,15 @@ use Rattle.router_deliveries.specs.declared.spots.Spots.{Spots}
 use Rattle.router_deliveries.specs.declared.tallies.Tallies.{Tallies}
 use Rattle.router_deliveries.specs.Indexing.{Indexes, standing, in_group}
 use Rattle.router_deliveries.specs.Placing.{SpotsFit}
-use Rattle.router_deliveries.specs.Tallying.{IsTallied}
+use Rattle.router_deliveries.specs.Tallying.{IsTallied, AreTallied}
 use Rattle.router_deliveries.proofs.Placed.{fits_same}
-use Rattle.router_deliveries.proofs.Tallied.{tallied_same}
+use Rattle.router_deliveries.proofs.Tallied.{tallied_same, all_same}
 
 pub indexes_same : (s : Index) (f g : ℕ → Keys) → ((n : ℕ) → f n ≡ g n) → Indexes s f → Indexes s g
 indexes_same s f g same x = record {
-  waiting = tallied_same s.waiting (λ n. (f n).waiting) (λ n. (g n).waiting) (λ n. ap (λ (q : Keys). q.waiting) (same n)) x.waiting;
+  consumers = all_same s.consumers (λ n. (f n).waiting) (λ n. (g n).waiting) (λ n. (f n).undecided) (λ n. (g n).undecided)
+      (λ n. ap (λ (q : Keys). q.waiting) (same n)) (λ n. ap (λ (q : Keys). q.undecided) (same n)) x.consumers;
   unsent = λ k n. x.unsent k n ∙ ap (λ (q : Keys). is_number q.unsent k) (same n);
-  undecided = tallied_same s.undecided (λ n. (f n).undecided) (λ n. (g n).undecided) (λ n. ap (λ (q : Keys). q.undecided) (same n)) x.undecided;
   held = tallied_same s.held (λ n. (f n).held) (λ n. (g n).held) (λ n. ap (λ (q : Keys). q.held) (same n)) x.held;
   to_tell = λ n. x.to_tell n ∙ ap (λ (q : Keys). q.to_tell) (same n);
   on = fits_same s.on (λ n. (f n).on) (λ n. (g n).on) (λ n. ap (λ (q : Keys). q.on) (same n)) x.on;
@@ -40,23 +41,27 @@ GroupMoves s t m before after = ((k : ℕ) → in_group s k m ≡ is_number befo
 abbrev TallyMoves : Tallies → Tallies → Option ℕ → Option ℕ → Type 0
 TallyMoves s t before after = (m : ℕ) (known : ℕ → Option ℕ) → known m ≡ before → IsTallied s known → IsTallied t (λ n. if m == n then after else known n)
 
+abbrev ConsumersMove : Consumers → Consumers → Keys → Keys → Type 0
+ConsumersMove s t before after = (m : ℕ) (waiting undecided : ℕ → Option ℕ) → waiting m ≡ before.waiting → undecided m ≡ before.undecided → AreTallied s waiting undecided
+    → AreTallied t (λ n. if m == n then after.waiting else waiting n) (λ n. if m == n then after.undecided else undecided n)
+
 abbrev SpotMoves : Spots → Spots → ℕ → Option Spot → Option Spot → Type 0
 SpotMoves s t m before after = (known : ℕ → Option Spot) → known m ≡ before → SpotsFit s known → SpotsFit t (λ n. if m == n then after else known n)
 
 pub indexes_moved : (s t : Index) (m : ℕ) (before after : Keys) (known : ℕ → Keys)
-    → TallyMoves s.waiting t.waiting before.waiting after.waiting → GroupMoves s.unsent t.unsent m before.unsent after.unsent
-    → TallyMoves s.undecided t.undecided before.undecided after.undecided → TallyMoves s.held t.held before.held after.held
+    → ConsumersMove s.consumers t.consumers before after → GroupMoves s.unsent t.unsent m before.unsent after.unsent
+    → TallyMoves s.held t.held before.held after.held
     → (is_marked s.to_tell m ≡ before.to_tell → (n : ℕ) → is_marked t.to_tell n ≡ (if m == n then after.to_tell else is_marked s.to_tell n))
     → SpotMoves s.on t.on m before.on after.on → SpotMoves s.from t.from m before.from after.from → SpotMoves s.by_id t.by_id m before.by_id after.by_id
     → SpotMoves s.durable t.durable m before.durable after.durable
     → known m ≡ before → Indexes s known → Indexes t (λ n. if m == n then after else known n)
-indexes_moved s t m before after known waiting unsent undecided held to_tell on from by_id durable is x = record {
-  waiting = tallied_same t.waiting (λ n. if m == n then after.waiting else (known n).waiting) (λ n. (if m == n then after else known n).waiting)
-      (λ n. by_key (λ q. q.waiting) (m == n) after (known n)) (waiting m (λ n. (known n).waiting) (ap (λ (q : Keys). q.waiting) is) x.waiting);
+indexes_moved s t m before after known consumers unsent held to_tell on from by_id durable is x = record {
+  consumers = all_same t.consumers (λ n. if m == n then after.waiting else (known n).waiting) (λ n. (if m == n then after else known n).waiting)
+      (λ n. if m == n then after.undecided else (known n).undecided) (λ n. (if m == n then after else known n).undecided)
+      (λ n. by_key (λ q. q.waiting) (m == n) after (known n)) (λ n. by_key (λ q. q.undecided) (m == n) after (known n))
+      (consumers m (λ n. (known n).waiting) (λ n. (known n).undecided) (ap (λ (q : Keys). q.waiting) is) (ap (λ (q : Keys). q.undecided) is) x.consumers);
   unsent = λ k n. unsent (λ j. x.unsent j m ∙ ap (λ (q : Keys). is_number q.unsent j) is) k n
       ∙ ap (λ b. if m == n then is_number after.unsent k else b) (x.unsent k n) ∙ by_key (λ q. is_number q.unsent k) (m == n) after (known n);
-  undecided = tallied_same t.undecided (λ n. if m == n then after.undecided else (known n).undecided) (λ n. (if m == n then after else known n).undecided)
-      (λ n. by_key (λ q. q.undecided) (m == n) after (known n)) (undecided m (λ n. (known n).undecided) (ap (λ (q : Keys). q.undecided) is) x.undecided);
   held = tallied_same t.held (λ n. if m == n then after.held else (known n).held) (λ n. (if m == n then after else known n).held)
       (λ n. by_key (λ q. q.held) (m == n) after (known n)) (held m (λ n. (known n).held) (ap (λ (q : Keys). q.held) is) x.held);
   to_tell = λ n. to_tell (x.to_tell m ∙ ap (λ (q : Keys). q.to_tell) is) n

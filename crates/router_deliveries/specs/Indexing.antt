@@ -17,7 +17,7 @@ use Rattle.router_deliveries.specs.declared.index.Keys.{Keys}
 use Rattle.router_deliveries.specs.declared.index.Moved.{Moved}
 use Rattle.router_deliveries.specs.declared.spots.Spot.{Spot}
 use Rattle.router_deliveries.specs.Placing.{SpotsFit, spot_of, on_spot, from_spot, id_spot, own_spot, is_gone_there, is_id_there}
-use Rattle.router_deliveries.specs.Tallying.{IsTallied}
+use Rattle.router_deliveries.specs.Tallying.{IsTallied, AreTallied}
 
 abbrev pub in_set : Option (BTreeSet ℕ) → ℕ → Bool
 in_set None n = false
@@ -88,9 +88,8 @@ moved before d = record { name = d.name; over = is_over d; before = before; afte
 
 -- each number has the entries that it should have, and links have the counts
 pub record Indexes (s : Index) (known : ℕ → Keys) : Type 0 where
-  pub waiting : IsTallied s.waiting (λ n. (known n).waiting)
+  pub consumers : AreTallied s.consumers (λ n. (known n).waiting) (λ n. (known n).undecided)
   pub unsent : (k n : ℕ) → in_group s.unsent k n ≡ is_number (known n).unsent k
-  pub undecided : IsTallied s.undecided (λ n. (known n).undecided)
   pub held : IsTallied s.held (λ n. (known n).held)
   pub to_tell : (n : ℕ) → is_marked s.to_tell n ≡ (known n).to_tell
   pub on : SpotsFit s.on (λ n. (known n).on)

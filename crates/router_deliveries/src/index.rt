@@ -12,6 +12,7 @@ ghost use Rattle.amqp_session.specs.Ranges.{has};
 
 use crate::by_link::ByLink;
 use crate::change::{Change, Gone};
+use crate::consumers::Consumers;
 use crate::delivery::Delivery;
 use crate::sets::add;
 use crate::spots::{Spot, Spots};
@@ -60,12 +61,10 @@ pub(crate) struct Moved {
 /// Indexes of deliveries.
 #[derive(Drop)]
 pub(crate) struct Index {
-    // how many wait to start on a link
-    pub(crate) waiting: Tallies,
+    // how many wait to start on a link, and how many of it are undecided
+    pub(crate) consumers: Consumers,
     // those of a link of which frames remain to be sent
     pub(crate) unsent: ByLink,
-    // how many of a link are undecided
-    pub(crate) undecided: Tallies,
     // how many are held from a producer's link
     pub(crate) held: Tallies,
     // those whose outcome must be reported to their producer
@@ -135,13 +134,13 @@ impl Keys {
 
 impl Moved {
     /// A delivery that was changed and had these entries before.
-    pub(crate) fn of(delivery: &Delivery, before: Keys) -> Moved
-        ensures { result ≡ moved before delivery.now }
+    pub(crate) fn of(delivery: &Delivery, before: &Keys) -> Moved
+        ensures { result ≡ moved before.now delivery.now }
     {
         Moved {
             name: delivery.name,
             over: delivery.is_over(),
-            before,
+            before: *before,
             after: kept_keys(delivery),
         }
     }
@@ -236,9 +235,8 @@ impl Index {
         ensures { Indexes result (λ n. nowhere) }
     {
         Index {
-            waiting: Tallies::new(alloc),
+            consumers: Consumers::new(alloc),
             unsent: ByLink::new(alloc),
-            undecided: Tallies::new(alloc),
             held: Tallies::new(alloc),
             to_tell: Marks::new(alloc),
             on: Spots::new(alloc),
@@ -249,12 +247,16 @@ impl Index {
     }
 
     /// Replaces the entries of a delivery.
-    pub(crate) fn shift(&mut self, number: u64, before: Keys, after: Keys) -> Result<(), AllocError>
-        ensures { OnOk result ((known : ℕ → TheKeys) → known number ≡ before → Indexes self.old known → Indexes self.new (λ n. if number == n then after else known n)) }
+    pub(crate) fn shift(
+        &mut self,
+        number: u64,
+        before: &Keys,
+        after: &Keys,
+    ) -> Result<(), AllocError>
+        ensures { OnOk result ((known : ℕ → TheKeys) → known number ≡ before.now → Indexes self.old known → Indexes self.new (λ n. if number == n then after.now else known n)) }
     {
-        self.waiting.shift(before.waiting, after.waiting)?;
+        self.consumers.shift(before, after)?;
         self.unsent.shift(number, before.unsent, after.unsent)?;
-        self.undecided.shift(before.undecided, after.undecided)?;
         self.held.shift(before.held, after.held)?;
         mark(&mut self.to_tell, number, before.to_tell, after.to_tell)?;
         self.on.shift(number, before.on, after.on)?;

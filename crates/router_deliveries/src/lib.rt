@@ -16,6 +16,7 @@ mod by_name;
 mod by_session;
 mod change;
 mod claims;
+mod consumers;
 mod counts;
 mod deciding;
 mod deliveries;

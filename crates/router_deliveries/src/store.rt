@@ -24,7 +24,7 @@ ghost use Rattle.router_deliveries.specs.Touching.{is_touched_in, StandsSame, St
 ghost use Rattle.router_deliveries.specs.Hearing.{id_of};
 ghost use Rattle.router_deliveries.specs.Naming.{is_open, is_detached, is_detached_in};
 ghost use Rattle.router_deliveries.specs.Stepping.{behind, behind_any, changed, IsKept};
-ghost use Rattle.router_deliveries.specs.Tallying.{tally};
+ghost use Rattle.router_deliveries.specs.Tallying.{tally, waiting_at, undecided_at};
 
 use crate::by_name::ByName;
 use crate::change::{Change, Gone, behind_put};
@@ -73,9 +73,9 @@ impl Store {
 
     /// How many deliveries of a link are undecided.
     pub(crate) fn undecided(&self, link: u64) -> usize
-        ensures { result ≡ tally self.now.index.undecided link }
+        ensures { result ≡ undecided_at self.now.index.consumers link }
     {
-        self.index.undecided.count(link)
+        self.index.consumers.undecided(link)
     }
 
     /// How many deliveries of a producer's link are undecided.
@@ -87,9 +87,9 @@ impl Store {
 
     /// How many deliveries wait to start on a link.
     pub(crate) fn waiting(&self, link: u64) -> usize
-        ensures { result ≡ tally self.now.index.waiting link }
+        ensures { result ≡ waiting_at self.now.index.consumers link }
     {
-        self.index.waiting.count(link)
+        self.index.consumers.waiting(link)
     }
 
     /// The first delivery of a link of which frames remain to be sent.
@@ -182,31 +182,31 @@ impl Store {
     }
 
     /// Replaces the index entries of the delivery with a number, which was changed in its place; if it is over, removes it.
-    fn settle(&mut self, number: u64, moved: Moved) -> Result<(), AllocError>
+    fn settle(&mut self, number: u64, moved: &Moved) -> Result<(), AllocError>
         ensures deliveries { OnOk result ((n : ℕ) → get nat_cmp self.new.deliveries n
-            ≡ (if moved.over then (if number == n then None else get nat_cmp self.old.deliveries n) else get nat_cmp self.old.deliveries n)) }
-        ensures indexed { OnOk result ((known : ℕ → TheKeys) → known number ≡ moved.before → Indexes self.old.index known
-            → Indexes self.new.index (λ n. if number == n then moved.after else known n)) }
+            ≡ (if moved.now.over then (if number == n then None else get nat_cmp self.old.deliveries n) else get nat_cmp self.old.deliveries n)) }
+        ensures indexed { OnOk result ((known : ℕ → TheKeys) → known number ≡ moved.now.before → Indexes self.old.index known
+            → Indexes self.new.index (λ n. if number == n then moved.now.after else known n)) }
         ensures touched { OnOk result ((k : ℕ) → is_touched_in self.new.touched k ≡ false
-            → (is_touched_in self.old.touched k ≡ false) × StandsSame k moved.before moved.after) }
-        ensures called { OnOk result ((m : Name) → at_name self.new.by_name m ≡ (if moved.over && same_name moved.name m then None else at_name self.old.by_name m)) }
+            → (is_touched_in self.old.touched k ≡ false) × StandsSame k moved.now.before moved.now.after) }
+        ensures called { OnOk result ((m : Name) → at_name self.new.by_name m ≡ (if moved.now.over && same_name moved.now.name m then None else at_name self.old.by_name m)) }
     {
         if moved.over {
             let _ = self.deliveries.remove(&number);
             self.by_name.forget(moved.name);
-            return self.shift(number, moved.before, moved.after);
+            return self.shift(number, &moved.before, &moved.after);
         }
-        self.shift(number, moved.before, moved.after)
+        self.shift(number, &moved.before, &moved.after)
     }
 
     /// Replaces a delivery's index entries.
-    fn shift(&mut self, number: u64, before: Keys, after: Keys) -> Result<(), AllocError>
+    fn shift(&mut self, number: u64, before: &Keys, after: &Keys) -> Result<(), AllocError>
         ensures deliveries { self.new.deliveries ≡ self.old.deliveries }
         ensures by_name { self.new.by_name ≡ self.old.by_name }
-        ensures indexed { OnOk result ((known : ℕ → TheKeys) → known number ≡ before → Indexes self.old.index known
-            → Indexes self.new.index (λ n. if number == n then after else known n)) }
+        ensures indexed { OnOk result ((known : ℕ → TheKeys) → known number ≡ before.now → Indexes self.old.index known
+            → Indexes self.new.index (λ n. if number == n then after.now else known n)) }
         ensures touched { OnOk result ((k : ℕ) → is_touched_in self.new.touched k ≡ false
-            → (is_touched_in self.old.touched k ≡ false) × StandsSame k before after) }
+            → (is_touched_in self.old.touched k ≡ false) × StandsSame k before.now after.now) }
     {
         self.touched.note(before, after)?;
         self.index.shift(number, before, after)
@@ -239,7 +239,7 @@ impl Store {
         let delivery = Delivery::bound(name, binding);
         let after = Keys::of(&delivery);
         let before = put(&mut self.deliveries, number, delivery)?;
-        self.shift(number, before, after)?;
+        self.shift(number, &before, &after)?;
         Ok(())
     }
 
@@ -267,7 +267,7 @@ impl Store {
         };
         let before = Keys::of(&delivery);
         self.by_name.forget(delivery.name);
-        self.shift(number, before, Keys::nowhere())
+        self.shift(number, &before, &Keys::nowhere())
     }
 
     /// Notes a transfer that carries `count` bytes of the delivery with a number.
@@ -286,7 +286,7 @@ impl Store {
         let Some(moved) = found else {
             return Ok(());
         };
-        self.settle(number, moved)?;
+        self.settle(number, &moved)?;
         Ok(())
     }
 
@@ -301,7 +301,7 @@ impl Store {
         let Some(moved) = found else {
             return Ok(());
         };
-        self.settle(number, moved)?;
+        self.settle(number, &moved)?;
         Ok(())
     }
 
@@ -522,7 +522,7 @@ fn change_in(
     };
     let before = Keys::of(delivery);
     delivery.change(change)?;
-    Ok(Some(Moved::of(delivery, before)))
+    Ok(Some(Moved::of(delivery, &before)))
 }
 
 /// Notes a transfer that carries `count` bytes of the delivery with a number, in its place.
@@ -541,7 +541,7 @@ fn note_in(
     };
     let before = Keys::of(delivery);
     delivery.note_frame(transfer, count)?;
-    Ok(Some(Moved::of(delivery, before)))
+    Ok(Some(Moved::of(delivery, &before)))
 }
 
 /// Appends the id of a delivery, if it has one.

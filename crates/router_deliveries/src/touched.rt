@@ -42,8 +42,8 @@ impl Touched {
     }
 
     /// Notes the links on which a delivery's entries have changed.
-    pub(crate) fn note(&mut self, before: Keys, after: Keys) -> Result<(), AllocError>
-        ensures { OnOk result ((k : ℕ) → is_touched_in self.new k ≡ false → (is_touched_in self.old k ≡ false) × StandsSame k before after) }
+    pub(crate) fn note(&mut self, before: &Keys, after: &Keys) -> Result<(), AllocError>
+        ensures { OnOk result ((k : ℕ) → is_touched_in self.new k ≡ false → (is_touched_in self.old k ≡ false) × StandsSame k before.now after.now) }
     {
         self.note_consumer(before, after)?;
         self.note_moved(before.held, after.held)?;
@@ -51,9 +51,9 @@ impl Touched {
     }
 
     /// Notes the link on which a delivery waits or is undecided, if that changes; once, where both change there.
-    fn note_consumer(&mut self, before: Keys, after: Keys) -> Result<(), AllocError>
+    fn note_consumer(&mut self, before: &Keys, after: &Keys) -> Result<(), AllocError>
         ensures { OnOk result ((k : ℕ) → is_touched_in self.new k ≡ false → (is_touched_in self.old k ≡ false)
-            × (is_number before.waiting k ≡ is_number after.waiting k) × (is_number before.undecided k ≡ is_number after.undecided k)) }
+            × (is_number before.now.waiting k ≡ is_number after.now.waiting k) × (is_number before.now.undecided k ≡ is_number after.now.undecided k)) }
     {
         self.note_moved(before.waiting, after.waiting)?;
         if before.undecided == before.waiting && after.undecided == after.waiting {
