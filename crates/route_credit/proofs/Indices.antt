@@ -6,6 +6,7 @@ use Rattle.std.specs.Map.{keys_of, remove_entry}
 use Rattle.std.specs.List.Sorted.{IsStrictlySortedBy}
 use Rattle.std.specs.Ordering.{nat_cmp}
 use Rattle.std.proofs.lemmas.Bool.{eqb-true, eq-eqb, ltb-true}
+use Rattle.route_credit.specs.Few.{once}
 use Rattle.route_credit.specs.Indexed.{IsIndexed}
 use Rattle.route_credit.specs.Links.{amount_at, link_at, with_link, total}
 use Rattle.route_credit.specs.Ranks.{is_rank, rank_at, ranked, Ranks}
@@ -24,7 +25,7 @@ same_test a b =
 
 -- ranks that are the same everywhere
 pub ranks_agree : (ranking : Ranking) (one other : ℕ → Option ℕ) → Ranks ranking one → ((id : ℕ) → one id ≡ other id) → Ranks ranking other
-ranks_agree ranking one other fits same place = fits place ∙ ap (λ r. is_rank r place.rank) (same place.id)
+ranks_agree ranking one other fits same place = fits place ∙ ap (λ r. once (is_rank r place.rank)) (same place.id)
 
 module _ {X : Type 0} (rank : X → Option ℕ) (amount : X → ℕ) where
   pub indexed_set : (old new : Links X) (id : ℕ) (link : X) (after : Option ℕ) → after ≡ rank link → IsStrictlySortedBy nat_cmp (keys_of old.rows.entries) → IsIndexed rank amount old
