@@ -1,7 +1,7 @@
 -- How the index of links follows what is known of one.
 use Rattle.std.proofs.Common.{◌≡◌, ◌∙◌, sym, ap, refl, subst, ℕ, Bool, true, false, cond, ◌+◌, ◌-◌, ◌<◌, ◌≤◌, Option, Some, None, arith}
 use Rattle.std.specs.Prelude.{◌==◌, nat_lt, if◌then◌else◌, option_and_then}
-use Rattle.std.specs.BTreeMap.{get, is_at}
+use Rattle.std.specs.BTreeMap.{BTreeMap, get, is_at}
 use Rattle.std.specs.Map.{keys_of, remove_entry}
 use Rattle.std.specs.List.Sorted.{IsStrictlySortedBy}
 use Rattle.std.specs.Ordering.{nat_cmp}
@@ -76,6 +76,14 @@ module _ {X : Type 0} (rank : X → Option ℕ) (amount : X → ℕ) where
           let now : total amount new.rows.entries ≡ total amount (remove_entry (is_at (nat_cmp id)) old.rows.entries) = ap (total amount) rows in
           let before : old.total ≡ total amount old.rows.entries = is.total in
           omega (arith, less, now, before, sum)
+
+  -- entries that are the same
+  pub indexed_same : (links : Links X) (rows : BTreeMap ℕ X) → rows.entries ≡ links.rows.entries → IsIndexed rank amount links → IsIndexed rank amount (record links { rows = rows })
+  indexed_same links rows same is = record {
+    ranks = ranks_agree links.ranking _ _ is.ranks (λ q. sym (ap (λ es. rank_at rank es q) same));
+    total = is.total ∙ ap (total amount) (sym same);
+    ordered = subst (λ es. IsStrictlySortedBy nat_cmp (keys_of es)) (sym same) is.ordered;
+  }
 
   -- a link that came and went
   pub indexed_back : (old new : Links X) (id : ℕ) (after : Option ℕ) → IsIndexed rank amount old → link_at old.rows.entries id ≡ None
