@@ -3,7 +3,8 @@ use Rattle.std.proofs.Common.{◌≡◌, ◌∙◌, sym, ap, refl, ℕ, Bool, tr
 use Rattle.std.specs.Prelude.{◌==◌, nat_lt}
 use Rattle.std.specs.List.{AllByRecursion}
 use Rattle.std.specs.List.Sorted.{IsStrictlySortedBy}
-use Rattle.std.specs.Map.{keys_of}
+use Rattle.std.specs.BTreeMap.{is_at}
+use Rattle.std.specs.Map.{keys_of, set_value}
 use Rattle.std.specs.Ordering.{nat_cmp, match_ordering, is_eq}
 use Rattle.std.specs.declared.cmp.Ordering.{Ordering}
 use Rattle.std.specs.declared.cmp.Ordering.TheVariants.{Less, Equal, Greater}
@@ -166,3 +167,23 @@ module _ {X : Type 0} where
       by_order Less is rest = absurd (no y (sym (none_below e es id s (is_less id e.0 is)) ∙ found))
       by_order Equal is rest = refl
       by_order Greater is rest = ap (λ ids. e.0 ∷ ids) (rest (sym (ap (λ o. cond (is_eq o) (Some e.1) (link_at es id)) is) ∙ found))
+
+  -- what is known of a link is written where it stands
+  pub written_is : (es : List (ℕ × X)) (id : ℕ) (x y : X) → InOrder es → Some y ≡ link_at es id → set_value (is_at (nat_cmp id)) es x ≡ with_link es id x
+  unfolding IsStrictlySortedBy
+  written_is [] id x y s found = absurd (no y (sym found))
+    where
+      no : (x : X) → None ≡ Some x → ⊥
+      no x h = cc
+  written_is (e ∷ es) id x y s found = by_order (nat_cmp id e.0) refl (written_is es id x y s.1)
+    where
+      no : (x : X) → None ≡ Some x → ⊥
+      no x h = cc
+
+      by_order : (o : Ordering) → nat_cmp id e.0 ≡ o → (Some y ≡ link_at es id → set_value (is_at (nat_cmp id)) es x ≡ with_link es id x)
+          → cond (is_at (nat_cmp id) e.0) ((e.0, x) ∷ es) (e ∷ set_value (is_at (nat_cmp id)) es x) ≡ match_ordering o ((id, x) ∷ e ∷ es) ((e.0, x) ∷ es) (e ∷ with_link es id x)
+      by_order Less is rest = absurd (no y (sym (none_below e es id s (is_less id e.0 is)) ∙ sym found))
+      by_order Equal is rest = ap (λ o. cond (is_eq o) ((e.0, x) ∷ es) (e ∷ set_value (is_at (nat_cmp id)) es x)) is
+      by_order Greater is rest =
+          ap (λ o. cond (is_eq o) ((e.0, x) ∷ es) (e ∷ set_value (is_at (nat_cmp id)) es x)) is
+          ∙ ap (λ l. e ∷ l) (rest (found ∙ ap (λ o. cond (is_eq o) (Some e.1) (link_at es id)) is))

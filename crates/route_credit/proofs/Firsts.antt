@@ -1,37 +1,93 @@
 -- What the first place of the index means.
-use Rattle.std.proofs.Common.{◌≡◌, ◌∙◌, sym, ap, refl, ℕ, true, false, true≢false, ◌⊎◌, inl, inr, ◌<◌, ◌≤◌, Option, Some, None, List, [], ◌∷◌, length, zero, suc, arith}
-use Rattle.std.specs.Prelude.{◌==◌, nat_lt}
+use Rattle.std.proofs.Common.{◌≡◌, ◌∙◌, sym, ap, refl, ℕ, Bool, true, false, true≢false, ◌⊎◌, inl, inr, ◌<◌, ◌≤◌, ◌+◌, Option, Some, None, List, [], ◌∷◌, length, get_or, zero, suc, arith}
+use Rattle.std.specs.Prelude.{◌==◌, nat_lt, if◌then◌else◌}
+use Rattle.std.specs.BTreeSet.{BTreeSet, contains}
+use Rattle.std.specs.Option.{option_map}
 use Rattle.std.specs.Ordering.{nat_cmp, ordering_then, is_gt}
-use Rattle.std.specs.declared.cmp.Ordering.TheVariants.{Less, Equal, Greater}
 use Rattle.std.proofs.lemmas.Bool.{eqb-true, eq-eqb, ltb-true}
+use Rattle.route_credit.specs.Few.{count, IsFirst, is_there, once}
 use Rattle.route_credit.specs.Links.{IsLeast}
-use Rattle.route_credit.specs.Ranks.{behind, has, is_rank, place_cmp, Ranks}
-use Rattle.route_credit.specs.declared.ranking.Place.{Place}
+use Rattle.route_credit.specs.Ranks.{behind, is_rank, place_cmp, Ranks, times}
+use Rattle.route_credit.specs.declared.place.Place.{Place}
 use Rattle.route_credit.specs.declared.ranking.Ranking.{Ranking}
+use Rattle.route_credit.proofs.Counted.{at_four}
 use Rattle.route_credit.proofs.Moved.{by_test}
 
 -- no rank
-pub no_rank : (a : Option ℕ) → ((r : ℕ) → is_rank a r ≡ false) → a ≡ None
+no_rank : (a : Option ℕ) → ((r : ℕ) → once (is_rank a r) ≡ 0) → a ≡ None
 no_rank None none = refl
-no_rank (Some r) none = absurd (true≢false (sym (eq-eqb r r refl) ∙ none r))
+no_rank (Some r) none = absurd (one (sym (ap once (eq-eqb r r refl)) ∙ none r))
+  where
+    one : suc zero ≡ zero → ⊥
+    one h = omega (arith, h)
 
-pub some_rank : (a : Option ℕ) (r : ℕ) → is_rank a r ≡ true → a ≡ Some r
-some_rank None r h = absurd cc
-some_rank (Some x) r h = ap Some (eqb-true x r h)
+some_rank : (a : Option ℕ) (r : ℕ) → 0 < once (is_rank a r) → a ≡ Some r
+some_rank None r h = absurd (omega (arith, h))
+some_rank (Some x) r h = by_test (x == r) (λ e. ap Some (eqb-true x r e)) (λ e. absurd (none (rw e at h)))
+  where
+    none : 0 < 0 → ⊥
+    none h = omega (arith, h)
 
-pub is_some_rank : (a : Option ℕ) (r : ℕ) → a ≡ Some r → is_rank a r ≡ true
+is_some_rank : (a : Option ℕ) (r : ℕ) → a ≡ Some r → 0 < once (is_rank a r)
 is_some_rank None r h = absurd cc
-is_some_rank (Some x) r h = eq-eqb x r cc
+is_some_rank (Some x) r h = rw (eq-eqb x r cc) (omega arith)
 
-empty_has : (ranking : Ranking) (place : Place) (keys : List Place) → ranking.places.keys ≡ keys → length keys ≡ 0 → has ranking place ≡ false
-empty_has ranking place [] is none = rw is refl
-empty_has ranking place (k ∷ ks) is none = absurd cc
+-- where each place is counted that a link has by its figure, the first one is that of the link with the least
+pub least_of : (times : Place → ℕ) (figure : ℕ → Option ℕ) → ((place : Place) → times place ≡ once (is_rank (figure place.id) place.rank))
+    → (first : Option Place) → IsFirst times first → IsLeast figure (option_map (λ place. place.id) first)
+least_of times figure fits None none = λ id. no_rank (figure id) (λ r. sym (fits (record { rank = r; id = id })) ∙ none (record { rank = r; id = id }))
+least_of times figure fits (Some first) least = (
+  first.rank,
+  some_rank (figure first.id) first.rank (let is = fits first in let there = least.0 in omega (arith, is, there)),
+  λ other m is. least.1 (record { rank = m; id = other }) (let counted = fits (record { rank = m; id = other }) in let some = is_some_rank (figure other) m is in omega (arith, counted, some)),
+)
 
--- nobody has a rank where there is no place
-pub first_none : (ranking : Ranking) (ranks : ℕ → Option ℕ) → Ranks ranking ranks → length ranking.places.keys ≡ 0 → IsLeast ranks None
-first_none ranking ranks fits none id = no_rank (ranks id) (λ r. sym (fits (record { rank = r; id = id })) ∙ empty_has ranking (record { rank = r; id = id }) ranking.places.keys refl none)
+-- two ways to count the same
+pub same_first : (one other : Place → ℕ) → ((place : Place) → one place ≡ other place) → (first : Option Place) → IsFirst one first → IsFirst other first
+same_first one other same None none = λ place. sym (same place) ∙ none place
+same_first one other same (Some first) least = (
+  (let is = same first in let there = least.0 in omega (arith, is, there)),
+  λ place counted. least.1 place (let is = same place in omega (arith, is, counted)),
+)
 
-pub not_behind : (a b c d : ℕ) → is_gt (ordering_then (nat_cmp a b) (nat_cmp c d)) ≡ false → (a < b) ⊎ ((a ≡ b) × (c ≤ d))
+-- a place is the first of itself
+pub itself : (found : Option Place) → IsFirst (λ place. once (is_there found place)) found
+itself None = λ place. refl
+itself (Some found) = (rw (eq-eqb found.id found.id refl, eq-eqb found.rank found.rank refl) (omega arith), λ place counted. here place counted)
+  where
+    here : (place : Place) → 0 < once (is_there (Some found) place) → (found.rank < place.rank) ⊎ ((found.rank ≡ place.rank) × (found.id ≤ place.id))
+    here place counted = by_test (found.id == place.id)
+        (λ e. by_test (found.rank == place.rank)
+        (λ f. inr (eqb-true found.rank place.rank f, (let is = eqb-true found.id place.id e in omega (arith, is))))
+        (λ f. absurd (none (rw (e, f) at counted))))
+        (λ e. absurd (none (rw e at counted)))
+      where
+        none : 0 < 0 → ⊥
+        none h = omega (arith, h)
+
+-- the first of the places of the links behind one
+pub least_behind : (ranks : ℕ → Option ℕ) (id : ℕ) (ranking : Ranking) → Ranks ranking ranks → (place : Place)
+    → (if nat_lt id place.id then count ranking.few.places place else 0) + (if nat_lt id place.id then once (contains place_cmp ranking.more place) else 0) ≡ once (is_rank (behind id ranks place.id) place.rank)
+least_behind ranks id ranking fits place = by_test (nat_lt id place.id) (λ e. rw e (fits place)) (λ e. rw e refl)
+
+-- a place of the ordered set has a link's rank
+pub ranked_there : (ranking : Ranking) (ranks : ℕ → Option ℕ) → Ranks ranking ranks → (place : Place) → contains place_cmp ranking.more place ≡ true → ranks place.id ≡ Some place.rank
+ranked_there ranking ranks fits place there = some_rank (ranks place.id) place.rank (let is = fits place in let one = ap once there in omega (arith, is, one))
+
+four_behind : (t : Bool) (a b c d : ℕ) → ((if t then a else 0) + (if t then b else 0)) + ((if t then c else 0) + (if t then d else 0)) ≡ (if t then (a + b) + (c + d) else 0)
+four_behind true a b c d = refl
+four_behind false a b c d = refl
+
+-- what four places count of the links behind one
+pub at_four_behind : (few : List (Option Place)) → length few ≡ 4 → (id : ℕ) (place : Place)
+    → ((if nat_lt id place.id then once (is_there (get_or few 0 None) place) else 0) + (if nat_lt id place.id then once (is_there (get_or few 1 None) place) else 0))
+    + ((if nat_lt id place.id then once (is_there (get_or few 2 None) place) else 0) + (if nat_lt id place.id then once (is_there (get_or few 3 None) place) else 0))
+    ≡ (if nat_lt id place.id then count few place else 0)
+at_four_behind few four id place =
+    four_behind (nat_lt id place.id) (once (is_there (get_or few 0 None) place)) (once (is_there (get_or few 1 None) place)) (once (is_there (get_or few 2 None) place)) (once (is_there (get_or few 3 None) place))
+    ∙ ap (λ n. if nat_lt id place.id then n else 0) (at_four few four place)
+
+not_behind : (a b c d : ℕ) → is_gt (ordering_then (nat_cmp a b) (nat_cmp c d)) ≡ false → (a < b) ⊎ ((a ≡ b) × (c ≤ d))
 not_behind a b c d h =
     by_test (nat_lt a b)
     (λ e. inl (ltb-true a b e))
@@ -41,64 +97,30 @@ not_behind a b c d h =
     (λ g. by_test (c == d) (λ k. inr (eqb-true a b f, (let l : c ≡ d = eqb-true c d k in omega arith))) (λ k. absurd (true≢false (rw (e, f, g, k) at h)))))
     (λ f. absurd (true≢false (rw (e, f) at h))))
 
--- the first place is that of the link whose turn is first
-pub first_some : (ranking : Ranking) (ranks : ℕ → Option ℕ) (place : Place) → Ranks ranking ranks → has ranking place ≡ true
-    → ((q : Place) → has ranking q ≡ true → is_gt (place_cmp place q) ≡ false) → IsLeast ranks (Some place.id)
-first_some ranking ranks place fits there least = (
-  place.rank,
-  some_rank (ranks place.id) place.rank (sym (fits place) ∙ there),
-  λ other m is. not_behind place.rank m place.id other (least (record { rank = m; id = other }) (fits (record { rank = m; id = other }) ∙ is_some_rank (ranks other) m is)),
-)
-
 -- a length that isn't above 0
-pub no_length : (n : ℕ) → (0 < n → false ≡ true) → n ≡ 0
+no_length : (n : ℕ) → (0 < n → false ≡ true) → n ≡ 0
 no_length n short = by_test (n == 0) (λ e. eqb-true n 0 e) (λ e. absurd (true≢false (sym (short (above n e)))))
   where
     above : (n : ℕ) → (n == 0) ≡ false → 0 < n
     above zero e = absurd cc
     above (suc n) e = omega arith
 
-less_here : (id other : ℕ) → ordering_then (nat_cmp 0 0) (nat_cmp id other) ≡ Less → nat_lt id other ≡ true
-less_here id other less = by_test (nat_lt id other) (λ e. e) (λ e. by_test (id == other) (λ f. absurd (not_less (rw (e, f) at less))) (λ f. absurd (not_less' (rw (e, f) at less))))
-  where
-    not_less : Equal ≡ Less → ⊥
-    not_less h = cc
+module _ (places : BTreeSet Place) where
+  is_in : (place : Place) → 0 < once (contains place_cmp places place) → contains place_cmp places place ≡ true
+  is_in place counted = by_test (contains place_cmp places place) (λ e. e) (λ e. absurd (none (rw e at counted)))
+    where
+      none : 0 < 0 → ⊥
+      none h = omega (arith, h)
 
-    not_less' : Greater ≡ Less → ⊥
-    not_less' h = cc
+  empty_has : (keys : List Place) → places.keys ≡ keys → length keys ≡ 0 → (place : Place) → contains place_cmp places place ≡ false
+  empty_has [] is none place = rw is refl
+  empty_has (k ∷ ks) is none place = absurd cc
 
-here_less : (id other m : ℕ) → m ≡ 0 → nat_lt id other ≡ true → ordering_then (nat_cmp 0 m) (nat_cmp id other) ≡ Less
-here_less id other m is e = rw (is, e) refl
+  -- of no keys none is first
+  pub first_none : (0 < length places.keys → false ≡ true) → IsFirst (λ place. once (contains place_cmp places place)) None
+  first_none short place = ap once (empty_has places.keys refl (no_length (length places.keys) short) place)
 
-not_some : (a : Option ℕ) → ((n : ℕ) → a ≡ Some n → ⊥) → a ≡ None
-not_some None none = refl
-not_some (Some n) none = absurd (none n refl)
-
--- nobody after a link has a turn where there is no place after it
-pub behind_none : (ranking : Ranking) (ranks : ℕ → Option ℕ) (id : ℕ) → Ranks ranking ranks → ((other m : ℕ) → ranks other ≡ Some m → m ≡ 0)
-    → ((q : Place) → place_cmp (record { rank = 0; id = id }) q ≡ Less → has ranking q ≡ false) → IsLeast (behind id ranks) None
-behind_none ranking ranks id fits flat none other =
-    by_test (nat_lt id other)
-    (λ e. rw e (not_some (ranks other) (λ m is.
-    let q : Place = record { rank = m; id = other } in
-    true≢false (sym (fits q ∙ is_some_rank (ranks other) m is) ∙ none q (here_less id other m (flat other m is) e)))))
-    (λ e. rw e refl)
-
--- the first place after a link is that of the next one
-pub behind_some : (ranking : Ranking) (ranks : ℕ → Option ℕ) (id : ℕ) (place : Place) → Ranks ranking ranks → ((other m : ℕ) → ranks other ≡ Some m → m ≡ 0)
-    → place_cmp (record { rank = 0; id = id }) place ≡ Less → has ranking place ≡ true
-    → ((q : Place) → place_cmp (record { rank = 0; id = id }) q ≡ Less → has ranking q ≡ true → is_gt (place_cmp place q) ≡ false)
-    → IsLeast (behind id ranks) (Some place.id)
-behind_some ranking ranks id place fits flat from there least =
-    let is : ranks place.id ≡ Some place.rank = some_rank (ranks place.id) place.rank (sym (fits place) ∙ there) in
-    let first : place.rank ≡ 0 = flat place.id place.rank is in
-    let after : nat_lt id place.id ≡ true = less_here id place.id (ap (λ n. ordering_then (nat_cmp 0 n) (nat_cmp id place.id)) (sym first) ∙ from) in
-    (place.rank, rw after is, λ other m h. next other m (by_test (nat_lt id other) (λ e. (e, (rw e at h))) (λ e. absurd (none_some m (rw e at h)))))
-  where
-    none_some : (m : ℕ) → None ≡ Some m → ⊥
-    none_some m h = cc
-
-    next : (other m : ℕ) → (nat_lt id other ≡ true) × (ranks other ≡ Some m) → (place.rank < m) ⊎ ((place.rank ≡ m) × (place.id ≤ other))
-    next other m both =
-        let q : Place = record { rank = m; id = other } in
-        not_behind place.rank m place.id other (least q (here_less id other m (flat other m both.1) both.0) (fits q ∙ is_some_rank (ranks other) m both.1))
+  -- the first key is the first place
+  pub first_some : (first : Place) → contains place_cmp places first ≡ true → ((q : Place) → contains place_cmp places q ≡ true → is_gt (place_cmp first q) ≡ false)
+      → IsFirst (λ place. once (contains place_cmp places place)) (Some first)
+  first_some first there least = (rw there (omega arith), λ q counted. not_behind first.rank q.rank first.id q.id (least q (is_in q counted)))

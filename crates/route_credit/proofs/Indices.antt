@@ -1,11 +1,12 @@
 -- How the index of links follows what is known of one.
 use Rattle.std.proofs.Common.{◌≡◌, ◌∙◌, sym, ap, refl, subst, ℕ, Bool, true, false, cond, ◌+◌, ◌-◌, ◌<◌, ◌≤◌, Option, Some, None, arith}
 use Rattle.std.specs.Prelude.{◌==◌, nat_lt, if◌then◌else◌, option_and_then}
-use Rattle.std.specs.BTreeMap.{get, is_at}
+use Rattle.std.specs.BTreeMap.{BTreeMap, get, is_at}
 use Rattle.std.specs.Map.{keys_of, remove_entry}
 use Rattle.std.specs.List.Sorted.{IsStrictlySortedBy}
 use Rattle.std.specs.Ordering.{nat_cmp}
 use Rattle.std.proofs.lemmas.Bool.{eqb-true, eq-eqb, ltb-true}
+use Rattle.route_credit.specs.Few.{once}
 use Rattle.route_credit.specs.Indexed.{IsIndexed}
 use Rattle.route_credit.specs.Links.{amount_at, link_at, with_link, total}
 use Rattle.route_credit.specs.Ranks.{is_rank, rank_at, ranked, Ranks}
@@ -24,7 +25,7 @@ same_test a b =
 
 -- ranks that are the same everywhere
 pub ranks_agree : (ranking : Ranking) (one other : ℕ → Option ℕ) → Ranks ranking one → ((id : ℕ) → one id ≡ other id) → Ranks ranking other
-ranks_agree ranking one other fits same place = fits place ∙ ap (λ r. is_rank r place.rank) (same place.id)
+ranks_agree ranking one other fits same place = fits place ∙ ap (λ r. once (is_rank r place.rank)) (same place.id)
 
 module _ {X : Type 0} (rank : X → Option ℕ) (amount : X → ℕ) where
   pub indexed_set : (old new : Links X) (id : ℕ) (link : X) (after : Option ℕ) → after ≡ rank link → IsStrictlySortedBy nat_cmp (keys_of old.rows.entries) → IsIndexed rank amount old
@@ -75,6 +76,14 @@ module _ {X : Type 0} (rank : X → Option ℕ) (amount : X → ℕ) where
           let now : total amount new.rows.entries ≡ total amount (remove_entry (is_at (nat_cmp id)) old.rows.entries) = ap (total amount) rows in
           let before : old.total ≡ total amount old.rows.entries = is.total in
           omega (arith, less, now, before, sum)
+
+  -- entries that are the same
+  pub indexed_same : (links : Links X) (rows : BTreeMap ℕ X) → rows.entries ≡ links.rows.entries → IsIndexed rank amount links → IsIndexed rank amount (record links { rows = rows })
+  indexed_same links rows same is = record {
+    ranks = ranks_agree links.ranking _ _ is.ranks (λ q. sym (ap (λ es. rank_at rank es q) same));
+    total = is.total ∙ ap (total amount) (sym same);
+    ordered = subst (λ es. IsStrictlySortedBy nat_cmp (keys_of es)) (sym same) is.ordered;
+  }
 
   -- a link that came and went
   pub indexed_back : (old new : Links X) (id : ℕ) (after : Option ℕ) → IsIndexed rank amount old → link_at old.rows.entries id ≡ None

@@ -1,4 +1,5 @@
 pub mod Choices
+pub mod Counted
 pub mod Entries
 pub mod Firsts
 pub mod Gains

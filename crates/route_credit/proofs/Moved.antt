@@ -1,9 +1,10 @@
 -- How the index follows one link.
-use Rattle.std.proofs.Common.{◌≡◌, ◌∙◌, sym, ap, refl, ℕ, Bool, true, false, not, ◌&&◌, ◌||◌, Option, Some, None}
+use Rattle.std.proofs.Common.{◌≡◌, ◌∙◌, sym, ap, refl, ℕ, Bool, true, false, ◌+◌, ◌-◌, ◌≤◌, Option, Some, None, arith}
 use Rattle.std.specs.Prelude.{◌==◌}
 use Rattle.std.proofs.lemmas.Bool.{eqb-true}
-use Rattle.route_credit.specs.Ranks.{has, is_rank, is_place, ranked, Ranks}
-use Rattle.route_credit.specs.declared.ranking.Place.{Place}
+use Rattle.route_credit.specs.Few.{is_there, once, place_of}
+use Rattle.route_credit.specs.Ranks.{is_rank, ranked, Ranks, times}
+use Rattle.route_credit.specs.declared.place.Place.{Place}
 use Rattle.route_credit.specs.declared.ranking.Ranking.{Ranking}
 
 -- the two cases of a test
@@ -17,40 +18,64 @@ one_rank None b r h k = absurd cc
 one_rank (Some x) None r h k = absurd cc
 one_rank (Some x) (Some y) r h k = ap Some (eqb-true x r h ∙ sym (eqb-true y r k))
 
-moved_here : (a b : Bool) → (a ≡ true → b ≡ true → ⊥) → (not b && (a || b)) ≡ a
-moved_here true true apart = absurd (apart refl refl)
-moved_here true false apart = refl
-moved_here false true apart = refl
-moved_here false false apart = refl
+-- the place of a link is that with its number and its rank
+there_at : (id : ℕ) (rank : Option ℕ) (place : Place) → (id == place.id) ≡ true → is_there (place_of id rank) place ≡ is_rank rank place.rank
+there_at id None place e = refl
+there_at id (Some r) place e = rw e refl
 
--- a link has moved to another rank
-pub ranks_moved : (old new : Ranking) (ranks : ℕ → Option ℕ) (id : ℕ) (before after : Option ℕ) → Ranks old ranks → ranks id ≡ before → (before ≡ after → ⊥)
-    → ((place : Place) → has new place ≡ (not (is_place id before place) && (is_place id after place || has old place)))
-    → Ranks new (ranked ranks id after)
-ranks_moved old new ranks id before after fits is other moved place =
+there_elsewhere : (id : ℕ) (rank : Option ℕ) (place : Place) → (id == place.id) ≡ false → is_there (place_of id rank) place ≡ false
+there_elsewhere id None place e = refl
+there_elsewhere id (Some r) place e = rw e refl
+
+-- a place that a link is to have isn't there before
+ranks_room : (ranking : Ranking) (ranks : ℕ → Option ℕ) (id : ℕ) (before after : Option ℕ) → Ranks ranking ranks → ranks id ≡ before → (before ≡ after → ⊥)
+    → (place : Place) → times ranking place + once (is_there (place_of id after) place) ≤ 1
+ranks_room ranking ranks id before after fits is other place =
     by_test (id == place.id)
     (λ e. let here : ranks place.id ≡ before = ap ranks (sym (eqb-true id place.id e)) ∙ is in
-    rw (moved place, fits place, here, e) (moved_here (is_rank after place.rank) (is_rank before place.rank) (λ a b. other (one_rank before after place.rank b a))))
-    (λ e. rw (moved place, fits place, e) refl)
-
--- nothing has moved
-pub ranks_same : (old new : Ranking) (ranks : ℕ → Option ℕ) (id : ℕ) (after : Option ℕ) → Ranks old ranks → ranks id ≡ after → ((place : Place) → has new place ≡ has old place) → Ranks new (ranked ranks id after)
-ranks_same old new ranks id after fits is same place =
-    by_test (id == place.id)
-    (λ e. rw (same place, fits place, e, ap ranks (sym (eqb-true id place.id e)) ∙ is) refl)
-    (λ e. rw (same place, fits place, e) refl)
-
-pub ranks_kept : (old new : Ranking) (ranks : ℕ → Option ℕ) → Ranks old ranks → ((place : Place) → has new place ≡ has old place) → Ranks new ranks
-ranks_kept old new ranks fits same place = same place ∙ fits place
-
--- a link is gone
-pub ranks_less : (old new : Ranking) (ranks : ℕ → Option ℕ) (id : ℕ) (rank : Option ℕ) → Ranks old ranks → ranks id ≡ rank
-    → ((place : Place) → has new place ≡ (not (is_place id rank place) && has old place)) → Ranks new (ranked ranks id None)
-ranks_less old new ranks id rank fits is less place =
-    by_test (id == place.id)
-    (λ e. rw (less place, fits place, e, ap ranks (sym (eqb-true id place.id e)) ∙ is) (and_not (is_rank rank place.rank)))
-    (λ e. rw (less place, fits place, e) refl)
+    rw (fits place, here, there_at id after place e) (apart (is_rank before place.rank) (is_rank after place.rank) (λ a b. other (one_rank before after place.rank a b))))
+    (λ e. rw (fits place, there_elsewhere id after place e) (most (is_rank (ranks place.id) place.rank)))
   where
-    and_not : (b : Bool) → (not b && b) ≡ false
-    and_not true = refl
-    and_not false = refl
+    apart : (a b : Bool) → (a ≡ true → b ≡ true → ⊥) → once a + once b ≤ 1
+    apart true true other = absurd (other refl refl)
+    apart true false other = omega arith
+    apart false true other = omega arith
+    apart false false other = omega arith
+
+    most : (b : Bool) → once b + 0 ≤ 1
+    most true = omega arith
+    most false = omega arith
+
+-- a link has moved to another rank
+ranks_moved : (old new : Ranking) (ranks : ℕ → Option ℕ) (id : ℕ) (before after : Option ℕ) → Ranks old ranks → ranks id ≡ before
+    → ((place : Place) → times new place + once (is_there (place_of id before) place) ≡ times old place + once (is_there (place_of id after) place))
+    → Ranks new (ranked ranks id after)
+ranks_moved old new ranks id before after fits is moved place =
+    by_test (id == place.id)
+    (λ e. let here : ranks place.id ≡ before = ap ranks (sym (eqb-true id place.id e)) ∙ is in
+    let now = moved place in let was = fits place ∙ ap (λ r. once (is_rank r place.rank)) here in
+    let from = ap once (there_at id before place e) in let to = ap once (there_at id after place e) in
+    rw e (omega (arith, now, was, from, to)))
+    (λ e. let now = moved place in let was = fits place in
+    let from = ap once (there_elsewhere id before place e) in let to = ap once (there_elsewhere id after place e) in
+    rw e (omega (arith, now, was, from, to)))
+
+-- a link's new place was put, and its old one was taken away
+pub ranks_put : (old put new : Ranking) (ranks : ℕ → Option ℕ) (id : ℕ) (before after : Option ℕ) → Ranks old ranks → ranks id ≡ before → (before ≡ after → ⊥)
+    → ((place : Place) → times old place + once (is_there (place_of id after) place) ≤ 1 → times put place ≡ times old place + once (is_there (place_of id after) place))
+    → ((place : Place) → times put place ≤ 1 → times new place ≡ times put place - once (is_there (place_of id before) place))
+    → Ranks new (ranked ranks id after)
+ranks_put old put new ranks id before after fits is other more less = ranks_moved old new ranks id before after fits is (λ place.
+    let room = ranks_room old ranks id before after fits is other place in
+    let one = more place room in
+    let rest = less place (omega (arith, one, room)) in
+    let there = was_there place in
+    omega (arith, one, rest, there))
+  where
+    was_there : (place : Place) → once (is_there (place_of id before) place) ≤ times old place
+    was_there place =
+        by_test (id == place.id)
+        (λ e. let here : ranks place.id ≡ before = ap ranks (sym (eqb-true id place.id e)) ∙ is in
+        let was = fits place ∙ ap (λ r. once (is_rank r place.rank)) here in let from = ap once (there_at id before place e) in
+        omega (arith, was, from))
+        (λ e. let from = ap once (there_elsewhere id before place e) in omega (arith, from))

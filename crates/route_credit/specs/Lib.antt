@@ -1,3 +1,4 @@
+pub mod Few
 pub mod Giving
 pub mod Granting
 pub mod Indexed

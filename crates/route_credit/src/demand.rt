@@ -59,6 +59,10 @@ impl Weigh for Demand {
         if needs { Some(lent) } else { None }
     }
 
+    fn is_same(self, other: Self) -> bool {
+        self == other
+    }
+
     fn amount(self) -> u64 {
         u64::from(self.lent)
     }

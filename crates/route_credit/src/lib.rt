@@ -4,10 +4,12 @@
 #![tactic(auto)]
 
 mod demand;
+mod few;
 mod ids;
 pub mod laws;
 mod links;
 mod offer;
+mod place;
 mod pool;
 mod ranking;
 mod weigh;

@@ -1,10 +1,10 @@
 //! The links of one side of an address, with an index.
-ghost use Rattle.std.specs.Prelude.{◌≡◌, ◌==◌, ℕ, List, [], length, Option, None, Some, OnOk, OnErr, option_and_then};
+ghost use Rattle.std.specs.Prelude.{◌≡◌, ◌==◌, ◌+◌, ◌-◌, ℕ, List, [], length, Option, None, Some, OnOk, OnErr, option_and_then};
 ghost use Rattle.std.specs.List.Sorted.{IsStrictlySortedBy};
 ghost use Rattle.std.specs.Map.{keys_of};
 ghost use Rattle.std.specs.Ordering.{nat_cmp};
 ghost use Rattle.route_credit.specs.Links.{amount_at, link_at, with_link, without_link, total, IsLeast};
-ghost use Rattle.route_credit.specs.Ranks.{behind, rank_at};
+ghost use Rattle.route_credit.specs.Ranks.{behind, rank_at, ranked, Ranks};
 ghost use Rattle.route_credit.specs.Indexed.{IsIndexed};
 
 use crate::ranking::Ranking;
@@ -66,13 +66,35 @@ impl<T: Weigh> Links<T> {
         ensures err { OnErr result (self.new.rows.entries ≡ self.old.rows.entries) }
         ensures whole { IsIndexed (T.rank distribution) T.amount self.old → IsIndexed (T.rank distribution) T.amount self.new }
     {
-        let old = self.get(id);
+        if let Some(known) = self.rows.get_mut(&id) {
+            if known.is_same(link) {
+                return Ok(());
+            }
+            change(
+                known,
+                &mut self.ranking,
+                &mut self.total,
+                distribution,
+                id,
+                link,
+            )?;
+            return Ok(());
+        }
+        self.add(distribution, id, link)
+    }
+
+    /// Stores what is known of a link of which nothing was known.
+    fn add(&mut self, distribution: Distribution, id: u64, link: T) -> Result<(), AllocError>
+        ensures set { OnOk result (self.new.rows.entries ≡ with_link self.old.rows.entries id link) }
+        ensures ordered { OnOk result (IsStrictlySortedBy nat_cmp (keys_of self.old.rows.entries)) }
+        ensures err { OnErr result (self.new.rows.entries ≡ self.old.rows.entries) }
+        ensures whole { link_at self.old.rows.entries id ≡ None → IsIndexed (T.rank distribution) T.amount self.old → IsIndexed (T.rank distribution) T.amount self.new }
+    {
         let after = link.rank(distribution);
-        let rest = self.total.saturating_sub(amount_of(old));
-        let Some(total) = rest.checked_add(link.amount()) else {
+        let Some(total) = self.total.checked_add(link.amount()) else {
             return Err(AllocError);
         };
-        self.ranking.set(id, rank_of(distribution, old), after)?;
+        self.ranking.set(id, None, after)?;
         match self.rows.insert(id, link) {
             Ok(_) => {}
             Err(_) => {
@@ -111,6 +133,33 @@ impl<T: Weigh> Links<T> {
     {
         self.ranking.first_behind(id)
     }
+}
+
+/// Changes what is known of a link, with its place and its part in the sum. Where memory is refused nothing changes.
+fn change<T: Weigh>(
+    known: &mut T,
+    ranking: &mut Ranking,
+    total: &mut u64,
+    distribution: Distribution,
+    id: u64,
+    link: T,
+) -> Result<(), AllocError>
+    ensures known { OnOk result (known.new ≡ link) }
+    ensures total { OnOk result (total.new ≡ total.old - T.amount known.old + T.amount link) }
+    ensures ranks { (ranks : ℕ → Option ℕ) → Ranks ranking.old ranks → ranks id ≡ T.rank distribution known.old → OnOk result (Ranks ranking.new (ranked ranks id (T.rank distribution link))) }
+    ensures known_stays { OnErr result (known.new ≡ known.old) }
+    ensures total_stays { OnErr result (total.new ≡ total.old) }
+    ensures ranks_stay { (ranks : ℕ → Option ℕ) → Ranks ranking.old ranks → OnErr result (Ranks ranking.new ranks) }
+{
+    let old = *known;
+    let rest = total.saturating_sub(old.amount());
+    let Some(sum) = rest.checked_add(link.amount()) else {
+        return Err(AllocError);
+    };
+    ranking.set(id, old.rank(distribution), link.rank(distribution))?;
+    *known = link;
+    *total = sum;
+    Ok(())
 }
 
 fn rank_of<T: Weigh>(distribution: Distribution, link: Option<T>) -> Option<u64>

@@ -27,6 +27,10 @@ impl Weigh for Offer {
         }
     }
 
+    fn is_same(self, other: Self) -> bool {
+        self == other
+    }
+
     fn amount(self) -> u64 {
         self.free
     }

@@ -1,24 +1,23 @@
 //! Links in the order of their turns.
-ghost use Rattle.std.specs.Prelude.{◌≡◌, ◌∷◌, ◌||◌, ◌&&◌, not, ℕ, Option, None, Some, OnOk, OnErr, option_map};
+ghost use Rattle.std.specs.Prelude.{◌≡◌, ◌+◌, ◌-◌, ◌≤◌, ℕ, Option, None, Some, OnOk, OnErr, true, nat_lt, if◌then◌else◌};
+ghost use Rattle.std.specs.BTreeSet.{contains};
+ghost use Rattle.route_credit.specs.Few.{IsFirst, is_there, once};
 ghost use Rattle.route_credit.specs.Links.{IsLeast};
-ghost use Rattle.route_credit.specs.Ranks.{behind, has, is_place, ranked, Ranks};
-ghost use Rattle.route_credit.specs.declared.ranking.Place.{Place};
+ghost use Rattle.route_credit.specs.Ranks.{behind, place_cmp, ranked, Ranks, times};
+ghost use Rattle.route_credit.specs.declared.place.Place.{Place};
 
+use crate::few::Few;
+use crate::place::{Place, sooner};
 use std::alloc::{AllocError, Global};
 use std::collections::BTreeSet;
 use std::ops::Bound;
 
-/// The place of a link: by its rank, and of several with one rank by its number.
-#[derive(Clone, Copy, Debug, PartialEq, Eq, PartialOrd, Ord)]
-pub(crate) struct Place {
-    rank: u64,
-    id: u64,
-}
-
-/// The links that have a rank, in order.
+/// The places of the links that have a rank. Up to four stand in an array, and only what comes beyond them in an ordered set: where there
+/// are never more, no memory is taken and none given back.
 #[derive(Debug, Drop)]
 pub(crate) struct Ranking {
-    places: BTreeSet<Place>,
+    few: Few,
+    more: BTreeSet<Place>,
 }
 
 impl Ranking {
@@ -26,38 +25,41 @@ impl Ranking {
         ensures { Ranks result (λ id. None) }
     {
         Ranking {
-            places: BTreeSet::new(alloc),
+            few: Few::new(),
+            more: BTreeSet::new(alloc),
         }
     }
 
-    /// Gives a link its place.
-    fn put(&mut self, id: u64, rank: Option<u64>) -> Result<(), AllocError>
-        ensures put { OnOk result ((place : Place) → has self.new place ≡ (is_place id rank place || has self.old place)) }
-        ensures err { OnErr result ((place : Place) → has self.new place ≡ has self.old place) }
+    /// Puts a place that isn't there.
+    fn put(&mut self, place: Option<Place>) -> Result<(), AllocError>
+        ensures put { OnOk result ((p : Place) → times self.old p + once (is_there place p) ≤ 1 → times self.new p ≡ times self.old p + once (is_there place p)) }
+        ensures err { OnErr result ((p : Place) → times self.new p ≡ times self.old p) }
     {
-        match rank {
-            None => Ok(()),
-            Some(rank) => match self.places.insert(Place { rank, id }) {
-                Ok(_) => Ok(()),
-                Err(_) => Err(AllocError),
-            },
+        let Some(there) = place else {
+            return Ok(());
+        };
+        if self.few.replace(None, place) {
+            return Ok(());
+        }
+        match self.more.insert(there) {
+            Ok(_) => Ok(()),
+            Err(_) => Err(AllocError),
         }
     }
 
-    /// Takes a link's place away.
-    fn take(&mut self, id: u64, rank: Option<u64>)
-        ensures { (place : Place) → has self.new place ≡ (not (is_place id rank place) && has self.old place) }
+    /// Takes a place away.
+    fn take(&mut self, place: Option<Place>)
+        ensures { (p : Place) → times self.old p ≤ 1 → times self.new p ≡ times self.old p - once (is_there place p) }
     {
-        match rank {
-            None => {}
-            Some(rank) => {
-                let _ = self.places.remove(&Place { rank, id });
-            }
+        let Some(there) = place else {
+            return;
+        };
+        if !self.few.replace(place, None) {
+            let _ = self.more.remove(&there);
         }
     }
 
     /// Moves a link from its rank to another.
-    #[tactic(auto, using(crate::proofs::Moved::ranks_moved, crate::proofs::Moved::ranks_same, crate::proofs::Moved::ranks_kept))]
     pub(crate) fn set(
         &mut self,
         id: u64,
@@ -70,24 +72,28 @@ impl Ranking {
         if before == after {
             return Ok(());
         }
-        self.put(id, after)?;
-        self.take(id, before);
+        let from = Place::of(id, before);
+        let to = Place::of(id, after);
+        if self.few.replace(from, to) {
+            return Ok(());
+        }
+        self.put(to)?;
+        self.take(from);
         Ok(())
     }
 
     /// Removes a link, which has this rank.
-    #[tactic(auto, using(crate::proofs::Moved::ranks_less))]
     pub(crate) fn unset(&mut self, id: u64, rank: Option<u64>)
         ensures { (ranks : ℕ → Option ℕ) → Ranks self.old ranks → ranks id ≡ rank → Ranks self.new (ranked ranks id None) }
     {
-        self.take(id, rank);
+        self.take(Place::of(id, rank));
     }
 
     /// The link whose turn is first.
     pub(crate) fn first(&self) -> Option<u64>
         ensures { (ranks : ℕ → Option ℕ) → Ranks self.now ranks → IsLeast ranks result }
     {
-        match self.places.first() {
+        match sooner(self.few.first(), first(&self.more)) {
             None => None,
             Some(place) => Some(place.id),
         }
@@ -97,11 +103,34 @@ impl Ranking {
     pub(crate) fn first_behind(&self, id: u64) -> Option<u64>
         ensures { (ranks : ℕ → Option ℕ) → Ranks self.now ranks → ((other m : ℕ) → ranks other ≡ Some m → m ≡ 0) → IsLeast (behind id ranks) result }
     {
-        let from = Place { rank: 0, id };
-        let mut places = self.places.range((Bound::Excluded(from), Bound::Unbounded));
-        match places.next() {
+        match sooner(self.few.first_behind(id), first_behind(&self.more, id)) {
             None => None,
             Some(next) => Some(next.id),
         }
+    }
+}
+
+/// The first place of an ordered set.
+fn first(places: &BTreeSet<Place>) -> Option<Place>
+    ensures { IsFirst (λ place. once (contains place_cmp places.now place)) result }
+{
+    match places.first() {
+        None => None,
+        Some(place) => Some(*place),
+    }
+}
+
+/// The first place of an ordered set of the links with a number above this one, where all have the rank 0.
+fn first_behind(places: &BTreeSet<Place>, id: u64) -> Option<Place>
+    ensures { ((place : Place) → contains place_cmp places.now place ≡ true → place.rank ≡ 0) → IsFirst (λ place. if nat_lt id place.id then once (contains place_cmp places.now place) else 0) result }
+{
+    if places.is_empty() {
+        return None;
+    }
+    let from = Place { rank: 0, id };
+    let mut places = places.range((Bound::Excluded(from), Bound::Unbounded));
+    match places.next() {
+        None => None,
+        Some(next) => Some(*next),
     }
 }

@@ -1,5 +1,5 @@
 //! What links are ordered and summed by.
-ghost use Rattle.std.specs.Prelude.{◌≡◌, ℕ, Option};
+ghost use Rattle.std.specs.Prelude.{◌≡◌, ℕ, true, Option};
 ghost use Rattle.route_table.specs.declared.sections.Distribution.{Distribution};
 
 use route_table::Distribution;
@@ -13,6 +13,10 @@ pub(crate) trait Weigh: Copy + Drop {
     /// When the link's turn comes: the lowest is first. None where it has no turn.
     fn rank(self, distribution: Distribution) -> Option<u64>
         ensures { result ≡ rank distribution self };
+
+    /// Whether the same is known of another.
+    fn is_same(self, other: Self) -> bool
+        ensures { result ≡ true → self ≡ other };
 
     /// Its part in the sum.
     fn amount(self) -> u64

@@ -1,28 +1,69 @@
-use Rattle.std.proofs.Common.{rules, ◌≡◌, ◌∙◌, sym, ap, refl, ◌+◌, ◌-◌}
+use Rattle.std.proofs.Common.{◌∙◌, sym, ap, refl, ◌+◌, ◌-◌, cond, is_some, Some}
 use Rattle.std.specs.Prelude.{option_and_then}
-use Rattle.route_credit.specs.Ranks.{rank_at, ranked}
-use Rattle.route_credit.specs.Links.{amount_at, link_at}
-use Rattle.route_credit.proofs.Indices.{indexed_set, indexed_back, ranked_here}
+use Rattle.std.specs.BTreeMap.{get, is_at}
+use Rattle.std.specs.Map.{set_value}
+use Rattle.std.specs.Ordering.{nat_cmp}
+use Rattle.std.proofs.lemmas.Map.Steps.{set_value_same}
+use Rattle.std.specs.Result.{OnErr}
+use Rattle.std.specs.declared.result.Result.{Result}
+use Rattle.std.specs.declared.result.Result.TheVariants.{Ok, Err}
+use Rattle.route_credit.specs.Ranks.{rank_at}
+use Rattle.route_credit.specs.declared.links.Links.{Links}
+use Rattle.route_credit.specs.Links.{amount_at}
+use Rattle.route_credit.proofs.Entries.{written_is}
+use Rattle.route_credit.proofs.Indices.{indexed_same, indexed_set}
 use Rattle.route_credit.proofs.links.Links.set.Goals as goal
 
-pub returns-in_err-set-clause-whole : goal.returns-in_err-set-clause-whole
-returns-in_err-set-clause-whole g c is = record { ranks = c.in_err-set.ensures.err _ is.ranks; total = is.total; ordered = is.ordered }
+on_err : {X Y : Type 0} (r : Result X Y) (P : Type 0) → P → OnErr r P
+on_err (Ok x) P p = tt
+on_err (Err y) P p = p
 
-pub returns-in-Err-clause-whole : goal.returns-in-Err-clause-whole
-returns-in-Err-clause-whole g c is =
-    let rank = g.T.Weigh.rank c.args.distribution in
-    let ranks = rank_at rank c.args.self.now.rows.entries in
-    let before = sym (c.rank_of.ensures ∙ ap (option_and_then rank) c.get-old.ensures) in
-    indexed_back rank g.T.Weigh.amount c.args.self.now (record { rows = c.insert.new.self; ranking = c.unset.new.self; total = c.args.self.now.total }) c.args.id c.rank-after.result is c.in-Err.ensures.absent
-    (c.unset.ensures (ranked ranks c.args.id c.rank-after.result) (c.in_ok-set.ensures.ranks ranks is.ranks before) (ranked_here ranks c.args.id c.rank-after.result)) c.in-Err.ensures.err refl
+pub returns-then-is_same-clause-set : goal.returns-then-is_same-clause-set
+returns-then-is_same-clause-set g c =
+    let entries = c.args.self.now.rows.entries in
+    (c.get_mut.follows.holds c.in-Some.known.now).0
+    ∙ ap (set_value (is_at (nat_cmp c.args.id)) entries) (c.is_same.ensures c.if-is_same.true)
+    ∙ written_is entries c.args.id c.args.link c.in-Some.known.now c.in-Some.ensures.ordered c.in-Some.ensures.value
 
-pub returns-clause-whole : goal.returns-clause-whole
-returns-clause-whole g c is =
+pub returns-then-is_same-clause-whole : goal.returns-then-is_same-clause-whole
+returns-then-is_same-clause-whole g c is =
+    let known = c.in-Some.known.now in
+    indexed_same (g.T.Weigh.rank c.args.distribution) g.T.Weigh.amount c.args.self.now (c.get_mut.follows.lender known)
+    ((c.get_mut.follows.holds known).0 ∙ set_value_same (is_at (nat_cmp c.args.id)) c.args.self.now.rows.entries known (sym c.in-Some.ensures.value)) is
+
+pub returns-in_err-change-clause-err : goal.returns-in_err-change-clause-err
+returns-in_err-change-clause-err g c = on_err c.from_residual.result _ ((c.get_mut.follows.holds c.change.new.known).0
+    ∙ set_value_same (is_at (nat_cmp c.args.id)) c.args.self.now.rows.entries c.change.new.known (sym (ap Some c.in_err-change.ensures.known_stays ∙ c.in-Some.ensures.value)))
+
+pub returns-in_err-change-clause-whole : goal.returns-in_err-change-clause-whole
+returns-in_err-change-clause-whole g c is =
     let rank = g.T.Weigh.rank c.args.distribution in
-    let ranks = rank_at rank c.args.self.now.rows.entries in
-    let before = sym (c.rank_of.ensures ∙ ap (option_and_then rank) c.get-old.ensures) in
-    let sum : c.in-Some.total ≡ c.saturating_sub-rest.result + c.amount.result = search rules in
-    let rest = c.saturating_sub-rest.ensures ∙ ap (λ n. c.args.self.now.total - n) (c.amount_of.ensures ∙ ap (amount_at g.T.Weigh.amount) c.get-old.ensures) in
-    indexed_set rank g.T.Weigh.amount c.args.self.now (record { rows = c.insert.new.self; ranking = c.set.new.self; total = c.in-Some.total }) c.args.id c.args.link c.rank-after.result c.rank-after.ensures c.in-Ok.ensures.was_ordered is
-    (c.in_ok-set.ensures.ranks ranks is.ranks before)
-    c.in-Ok.ensures.entries c.in-Ok.ensures.updates.0 (sum ∙ ap (λ n. n + c.amount.result) rest ∙ ap (λ n. c.args.self.now.total - amount_at g.T.Weigh.amount (link_at c.args.self.now.rows.entries c.args.id) + n) c.amount.ensures) c.in-Ok.ensures.ordered
+    let links : Links g.row.T.Denot = record { rows = c.args.self.now.rows; ranking = c.change.new.ranking; total = c.change.new.total } in
+    indexed_same rank g.T.Weigh.amount links (c.get_mut.follows.lender c.change.new.known)
+    ((c.get_mut.follows.holds c.change.new.known).0 ∙ set_value_same (is_at (nat_cmp c.args.id)) c.args.self.now.rows.entries c.change.new.known (sym (ap Some c.in_err-change.ensures.known_stays ∙ c.in-Some.ensures.value)))
+    (record { ranks = c.in_err-change.ensures.ranks_stay _ is.ranks; total = c.in_err-change.ensures.total_stays ∙ is.total; ordered = is.ordered })
+
+pub returns-in-Some-clause-set : goal.returns-in-Some-clause-set
+returns-in-Some-clause-set g c =
+    let entries = c.args.self.now.rows.entries in
+    (c.get_mut.follows.holds c.change.new.known).0
+    ∙ ap (set_value (is_at (nat_cmp c.args.id)) entries) c.in_ok-change.ensures.known
+    ∙ written_is entries c.args.id c.args.link c.in-Some.known.now c.in-Some.ensures.ordered c.in-Some.ensures.value
+
+pub returns-in-Some-clause-whole : goal.returns-in-Some-clause-whole
+returns-in-Some-clause-whole g c is =
+    let rank = g.T.Weigh.rank c.args.distribution in
+    let amount = g.T.Weigh.amount in
+    let old = c.args.self.now in
+    let entries = old.rows.entries in
+    let known = c.in-Some.known.now in
+    let found = c.in-Some.ensures.value in
+    let rows = c.get_mut.follows.lender c.change.new.known in
+    let holds = c.get_mut.follows.holds c.change.new.known in
+    let is_link = c.in_ok-change.ensures.known in
+    indexed_set rank amount old (record { rows = rows; ranking = c.change.new.ranking; total = c.change.new.total }) c.args.id c.args.link (rank c.args.link) refl c.in-Some.ensures.ordered is
+    (c.in_ok-change.ensures.ranks (rank_at rank entries) is.ranks (sym (ap (option_and_then rank) found)))
+    (holds.0 ∙ ap (set_value (is_at (nat_cmp c.args.id)) entries) is_link ∙ written_is entries c.args.id c.args.link known c.in-Some.ensures.ordered found)
+    (λ q. (holds.3 (sym (ap is_some found))).0 q ∙ ap (λ w. cond (is_at (nat_cmp c.args.id) q) (Some w) (get nat_cmp old.rows q)) is_link)
+    (c.in_ok-change.ensures.total ∙ ap (λ n. old.total - n + amount c.args.link) (ap (amount_at amount) found))
+    holds.4

@@ -1,17 +1,24 @@
-use Rattle.std.proofs.Common.{ap}
-use Rattle.std.specs.Prelude.{slice_get}
-use Rattle.route_credit.proofs.Firsts.{behind_none, behind_some}
+use Rattle.std.proofs.Common.{◌+◌, None, Some}
+use Rattle.std.specs.BTreeSet.{contains}
+use Rattle.std.specs.Prelude.{nat_lt, if◌then◌else◌}
+use Rattle.route_credit.specs.Few.{count, once}
+use Rattle.route_credit.specs.Ranks.{behind, place_cmp}
+use Rattle.route_credit.specs.declared.place.Place.{Place}
+use Rattle.route_credit.proofs.Firsts.{least_behind, least_of, ranked_there}
 use Rattle.route_credit.proofs.ranking.Ranking.first_behind.Goals as goal
 
 pub returns-in-None : goal.returns-in-None
 returns-in-None c ranks fits zero =
-    let range = c.range-places.ensures.in_range tt in
-    behind_none c.args.self.now ranks c.args.id fits zero (λ q less. range.5 c.in-None.ensures.steps.0 q (less, tt))
+    let ranking = c.args.self.now in
+    let few = λ (place : Place). if nat_lt c.args.id place.id then count ranking.few.places place else 0 in
+    let more = λ (place : Place). if nat_lt c.args.id place.id then once (contains place_cmp ranking.more place) else 0 in
+    least_of (λ place. few place + more place) (behind c.args.id ranks) (least_behind ranks c.args.id ranking fits) None
+    (c.in-None.ensures few more c.first_behind.ensures (c.first_behind-2.ensures (λ place there. zero place.id place.rank (ranked_there ranking ranks fits place there))))
 
 pub returns-in-Some : goal.returns-in-Some
 returns-in-Some c ranks fits zero =
-    let range = c.range-places.ensures.in_range tt in
-    let first = ap (λ r. slice_get r 0) c.in-Some.ensures.steps in
-    let here = rw first at range.1 in
-    behind_some c.args.self.now ranks c.args.id c.in-Some.next.now fits zero here.0.0 here.1
-    (λ q less there. rw first at (range.2 q (less, tt) there))
+    let ranking = c.args.self.now in
+    let few = λ (place : Place). if nat_lt c.args.id place.id then count ranking.few.places place else 0 in
+    let more = λ (place : Place). if nat_lt c.args.id place.id then once (contains place_cmp ranking.more place) else 0 in
+    least_of (λ place. few place + more place) (behind c.args.id ranks) (least_behind ranks c.args.id ranking fits) (Some c.in-Some.next)
+    (c.in-Some.ensures few more c.first_behind.ensures (c.first_behind-2.ensures (λ place there. zero place.id place.rank (ranked_there ranking ranks fits place there))))
