@@ -3,6 +3,7 @@ pub mod AtAddress
 pub mod Fitting
 pub mod Listed
 pub mod Noted
+pub mod Places
 pub mod Rows
 pub mod Touches
 pub mod Written

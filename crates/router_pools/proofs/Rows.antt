@@ -8,12 +8,12 @@ use Rattle.std.proofs.lemmas.Bool.{eqb-true, eq-eqb}
 use Rattle.route_credit.specs.Pool.{no_links, Sharing}
 use Rattle.route_credit.proofs.Indices.{same_test}
 use Rattle.route_table.specs.declared.sections.Distribution.{Distribution}
-use Rattle.router_pools.specs.Addresses.{at_address, pool_or, with_pool}
+use Rattle.router_pools.specs.Addresses.{pool_or, with_pool}
 use Rattle.router_pools.specs.Digest.{digest_of}
 use Rattle.router_pools.specs.Fits.{has_no_pools, in_row, pool_in_row}
 use Rattle.router_pools.specs.declared.row.Row.{Row}
 use Rattle.router_pools.proofs.AtAddress.{by_test, same_bytes}
-use Rattle.router_pools.proofs.Written.{none}
+use Rattle.router_pools.proofs.Places.{nothing}
 
 -- a row that was lent and written
 pub lent : (m n : BTreeMap ℕ Row) (key : ℕ) (old new : Row) → Some old ≡ get nat_cmp m key → WritesThrough nat_cmp (nat_cmp key) m new n → (d : ℕ) → get nat_cmp n d ≡ (if key == d then Some new else get nat_cmp m d)
@@ -35,7 +35,7 @@ there rows rows' key row q is set = set (digest_of q) ∙ ap (λ b. cond b row (
 
 -- nothing is in an empty row
 pub none_in : (row : Row) → has_no_pools row ≡ true → (a : List ℕ) → None ≡ in_row (Some row) a
-none_in row empty a = sym (ap (λ es. at_address es (λ k. k.items) a) (none row.pools.entries empty))
+none_in row empty a = sym (nothing row.pools empty a)
 
 module _ (share : List ℕ → Distribution) where
   -- the pools of a row

@@ -1,20 +1,12 @@
 -- The pools after a change of one.
-use Rattle.std.proofs.Common.{◌≡◌, ◌∙◌, sym, ap, refl, subst, ℕ, Bool, true, false, cond, ◌&&◌, if◌then◌else◌, Result, Ok, Err, OnOk, IfOk, Option, Some, None, List, [], ◌∷◌, length, arith}
+use Rattle.std.proofs.Common.{◌≡◌, ◌∙◌, sym, ap, refl, subst, ℕ, Bool, true, false, ◌&&◌, if◌then◌else◌, option_map, Result, Ok, Err, OnOk, IfOk, Option, Some, None, List, [], ◌∷◌, length, arith}
 use Rattle.std.specs.Prelude.{◌==◌}
-use Rattle.std.specs.BTreeMap.{insert_entry}
-use Rattle.std.specs.Cmp.Lexicographic.{slice_cmp}
-use Rattle.std.specs.Map.{lookup, remove_entry, set_value}
-use Rattle.std.specs.Ordering.{nat_cmp, is_eq}
 use Rattle.std.specs.Str.{bytes_eq}
 use Rattle.std.proofs.lemmas.Bool.{eqb-true}
 use Rattle.route_credit.specs.Pool.{has_no_links, no_links, Sharing}
-use Rattle.router_pools.specs.Addresses.{at_address, pool_or, rested, with_pool}
+use Rattle.router_pools.specs.Addresses.{pool_or, rested, with_pool}
 use Rattle.route_table.specs.declared.sections.Distribution.{Distribution}
-use Rattle.router_pools.proofs.AtAddress.{by_test, equal_bytes, insert_at, lookup_is, removed_elsewhere, same_bytes, set_at}
-
-module _ {K : Type 0} (read : K → List ℕ) (es : List (K × Sharing)) (q : List ℕ) where
-  abbrev found : Option Sharing
-  found = lookup (λ k. is_eq (slice_cmp nat_cmp q (read k))) es
+use Rattle.router_pools.proofs.AtAddress.{by_test, equal_bytes, same_bytes}
 
 -- a pool without links has no consumer and no producer
 first : (b c : Bool) → (b && c) ≡ true → b ≡ true
@@ -52,72 +44,61 @@ rested_none pool d shared empty = λ i. record {
   last = sym (ap (λ b. if b then 0 else pool.last) empty) i;
 }
 
-module _ {K : Type 0} (read : K → List ℕ) (share : List ℕ → Distribution) (es : List (K × Sharing)) (q : List ℕ) where
-  -- the pools of a map, with this distribution of addresses
-  abbrev pub pools_of : List (K × Sharing) → List ℕ → Sharing
-  pools_of fs a = pool_or (share a) (at_address fs read a)
+module _ (share : List ℕ → Distribution) (at : List ℕ → Option Sharing) (q : List ℕ) where
+  -- the pools of what is at each address, with this distribution of addresses
+  abbrev pub pools_of : (List ℕ → Option Sharing) → List ℕ → Sharing
+  pools_of found a = pool_or (share a) (found a)
 
-  pub here : (pool : Sharing) → Some pool ≡ found read es q → pools_of es q ≡ pool
-  here pool is = ap (pool_or (share q)) (sym (lookup_is read es q) ∙ sym is)
+  pub here : (pool : Sharing) → Some pool ≡ at q → pools_of at q ≡ pool
+  here pool is = ap (pool_or (share q)) (sym is)
 
-  pub nowhere : None ≡ found read es q → pools_of es q ≡ no_links (share q)
-  nowhere is = ap (pool_or (share q)) (sym (lookup_is read es q) ∙ sym is)
+  pub nowhere : None ≡ at q → pools_of at q ≡ no_links (share q)
+  nowhere is = ap (pool_or (share q)) (sym is)
+
+  -- what is at an address is at the same one
+  same_at : (x : Option Sharing) → x ≡ at q → (a : List ℕ) → bytes_eq q a ≡ true → at a ≡ x
+  same_at x is a e = ap at (sym (same_bytes q a e)) ∙ sym is
 
   -- one was written
-  pub written : (fs : List (K × Sharing)) (pool new : Sharing) (change : Sharing → Sharing) → Some pool ≡ found read es q → fs ≡ set_value (λ k. is_eq (slice_cmp nat_cmp q (read k))) es new → new ≡ change pool
-      → (a : List ℕ) → pools_of fs a ≡ with_pool (pools_of es) q change a
-  written fs pool new change is set changed a =
-      ap (λ l. pool_or (share a) (at_address l read a)) set ∙ ap (pool_or (share a)) (set_at read es q a new) ∙ by_test (bytes_eq q a)
-      (λ e. let same : q ≡ a = same_bytes q a e in
-      let at : at_address es read a ≡ Some pool = ap (at_address es read) (sym same) ∙ sym (lookup_is read es q) ∙ sym is in
-      rw (e, at) changed)
+  pub written : (now : List ℕ → Option Sharing) (pool new : Sharing) (change : Sharing → Sharing) → Some pool ≡ at q → ((a : List ℕ) → now a ≡ (if bytes_eq q a then option_map (λ _. new) (at a) else at a)) → new ≡ change pool
+      → (a : List ℕ) → pools_of now a ≡ with_pool (pools_of at) q change a
+  written now pool new change is set changed a = ap (pool_or (share a)) (set a) ∙ by_test (bytes_eq q a)
+      (λ e. rw (e, same_at (Some pool) is a e) changed)
       (λ e. rw e refl)
 
   -- what is at its address then
-  pub written_there : (fs : List (K × Sharing)) (pool new : Sharing) → Some pool ≡ found read es q → fs ≡ set_value (λ k. is_eq (slice_cmp nat_cmp q (read k))) es new → pools_of fs q ≡ new
-  written_there fs pool new is set = written fs pool new (λ old. new) is set refl q ∙ ap (λ b. if b then new else pools_of es q) (equal_bytes q q refl)
+  pub written_there : (now : List ℕ → Option Sharing) (pool new : Sharing) → Some pool ≡ at q → ((a : List ℕ) → now a ≡ (if bytes_eq q a then option_map (λ _. new) (at a) else at a)) → pools_of now q ≡ new
+  written_there now pool new is set = written now pool new (λ old. new) is set refl q ∙ ap (λ b. if b then new else pools_of at q) (equal_bytes q q refl)
 
   -- none was there to be written
-  pub unwritten : (fs : List (K × Sharing)) → fs ≡ es → (change : Sharing → Sharing) → change (no_links (share q)) ≡ no_links (share q) → None ≡ found read es q → (a : List ℕ) → pools_of fs a ≡ with_pool (pools_of es) q change a
-  unwritten fs unchanged change kept is a = ap (λ l. pools_of l a) unchanged ∙ by_test (bytes_eq q a)
-      (λ e. let same : q ≡ a = same_bytes q a e in
-      let at : at_address es read a ≡ None = ap (at_address es read) (sym same) ∙ sym (lookup_is read es q) ∙ sym is in
-      rw (e, at) (subst (λ b. no_links (share b) ≡ change (no_links (share b))) same (sym kept)))
+  pub unwritten : (now : List ℕ → Option Sharing) → ((a : List ℕ) → now a ≡ at a) → (change : Sharing → Sharing) → change (no_links (share q)) ≡ no_links (share q) → None ≡ at q → (a : List ℕ) → pools_of now a ≡ with_pool (pools_of at) q change a
+  unwritten now same change kept is a = ap (pool_or (share a)) (same a) ∙ by_test (bytes_eq q a)
+      (λ e. rw (e, same_at None is a e) (subst (λ b. no_links (share b) ≡ change (no_links (share b))) (same_bytes q a e) (sym kept)))
       (λ e. rw e refl)
 
   -- one was put
-  pub put : (fs : List (K × Sharing)) (k : K) (pool : Sharing) → read k ≡ q → fs ≡ insert_entry (λ x y. slice_cmp nat_cmp (read x) (read y)) es k pool
-      → (a : List ℕ) → pools_of fs a ≡ with_pool (pools_of es) q (λ old. pool) a
-  put fs k pool is set a =
-      ap (λ l. pool_or (share a) (at_address l read a)) set ∙ ap (pool_or (share a)) (insert_at read es k pool a)
-      ∙ ap (λ at. pool_or (share a) (cond (bytes_eq at a) (Some pool) (at_address es read a))) is ∙ by_test (bytes_eq q a) (λ e. rw e refl) (λ e. rw e refl)
+  pub put : (now : List ℕ → Option Sharing) (pool : Sharing) → ((a : List ℕ) → now a ≡ (if bytes_eq q a then Some pool else at a))
+      → (a : List ℕ) → pools_of now a ≡ with_pool (pools_of at) q (λ old. pool) a
+  put now pool set a = ap (pool_or (share a)) (set a) ∙ by_test (bytes_eq q a) (λ e. rw e refl) (λ e. rw e refl)
 
   -- where none was there, the change was made to one without links
-  pub begun : (fs : List (K × Sharing)) → fs ≡ es → (new : Sharing) (change : Sharing → Sharing) → None ≡ found read es q → new ≡ change (no_links (share q))
-      → (a : List ℕ) → with_pool (pools_of fs) q (λ old. new) a ≡ with_pool (pools_of es) q change a
-  begun fs unchanged new change none changed a = ap (λ l. with_pool (pools_of l) q (λ old. new) a) unchanged ∙ by_test (bytes_eq q a)
-      (λ e. let same : q ≡ a = same_bytes q a e in
-      let at : at_address es read a ≡ None = ap (at_address es read) (sym same) ∙ sym (lookup_is read es q) ∙ sym none in
-      rw (e, at) (changed ∙ ap (λ b. change (no_links (share b))) same))
-      (λ e. rw e refl)
+  pub begun : (now : List ℕ → Option Sharing) → ((a : List ℕ) → now a ≡ at a) → (new : Sharing) (change : Sharing → Sharing) → None ≡ at q → new ≡ change (no_links (share q))
+      → (a : List ℕ) → with_pool (pools_of now) q (λ old. new) a ≡ with_pool (pools_of at) q change a
+  begun now same new change none changed a = by_test (bytes_eq q a)
+      (λ e. rw (e, same_at None none a e) (changed ∙ ap (λ b. change (no_links (share b))) (same_bytes q a e)))
+      (λ e. rw e (ap (pool_or (share a)) (same a)))
 
   -- one without links was removed
-  pub forgotten : (fs : List (K × Sharing)) (pool : Sharing) → Some pool ≡ found read es q → has_no_links pool ≡ true → pool.distribution ≡ share q
-      → fs ≡ remove_entry (λ k. is_eq (slice_cmp nat_cmp q (read k))) es → lookup (λ k. is_eq (slice_cmp nat_cmp q (read k))) fs ≡ None
-      → (a : List ℕ) → pools_of fs a ≡ with_pool (pools_of es) q rested a
-  forgotten fs pool is empty shared set gone a = by_test (bytes_eq q a)
-      (λ e. let same : q ≡ a = same_bytes q a e in
-      let now : at_address fs read a ≡ None = ap (at_address fs read) (sym same) ∙ sym (lookup_is read fs q) ∙ gone in
-      let before : at_address es read a ≡ Some pool = ap (at_address es read) (sym same) ∙ sym (lookup_is read es q) ∙ sym is in
-      rw (e, now, before) (rested_none pool (share a) (shared ∙ ap share same) empty))
-      (λ e. ap (λ l. pool_or (share a) (at_address l read a)) set ∙ ap (pool_or (share a)) (removed_elsewhere read es q a e) ∙ sym (ap (λ b. if b then rested (pools_of es a) else pools_of es a) e))
+  pub forgotten : (now : List ℕ → Option Sharing) (pool : Sharing) → Some pool ≡ at q → has_no_links pool ≡ true → pool.distribution ≡ share q
+      → ((a : List ℕ) → now a ≡ (if bytes_eq q a then None else at a)) → (a : List ℕ) → pools_of now a ≡ with_pool (pools_of at) q rested a
+  forgotten now pool is empty shared set a = ap (pool_or (share a)) (set a) ∙ by_test (bytes_eq q a)
+      (λ e. rw (e, same_at (Some pool) is a e) (rested_none pool (share a) (shared ∙ ap share (same_bytes q a e)) empty))
+      (λ e. rw e refl)
 
   -- one with links stays
-  pub stayed : (pool : Sharing) → Some pool ≡ found read es q → has_no_links pool ≡ false → (a : List ℕ) → pools_of es a ≡ with_pool (pools_of es) q rested a
+  pub stayed : (pool : Sharing) → Some pool ≡ at q → has_no_links pool ≡ false → (a : List ℕ) → pools_of at a ≡ with_pool (pools_of at) q rested a
   stayed pool is some a = by_test (bytes_eq q a)
-      (λ e. let same : q ≡ a = same_bytes q a e in
-      let at : at_address es read a ≡ Some pool = ap (at_address es read) (sym same) ∙ sym (lookup_is read es q) ∙ sym is in
-      rw (e, at) (sym (rested_same pool some)))
+      (λ e. rw (e, same_at (Some pool) is a e) (sym (rested_same pool some)))
       (λ e. rw e refl)
 
 -- what a call ensures at its end

@@ -1,5 +1,5 @@
 -- When the pools agree with what each link has.
-use Rattle.std.specs.Prelude.{◌≡◌, ◌==◌, ◌||◌, ◌<◌, ◌⊎◌, ℕ, Bool, true, false, List, [], Option, None, Some, option_map, is_some, length, if◌then◌else◌}
+use Rattle.std.specs.Prelude.{◌≡◌, ◌==◌, ◌||◌, ◌<◌, ◌⊎◌, ℕ, Bool, true, false, List, [], Option, None, Some, option_map, is_some, if◌then◌else◌}
 use Rattle.std.specs.BTreeMap.{get}
 use Rattle.std.specs.List.Sorted.{IsStrictlySortedBy}
 use Rattle.std.specs.Map.{keys_of}
@@ -10,7 +10,8 @@ use Rattle.route_credit.specs.Links.{link_at}
 use Rattle.route_credit.specs.Pool.{Sharing}
 use Rattle.route_credit.specs.declared.offer.Offer.{Offer}
 use Rattle.router_places.specs.Marks.{has as has_mark, size}
-use Rattle.router_pools.specs.Addresses.{among, at_address, pool_or}
+use Rattle.router_pools.specs.Addresses.{among, pool_or}
+use Rattle.router_pools.specs.ByBytes.{at, has_none}
 use Rattle.route_table.specs.declared.sections.Distribution.{Distribution}
 use Rattle.route_table.specs.Places.{distribution_of}
 use Rattle.router_pools.specs.Sharing.{demand_at, Figure, offer_at}
@@ -21,15 +22,15 @@ use Rattle.router_pools.specs.declared.pools.Pools.{Pools}
 
 -- the pool of an address in a row, with this distribution of addresses
 abbrev pub pool_in_row : (List ℕ → Distribution) → Row → List ℕ → Sharing
-pool_in_row share row address = pool_or (share address) (at_address row.pools.entries (λ k. k.items) address)
+pool_in_row share row address = pool_or (share address) (at row.pools address)
 
 abbrev pub has_no_pools : Row → Bool
-has_no_pools row = length row.pools.entries == 0
+has_no_pools row = has_none row.pools
 
 -- what is at an address in a row, if there is one
 abbrev pub in_row : Option Row → List ℕ → Option Sharing
 in_row None address = None
-in_row (Some row) address = at_address row.pools.entries (λ k. k.items) address
+in_row (Some row) address = at row.pools address
 
 -- the row of the digest of an address
 abbrev pub row_of : ByAddress → List ℕ → Option Row

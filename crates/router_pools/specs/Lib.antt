@@ -1,4 +1,5 @@
 pub mod Addresses
+pub mod ByBytes
 pub mod Digest
 pub mod Fits
 pub mod Laws

@@ -7,6 +7,7 @@
 
 mod addresses;
 mod by_address;
+mod by_bytes;
 mod digest;
 pub mod laws;
 mod pools;

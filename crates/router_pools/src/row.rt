@@ -4,19 +4,20 @@ ghost use Rattle.route_table.specs.declared.sections.Distribution.{Distribution}
 ghost use Rattle.route_table.specs.Places.{distribution_of};
 ghost use Rattle.route_credit.specs.Granting.{all_granted, choice, grants_of};
 ghost use Rattle.route_credit.specs.Pool.{by_id, chose, has_no_links, no_links, offered, wanted, without_consumer, without_producer};
-ghost use Rattle.router_pools.specs.Addresses.{at_address, rested, with_pool, without};
+ghost use Rattle.router_pools.specs.Addresses.{rested, with_pool, without};
+ghost use Rattle.router_pools.specs.ByBytes.{at};
 ghost use Rattle.router_pools.specs.Fits.{has_no_pools, pool_in_row};
 
+use crate::by_bytes::ByBytes;
 use route_credit::{ConsumerId, Pool, ProducerId};
 use route_table::Table;
 use std::alloc::{AllocError, Global};
-use std::collections::BTreeMap;
 
 /// Pools by the bytes of their addresses, which have the same digest. A pool without links is removed.
 #[derive(Drop)]
 pub(crate) struct Row {
     alloc: Global,
-    pools: BTreeMap<Vec<u8>, Pool>,
+    pools: ByBytes<Pool>,
 }
 
 impl Row {
@@ -25,7 +26,7 @@ impl Row {
     {
         Row {
             alloc,
-            pools: BTreeMap::new(alloc),
+            pools: ByBytes::new(alloc),
         }
     }
 
@@ -34,10 +35,7 @@ impl Row {
         ensures { OnOk result ((share : List ℕ → Distribution) (a : List ℕ) → pool_in_row share self.new a ≡ with_pool (pool_in_row share self.old) address.now (λ old. pool) a) }
     {
         let key = address.to_vec(self.alloc)?;
-        match self.pools.insert(key, pool) {
-            Ok(_) => Ok(()),
-            Err(_) => Err(AllocError),
-        }
+        self.pools.put(key, pool)
     }
 
     /// Sets what a consumer offers to an address, whose pool is shared as this table says. It is no producer there.
@@ -103,11 +101,11 @@ impl Row {
     /// Removes the pool of an address if it has no links.
     pub(crate) fn forget(&mut self, address: &[u8])
         ensures rested { (share : List ℕ → Distribution) → (pool_in_row share self.old address.now).distribution ≡ share address.now → (a : List ℕ) → pool_in_row share self.new a ≡ with_pool (pool_in_row share self.old) address.now rested a }
-        ensures gone { (share : List ℕ → Distribution) → has_no_links (pool_in_row share self.old address.now) ≡ true → is_some (at_address self.new.pools.entries (λ k. k.items) address.now) ≡ false }
+        ensures gone { (share : List ℕ → Distribution) → has_no_links (pool_in_row share self.old address.now) ≡ true → is_some (at self.new.pools address.now) ≡ false }
     {
         if let Some(pool) = self.pools.get(address) {
             if pool.is_empty() {
-                let _ = self.pools.remove(address);
+                self.pools.remove(address);
             }
         }
     }

@@ -1,6 +1,10 @@
-use Rattle.router_pools.proofs.Written.{put}
+use Rattle.std.proofs.Common.{◌∙◌, ap, Some, if◌then◌else◌}
+use Rattle.std.specs.Str.{bytes_eq}
+use Rattle.router_pools.specs.ByBytes.{at}
+use Rattle.router_pools.proofs.Written.{on_ok_then, put}
 use Rattle.router_pools.proofs.row.Row.put.Goals as goal
 
-pub returns-in-Ok : goal.returns-in-Ok
-returns-in-Ok c share =
-    put (λ k. k.items) share c.args.self.now.pools.entries c.args.address.now c.insert.new.self.entries c.in_ok-key.key c.args.pool (c.in_ok-key.ensures.items_if_clones_equal (λ x y e. e)) c.in-Ok.ensures.entries
+pub returns : goal.returns
+returns c = on_ok_then c.put.result _ _ c.put.ensures (λ is share.
+    put share (at c.args.self.now.pools) c.args.address.now (at c.put.new.self) c.args.pool
+    (λ a. is a ∙ ap (λ q. if bytes_eq q a then Some c.args.pool else at c.args.self.now.pools a) (c.in_ok-key.ensures.items_if_clones_equal (λ x y e. e))))
