@@ -14,6 +14,7 @@ use crate::by_link::ByLink;
 use crate::change::{Change, Gone};
 use crate::consumers::Consumers;
 use crate::delivery::Delivery;
+use crate::kept::Kept;
 use crate::sets::add;
 use crate::spots::{Spot, Spots};
 use crate::tallies::Tallies;
@@ -96,12 +97,12 @@ impl Keys {
     }
 
     /// The entries of a delivery, if there is one.
-    pub(crate) fn standing(delivery: &Option<Delivery>) -> Keys
+    pub(crate) fn standing(delivery: &Option<Kept<Delivery>>) -> Keys
         ensures { result ≡ standing delivery.now }
     {
         match delivery {
             None => Keys::nowhere(),
-            Some(delivery) => Keys::of(delivery),
+            Some(delivery) => Keys::of(delivery.as_ref()),
         }
     }
 

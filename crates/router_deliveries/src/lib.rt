@@ -23,6 +23,7 @@ mod deliveries;
 mod delivery;
 mod hearing;
 mod index;
+mod kept;
 mod link_ids;
 mod names;
 mod next_ids;

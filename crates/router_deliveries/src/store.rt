@@ -30,6 +30,7 @@ use crate::by_name::ByName;
 use crate::change::{Change, Gone, behind_put};
 use crate::delivery::Delivery;
 use crate::index::{Index, Keys, Moved};
+use crate::kept::Kept;
 use crate::sets::{behind, first};
 use crate::touched::Touched;
 use amqp_frames::Item;
@@ -40,10 +41,12 @@ use std::alloc::{AllocError, Global};
 use std::collections::{BTreeMap, BTreeSet};
 
 /// Deliveries by number; one that is over is removed. If an operation fails to allocate, the contents are unspecified.
+///
+/// Each stands in a box of its own: it has over 200 bytes, which an insertion or a removal beside it would move.
 #[derive(Drop)]
 pub(crate) struct Store {
     alloc: Global,
-    deliveries: BTreeMap<u64, Delivery>,
+    deliveries: BTreeMap<u64, Kept<Delivery>>,
     pub(crate) by_name: ByName,
     index: Index,
     touched: Touched,
@@ -68,7 +71,10 @@ impl Store {
     pub(crate) fn get(&self, number: u64) -> Option<&Delivery>
         ensures { option_map (λ d. d.now) result ≡ get nat_cmp self.now.deliveries number }
     {
-        self.deliveries.get(&number)
+        match self.deliveries.get(&number) {
+            None => None,
+            Some(delivery) => Some(delivery.as_ref()),
+        }
     }
 
     /// How many deliveries of a link are undecided.
@@ -144,7 +150,7 @@ impl Store {
     pub(crate) fn is_open(&self, number: u64) -> bool
         ensures { result ≡ is_open (get nat_cmp self.now.deliveries number) }
     {
-        match self.deliveries.get(&number) {
+        match self.get(number) {
             None => false,
             Some(delivery) => delivery.is_undecided(),
         }
@@ -154,7 +160,7 @@ impl Store {
     pub(crate) fn has_id(&self, number: u64, id: u32) -> bool
         ensures { result ≡ is_id (id_of (get nat_cmp self.now.deliveries number)) id }
     {
-        match self.deliveries.get(&number) {
+        match self.get(number) {
             None => false,
             Some(delivery) => delivery.id == Some(id),
         }
@@ -164,14 +170,14 @@ impl Store {
     pub(crate) fn is_open_as(&self, number: u64, conn: u64, own: u16, id: u32) -> bool
         ensures { result ≡ is_open_as conn own id (get nat_cmp self.now.deliveries number) }
     {
-        match self.deliveries.get(&number) {
+        match self.get(number) {
             None => false,
             Some(delivery) => delivery.is_open_as(conn, own, id),
         }
     }
 
     /// Takes out the delivery with a number.
-    fn take(&mut self, number: u64) -> Option<Delivery>
+    fn take(&mut self, number: u64) -> Option<Kept<Delivery>>
         ensures gives { result ≡ get nat_cmp self.old.deliveries number }
         ensures gone { (n : ℕ) → get nat_cmp self.new.deliveries n ≡ (if number == n then None else get nat_cmp self.old.deliveries n) }
         ensures by_name { self.new.by_name ≡ self.old.by_name }
@@ -238,6 +244,7 @@ impl Store {
         self.by_name.set(name, number)?;
         let delivery = Delivery::bound(name, binding);
         let after = Keys::of(&delivery);
+        let delivery = Kept::new(self.alloc, delivery)?;
         let before = put(&mut self.deliveries, number, delivery)?;
         self.shift(number, &before, &after)?;
         Ok(())
@@ -262,10 +269,11 @@ impl Store {
         ensures indexed { OnOk result (Indexed self.old → Indexed self.new) }
         ensures touches { OnOk result (StoreTouches self.old self.new) }
     {
-        let Some(delivery) = self.take(number) else {
+        let Some(taken) = self.take(number) else {
             return Ok(());
         };
-        let before = Keys::of(&delivery);
+        let delivery = taken.as_ref();
+        let before = Keys::of(delivery);
         self.by_name.forget(delivery.name);
         self.shift(number, &before, &Keys::nowhere())
     }
@@ -494,9 +502,9 @@ impl Store {
 
 /// Gives a number this delivery; the result are the index entries of the one that it had.
 fn put(
-    deliveries: &mut BTreeMap<u64, Delivery>,
+    deliveries: &mut BTreeMap<u64, Kept<Delivery>>,
     number: u64,
-    delivery: Delivery,
+    delivery: Kept<Delivery>,
 ) -> Result<Keys, AllocError>
     ensures deliveries { OnOk result ((n : ℕ) → get nat_cmp deliveries.new n ≡ (if number == n then Some delivery else get nat_cmp deliveries.old n)) }
     ensures before { IfOk result (λ before. before ≡ standing (get nat_cmp deliveries.old number)) }
@@ -509,7 +517,7 @@ fn put(
 
 /// Changes the delivery with a number in its place.
 fn change_in(
-    deliveries: &mut BTreeMap<u64, Delivery>,
+    deliveries: &mut BTreeMap<u64, Kept<Delivery>>,
     number: u64,
     change: &Change,
 ) -> Result<Option<Moved>, AllocError>
@@ -517,9 +525,10 @@ fn change_in(
         ≡ (if number == n then option_map (changed change.now) (get nat_cmp deliveries.old n) else get nat_cmp deliveries.old n)) }
     ensures found { IfOk result (λ found. found ≡ option_map (λ d. moved (keys d) (changed change.now d)) (get nat_cmp deliveries.old number)) }
 {
-    let Some(delivery) = deliveries.get_mut(&number) else {
+    let Some(kept) = deliveries.get_mut(&number) else {
         return Ok(None);
     };
+    let delivery = kept.as_mut();
     let before = Keys::of(delivery);
     delivery.change(change)?;
     Ok(Some(Moved::of(delivery, &before)))
@@ -527,7 +536,7 @@ fn change_in(
 
 /// Notes a transfer that carries `count` bytes of the delivery with a number, in its place.
 fn note_in(
-    deliveries: &mut BTreeMap<u64, Delivery>,
+    deliveries: &mut BTreeMap<u64, Kept<Delivery>>,
     number: u64,
     transfer: &Transfer,
     count: u64,
@@ -536,9 +545,10 @@ fn note_in(
         ≡ (if number == n then option_map (behind_frame transfer.now count) (get nat_cmp deliveries.old n) else get nat_cmp deliveries.old n)) }
     ensures found { IfOk result (λ found. found ≡ option_map (λ d. moved (keys d) (behind_frame transfer.now count d)) (get nat_cmp deliveries.old number)) }
 {
-    let Some(delivery) = deliveries.get_mut(&number) else {
+    let Some(kept) = deliveries.get_mut(&number) else {
         return Ok(None);
     };
+    let delivery = kept.as_mut();
     let before = Keys::of(delivery);
     delivery.note_frame(transfer, count)?;
     Ok(Some(Moved::of(delivery, &before)))

@@ -15,7 +15,7 @@ use Rattle.router_deliveries.proofs.store.Store.add.Goals as goal
 -- the delivery is there, and none else has changed
 there : (c : goal.In_ok-shift) (n : ℕ) → get nat_cmp c.shift.new.self.deliveries n ≡ (if c.args.number == n then Some (bound c.args.name c.args.binding) else get nat_cmp c.args.self.now.deliveries n)
 there c n = ap (λ m. get nat_cmp m n) c.shift.ensures.deliveries ∙ c.in_ok-before.ensures.deliveries n
-    ∙ ap (λ (d : Delivery). if c.args.number == n then Some d else get nat_cmp c.args.self.now.deliveries n) c.bound-delivery.ensures
+    ∙ ap (λ (d : Delivery). if c.args.number == n then Some d else get nat_cmp c.args.self.now.deliveries n) (c.in_ok-delivery.ensures ∙ c.bound-delivery.ensures)
 
 pub returns-clause-indexed : goal.returns-clause-indexed
 returns-clause-indexed c = λ none alone before.

@@ -7,7 +7,7 @@ use Rattle.router_deliveries.specs.declared.by_name.ByName.{ByName}
 use Rattle.router_deliveries.specs.declared.index.Index.{Index}
 use Rattle.router_deliveries.specs.declared.index.Keys.{Keys}
 use Rattle.router_deliveries.specs.Calling.{at_name, AreCalled}
-use Rattle.router_deliveries.specs.Indexing.{Indexes, standing}
+use Rattle.router_deliveries.specs.Indexing.{Indexes, keys, standing}
 use Rattle.router_deliveries.specs.Touching.{is_touched_in}
 use Rattle.router_deliveries.proofs.Called.{called_out}
 use Rattle.router_deliveries.proofs.Puts.{on_ok}
@@ -19,17 +19,17 @@ pub returns-clause-indexed : goal.returns-clause-indexed
 returns-clause-indexed c =
     let old = get nat_cmp c.args.self.now.deliveries in
     let stood : ℕ → Keys = λ n. standing (old n) in
-    let was : old c.args.number ≡ Some c.in-Some.delivery = sym c.take.ensures.gives ∙ c.in-Some.is in
+    let was : old c.args.number ≡ Some c.in-Some.taken = sym c.take.ensures.gives ∙ c.in-Some.is in
     on_ok c.shift.result
     (λ indexed before. record {
       indexes = put_at c.shift.new.self.index c.args.number (λ v. None) old (get nat_cmp c.shift.new.self.deliveries)
           (λ n. ap (λ m. get nat_cmp m n) c.shift.ensures.deliveries ∙ c.take.ensures.gone n)
           (subst (λ (k : Keys). Indexes c.shift.new.self.index (λ n. if c.args.number == n then k else stood n)) c.nowhere.ensures
-          (indexed stood (ap standing was ∙ sym c.of-before.ensures) (subst (λ (x : Index). Indexes x stood) (sym c.take.ensures.index) before.indexes)));
-      called = called_out c.take.new.self.by_name c.shift.new.self.by_name c.args.number c.in-Some.delivery old _ was
+          (indexed stood (ap standing was ∙ sym (c.of-before.ensures ∙ ap keys c.as_ref-delivery.ensures)) (subst (λ (x : Index). Indexes x stood) (sym c.take.ensures.index) before.indexes)));
+      called = called_out c.take.new.self.by_name c.shift.new.self.by_name c.args.number c.in-Some.taken old _ was
           (λ n. ap (λ m. get nat_cmp m n) c.shift.ensures.deliveries ∙ c.take.ensures.gone n)
           (λ m. ap (λ (x : ByName). at_name x m) c.shift.ensures.by_name ∙ c.forget.ensures m
-          ∙ ap (λ (d : Delivery). if same_name d.name m then None else at_name c.take.new.self.by_name m) c.delivery.view_is)
+          ∙ ap (λ (d : Delivery). if same_name d.name m then None else at_name c.take.new.self.by_name m) (c.delivery.view_is ∙ c.as_ref-delivery.ensures))
           (subst (λ (x : ByName). AreCalled x old) (sym c.take.ensures.by_name) before.called);
     })
     c.shift.ensures.indexed
@@ -37,7 +37,7 @@ returns-clause-indexed c =
 pub returns-clause-touches : goal.returns-clause-touches
 returns-clause-touches c = on_ok c.shift.result
     (λ touched. touches_at c.args.self.now c.shift.new.self c.args.number (λ v. None) c.of-before.result c.nowhere.result
-    (c.of-before.ensures ∙ ap standing (sym c.in-Some.is ∙ c.take.ensures.gives)) c.nowhere.ensures
+    (c.of-before.ensures ∙ ap keys c.as_ref-delivery.ensures ∙ ap standing (sym c.in-Some.is ∙ c.take.ensures.gives)) c.nowhere.ensures
     (λ n. ap (λ m. get nat_cmp m n) c.shift.ensures.deliveries ∙ c.take.ensures.gone n)
     (λ k f. let noted = touched k f in (ap (λ s. is_touched_in s k) (sym c.take.ensures.touched) ∙ noted.0, noted.1)))
     c.shift.ensures.touched
