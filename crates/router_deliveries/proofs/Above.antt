@@ -13,7 +13,7 @@ use Rattle.std.proofs.lemmas.Bool.Decides.{nat_tests}
 use Rattle.router_deliveries.specs.declared.by_link.ByLink.{ByLink}
 use Rattle.router_deliveries.specs.Finding.{IsFirst, IsFirstLink, is_above}
 use Rattle.router_deliveries.specs.Indexing.{Pair, pair_cmp, in_group, IsFirstPair, number_on, behind_link}
-use Rattle.router_deliveries.proofs.Numbers.{not_true}
+use Rattle.router_trace.proofs.Numbers.{not_true}
 
 -- what the order of two pairs says of their parts
 lower : (a b : ℕ) (o : Ordering) → is_gt (ordering_then (nat_cmp a b) o) ≡ false → a ≤ b

@@ -1,10 +1,10 @@
 -- A change applied to a delivery twice has the effect of once.
-use Rattle.std.proofs.Common.{◌≡◌, ℕ, Bool, true, false, refl, sym, ap, arith, ◌∙◌, List, ◌∷◌, Option, Some, None}
+use Rattle.std.proofs.Common.{◌≡◌, ℕ, Bool, true, false, refl, sym, ap, ◌∙◌, List, ◌∷◌, Option, Some, None}
 use Rattle.std.specs.Prelude.{◌||◌, ◌&&◌, ◌==◌, not, if◌then◌else◌}
-use Rattle.std.proofs.lemmas.Bool.Decides.{nat_tests}
 use Rattle.amqp_session.specs.Ranges.{has}
 use Rattle.router_trace.specs.declared.handle.Attachment.{Attachment}
 use Rattle.amqp_perf.specs.declared.state.DeliveryState.{DeliveryState}
+use Rattle.router_trace.proofs.Numbers.{equal_back}
 use Rattle.router_trace.specs.Deliveries.{Delivery, source, sender, unless_over, is_over, behind_ends, behind_origin, is_gone_with, ended, forsaken}
 use Rattle.router_deliveries.specs.declared.change.Change.{Change}
 use Rattle.router_deliveries.specs.declared.change.Change.TheVariants as change
@@ -122,9 +122,6 @@ twice x (Some d) = kept_again x (changed x d) (changed_twice x d)
 -- one more number
 abbrev pub finish : Change → Bool → Option Delivery → Option Delivery
 finish x b v = if b then behind x v else v
-
-pub equal_back : (n m : ℕ) → (m == n) ≡ (n == m)
-equal_back n m = grind (arith, nat_tests)
 
 pub one_more : (x : Change) (n m : ℕ) (more : List ℕ) (before after : Option Delivery) → after ≡ (if m == n then behind x before else before)
     → finish x (has n more) after ≡ finish x (has n (m ∷ more)) before

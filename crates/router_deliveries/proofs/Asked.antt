@@ -7,13 +7,15 @@ use Rattle.router_trace.specs.Trace.{Trace}
 use Rattle.router_trace.specs.Deliveries.{delivery, is_number, waits_on, undecided_on, held_from, is_to_tell}
 use Rattle.router_trace.specs.Following.{is_unsent_on}
 use Rattle.router_deliveries.specs.declared.store.Store.{Store}
-use Rattle.router_deliveries.specs.Finding.{IsCount, IsFirstLink}
+use Rattle.router_trace.specs.Counting.{IsCount}
+use Rattle.router_deliveries.specs.Finding.{IsFirstLink}
 use Rattle.router_deliveries.specs.Fits.{StoreFit}
 use Rattle.router_deliveries.specs.Indexing.{in_group, standing}
 use Rattle.router_deliveries.specs.Tallying.{tally, waiting_at, undecided_at}
 use Rattle.router_deliveries.specs.Calling.{NumbersFit}
 use Rattle.router_deliveries.proofs.Called.{called_same, numbers_fit}
-use Rattle.router_deliveries.proofs.Found.{count_same, waits_is, unsent_is, undecided_is, held_is, to_tell_is}
+use Rattle.router_trace.proofs.Counts.{count_same}
+use Rattle.router_deliveries.proofs.Found.{waits_is, unsent_is, undecided_is, held_is, to_tell_is}
 
 pub waits_in : (s : Store) (t : Trace) → StoreFit s t → (k : ℕ) → IsCount (λ n. waits_on k (delivery t n)) (waiting_at s.index.consumers k)
 waits_in s t fit k = count_same (λ n. is_number (standing (get nat_cmp s.deliveries n)).waiting k) (λ n. waits_on k (delivery t n))

@@ -13,7 +13,7 @@ use Rattle.router_deliveries.specs.declared.store.Store.{Store}
 use Rattle.router_deliveries.specs.Fits.{Indexed, StoreFit, SendingFit}
 use Rattle.router_deliveries.specs.Naming.{NamesFit}
 use Rattle.router_places.specs.Places.{at}
-use Rattle.router_deliveries.specs.Places.{at_id}
+use Rattle.router_places.specs.Ids.{at_id}
 use Rattle.router_deliveries.proofs.Known.{still_known}
 use Rattle.router_deliveries.proofs.Low.{low_sending, low_named}
 use Rattle.router_deliveries.proofs.Named.{still}

@@ -1,25 +1,16 @@
 -- What the indexes find agrees with the deliveries.
-use Rattle.std.proofs.Common.{◌≡◌, ◌∙◌, ℕ, Bool, true, false, refl, sym, [], Option, Some, None}
+use Rattle.std.proofs.Common.{◌≡◌, ◌∙◌, ℕ, Bool, true, false, refl, sym, Option, Some, None}
 use Rattle.std.specs.Prelude.{◌&&◌, ◌||◌, ◌==◌, not, is_none, is_some}
-use Rattle.std.specs.List.Sorted.{IsStrictlySortedBy}
-use Rattle.std.specs.Ordering.{nat_cmp}
 use Rattle.amqp_perf.specs.declared.state.DeliveryState.{DeliveryState}
 use Rattle.router_trace.specs.declared.binding.Origin.{Origin}
 use Rattle.router_trace.specs.Deliveries.{Delivery, has_row, is_number, is_of, waits_on, undecided_on, held_from, is_to_tell, holder}
 use Rattle.router_trace.specs.Following.{is_unsent_on}
-use Rattle.router_deliveries.specs.Finding.{IsFirst, IsCount}
+use Rattle.router_deliveries.specs.Finding.{IsFirst}
 use Rattle.router_deliveries.specs.Indexing.{standing, from_link, on_link}
-
-pub no_rise : IsStrictlySortedBy nat_cmp []
-unfolding IsStrictlySortedBy
-no_rise = tt
 
 pub first_same : (p q : ℕ → Bool) → ((n : ℕ) → p n ≡ q n) → (r : Option ℕ) → IsFirst p r → IsFirst q r
 first_same p q same None x = λ n. sym (same n) ∙ x n
 first_same p q same (Some n) x = (sym (same n) ∙ x.0, λ m e. x.1 m (same m ∙ e))
-
-pub count_same : (p q : ℕ → Bool) → ((n : ℕ) → p n ≡ q n) → (k : ℕ) → IsCount p k → IsCount q k
-count_same p q same k x = record { numbers = x.numbers; rise = x.rise; pass = λ n. x.pass n ∙ same n; are = x.are }
 
 on : (link k : ℕ) (holds : Bool) → is_number (on_link link holds) k ≡ ((link == k) && holds)
 on link k true = sym (and_true (link == k))

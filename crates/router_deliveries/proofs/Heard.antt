@@ -20,11 +20,11 @@ use Rattle.router_trace.specs.Sessions.{maps, is_channel}
 use Rattle.router_trace.specs.Deliveries.{Delivery, source, delivery, unless_over, is_undecided, disposed, decided, is_on, is_meant, is_named, is_number, is_settled_at, stands_on, untold, last_of, decision, terminal, named, channels_found}
 use Rattle.router_deliveries.specs.declared.change.Change.{Change}
 use Rattle.router_deliveries.specs.declared.change.Change.TheVariants as change
-use Rattle.router_deliveries.specs.Fits.{channel_of}
+use Rattle.router_trace.specs.Channels.{channel_of}
 use Rattle.router_deliveries.specs.Hearing.{heard_change, disposed_change, decided_by, heard_by, is_named_in}
 use Rattle.router_deliveries.specs.Naming.{Remembers, is_open}
 use Rattle.router_deliveries.specs.Stepping.{changed, behind, behind_any, comes_with_id, untold_by, is_in, IsKept}
-use Rattle.router_deliveries.proofs.Again.{equal_back}
+use Rattle.router_trace.proofs.Numbers.{equal_back}
 use Rattle.router_deliveries.proofs.Puts.{kept}
 
 -- a change of a delivery that may exist

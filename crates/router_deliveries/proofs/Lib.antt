@@ -14,8 +14,6 @@ mod Reindexed
 mod Settled
 mod Found
 mod Tallied
-mod Counted
-mod Claimed
 pub mod Numbers
 mod Asked
 pub mod Touching
@@ -24,8 +22,6 @@ pub mod Unsent
 mod Ranges
 mod Opened
 pub mod Listed
-mod Marked
 pub mod Placed
 pub mod Detached
 mod Decided
-mod Tagged

@@ -178,10 +178,6 @@ pub unframed : (s : Store) (c : ℕ) (i : Item) (t : Trace) → ((sasl : Bool) (
 unframed s c (item.Frame sasl own body payload) t other fit = absurd (other sasl own body payload refl)
 unframed s c i t other fit = record { deliveries = λ n. fit.deliveries n ∙ quiet (number_named t) c n i (sending t c) (λ d. refl) (delivery t n) (kept t n); indexed = fit.indexed }
 
-pub on_ok : {T E P Q : Type 0} (r : Result T E) → (P → Q) → OnOk r P → OnOk r Q
-on_ok (Ok x) f h = f h
-on_ok (Err e) f h = tt
-
 pub on_ok_both : {T E P Q R : Type 0} (r : Result T E) → (P → Q → R) → OnOk r P → OnOk r Q → OnOk r R
 on_ok_both (Ok x) f p q = f p q
 on_ok_both (Err e) f p q = tt

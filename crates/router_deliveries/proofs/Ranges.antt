@@ -241,11 +241,3 @@ passing first last p there ids f low is_there rise exact =
     both true false true h = h refl
     both true false false h = refl
     both false t q h = refl
-
--- a list of one id
-alone : (first id : ℕ) → IsRising first (id ∷ [])
-unfolding IsStrictlySortedBy
-alone first id = (tt, tt)
-
-pub one_rises : (first id : ℕ) (before after : List ℕ) → before ≡ [] → after ≡ before ++ id ∷ [] → IsRising first after
-one_rises first id before after none is = subst (IsRising first) (sym (is ∙ ap (λ xs. xs ++ id ∷ []) none)) (alone first id)

@@ -8,7 +8,8 @@ use Rattle.router_trace.specs.Deliveries.{Delivery, bindings, delivery}
 use Rattle.router_trace.specs.Following.{first_delivery, is_unsent_on}
 use Rattle.router_trace.specs.Numbers.{first_below, or_other, if_passes}
 use Rattle.router_deliveries.specs.Finding.{IsFirst, IsFirstLink, is_above}
-use Rattle.router_deliveries.proofs.Numbers.{none_before, none_below, stands_below}
+use Rattle.router_trace.proofs.Numbers.{none_below}
+use Rattle.router_deliveries.proofs.Numbers.{none_before, stands_below}
 
 -- there is a first number below a bound exactly if one passes
 or_some : (v w : Option ℕ) → is_some w ≡ true → is_some (or_other v w) ≡ true

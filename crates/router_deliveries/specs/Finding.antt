@@ -1,10 +1,9 @@
 -- What is found among the deliveries that pass a test: the first of them, and how many they are.
-use Rattle.std.specs.Prelude.{◌≡◌, ◌≤◌, ◌+◌, ℕ, Bool, true, false, nat_lt, List, length, Option, Some, None}
+use Rattle.std.specs.Prelude.{◌≡◌, ◌≤◌, ◌+◌, ℕ, Bool, true, false, nat_lt, List, Option, Some, None}
 use Rattle.std.specs.List.Sorted.{IsStrictlySortedBy}
 use Rattle.std.specs.Ordering.{nat_cmp}
 use Rattle.std.specs.Map.{keys_of, values_of, lookup}
 use Rattle.std.specs.BTreeMap.{is_at}
-use Rattle.amqp_session.specs.Ranges.{has}
 use Rattle.router_trace.specs.Trace.{Trace}
 use Rattle.router_trace.specs.Deliveries.{Delivery, bindings, delivery}
 use Rattle.router_trace.specs.Numbers.{count_below}
@@ -13,13 +12,6 @@ use Rattle.router_trace.specs.Numbers.{count_below}
 abbrev pub IsFirst : (ℕ → Bool) → Option ℕ → Type 0
 IsFirst passes None = (n : ℕ) → passes n ≡ false
 IsFirst passes (Some n) = (passes n ≡ true) × ((m : ℕ) → passes m ≡ true → n ≤ m)
-
--- how many numbers pass: those of a rising list
-pub record IsCount (passes : ℕ → Bool) (count : ℕ) : Type 0 where
-  pub numbers : List ℕ
-  pub rise : IsStrictlySortedBy nat_cmp numbers
-  pub pass : (n : ℕ) → has n numbers ≡ passes n
-  pub are : length numbers ≡ count
 
 -- how many of all deliveries pass
 abbrev pub count_deliveries : Trace → (Option Delivery → Bool) → ℕ

@@ -63,8 +63,3 @@ carried_in numbers _ known = None
 abbrev pub carried_by : (DeliveryName → Option ℕ) → Item → (ℕ → ℕ → Option ℕ) → Option ℕ
 carried_by numbers (item.Frame sasl own body payload) known = carried_in numbers body (known own)
 carried_by numbers _ known = None
-
--- the channel of an item; 0 if it has none
-abbrev pub channel_of : Item → ℕ
-channel_of (item.Frame sasl channel body payload) = channel
-channel_of _ = 0

@@ -19,10 +19,6 @@ use Rattle.router_deliveries.specs.declared.spots.Spot.{Spot}
 use Rattle.router_deliveries.specs.Placing.{SpotsFit, spot_of, on_spot, from_spot, id_spot, own_spot, is_gone_there, is_id_there}
 use Rattle.router_deliveries.specs.Tallying.{IsTallied, AreTallied}
 
-abbrev pub in_set : Option (BTreeSet ℕ) → ℕ → Bool
-in_set None n = false
-in_set (Some s) n = contains nat_cmp s n
-
 -- a link and a number; ordered by link, then by number
 abbrev pub Pair : Type 0
 Pair = ℕ × ℕ

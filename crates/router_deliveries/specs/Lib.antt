@@ -1,13 +1,10 @@
-pub mod Places
 pub mod Stepping
 pub mod Hearing
 pub mod Placing
 pub mod Indexing
 pub mod Finding
 pub mod Tallying
-pub mod Counting
 pub mod Calling
-pub mod Claiming
 pub mod Fits
 pub mod Touching
 pub mod Naming

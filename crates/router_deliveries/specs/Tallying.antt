@@ -6,7 +6,7 @@ use Rattle.router_trace.specs.Deliveries.{is_number}
 use Rattle.router_deliveries.specs.declared.consumers.Consumers.{Consumers}
 use Rattle.router_deliveries.specs.declared.consumers.OfLink.{OfLink}
 use Rattle.router_deliveries.specs.declared.tallies.Tallies.{Tallies}
-use Rattle.router_deliveries.specs.Finding.{IsCount}
+use Rattle.router_trace.specs.Counting.{IsCount}
 
 abbrev pub tally : Tallies → ℕ → ℕ
 tally s k = unwrap_or (get nat_cmp s.counts k) 0

@@ -13,9 +13,11 @@ ghost use Rattle.router_trace.specs.Following.{first_delivery, is_unsent_on, is_
 ghost use Rattle.router_trace.specs.Settling.{open_ids};
 ghost use Rattle.router_deliveries.specs.Calling.{Knows};
 ghost use Rattle.router_deliveries.specs.Deciding.{decided_rows, rows_from};
-ghost use Rattle.router_deliveries.specs.Finding.{IsFirst, IsCount, count_deliveries, is_above};
+ghost use Rattle.router_trace.specs.Counting.{IsCount};
+ghost use Rattle.router_deliveries.specs.Finding.{IsFirst, count_deliveries, is_above};
 ghost use Rattle.router_deliveries.specs.Naming.{Remembers};
-ghost use Rattle.router_deliveries.specs.Fits.{DeliveriesFit, AreSending, channel_of};
+ghost use Rattle.router_trace.specs.Channels.{channel_of};
+ghost use Rattle.router_deliveries.specs.Fits.{DeliveriesFit, AreSending};
 ghost use Rattle.router_deliveries.specs.Touching.{is_touched, Touches};
 
 use crate::change::{Change, behind_heard};

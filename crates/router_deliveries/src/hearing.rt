@@ -5,7 +5,7 @@ ghost use Rattle.std.specs.BTreeMap.{get};
 ghost use Rattle.router_deliveries.specs.Fits.{Indexed};
 ghost use Rattle.router_deliveries.specs.Hearing.{heard_by, done_to};
 ghost use Rattle.router_deliveries.specs.Naming.{AreSmall};
-ghost use Rattle.router_deliveries.specs.Places.{at_id};
+ghost use Rattle.router_places.specs.Ids.{at_id};
 ghost use Rattle.router_deliveries.specs.Stepping.{IsKept};
 ghost use Rattle.router_deliveries.specs.Touching.{StoreTouches};
 

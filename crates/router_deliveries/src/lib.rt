@@ -13,18 +13,14 @@
 
 mod by_link;
 mod by_name;
-mod by_session;
 mod change;
-mod claims;
 mod consumers;
-mod counts;
 mod deciding;
 mod deliveries;
 mod delivery;
 mod hearing;
 mod index;
 mod kept;
-mod link_ids;
 mod names;
 mod next_ids;
 mod sending;
@@ -37,6 +33,5 @@ mod tallies;
 mod touched;
 
 pub use change::{Change, Gone};
-pub use claims::{Claim, Claims, Middle, Receiving};
 pub use deliveries::Deliveries;
 pub use delivery::Delivery;

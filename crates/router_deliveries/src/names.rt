@@ -11,7 +11,7 @@ ghost use Rattle.router_trace.specs.Trace.{Entry, Out, did};
 ghost use Rattle.router_trace.specs.declared.event.Event.TheVariants as event;
 ghost use Rattle.router_trace.specs.Deliveries.{delivery, is_id, number_tagged, tag_in, is_number};
 ghost use Rattle.router_deliveries.specs.Calling.{at_name};
-ghost use Rattle.router_deliveries.specs.Places.{at_id};
+ghost use Rattle.router_places.specs.Ids.{at_id};
 ghost use Rattle.router_deliveries.specs.Fits.{StoreFit};
 ghost use Rattle.amqp_session.specs.Ranges.{has};
 ghost use Rattle.router_deliveries.specs.Hearing.{id_of, picks, is_named_in};
@@ -19,10 +19,10 @@ ghost use Rattle.router_deliveries.specs.Naming.{NamesFit, AreSmall, kept_name, 
 ghost use Rattle.router_trace.specs.Settling.{ids_between};
 ghost use Rattle.std.specs.List.{filter};
 
-use crate::by_session::BySession;
 use crate::store::Store;
 use amqp_frames::Item;
 use amqp_perf::{Perf, Transfer};
+use router_places::BySession;
 use router_trace::ConnectionId;
 use std::alloc::{AllocError, Global};
 
@@ -279,9 +279,6 @@ impl Names {
         Ok(())
     }
 }
-
-/// Half of the delivery-ids. The last id of a disposition's range is less than this far from its first.
-pub(crate) const HALF: u32 = 0x8000_0000;
 
 /// The range of ids in a consumer's disposition.
 fn decided_in(item: &Item) -> Option<(u32, u32)>

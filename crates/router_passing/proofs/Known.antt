@@ -18,9 +18,10 @@ use Rattle.router_trace.specs.declared.binding.Origin.{Origin}
 use Rattle.router_trace.specs.Numbers.{count_below}
 use Rattle.router_trace.specs.Deliveries.{Delivery, bindings, delivery, waits_on, undecided_on, held_from}
 use Rattle.router_deliveries.specs.declared.deliveries.Deliveries.{Deliveries}
-use Rattle.router_deliveries.specs.Claiming.{ClaimsFit}
+use Rattle.router_claims.specs.Claiming.{ClaimsFit}
 use Rattle.router_deliveries.specs.Finding.{count_deliveries}
-use Rattle.router_deliveries.specs.Fits.{DeliveriesFit, channel_of as of_deliveries}
+use Rattle.router_trace.specs.Channels.{channel_of as of_deliveries}
+use Rattle.router_deliveries.specs.Fits.{DeliveriesFit}
 use Rattle.router_deliveries.specs.Touching as deliveries
 use Rattle.router_deliveries.proofs.Numbers.{none_beyond}
 use Rattle.router_links.specs.declared.links.Links.{Links}

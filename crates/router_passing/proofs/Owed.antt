@@ -9,7 +9,7 @@ use Rattle.router_trace.specs.Links.{link, numbered, place_of, is_attached, if_a
 use Rattle.router_trace.specs.Following.{link_of, owes_one}
 use Rattle.router_links.specs.Owed.{is_listed, is_same}
 use Rattle.router_deliveries.specs.Finding.{IsFirst, is_above}
-use Rattle.router_deliveries.proofs.Numbers.{not_true}
+use Rattle.router_trace.proofs.Numbers.{not_true}
 use Rattle.router_passing.specs.Asking.{is_below, lower_number, lowest_of, owes_drain, owes_on}
 use Rattle.router_passing.proofs.Numbered.{number_is}
 use Rattle.router_passing.proofs.Going.{same_tests, either_left, either_right, both_left, both_right}

@@ -21,7 +21,7 @@ use Rattle.router_deliveries.specs.Fits.{DeliveriesFit}
 use Rattle.router_deliveries.specs.Naming as naming
 use Rattle.router_deliveries.specs.Calling.{IsGone, Knows}
 use Rattle.router_places.specs.Places.{at}
-use Rattle.router_deliveries.specs.Places.{at_id}
+use Rattle.router_places.specs.Ids.{at_id}
 use Rattle.router_deliveries.proofs.Puts.{kept}
 use Rattle.router_links.specs.declared.links.Links.{Links}
 use Rattle.router_links.specs.Ends.{link_of}

@@ -7,7 +7,7 @@ use Rattle.router_pools.specs.Sharing.{Figure}
 use Rattle.router_trace.specs.Trace.{Trace}
 use Rattle.router_trace.specs.Configuration.{distribution}
 use Rattle.router_trace.specs.Links.{attachments}
-use Rattle.router_deliveries.specs.Claiming.{ClaimsFit}
+use Rattle.router_claims.specs.Claiming.{ClaimsFit}
 use Rattle.router_deliveries.specs.Fits.{DeliveriesFit}
 use Rattle.router_deliveries.specs.Touching as deliveries
 use Rattle.router_links.specs.Fits.{LinksFit}

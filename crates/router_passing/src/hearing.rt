@@ -4,11 +4,11 @@ ghost use Rattle.router_trace.specs.Trace.{Entry};
 ghost use Rattle.router_trace.specs.Links.{their_handle, link};
 ghost use Rattle.router_trace.specs.Sessions.{is_channel};
 ghost use Rattle.router_links.specs.Fits.{LinksFit};
-ghost use Rattle.router_deliveries.specs.Claiming.{found_by, found_in, receiving_at};
+ghost use Rattle.router_claims.specs.Claiming.{found_by, found_in, receiving_at};
 
 use amqp_frames::Item;
 use amqp_perf::Perf;
-use router_deliveries::{Middle, Receiving};
+use router_claims::{Middle, Receiving};
 use router_links::Links;
 use router_trace::LinkAt;
 

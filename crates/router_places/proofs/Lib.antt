@@ -1,3 +1,5 @@
 pub mod Placed
 pub mod Among
 pub mod Leasts
+pub mod Ids
+pub mod Results

@@ -32,7 +32,7 @@ set_nowhere {X} test (e ∷ es) w none = by_head (test e.0) (set_nowhere test es
     by_head true rest is = absurd (clash is)
     by_head false rest is = ap (λ xs. e ∷ xs) (rest is)
 
-written : {X : Type 0} (m n : BTreeMap ℕ X) (key : ℕ) (w : X) → WritesThrough nat_cmp (nat_cmp key) m w n
+pub written : {X : Type 0} (m n : BTreeMap ℕ X) (key : ℕ) (w : X) → WritesThrough nat_cmp (nat_cmp key) m w n
     → (q : ℕ) → get nat_cmp n q ≡ (if key == q then option_map (λ _. w) (get nat_cmp m q) else get nat_cmp m q)
 written {X} m n key w through q = by_found (get nat_cmp m key) refl
   where
@@ -62,31 +62,33 @@ elsewhere : {X : Type 0} (m n : BTreeMap ℕ X) (key : ℕ) (w : X) → WritesTh
     → (q : ℕ) → (key == q) ≡ false → get nat_cmp n q ≡ get nat_cmp m q
 elsewhere m n key w through q e = written m n key w through q ∙ ap (λ b. if b then option_map (λ _. w) (get nat_cmp m q) else get nat_cmp m q) e
 
-module _ {V : Type 0} (rows new : BTreeMap ℕ (BTreeMap ℕ (BTreeMap ℕ V))) (sessions changed : BTreeMap ℕ (BTreeMap ℕ V)) (handles after : BTreeMap ℕ V) (conn own : ℕ)
-    (in_conn : get nat_cmp rows conn ≡ Some sessions) (in_session : get nat_cmp sessions own ≡ Some handles)
+-- three levels, of which the last is any that is looked up so
+module _ {H V : Type 0} (look : Option H → ℕ → Option V) (rows new : BTreeMap ℕ (BTreeMap ℕ H)) (sessions changed : BTreeMap ℕ H) (last after : H) (conn own : ℕ)
+    (in_conn : get nat_cmp rows conn ≡ Some sessions) (in_session : get nat_cmp sessions own ≡ Some last)
     (at_conn : WritesThrough nat_cmp (nat_cmp conn) rows changed new) (at_own : WritesThrough nat_cmp (nat_cmp own) sessions after changed) where
   -- the session's values are the changed ones, and all others what they were
-  behind : (c o h : ℕ) (x : Option V) → ((conn == c) ≡ true → (own == o) ≡ true → in_map (in_map (get nat_cmp rows c) o) h ≡ get nat_cmp handles h → get nat_cmp after h ≡ x)
-      → in_map (in_map (get nat_cmp new c) o) h
-      ≡ (if conn == c then (if own == o then x else in_map (in_map (get nat_cmp rows c) o) h) else in_map (in_map (get nat_cmp rows c) o) h)
+  behind : (c o h : ℕ) (x : Option V) → ((conn == c) ≡ true → (own == o) ≡ true → look (in_map (get nat_cmp rows c) o) h ≡ look (Some last) h → look (Some after) h ≡ x)
+      → look (in_map (get nat_cmp new c) o) h
+      ≡ (if conn == c then (if own == o then x else look (in_map (get nat_cmp rows c) o) h) else look (in_map (get nat_cmp rows c) o) h)
   behind c o h x is =
       by_test (conn == c)
       (λ e. let old : get nat_cmp rows c ≡ Some sessions = ap (get nat_cmp rows) (sym (eqb-true conn c e)) ∙ in_conn in
       let now : get nat_cmp new c ≡ Some changed = there rows new conn sessions changed in_conn at_conn c e in
       by_test (own == o)
-      (λ f. rw (e, f) (ap (λ m. in_map (in_map m o) h) now ∙ ap (λ m. in_map m h) (there sessions changed own handles after in_session at_own o f)
-      ∙ is e f (ap (λ m. in_map (in_map m o) h) old ∙ ap (λ m. in_map m h) (ap (get nat_cmp sessions) (sym (eqb-true own o f)) ∙ in_session))))
-      (λ f. rw (e, f) (ap (λ m. in_map (in_map m o) h) now ∙ ap (λ m. in_map m h) (elsewhere sessions changed own after at_own o f) ∙ sym (ap (λ m. in_map (in_map m o) h) old))))
-      (λ e. rw e (ap (λ m. in_map (in_map m o) h) (elsewhere rows new conn changed at_conn c e)))
+      (λ f. rw (e, f) (ap (λ m. look (in_map m o) h) now ∙ ap (λ m. look m h) (there sessions changed own last after in_session at_own o f)
+      ∙ is e f (ap (λ m. look (in_map m o) h) old ∙ ap (λ m. look m h) (ap (get nat_cmp sessions) (sym (eqb-true own o f)) ∙ in_session))))
+      (λ f. rw (e, f) (ap (λ m. look (in_map m o) h) now ∙ ap (λ m. look m h) (elsewhere sessions changed own after at_own o f) ∙ sym (ap (λ m. look (in_map m o) h) old))))
+      (λ e. rw e (ap (λ m. look (in_map m o) h) (elsewhere rows new conn changed at_conn c e)))
 
-  pub placed : (handle : ℕ) (w : V) → WritesThrough nat_cmp (nat_cmp handle) handles w after
-      → (c o h : ℕ) → in_map (in_map (get nat_cmp new c) o) h
-      ≡ (if conn == c then (if own == o then (if handle == h then option_map (λ _. w) (in_map (in_map (get nat_cmp rows c) o) h) else in_map (in_map (get nat_cmp rows c) o) h) else in_map (in_map (get nat_cmp rows c) o) h) else in_map (in_map (get nat_cmp rows c) o) h)
+  pub placed : (handle : ℕ) (w : V)
+      → ((h : ℕ) → look (Some after) h ≡ (if handle == h then option_map (λ _. w) (look (Some last) h) else look (Some last) h))
+      → (c o h : ℕ) → look (in_map (get nat_cmp new c) o) h
+      ≡ (if conn == c then (if own == o then (if handle == h then option_map (λ _. w) (look (in_map (get nat_cmp rows c) o) h) else look (in_map (get nat_cmp rows c) o) h) else look (in_map (get nat_cmp rows c) o) h) else look (in_map (get nat_cmp rows c) o) h)
   placed handle w at_handle c o h =
-      behind c o h (if handle == h then option_map (λ _. w) (in_map (in_map (get nat_cmp rows c) o) h) else in_map (in_map (get nat_cmp rows c) o) h)
-      (λ e f old. written handles after handle w at_handle h ∙ ap (λ v. if handle == h then option_map (λ _. w) v else v) (sym old))
+      behind c o h (if handle == h then option_map (λ _. w) (look (in_map (get nat_cmp rows c) o) h) else look (in_map (get nat_cmp rows c) o) h)
+      (λ e f old. at_handle h ∙ ap (λ v. if handle == h then option_map (λ _. w) v else v) (sym old))
 
-  pub unplaced : after ≡ handles → (c o h : ℕ) → in_map (in_map (get nat_cmp new c) o) h ≡ in_map (in_map (get nat_cmp rows c) o) h
+  pub unplaced : ((h : ℕ) → look (Some after) h ≡ look (Some last) h) → (c o h : ℕ) → look (in_map (get nat_cmp new c) o) h ≡ look (in_map (get nat_cmp rows c) o) h
   unplaced same c o h =
-      behind c o h (in_map (in_map (get nat_cmp rows c) o) h) (λ e f old. ap (λ m. get nat_cmp m h) same ∙ sym old)
+      behind c o h (look (in_map (get nat_cmp rows c) o) h) (λ e f old. same h ∙ sym old)
       ∙ by_test (conn == c) (λ e. by_test (own == o) (λ f. rw (e, f) refl) (λ f. rw (e, f) refl)) (λ e. rw e refl)

@@ -1,3 +1,4 @@
 pub mod Places
 pub mod Among
 pub mod Marks
+pub mod Ids

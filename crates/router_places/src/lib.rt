@@ -2,8 +2,10 @@
 #![tactic(auto)]
 
 mod by_handle;
+mod by_session;
 mod few;
 mod marks;
 
 pub use by_handle::{ByHandle, InConnection, InSession};
+pub use by_session::BySession;
 pub use marks::Marks;

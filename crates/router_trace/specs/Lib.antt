@@ -16,6 +16,8 @@ pub mod Numbers
 pub mod DeliveryFrames
 pub mod Following
 pub mod Settling
+pub mod Counting
+pub mod Channels
 pub use Rattle.amqp_conn.specs.Phase
 pub use Rattle.amqp_conn.specs.Heartbeats
 pub use Rattle.amqp_session.specs.Session

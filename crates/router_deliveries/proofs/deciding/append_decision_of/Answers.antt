@@ -1,6 +1,6 @@
 use Rattle.std.proofs.Common.{◌∙◌, ◌++◌, sym, ap}
 use Rattle.router_deliveries.proofs.Decided.{with_row}
-use Rattle.router_deliveries.proofs.Puts.{on_ok}
+use Rattle.router_places.proofs.Results.{on_ok}
 use Rattle.router_deliveries.proofs.deciding.append_decision_of.Goals as goal
 
 pub returns-in_ok-outcome_after-in-Some : goal.returns-in_ok-outcome_after-in-Some

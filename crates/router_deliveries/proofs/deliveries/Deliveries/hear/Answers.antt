@@ -5,7 +5,7 @@ use Rattle.router_trace.specs.declared.event.Event.TheVariants as event
 use Rattle.router_deliveries.specs.Fits.{StoreFit}
 use Rattle.router_deliveries.specs.Hearing.{heard_by}
 use Rattle.router_places.specs.Places.{at}
-use Rattle.router_deliveries.specs.Places.{at_id}
+use Rattle.router_places.specs.Ids.{at_id}
 use Rattle.router_deliveries.specs.Stepping.{IsKept}
 use Rattle.router_deliveries.proofs.Puts.{kept}
 use Rattle.router_deliveries.proofs.Low.{low_named, low_sending}

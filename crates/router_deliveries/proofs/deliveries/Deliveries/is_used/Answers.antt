@@ -2,7 +2,7 @@ use Rattle.std.proofs.Common.{◌∙◌}
 use Rattle.std.specs.Ordering.{nat_cmp}
 use Rattle.std.specs.BTreeMap.{get}
 use Rattle.router_trace.specs.Deliveries.{named}
-use Rattle.router_deliveries.specs.Places.{at_id}
+use Rattle.router_places.specs.Ids.{at_id}
 use Rattle.router_deliveries.proofs.Opened.{used_is}
 use Rattle.router_deliveries.proofs.deliveries.Deliveries.is_used.Goals as goal
 

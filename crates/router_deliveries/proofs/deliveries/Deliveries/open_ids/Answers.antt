@@ -5,7 +5,7 @@ use Rattle.std.proofs.lemmas.List.Elements.{filter_agree}
 use Rattle.router_trace.specs.Deliveries.{named}
 use Rattle.router_trace.specs.Settling.{ids_between, is_open_id}
 use Rattle.router_deliveries.specs.Naming.{opens}
-use Rattle.router_deliveries.specs.Places.{at_id}
+use Rattle.router_places.specs.Ids.{at_id}
 use Rattle.router_deliveries.proofs.Opened.{opens_is}
 use Rattle.router_deliveries.proofs.deliveries.Deliveries.open_ids.Goals as goal
 

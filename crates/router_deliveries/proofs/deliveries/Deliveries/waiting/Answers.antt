@@ -1,6 +1,6 @@
 use Rattle.std.proofs.Common.{◌∙◌, refl, sym, subst}
 use Rattle.router_trace.specs.Deliveries.{delivery, waits_on}
-use Rattle.router_deliveries.specs.Finding.{IsCount}
+use Rattle.router_trace.specs.Counting.{IsCount}
 use Rattle.router_deliveries.proofs.Asked.{waits_in}
 use Rattle.router_deliveries.proofs.Numbers.{count_deliveries_is}
 use Rattle.router_deliveries.proofs.deliveries.Deliveries.waiting.Goals as goal

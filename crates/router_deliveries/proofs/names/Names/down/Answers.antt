@@ -3,7 +3,7 @@ use Rattle.std.specs.Prelude.{◌==◌}
 use Rattle.router_trace.specs.Trace.{did}
 use Rattle.router_trace.specs.Deliveries.{named}
 use Rattle.router_trace.specs.declared.event.Event.TheVariants as event
-use Rattle.router_deliveries.specs.Places.{at_id}
+use Rattle.router_places.specs.Ids.{at_id}
 use Rattle.router_deliveries.proofs.Low.{low_named}
 use Rattle.router_deliveries.proofs.Named.{lost_row, small_end}
 use Rattle.router_deliveries.proofs.names.Names.down.Goals as goal

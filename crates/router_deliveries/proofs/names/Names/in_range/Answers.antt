@@ -5,7 +5,7 @@ use Rattle.std.specs.BTreeMap.{get}
 use Rattle.std.proofs.lemmas.List.{drop_more, drop_all}
 use Rattle.amqp_session.specs.Ranges.{has}
 use Rattle.router_deliveries.specs.Hearing.{picks, id_of}
-use Rattle.router_deliveries.specs.Places.{at_id}
+use Rattle.router_places.specs.Ids.{at_id}
 use Rattle.router_deliveries.proofs.Picked.{one_more, all_picked, at_end}
 use Rattle.router_deliveries.proofs.names.Names.in_range.Goals as goal
 

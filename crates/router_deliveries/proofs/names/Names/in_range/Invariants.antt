@@ -4,7 +4,7 @@ use Rattle.std.specs.BTreeMap.{get}
 use Rattle.std.specs.List.{list_any}
 use Rattle.amqp_session.specs.Ranges.{has}
 use Rattle.router_deliveries.specs.Hearing.{picks, id_of}
-use Rattle.router_deliveries.specs.Places.{at_id}
+use Rattle.router_places.specs.Ids.{at_id}
 use Rattle.router_deliveries.proofs.names.Names.in_range.Given as goal
 
 -- the numbers picked so far, and those of the remaining ids

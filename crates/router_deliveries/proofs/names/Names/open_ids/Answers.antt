@@ -5,7 +5,7 @@ use Rattle.std.specs.Ordering.{nat_cmp}
 use Rattle.std.specs.BTreeMap.{get}
 use Rattle.std.proofs.lemmas.List.{append-nil, drop_all}
 use Rattle.router_deliveries.specs.Naming.{opens}
-use Rattle.router_deliveries.specs.Places.{at_id}
+use Rattle.router_places.specs.Ids.{at_id}
 use Rattle.router_deliveries.proofs.Opened.{is_there, is_small}
 use Rattle.router_deliveries.proofs.Ranges.{passing}
 use Rattle.router_deliveries.proofs.names.Names.open_ids.Goals as goal

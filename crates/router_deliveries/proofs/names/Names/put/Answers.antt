@@ -3,7 +3,7 @@ use Rattle.std.specs.Prelude.{◌==◌}
 use Rattle.amqp_frames.specs.declared.item.Item.{Item}
 use Rattle.router_trace.specs.Trace.{Out}
 use Rattle.router_trace.specs.Deliveries.{named, named_by, number_named}
-use Rattle.router_deliveries.specs.Places.{at_id}
+use Rattle.router_places.specs.Ids.{at_id}
 use Rattle.router_deliveries.specs.Fits.{StoreFit}
 use Rattle.router_deliveries.specs.Naming.{NamesFit}
 use Rattle.router_deliveries.proofs.Low.{low_named}

@@ -8,7 +8,7 @@ use Rattle.amqp_perf.specs.declared.perf.Perf.TheVariants as perf
 use Rattle.amqp_frames.specs.declared.item.Item.TheVariants as item
 use Rattle.router_trace.specs.Trace.{Entry, Out}
 use Rattle.router_trace.specs.Deliveries.{is_id, delivery, number_named, number_tagged, tag_in, named, named_in}
-use Rattle.router_deliveries.specs.Places.{at_id}
+use Rattle.router_places.specs.Ids.{at_id}
 use Rattle.router_deliveries.specs.Fits.{StoreFit}
 use Rattle.router_deliveries.specs.Naming.{NamesFit, kept_name}
 use Rattle.router_deliveries.specs.Calling.{at_name}

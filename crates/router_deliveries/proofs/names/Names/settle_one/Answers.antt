@@ -4,7 +4,7 @@ use Rattle.std.specs.Ordering.{nat_cmp}
 use Rattle.std.specs.BTreeMap.{get}
 use Rattle.std.proofs.lemmas.Bool.{eqb-true}
 use Rattle.router_trace.specs.Deliveries.{named}
-use Rattle.router_deliveries.specs.Places.{at_id}
+use Rattle.router_places.specs.Ids.{at_id}
 use Rattle.router_deliveries.specs.Naming.{kept_name}
 use Rattle.router_deliveries.proofs.Named.{settled_row}
 use Rattle.router_deliveries.proofs.names.Names.settle_one.Goals as goal

@@ -4,7 +4,7 @@ use Rattle.std.specs.BTreeMap.{get}
 use Rattle.amqp_session.specs.Ranges.{has}
 use Rattle.router_deliveries.specs.Indexing.{standing}
 use Rattle.router_deliveries.proofs.Keys.{where_stands}
-use Rattle.router_deliveries.proofs.Puts.{on_ok}
+use Rattle.router_places.proofs.Results.{on_ok}
 use Rattle.router_deliveries.proofs.store.Store.apply.Goals as goal
 
 pub returns-clause-deliveries : goal.returns-clause-deliveries

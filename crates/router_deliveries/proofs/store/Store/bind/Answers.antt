@@ -5,7 +5,7 @@ use Rattle.std.specs.BTreeMap.{get}
 use Rattle.router_trace.specs.Deliveries.{Delivery, bound, unless_called}
 use Rattle.router_deliveries.specs.Calling.{is_called}
 use Rattle.router_deliveries.proofs.Called.{none_called}
-use Rattle.router_deliveries.proofs.Puts.{on_ok}
+use Rattle.router_places.proofs.Results.{on_ok}
 use Rattle.router_deliveries.proofs.Touching.{touches_then}
 use Rattle.router_deliveries.proofs.store.Store.bind.Goals as goal
 

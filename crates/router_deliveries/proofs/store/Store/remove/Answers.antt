@@ -10,7 +10,7 @@ use Rattle.router_deliveries.specs.Calling.{at_name, AreCalled}
 use Rattle.router_deliveries.specs.Indexing.{Indexes, keys, standing}
 use Rattle.router_deliveries.specs.Touching.{is_touched_in}
 use Rattle.router_deliveries.proofs.Called.{called_out}
-use Rattle.router_deliveries.proofs.Puts.{on_ok}
+use Rattle.router_places.proofs.Results.{on_ok}
 use Rattle.router_deliveries.proofs.Reindexed.{put_at}
 use Rattle.router_deliveries.proofs.Touching.{touches_at}
 use Rattle.router_deliveries.proofs.store.Store.remove.Goals as goal

@@ -4,7 +4,7 @@ use Rattle.std.specs.Ordering.{nat_cmp}
 use Rattle.std.specs.BTreeMap.{get}
 use Rattle.router_trace.specs.Deliveries.{is_number}
 use Rattle.router_deliveries.proofs.Called.{unless_is}
-use Rattle.router_deliveries.proofs.Puts.{on_ok}
+use Rattle.router_places.proofs.Results.{on_ok}
 use Rattle.router_deliveries.proofs.store.Store.remove_called.Goals as goal
 
 pub returns-in-None-clause-deliveries : goal.returns-in-None-clause-deliveries

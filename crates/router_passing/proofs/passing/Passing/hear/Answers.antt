@@ -3,7 +3,7 @@ use Rattle.router_trace.specs.Trace.{did}
 use Rattle.router_trace.specs.Deliveries.{channels_found}
 use Rattle.router_trace.specs.Sessions.{is_channel, maps, theirs}
 use Rattle.router_trace.specs.declared.event.Event.TheVariants as event
-use Rattle.router_deliveries.specs.Fits.{channel_of}
+use Rattle.router_trace.specs.Channels.{channel_of}
 use Rattle.router_passing.specs.Passing.{last_chosen}
 use Rattle.router_passing.proofs.Known.{channel_same, did_counts, moved}
 use Rattle.router_passing.proofs.passing.Passing.hear.Goals as goal

@@ -1,7 +1,8 @@
-use Rattle.std.proofs.Common.{rules, ◌≡◌, refl, Some}
+use Rattle.std.proofs.Common.{rules, ◌≡◌, refl, ap, Some}
 use Rattle.std.specs.Ordering.{nat_cmp}
 use Rattle.std.specs.BTreeMap.{get}
-use Rattle.router_places.proofs.Placed.{placed, unplaced}
+use Rattle.router_places.specs.Places.{in_map}
+use Rattle.router_places.proofs.Placed.{placed, unplaced, written}
 use Rattle.router_places.proofs.by_handle.ByHandle.get_mut.Goals as goal
 
 pub returns : goal.returns
@@ -15,10 +16,10 @@ returns g c =
     let none = c.get_mut-3.follows.lender-at-none in (
       (
         refl,
-        (λ w. placed rows (c.get_mut.follows.lender (c.get_mut-2.follows.lender (after w))) sessions (c.get_mut-2.follows.lender (after w)) handles (after w) c.args.conn c.args.own in_conn in_session (c.get_mut.follows.holds (c.get_mut-2.follows.lender (after w))) (c.get_mut-2.follows.holds (after w))
-            c.args.handle w (c.get_mut-3.follows.holds w)),
-        unplaced rows (c.get_mut.follows.lender (c.get_mut-2.follows.lender none)) sessions (c.get_mut-2.follows.lender none) handles none c.args.conn c.args.own in_conn in_session
-            (c.get_mut.follows.holds (c.get_mut-2.follows.lender none)) (c.get_mut-2.follows.holds none) c.get_mut-3.follows.holds-at-none,
+        (λ w. placed in_map rows (c.get_mut.follows.lender (c.get_mut-2.follows.lender (after w))) sessions (c.get_mut-2.follows.lender (after w)) handles (after w) c.args.conn c.args.own in_conn in_session (c.get_mut.follows.holds (c.get_mut-2.follows.lender (after w))) (c.get_mut-2.follows.holds (after w))
+            c.args.handle w (written handles (after w) c.args.handle w (c.get_mut-3.follows.holds w))),
+        unplaced in_map rows (c.get_mut.follows.lender (c.get_mut-2.follows.lender none)) sessions (c.get_mut-2.follows.lender none) handles none c.args.conn c.args.own in_conn in_session
+            (c.get_mut.follows.holds (c.get_mut-2.follows.lender none)) (c.get_mut-2.follows.holds none) (λ h. ap (λ m. get nat_cmp m h) c.get_mut-3.follows.holds-at-none),
       ),
       search rules,
     )

@@ -1,0 +1,4 @@
+mod Counted
+mod Claimed
+mod Marked
+mod Tagged

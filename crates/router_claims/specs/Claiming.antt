@@ -1,0 +1,129 @@
+-- When the table of claims agrees with a trace.
+use Rattle.std.specs.Prelude.{◌≡◌, ◌<◌, ◌^◌, ℕ, Bool, true, false, ◌==◌, ◌&&◌, if◌then◌else◌, List, [], ◌∷◌, Option, Some, None}
+use Rattle.std.specs.Ordering.{nat_cmp}
+use Rattle.std.specs.BTreeSet.{BTreeSet, contains}
+use Rattle.amqp_perf.specs.declared.perf.Transfer.{Transfer}
+use Rattle.amqp_perf.specs.declared.perf.Disposition.{Disposition}
+use Rattle.amqp_perf.specs.declared.perf.Perf.{Perf}
+use Rattle.amqp_perf.specs.declared.perf.Perf.TheVariants as perf
+use Rattle.amqp_perf.specs.declared.perf.Role.{Role}
+use Rattle.amqp_perf.specs.declared.perf.Role.TheVariants.{Sender, Receiver}
+use Rattle.amqp_frames.specs.declared.item.Item.{Item}
+use Rattle.amqp_frames.specs.declared.item.Item.TheVariants as item
+use Rattle.amqp_session.specs.Ranges.{in_range}
+use Rattle.amqp_link.specs.Deliveries.{Frame, delivery}
+use Rattle.amqp_link.specs.Receiving.{middle, is_beyond}
+use Rattle.router_trace.specs.declared.handle.PeerHandle.{PeerHandle}
+use Rattle.router_trace.specs.declared.handle.PeerHandle.TheVariants.{Mapped}
+use Rattle.router_trace.specs.Links.{Link, Happened, sends, receives}
+use Rattle.router_trace.specs.Deliveries.{last_of}
+use Rattle.router_trace.specs.Trace.{Trace}
+use Rattle.router_trace.specs.Claims.{Claim, claims, claimed_first, claimed_later, is_named}
+use Rattle.router_trace.specs.Settling.{is_unbound_on, is_of_link}
+use Rattle.router_claims.specs.declared.claims.Claims.{Claims}
+use Rattle.router_claims.specs.declared.claims.Marks.{Marks}
+use Rattle.router_claims.specs.declared.claims.Middle.{Middle}
+use Rattle.router_claims.specs.declared.claims.Receiving.{Receiving}
+use Rattle.router_claims.specs.declared.link_ids.LinkIds.{LinkIds}
+use Rattle.router_claims.specs.Counting.{count_at}
+use Rattle.router_trace.specs.Counting.{IsCount}
+use Rattle.router_places.specs.Places.{at}
+use Rattle.router_places.specs.Ids.{at_id}
+
+abbrev pub in_set : Option (BTreeSet ℕ) → ℕ → Bool
+in_set None n = false
+in_set (Some s) n = contains nat_cmp s n
+
+-- ids have 32 bits
+abbrev pub IsSmall : ℕ → Option Claim → Type 0
+IsSmall id None = Unit {0}
+IsSmall id (Some c) = id < 2 ^ 32
+
+abbrev pub AreSmall : (ℕ → ℕ → ℕ → Option Claim) → Type 0
+AreSmall known = (c o id : ℕ) → IsSmall id (known c o id)
+
+-- the ids of all claims are kept by link, and unbound ones are counted
+abbrev pub claim_handle : Option Claim → Option ℕ
+claim_handle None = None
+claim_handle (Some v) = Some v.handle
+
+abbrev pub unbound_handle : Option Claim → Option ℕ
+unbound_handle None = None
+unbound_handle (Some v) = if v.unbound then Some v.handle else None
+
+abbrev pub marks_of : Option Claim → Marks
+marks_of v = record { unbound = unbound_handle v; link = claim_handle v }
+
+abbrev pub is_marked : LinkIds → ℕ → ℕ → ℕ → ℕ → Bool
+is_marked s c o h id = in_set (at s.sets c o h) id
+
+pub record AreMarked (s : Claims) : Type 0 where
+  pub unbound : (c o h : ℕ) → IsCount (λ id. is_unbound_on h (at_id s.ids c o id)) (count_at s.unbound c o h)
+  pub by_link : (c o h id : ℕ) → is_marked s.by_link c o h id ≡ is_of_link h (at_id s.ids c o id)
+
+pub record ClaimsFit (s : Claims) (t : Trace) : Type 0 where
+  pub ids : (c o id : ℕ) → at_id s.ids c o id ≡ claims t c o id
+  pub small : AreSmall (at_id s.ids)
+  pub marked : AreMarked s
+
+-- what a transfer does to the claim of an id, on the link that it names
+abbrev pub claimed_by_middle : ℕ → Transfer → Bool → Option Middle → ℕ → Option Claim → Option Claim
+claimed_by_middle h x beyond None id v = claimed_first h x beyond id v
+claimed_by_middle h x beyond (Some m) id v = if is_named m.id id then claimed_later h x v else v
+
+abbrev pub claimed_at : Transfer → Option Receiving → ℕ → Option Claim → Option Claim
+claimed_at x None id v = v
+claimed_at x (Some r) id v = claimed_by_middle r.handle x r.beyond r.middle id v
+
+-- a claim is on this link of the router, or on any
+abbrev pub is_on : Option Claim → Option ℕ → Bool
+is_on None link = false
+is_on (Some v) None = true
+is_on (Some v) (Some h) = v.handle == h
+
+abbrev pub unless_on : Option ℕ → Option Claim → Option Claim
+unless_on link v = if is_on v link then None else v
+
+-- the same at a place, by whether it is on the connection, on the session, and among the ids
+abbrev pub let_go_at : Bool → Bool → Bool → Option ℕ → Option Claim → Option Claim
+let_go_at here own among link v = if here then (if own then (if among then unless_on link v else v) else v) else v
+
+-- what a disposition does if it comes from an end with this role
+abbrev pub settled_by_role : Role → Role → Disposition → ℕ → Option Claim → Option Claim
+settled_by_role Sender Sender x id v = if x.settled && in_range x.first (last_of x) id then None else v
+settled_by_role Receiver Receiver x id v = if x.settled && in_range x.first (last_of x) id then None else v
+settled_by_role _ _ x id v = v
+
+abbrev pub settled_at : Role → Disposition → ℕ → Option Claim → Option Claim
+settled_at r x id v = settled_by_role r x.role x id v
+
+-- what a performative of the peer does, on the link that it names
+abbrev pub heard_claim : Perf → Option Receiving → ℕ → Option Claim → Option Claim
+heard_claim (perf.Transfer x) found id v = claimed_at x found id v
+heard_claim (perf.Disposition x) found id v = settled_at Sender x id v
+heard_claim _ found id v = v
+
+-- the link on which the peer is the sender and that its transfer names
+abbrev pub middle_of : List Frame → Option Middle
+middle_of [] = None
+middle_of (f ∷ fs) = Some (record { id = (delivery f fs).id })
+
+abbrev pub receiving_of : ℕ → Happened → Option Receiving
+receiving_of h (sends list) = None
+receiving_of h (receives list) = Some (record { handle = h; middle = middle_of (middle list); beyond = is_beyond list })
+
+abbrev pub receiving_on : ℕ → Option Link → Option Receiving
+receiving_on h None = None
+receiving_on h (Some l) = receiving_of h l.happened
+
+abbrev pub receiving_at : Option PeerHandle → (ℕ → Option Link) → Option Receiving
+receiving_at (Some (Mapped h)) known = receiving_on h (known h)
+receiving_at _ known = None
+
+abbrev pub found_in : Perf → (ℕ → Option PeerHandle) → (ℕ → Option Link) → Option Receiving
+found_in (perf.Transfer x) handles known = receiving_at (handles x.handle) known
+found_in _ handles known = None
+
+abbrev pub found_by : Item → (ℕ → Option PeerHandle) → (ℕ → Option Link) → Option Receiving
+found_by (item.Frame sasl channel body payload) handles known = found_in body handles known
+found_by _ handles known = None

@@ -1,0 +1,27 @@
+use Rattle.std.proofs.Common.{rules, ◌≡◌, ℕ, refl, subst, Some}
+use Rattle.std.specs.Prelude.{◌==◌, if◌then◌else◌}
+use Rattle.std.specs.Option.{option_map}
+use Rattle.std.specs.Ordering.{nat_cmp}
+use Rattle.std.specs.BTreeMap.{get}
+use Rattle.router_places.specs.Ids.{in_ids}
+use Rattle.router_places.proofs.Placed.{placed, unplaced}
+use Rattle.router_places.proofs.by_session.BySession.get_mut.Goals as goal
+
+pub returns : goal.returns
+returns g c =
+    let rows = c.args.self.now.rows in
+    let sessions = c.in_ok-sessions.sessions.now in
+    let ids = c.in_ok-ids.ids.now in
+    let in_conn : get nat_cmp rows c.args.conn ≡ Some sessions = search rules in
+    let in_session : get nat_cmp sessions c.args.own ≡ Some ids = search rules in
+    let after = c.get_mut-3.follows.lender in
+    let none = c.get_mut-3.follows.lender-at-none in (
+      (
+        refl,
+        (λ w. placed in_ids rows (c.get_mut.follows.lender (c.get_mut-2.follows.lender (after w))) sessions (c.get_mut-2.follows.lender (after w)) ids (after w) c.args.conn c.args.own in_conn in_session (c.get_mut.follows.holds (c.get_mut-2.follows.lender (after w))) (c.get_mut-2.follows.holds (after w))
+            c.args.id w (subst (λ k. (q : ℕ) → get nat_cmp (after w).deliveries q ≡ (if k == q then option_map (λ _. w) (get nat_cmp ids.deliveries q) else get nat_cmp ids.deliveries q)) c.new.ensures (c.get_mut-3.follows.holds w).0)),
+        unplaced in_ids rows (c.get_mut.follows.lender (c.get_mut-2.follows.lender none)) sessions (c.get_mut-2.follows.lender none) ids none c.args.conn c.args.own in_conn in_session
+            (c.get_mut.follows.holds (c.get_mut-2.follows.lender none)) (c.get_mut-2.follows.holds none) c.get_mut-3.follows.holds-at-none.0,
+      ),
+      search rules,
+    )
