@@ -7,9 +7,9 @@ use Rattle.router_trace.specs.Claims.{Claim}
 use Rattle.router_trace.specs.Deliveries.{is_number}
 use Rattle.router_trace.specs.Settling.{is_unbound_on}
 use Rattle.router_places.specs.declared.by_session.BySession.{BySession}
-use Rattle.router_claims.specs.declared.counts.Counts.{Counts}
+use Rattle.router_claims.specs.declared.by_link.ByLink.{ByLink}
 use Rattle.router_claims.specs.Claiming.{unbound_handle}
-use Rattle.router_claims.specs.Counting.{count_at, IsCounted}
+use Rattle.router_claims.specs.Standing.{count_at, IsCounted}
 use Rattle.router_trace.specs.Counting.{IsCount}
 use Rattle.router_places.specs.Ids.{at_id}
 use Rattle.router_trace.proofs.Counts.{no_rise, count_same}
@@ -44,7 +44,7 @@ count_moved p m k before after is x =
     by_test old false = refl
 
 -- an id of a session moves from one link to another
-pub counted_moved : (s new : Counts) (conn own id : ℕ) (before after : Option ℕ) (known : ℕ → ℕ → ℕ → Option ℕ)
+pub counted_moved : (s new : ByLink) (conn own id : ℕ) (before after : Option ℕ) (known : ℕ → ℕ → ℕ → Option ℕ)
     → ((c o h : ℕ) → count_at new c o h ≡ at_place (conn == c) (own == o) (more (is_number after h) (less (is_number before h) (count_at s c o h))) (count_at s c o h))
     → known conn own id ≡ before → IsCounted s known → IsCounted new (λ c o q. set_handle (conn == c) (own == o) (id == q) after (known c o q))
 counted_moved s new conn own id before after known moved is counted = λ c o h. by_places c o h (conn == c) (own == o) refl refl (moved c o h)
@@ -76,11 +76,11 @@ left_and_came true false before after old mid new left came = came ∙ left
 left_and_came false own before after old mid new left came = came ∙ left
 
 -- the unbound claims of all links are counted
-abbrev pub AreCounted : Counts → (ℕ → ℕ → ℕ → Option Claim) → Type 0
+abbrev pub AreCounted : ByLink → (ℕ → ℕ → ℕ → Option Claim) → Type 0
 AreCounted s known = (c o h : ℕ) → IsCount (λ id. is_unbound_on h (known c o id)) (count_at s c o h)
 
 -- where an id gets this claim, or none
-pub counted_claim : (s new : Counts) (conn own id : ℕ) (claim : Option Claim) (after : Option ℕ) (known next : ℕ → ℕ → ℕ → Option Claim)
+pub counted_claim : (s new : ByLink) (conn own id : ℕ) (claim : Option Claim) (after : Option ℕ) (known next : ℕ → ℕ → ℕ → Option Claim)
     → after ≡ unbound_handle claim
     → (IsCounted s (λ c o q. unbound_handle (known c o q)) → IsCounted new (λ c o q. set_handle (conn == c) (own == o) (id == q) after (unbound_handle (known c o q))))
     → ((c o q : ℕ) → next c o q ≡ set_claim (conn == c) (own == o) (id == q) claim (known c o q))
@@ -100,7 +100,7 @@ counted_claim s new conn own id claim after known next now moved set counted = �
 none_counted : (known : ℕ → Option Claim) (k h : ℕ) → ((q : ℕ) → known q ≡ None) → k ≡ 0 → IsCount (λ q. is_unbound_on h (known q)) k
 none_counted known k h none is = record { numbers = []; rise = no_rise; pass = λ q. sym (ap (is_unbound_on h) (none q)); are = sym is }
 
-pub counted_none : (ids : BySession Claim) (s : Counts) (c o h : ℕ) → ((q : ℕ) → at_id ids c o q ≡ None) → count_at s c o h ≡ 0 → IsCount (λ id. is_unbound_on h (at_id ids c o id)) (count_at s c o h)
+pub counted_none : (ids : BySession Claim) (s : ByLink) (c o h : ℕ) → ((q : ℕ) → at_id ids c o q ≡ None) → count_at s c o h ≡ 0 → IsCount (λ id. is_unbound_on h (at_id ids c o id)) (count_at s c o h)
 counted_none ids s c o h none is = none_counted (at_id ids c o) (count_at s c o h) h none is
 
 pub counted_end : (here own : Bool) (h first last : ℕ) (old next : ℕ → Option Claim) → IsCount (λ q. is_unbound_on h (old q)) first
@@ -110,3 +110,13 @@ counted_end true false h first last old next counted ended gone =
     subst (IsCount (λ q. is_unbound_on h (next q))) (sym ended) (count_same (λ q. is_unbound_on h (old q)) (λ q. is_unbound_on h (next q)) (λ q. ap (is_unbound_on h) (sym (gone q))) first counted)
 counted_end false own h first last old next counted ended gone =
     subst (IsCount (λ q. is_unbound_on h (next q))) (sym ended) (count_same (λ q. is_unbound_on h (old q)) (λ q. is_unbound_on h (next q)) (λ q. ap (is_unbound_on h) (sym (gone q))) first counted)
+
+-- a link that no unbound claim is on any more may be forgotten
+pub counted_gone : (here own same : Bool) (h first last : ℕ) (known : ℕ → Option Claim)
+    → (here ≡ true → own ≡ true → same ≡ true → (q : ℕ) → is_unbound_on h (known q) ≡ false)
+    → last ≡ (if here then (if own then (if same then 0 else first) else first) else first)
+    → IsCount (λ q. is_unbound_on h (known q)) first → IsCount (λ q. is_unbound_on h (known q)) last
+counted_gone true true true h first last known none is counted = record { numbers = []; rise = no_rise; pass = λ q. sym (none refl refl refl q); are = sym is }
+counted_gone true true false h first last known none is counted = subst (IsCount (λ q. is_unbound_on h (known q))) (sym is) counted
+counted_gone true false same h first last known none is counted = subst (IsCount (λ q. is_unbound_on h (known q))) (sym is) counted
+counted_gone false own same h first last known none is counted = subst (IsCount (λ q. is_unbound_on h (known q))) (sym is) counted

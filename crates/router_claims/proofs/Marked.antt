@@ -10,8 +10,8 @@ use Rattle.router_trace.specs.Deliveries.{is_number}
 use Rattle.router_trace.specs.Settling.{is_unbound_on, is_of_link, unbound}
 use Rattle.router_trace.specs.Trace.{Trace}
 use Rattle.router_claims.specs.declared.claims.Claims.{Claims}
-use Rattle.router_claims.specs.Claiming.{ClaimsFit, IsSmall, claim_handle, unbound_handle}
-use Rattle.router_claims.specs.Counting.{count_at}
+use Rattle.router_claims.specs.Claiming.{ClaimsFit, IsSmall, unbound_handle, stand_of, unless_on}
+use Rattle.router_claims.specs.Standing.{count_at, link_of, unbound_of}
 use Rattle.router_places.specs.Ids.{at_id}
 use Rattle.router_trace.proofs.Numbers.{count_is}
 use Rattle.router_trace.proofs.Counts.{count_same}
@@ -24,9 +24,13 @@ unbound_is h (Some v) = by_test v.unbound
     by_test true = refl
     by_test false = refl
 
-pub link_is : (h : ℕ) (v : Option Claim) → is_of_link h v ≡ is_number (claim_handle v) h
+pub link_is : (h : ℕ) (v : Option Claim) → is_of_link h v ≡ is_number (link_of (stand_of v)) h
 link_is h None = refl
 link_is h (Some v) = refl
+
+pub stand_unbound : (v : Option Claim) → unbound_of (stand_of v) ≡ unbound_handle v
+stand_unbound None = refl
+stand_unbound (Some v) = refl
 
 -- a mark after a change at one place
 abbrev pub set_mark : Bool → Bool → Bool → Bool → Bool → Bool → Bool
@@ -138,11 +142,33 @@ marked_end test none true false h old next first last marked ended gone = ended 
 marked_end test none false own h old next first last marked ended gone = ended ∙ marked ∙ ap (test h) (sym gone)
 
 -- how many there are
-pub unbound_count : (s : Claims) (t : Trace) (c o h : ℕ) → ClaimsFit s t → count_at s.unbound c o h ≡ unbound t c o h
+pub unbound_count : (s : Claims) (t : Trace) (c o h : ℕ) → ClaimsFit s t → count_at s.by_link c o h ≡ unbound t c o h
 unbound_count s t c o h fit =
-    count_is (2 ^ 32) (λ id. is_unbound_on h (claims t c o id)) (λ id e. low id (at_id s.ids c o id) (fit.small c o id) (ap (is_unbound_on h) (fit.ids c o id) ∙ e)) (count_at s.unbound c o h)
-    (count_same (λ id. is_unbound_on h (at_id s.ids c o id)) (λ id. is_unbound_on h (claims t c o id)) (λ id. ap (is_unbound_on h) (fit.ids c o id)) (count_at s.unbound c o h) (fit.marked.unbound c o h))
+    count_is (2 ^ 32) (λ id. is_unbound_on h (claims t c o id)) (λ id e. low id (at_id s.ids c o id) (fit.small c o id) (ap (is_unbound_on h) (fit.ids c o id) ∙ e)) (count_at s.by_link c o h)
+    (count_same (λ id. is_unbound_on h (at_id s.ids c o id)) (λ id. is_unbound_on h (claims t c o id)) (λ id. ap (is_unbound_on h) (fit.ids c o id)) (count_at s.by_link c o h) (fit.marked.unbound c o h))
   where
     low : (id : ℕ) (v : Option Claim) → IsSmall id v → is_unbound_on h v ≡ true → id < 2 ^ 32
     low id None small e = absurd cc
     low id (Some v) small e = small
+
+-- no claim is on a link whose claims are gone, so that the link may be forgotten
+pub none_on : (link h : ℕ) (v : Option Claim) → (link == h) ≡ true → (is_unbound_on h (unless_on (Some link) v) ≡ false) × (is_of_link h (unless_on (Some link) v) ≡ false)
+none_on link h None same = (refl, refl)
+none_on link h (Some v) same = by_test (v.handle == link) (ap (λ k. v.handle == k) (sym (eqb-true link h same)))
+  where
+    by_unbound : (b e : Bool) → e ≡ false → (if b then e else false) ≡ false
+    by_unbound true e f = f
+    by_unbound false e f = refl
+
+    by_test : (b : Bool) → (v.handle == h) ≡ b → (is_unbound_on h (if b then None else Some v) ≡ false) × (is_of_link h (if b then None else Some v) ≡ false)
+    by_test true e = (refl, refl)
+    by_test false e = (by_unbound v.unbound (v.handle == h) e, e)
+
+pub marked_gone : (here own same : Bool) (h : ℕ) (v : Option Claim) (first last : Bool)
+    → (here ≡ true → own ≡ true → same ≡ true → is_of_link h v ≡ false)
+    → last ≡ (if here then (if own then (if same then false else first) else first) else first)
+    → first ≡ is_of_link h v → last ≡ is_of_link h v
+marked_gone true true true h v first last none is marked = is ∙ sym (none refl refl refl)
+marked_gone true true false h v first last none is marked = is ∙ marked
+marked_gone true false same h v first last none is marked = is ∙ marked
+marked_gone false own same h v first last none is marked = is ∙ marked

@@ -1,7 +1,5 @@
 -- When the table of claims agrees with a trace.
-use Rattle.std.specs.Prelude.{◌≡◌, ◌<◌, ◌^◌, ℕ, Bool, true, false, ◌==◌, ◌&&◌, if◌then◌else◌, List, [], ◌∷◌, Option, Some, None}
-use Rattle.std.specs.Ordering.{nat_cmp}
-use Rattle.std.specs.BTreeSet.{BTreeSet, contains}
+use Rattle.std.specs.Prelude.{◌≡◌, ◌<◌, ◌^◌, ℕ, Bool, true, false, ◌==◌, ◌&&◌, nat_lt, if◌then◌else◌, List, [], ◌∷◌, Option, Some, None}
 use Rattle.amqp_perf.specs.declared.perf.Transfer.{Transfer}
 use Rattle.amqp_perf.specs.declared.perf.Disposition.{Disposition}
 use Rattle.amqp_perf.specs.declared.perf.Perf.{Perf}
@@ -19,20 +17,14 @@ use Rattle.router_trace.specs.Links.{Link, Happened, sends, receives}
 use Rattle.router_trace.specs.Deliveries.{last_of}
 use Rattle.router_trace.specs.Trace.{Trace}
 use Rattle.router_trace.specs.Claims.{Claim, claims, claimed_first, claimed_later, is_named}
-use Rattle.router_trace.specs.Settling.{is_unbound_on, is_of_link}
+use Rattle.router_trace.specs.Settling.{is_unbound_on, is_of_link, is_tagged_on}
 use Rattle.router_claims.specs.declared.claims.Claims.{Claims}
-use Rattle.router_claims.specs.declared.claims.Marks.{Marks}
+use Rattle.router_claims.specs.declared.by_link.Stand.{Stand}
 use Rattle.router_claims.specs.declared.claims.Middle.{Middle}
 use Rattle.router_claims.specs.declared.claims.Receiving.{Receiving}
-use Rattle.router_claims.specs.declared.link_ids.LinkIds.{LinkIds}
-use Rattle.router_claims.specs.Counting.{count_at}
+use Rattle.router_claims.specs.Standing.{count_at, is_marked}
 use Rattle.router_trace.specs.Counting.{IsCount}
-use Rattle.router_places.specs.Places.{at}
 use Rattle.router_places.specs.Ids.{at_id}
-
-abbrev pub in_set : Option (BTreeSet ℕ) → ℕ → Bool
-in_set None n = false
-in_set (Some s) n = contains nat_cmp s n
 
 -- ids have 32 bits
 abbrev pub IsSmall : ℕ → Option Claim → Type 0
@@ -43,22 +35,16 @@ abbrev pub AreSmall : (ℕ → ℕ → ℕ → Option Claim) → Type 0
 AreSmall known = (c o id : ℕ) → IsSmall id (known c o id)
 
 -- the ids of all claims are kept by link, and unbound ones are counted
-abbrev pub claim_handle : Option Claim → Option ℕ
-claim_handle None = None
-claim_handle (Some v) = Some v.handle
-
 abbrev pub unbound_handle : Option Claim → Option ℕ
 unbound_handle None = None
 unbound_handle (Some v) = if v.unbound then Some v.handle else None
 
-abbrev pub marks_of : Option Claim → Marks
-marks_of v = record { unbound = unbound_handle v; link = claim_handle v }
-
-abbrev pub is_marked : LinkIds → ℕ → ℕ → ℕ → ℕ → Bool
-is_marked s c o h id = in_set (at s.sets c o h) id
+abbrev pub stand_of : Option Claim → Option Stand
+stand_of None = None
+stand_of (Some v) = Some (record { handle = v.handle; unbound = v.unbound })
 
 pub record AreMarked (s : Claims) : Type 0 where
-  pub unbound : (c o h : ℕ) → IsCount (λ id. is_unbound_on h (at_id s.ids c o id)) (count_at s.unbound c o h)
+  pub unbound : (c o h : ℕ) → IsCount (λ id. is_unbound_on h (at_id s.ids c o id)) (count_at s.by_link c o h)
   pub by_link : (c o h id : ℕ) → is_marked s.by_link c o h id ≡ is_of_link h (at_id s.ids c o id)
 
 pub record ClaimsFit (s : Claims) (t : Trace) : Type 0 where
@@ -127,3 +113,17 @@ found_in _ handles known = None
 abbrev pub found_by : Item → (ℕ → Option PeerHandle) → (ℕ → Option Link) → Option Receiving
 found_by (item.Frame sasl channel body payload) handles known = found_in body handles known
 found_by _ handles known = None
+
+-- an id is tagged so, on a link
+abbrev pub tagged_at : ℕ → List ℕ → (ℕ → Option Claim) → ℕ → Bool
+tagged_at h tag known id = nat_lt id 4294967296 && is_tagged_on h tag (known id)
+
+-- whether any of these ids passes: then one id does, and else none of them
+abbrev pub TellsAny : (ℕ → Bool) → (ℕ → Bool) → Bool → Type 0
+TellsAny among passes true = (id : ℕ) × (passes id ≡ true)
+TellsAny among passes false = (id : ℕ) → among id ≡ true → passes id ≡ false
+
+-- none of them below this id passes, or none of all
+abbrev pub NoneBelow : (ℕ → Bool) → (ℕ → Bool) → Option ℕ → Type 0
+NoneBelow among passes None = (id : ℕ) → among id ≡ true → passes id ≡ false
+NoneBelow among passes (Some k) = (id : ℕ) → id < k → among id ≡ true → passes id ≡ false

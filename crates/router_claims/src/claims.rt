@@ -1,6 +1,5 @@
 //! The deliveries that peers have not settled, by delivery-id.
 ghost use Rattle.std.specs.Prelude.{◌≡◌, ◌==◌, ◌∷◌, List, ℕ, Some, None, true, if◌then◌else◌, OnOk, IfOk};
-ghost use Rattle.std.specs.List.{list_any};
 ghost use Rattle.std.specs.Option.{option_map};
 ghost use Rattle.router_trace.specs.Trace.{Beginning};
 ghost use Rattle.router_trace.specs.Configuration.{beginning};
@@ -14,17 +13,16 @@ ghost use Rattle.router_trace.specs.Links.{their_handle, link};
 ghost use Rattle.router_trace.specs.Channels.{channel_of};
 ghost use Rattle.router_trace.specs.declared.event.Event.TheVariants as event;
 ghost use Rattle.amqp_session.specs.Ranges.{in_range};
-ghost use Rattle.router_claims.specs.Claiming.{ClaimsFit, AreSmall, AreMarked, claim_handle, unbound_handle, marks_of, claimed_at, heard_claim, settled_at, found_by, let_go_at, is_on};
+ghost use Rattle.router_claims.specs.Claiming.{ClaimsFit, AreSmall, AreMarked, TellsAny, tagged_at, unbound_handle, stand_of, claimed_at, heard_claim, settled_at, found_by, let_go_at, is_on};
 ghost use Rattle.router_places.specs.Ids.{at_id};
+ghost use Rattle.router_places.specs.Marks.{has};
 
-use crate::counts::Counts;
-use crate::link_ids::LinkIds;
+use crate::by_link::{ByLink, Stand};
 use amqp_frames::Item;
 use amqp_perf::{DeliveryTag, Disposition, Perf, Role, Transfer};
-use router_places::BySession;
+use router_places::{BySession, Marks};
 use router_trace::{ConnectionId, Origin};
 use std::alloc::{AllocError, Global};
-use std::collections::BTreeSet;
 use std::marker::Model;
 
 /// Half of the delivery-ids. The last id of a disposition's range is less than this far from its first.
@@ -68,23 +66,13 @@ pub struct Receiving {
     pub beyond: bool,
 }
 
-/// The deliveries that peers have not settled. After an error the table's contents are unspecified.
+/// The deliveries that peers have not settled. What it keeps of each link goes when the router detaches that, or with its session or
+/// connection, so that it doesn't grow with links that once were. After an error the table's contents are unspecified.
 #[derive(Drop)]
 pub struct Claims {
     ids: BySession<Claim>,
-    // how many unbound claims each link has
-    unbound: Counts,
-    // the ids of all claims by link
-    by_link: LinkIds,
-}
-
-/// The handles of the router at which a claim stands.
-#[derive(Clone, Copy)]
-struct Marks {
-    // that of the link whose unbound claims count it
-    unbound: Option<u32>,
-    // that of its link
-    link: Option<u32>,
+    // the ids of all claims by link, and how many are unbound
+    by_link: ByLink,
 }
 
 impl Claims {
@@ -94,8 +82,7 @@ impl Claims {
     {
         Claims {
             ids: BySession::new(alloc),
-            unbound: Counts::new(alloc),
-            by_link: LinkIds::new(alloc),
+            by_link: ByLink::new(alloc),
         }
     }
 
@@ -124,7 +111,7 @@ impl Claims {
     pub fn unbound(&self, conn: u64, own: u16, handle: u32) -> usize
         ensures { (t : List Entry) → ClaimsFit self.now t → result ≡ unbound t conn own handle }
     {
-        self.unbound.count(conn, own, handle)
+        self.by_link.unbound(conn, own, handle)
     }
 
     /// Whether an unsettled delivery of the peer has this delivery-tag, on the link at a handle of the router. It looks only at the
@@ -132,9 +119,9 @@ impl Claims {
     pub fn uses_tag(&self, conn: u64, own: u16, handle: u32, tag: &[u8]) -> bool
         ensures { (t : List Entry) → ClaimsFit self.now t → result ≡ uses_tag t conn own handle tag.now }
     {
-        match self.by_link.ids(conn, own, handle) {
+        match self.by_link.row(conn, own, handle) {
             None => false,
-            Some(ids) => any_tagged(&self.ids, ids, conn, own, handle, tag),
+            Some(row) => any_tagged(&self.ids, &row.ids, conn, own, handle, tag),
         }
     }
 
@@ -156,7 +143,7 @@ impl Claims {
         ensures marked { AreMarked self.old → AreMarked self.new }
     {
         let handle = bind_in(&mut self.ids, conn, own, id);
-        self.unbound.drop_from(conn, own, handle);
+        self.by_link.bind(conn, own, handle);
     }
 
     /// A connection is lost.
@@ -236,7 +223,7 @@ impl Claims {
         ensures claims { OnOk result (AreSmall (at_id self.old.ids) → (c o q : ℕ) → at_id self.new.ids c o q
             ≡ (if conn == c then claim_behind_in perf.now own o q (at_id self.old.ids c o q) else at_id self.old.ids c o q)) }
         ensures small { OnOk result (AreSmall (at_id self.old.ids) → AreSmall (at_id self.new.ids)) }
-        ensures marked { OnOk result (AreMarked self.old → AreMarked self.new) }
+        ensures marked { OnOk result (AreSmall (at_id self.old.ids) → AreMarked self.old → AreMarked self.new) }
     {
         match perf {
             Perf::Disposition(disposition) => {
@@ -275,10 +262,11 @@ impl Claims {
     fn detach(&mut self, conn: u64, own: u16, link: u32) -> Result<(), AllocError>
         ensures claims { OnOk result (AreSmall (at_id self.old.ids) → (c o q : ℕ) → at_id self.new.ids c o q ≡ let_go_at (conn == c) (own == o) true (Some link) (at_id self.old.ids c o q)) }
         ensures small { OnOk result (AreSmall (at_id self.old.ids) → AreSmall (at_id self.new.ids)) }
-        ensures marked { OnOk result (AreMarked self.old → AreMarked self.new) }
+        ensures marked { OnOk result (AreSmall (at_id self.old.ids) → AreMarked self.old → AreMarked self.new) }
     {
         self.let_go(conn, own, 0, HALF - 1, Some(link))?;
         self.let_go(conn, own, HALF, u32::MAX, Some(link))?;
+        self.by_link.detach(conn, own, link);
         Ok(())
     }
 
@@ -330,7 +318,7 @@ impl Claims {
             Some(_) => Ok(()),
             None => {
                 let tag = copy_of(&transfer.delivery_tag)?;
-                let stood = marks_of(None);
+                let stood = stand_of(None);
                 self.set(conn, own, id, stood, claimed(handle, tag, transfer))
             }
         }
@@ -356,7 +344,7 @@ impl Claims {
         if claim.handle != handle {
             return Ok(());
         }
-        let stood = marks_of(Some(claim));
+        let stood = stand_of(Some(claim));
         let tag = copy_of(&claim.tag)?;
         self.set(conn, own, id, stood, claimed(handle, tag, transfer))
     }
@@ -404,7 +392,7 @@ impl Claims {
     {
         let old = self.ids.get(conn, own, id);
         if is_on(old, link) {
-            let stood = marks_of(old);
+            let stood = stand_of(old);
             self.clear(conn, own, id, stood);
         }
     }
@@ -415,7 +403,6 @@ impl Claims {
         ensures marked { AreMarked self.old → AreMarked self.new }
     {
         self.ids.end(conn, own);
-        self.unbound.end(conn, own);
         self.by_link.end(conn, own);
     }
 
@@ -425,55 +412,50 @@ impl Claims {
         ensures marked { AreMarked self.old → AreMarked self.new }
     {
         self.ids.forget(conn);
-        self.unbound.forget(conn);
         self.by_link.forget(conn);
     }
 
-    /// Removes the claim to an id, which stands at these marks.
-    fn clear(&mut self, conn: u64, own: u16, id: u32, stood: Marks)
+    /// Removes the claim to an id, which stands here.
+    fn clear(&mut self, conn: u64, own: u16, id: u32, stood: Option<Stand>)
         ensures claims { (c o q : ℕ) → at_id self.new.ids c o q
             ≡ (if conn == c then (if own == o then (if id == q then None else at_id self.old.ids c o q) else at_id self.old.ids c o q) else at_id self.old.ids c o q) }
-        ensures marked { stood ≡ marks_of (at_id self.old.ids conn own id) → AreMarked self.old → AreMarked self.new }
+        ensures marked { stood ≡ stand_of (at_id self.old.ids conn own id) → AreMarked self.old → AreMarked self.new }
     {
-        self.unbound.drop_from(conn, own, stood.unbound);
-        self.by_link.drop_from(conn, own, stood.link, id);
+        self.by_link.leave(conn, own, stood, id);
         self.ids.remove(conn, own, id);
     }
 
-    /// Gives an id this claim and replaces the one that it had, which stands at these marks.
+    /// Gives an id this claim and replaces the one that it had, which stands here.
     fn put_claim(
         &mut self,
         conn: u64,
         own: u16,
         id: u32,
-        stood: Marks,
+        stood: Option<Stand>,
         claim: Claim,
     ) -> Result<(), AllocError>
         ensures claims { OnOk result ((c o q : ℕ) → at_id self.new.ids c o q
             ≡ (if conn == c then (if own == o then (if id == q then Some claim else at_id self.old.ids c o q) else at_id self.old.ids c o q) else at_id self.old.ids c o q)) }
-        ensures marked { OnOk result (stood ≡ marks_of (at_id self.old.ids conn own id) → AreMarked self.old → AreMarked self.new) }
+        ensures marked { OnOk result (stood ≡ stand_of (at_id self.old.ids conn own id) → AreMarked self.old → AreMarked self.new) }
     {
-        let stands = marks_of(Some(&claim));
-        self.unbound
-            .shift(conn, own, stood.unbound, stands.unbound)?;
-        self.by_link.shift(conn, own, stood.link, stands.link, id)?;
+        self.by_link.shift(conn, own, stood, stand(&claim), id)?;
         self.ids.insert(conn, own, id, claim)?;
         Ok(())
     }
 
-    /// Gives an id this claim in place of the one that it had, which stands at these marks, or removes that.
+    /// Gives an id this claim in place of the one that it had, which stands here, or removes that.
     fn set(
         &mut self,
         conn: u64,
         own: u16,
         id: u32,
-        stood: Marks,
+        stood: Option<Stand>,
         claim: Option<Claim>,
     ) -> Result<(), AllocError>
         ensures claims { OnOk result ((c o q : ℕ) → at_id self.new.ids c o q
             ≡ (if conn == c then (if own == o then (if id == q then claim else at_id self.old.ids c o q) else at_id self.old.ids c o q) else at_id self.old.ids c o q)) }
         ensures small { OnOk result (AreSmall (at_id self.old.ids) → AreSmall (at_id self.new.ids)) }
-        ensures marked { OnOk result (stood ≡ marks_of (at_id self.old.ids conn own id) → AreMarked self.old → AreMarked self.new) }
+        ensures marked { OnOk result (stood ≡ stand_of (at_id self.old.ids conn own id) → AreMarked self.old → AreMarked self.new) }
     {
         match claim {
             None => self.clear(conn, own, id, stood),
@@ -530,43 +512,62 @@ fn copy_of(tag: &Option<DeliveryTag>) -> Result<Option<DeliveryTag>, AllocError>
     }
 }
 
-/// Where the id of a claim is marked.
-fn marks_of(claim: Option<&Claim>) -> Marks
-    ensures { result ≡ marks_of (option_map (λ c. c.now) claim.entry) }
-{
-    Marks {
-        unbound: unbound_handle(claim),
-        link: claim_handle(claim),
-    }
-}
-
-/// The router's handle of a claim.
-fn claim_handle(claim: Option<&Claim>) -> Option<u32>
-    ensures { result ≡ claim_handle (option_map (λ c. c.now) claim.entry) }
+/// Where a claim stands, if there is one.
+fn stand_of(claim: Option<&Claim>) -> Option<Stand>
+    ensures { result ≡ stand_of (option_map (λ c. c.now) claim.entry) }
 {
     match claim {
         None => None,
-        Some(claim) => Some(claim.handle),
+        Some(claim) => Some(stand(claim)),
+    }
+}
+
+/// Where a claim stands.
+fn stand(claim: &Claim) -> Stand
+    ensures { Some result ≡ stand_of (Some claim.now) }
+{
+    Stand {
+        handle: claim.handle,
+        unbound: claim.unbound,
     }
 }
 
 /// Whether the claim of one of these ids has this tag, on a link of the router.
 fn any_tagged(
     claims: &BySession<Claim>,
-    ids: &BTreeSet<u32>,
+    ids: &Marks,
     conn: u64,
     own: u16,
     handle: u32,
     tag: &[u8],
 ) -> bool
-    ensures { result ≡ list_any (λ id. is_tagged_on handle tag.now (at_id claims.now conn own id)) ids.now.keys }
+    ensures { TellsAny (has ids.now) (tagged_at handle tag.now (at_id claims.now conn own)) result }
 {
-    for id in ids {
-        if is_tagged_on(claims.get(conn, own, *id), handle, tag) {
+    let mut next = ids.first();
+    while let Some(id) = next {
+        if tagged_at(claims, conn, own, handle, id, tag) {
             return true;
         }
+        next = ids.behind(id);
     }
     false
+}
+
+/// Whether the claim of an id has this tag, on a link of the router.
+fn tagged_at(
+    claims: &BySession<Claim>,
+    conn: u64,
+    own: u16,
+    handle: u32,
+    id: u64,
+    tag: &[u8],
+) -> bool
+    ensures { result ≡ tagged_at handle tag.now (at_id claims.now conn own) id }
+{
+    match u32::try_from(id) {
+        Err(_) => false,
+        Ok(id) => is_tagged_on(claims.get(conn, own, id), handle, tag),
+    }
 }
 
 /// Whether a claim has this tag, on a link of the router.

@@ -7,8 +7,7 @@
 //! A claim is in the table from its delivery's first frame until the delivery is settled, aborted, or its link, session or connection is gone.
 #![tactic(auto)]
 
+mod by_link;
 mod claims;
-mod counts;
-mod link_ids;
 
 pub use claims::{Claim, Claims, Middle, Receiving};

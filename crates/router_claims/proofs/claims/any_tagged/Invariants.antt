@@ -1,10 +1,12 @@
-use Rattle.std.proofs.Common.{◌≡◌}
-use Rattle.std.specs.List.{list_any}
-use Rattle.router_trace.specs.Settling.{is_tagged_on}
 use Rattle.router_places.specs.Ids.{at_id}
+use Rattle.router_places.specs.Marks.{has}
+use Rattle.router_claims.specs.Claiming.{NoneBelow, tagged_at}
+use Rattle.router_claims.proofs.Tagged.{left}
 use Rattle.router_claims.proofs.claims.any_tagged.Given as goal
 
--- only the remaining ids can have it
-abbrev pub invariant-loop-id : goal.invariant-loop-id
-invariant-loop-id l = list_any (λ id. is_tagged_on l.handle l.tag (at_id l.claims l.conn l.own id)) l.id-iterator
-    ≡ list_any (λ id. is_tagged_on l.handle l.tag (at_id l.claims l.conn l.own id)) l.ids.keys
+-- none of the ids before the next has it
+abbrev pub invariant-loop-next : goal.invariant-loop-next
+invariant-loop-next l = NoneBelow (has l.ids) (tagged_at l.handle l.tag (at_id l.claims l.conn l.own)) l.next
+
+abbrev pub decreases-loop-next : goal.decreases-loop-next
+decreases-loop-next l = left l.next

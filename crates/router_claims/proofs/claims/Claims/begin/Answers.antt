@@ -2,7 +2,7 @@ use Rattle.std.proofs.Common.{◌∙◌, ap, ℕ, List}
 use Rattle.std.specs.Prelude.{Option}
 use Rattle.router_trace.specs.Claims.{Claim, unless_claimed, claim}
 use Rattle.router_trace.specs.Deliveries.{tag_in}
-use Rattle.router_claims.specs.Claiming.{marks_of}
+use Rattle.router_claims.specs.Claiming.{stand_of}
 use Rattle.router_places.specs.Ids.{at_id}
 use Rattle.router_claims.proofs.Marked.{put_there}
 use Rattle.router_places.proofs.Results.{on_ok}
@@ -20,4 +20,4 @@ returns-in_ok-tag-in-None-clause-claims c = on_ok c.set.result
     c.set.ensures.claims
 
 pub returns-in_ok-tag-in-None-clause-marked : goal.returns-in_ok-tag-in-None-clause-marked
-returns-in_ok-tag-in-None-clause-marked c = on_ok c.set.result (λ marked. marked (c.marks_of-stood.ensures ∙ ap marks_of c.in-None.ensures)) c.set.ensures.marked
+returns-in_ok-tag-in-None-clause-marked c = on_ok c.set.result (λ marked. marked (c.stand_of-stood.ensures ∙ ap stand_of c.in-None.ensures)) c.set.ensures.marked

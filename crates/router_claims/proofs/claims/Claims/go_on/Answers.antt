@@ -1,7 +1,7 @@
 use Rattle.std.proofs.Common.{◌∙◌, ap, sym, ℕ, List}
 use Rattle.std.specs.Prelude.{◌==◌, Option}
 use Rattle.router_trace.specs.Claims.{Claim, claim, claimed_later}
-use Rattle.router_claims.specs.Claiming.{marks_of}
+use Rattle.router_claims.specs.Claiming.{stand_of}
 use Rattle.router_places.specs.Ids.{at_id}
 use Rattle.router_claims.proofs.Marked.{put_there, later_is, same_handle}
 use Rattle.router_places.proofs.Results.{on_ok}
@@ -20,4 +20,4 @@ returns-clause-claims c = on_ok c.set.result
     c.set.ensures.claims
 
 pub returns-clause-marked : goal.returns-clause-marked
-returns-clause-marked c = on_ok c.set.result (λ marked. marked (c.marks_of-stood.ensures ∙ ap marks_of c.in-Some.ensures)) c.set.ensures.marked
+returns-clause-marked c = on_ok c.set.result (λ marked. marked (c.stand_of-stood.ensures ∙ ap stand_of c.in-Some.ensures)) c.set.ensures.marked
