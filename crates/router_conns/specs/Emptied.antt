@@ -1,7 +1,6 @@
 -- Outboxes that are emptied: what waited there is forgotten.
 use Rattle.std.specs.Prelude.{◌≡◌, ℕ, List, [], Option, Some, None}
-use Rattle.std.specs.Ordering.{nat_cmp}
-use Rattle.std.specs.BTreeMap.{get}
+use Rattle.router_places.specs.Slots.{in_slots}
 use Rattle.amqp_frames.specs.declared.item.Item.{Item}
 use Rattle.router_trace.specs.Connection.{Connection}
 use Rattle.router_conns.specs.declared.connections.Connections.{Connections}
@@ -17,4 +16,4 @@ waiting_of (Some v) = v.waiting
 
 -- no item waits in the outbox of any connection
 abbrev pub NoneWaits : Connections → Type 0
-NoneWaits s = (c : ℕ) → waiting_of (get nat_cmp s.rows c) ≡ []
+NoneWaits s = (c : ℕ) → waiting_of (in_slots s.rows c) ≡ []

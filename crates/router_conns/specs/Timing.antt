@@ -1,7 +1,6 @@
 -- When the table of clocks agrees with a trace.
 use Rattle.std.specs.Prelude.{◌≡◌, ℕ, Bool, true, false}
-use Rattle.std.specs.Ordering.{nat_cmp}
-use Rattle.std.specs.BTreeMap.{get}
+use Rattle.router_places.specs.Slots.{in_slots}
 use Rattle.amqp_perf.specs.declared.perf.Perf.{Perf}
 use Rattle.amqp_perf.specs.declared.perf.Perf.TheVariants as perf
 use Rattle.amqp_frames.specs.declared.item.Item.{Item}
@@ -12,8 +11,8 @@ use Rattle.router_trace.specs.Clocks.{moment, terms, written}
 
 pub record ClocksFit (s : Clocks) (t : Trace) : Type 0 where
   pub moment : s.moment ≡ moment t
-  pub terms : (c : ℕ) → get nat_cmp s.terms c ≡ terms t c
-  pub written : (c : ℕ) → get nat_cmp s.written c ≡ written t c
+  pub terms : (c : ℕ) → in_slots s.terms c ≡ terms t c
+  pub written : (c : ℕ) → in_slots s.written c ≡ written t c
 
 -- a close
 abbrev pub is_close_in : Perf → Bool

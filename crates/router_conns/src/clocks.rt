@@ -1,7 +1,6 @@
 //! What peers' opens say, and when items were last put out.
 ghost use Rattle.std.specs.Prelude.{◌≡◌, ◌==◌, ◌∷◌, List, ℕ, None, false, if◌then◌else◌, OnOk};
-ghost use Rattle.std.specs.Ordering.{nat_cmp};
-ghost use Rattle.std.specs.BTreeMap.{get};
+ghost use Rattle.router_places.specs.Slots.{in_slots};
 ghost use Rattle.router_trace.specs.Trace.{Beginning};
 ghost use Rattle.router_trace.specs.Configuration.{beginning};
 ghost use Rattle.router_trace.specs.Trace.{Entry, Out, did};
@@ -11,20 +10,21 @@ ghost use Rattle.router_trace.specs.declared.event.Event.TheVariants as event;
 ghost use Rattle.amqp_perf.specs.declared.perf.Perf.TheVariants as perf;
 ghost use Rattle.amqp_frames.specs.declared.item.Item.TheVariants as item;
 
+use crate::row::CONNECTIONS;
 use amqp_conn::Heartbeat;
 use amqp_frames::Item;
 use amqp_perf::{Open, Perf};
+use router_places::Slots;
 use router_trace::{ConnectionId, Terms};
 use std::alloc::{AllocError, Global};
-use std::collections::BTreeMap;
 
 /// For each peer what its open says and when an item was last put out; nothing for a connection that is closed or
 /// lost. If an operation fails to allocate, the table's contents are unspecified.
 #[derive(Drop)]
 pub struct Clocks {
     moment: u64,
-    terms: BTreeMap<u64, Terms>,
-    written: BTreeMap<u64, u64>,
+    terms: Slots<Terms>,
+    written: Slots<u64>,
 }
 
 impl Clocks {
@@ -34,8 +34,8 @@ impl Clocks {
     {
         Clocks {
             moment: 0,
-            terms: BTreeMap::new(alloc),
-            written: BTreeMap::new(alloc),
+            terms: Slots::new(alloc, CONNECTIONS),
+            written: Slots::new(alloc, CONNECTIONS),
         }
     }
 
@@ -43,7 +43,7 @@ impl Clocks {
     pub fn channel_max(&self, conn: u64) -> u16
         ensures { (t : List Entry) → ClocksFit self.now t → result ≡ channel_max_of (terms t conn) }
     {
-        match self.terms.get(&conn) {
+        match self.terms.get(conn) {
             None => u16::MAX,
             Some(terms) => terms.channel_max,
         }
@@ -53,10 +53,10 @@ impl Clocks {
     pub fn needs_beat(&self, conn: u64, now: u64) -> bool
         ensures { (t : List Entry) → ClocksFit self.now t → result ≡ needs_beat (terms t conn) (written t conn) now }
     {
-        let Some(terms) = self.terms.get(&conn) else {
+        let Some(terms) = self.terms.get(conn) else {
             return false;
         };
-        let Some(written) = self.written.get(&conn) else {
+        let Some(written) = self.written.get(conn) else {
             return false;
         };
         let heartbeat = Heartbeat {
@@ -112,13 +112,11 @@ impl Clocks {
         ensures { OnOk result ((t : List Entry) (channel : ℕ) (payload : List ℕ) → ClocksFit self.old t
             → ClocksFit self.new (did (event.Item conn (item.Frame false channel (perf.Open «open».now) payload)) ∷ t)) }
     {
-        if self.terms.contains_key(&conn.0) {
+        if self.terms.get(conn.0).is_some() {
             return Ok(());
         }
-        match self.terms.insert(conn.0, Terms::of(open)) {
-            Ok(_) => Ok(()),
-            Err(_) => Err(AllocError),
-        }
+        let _ = self.terms.insert(conn.0, Terms::of(open))?;
+        Ok(())
     }
 
     /// An item is put into the outbox of a connection.
@@ -129,20 +127,18 @@ impl Clocks {
             self.forget(conn);
             return Ok(());
         }
-        match self.written.insert(conn, self.moment) {
-            Ok(_) => Ok(()),
-            Err(_) => Err(AllocError),
-        }
+        let _ = self.written.insert(conn, self.moment)?;
+        Ok(())
     }
 
     /// Removes all that is known of a connection.
     fn forget(&mut self, conn: u64)
         ensures moment { self.new.moment ≡ self.old.moment }
-        ensures terms { (c : ℕ) → get nat_cmp self.new.terms c ≡ (if conn == c then None else get nat_cmp self.old.terms c) }
-        ensures written { (c : ℕ) → get nat_cmp self.new.written c ≡ (if conn == c then None else get nat_cmp self.old.written c) }
+        ensures terms { (c : ℕ) → in_slots self.new.terms c ≡ (if conn == c then None else in_slots self.old.terms c) }
+        ensures written { (c : ℕ) → in_slots self.new.written c ≡ (if conn == c then None else in_slots self.old.written c) }
     {
-        let _ = self.terms.remove(&conn);
-        let _ = self.written.remove(&conn);
+        let _ = self.terms.remove(conn);
+        let _ = self.written.remove(conn);
     }
 }
 

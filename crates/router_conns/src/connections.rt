@@ -1,7 +1,6 @@
 //! The table of connections, with their outboxes.
 ghost use Rattle.std.specs.Prelude.{◌≡◌, ◌==◌, ◌≤◌, ◌∷◌, ◌++◌, ℕ, List, [], Some, None, length, nat_eq, nat_lt, true, false, not, filter, option_map, option_and_then, OnOk, OnErr, IfOk, if◌then◌else◌};
-ghost use Rattle.std.specs.Ordering.{nat_cmp};
-ghost use Rattle.std.specs.BTreeMap.{get};
+ghost use Rattle.router_places.specs.Slots.{in_slots};
 ghost use Rattle.router_trace.specs.Trace.{Beginning};
 ghost use Rattle.router_trace.specs.Configuration.{beginning};
 ghost use Rattle.router_trace.specs.Trace.{Entry, Out, Took, did, newest};
@@ -14,9 +13,9 @@ ghost use Rattle.router_trace.specs.declared.event.Event.TheVariants as event;
 use crate::row::{CONNECTIONS, Row, Taken};
 use amqp_conn::Conn;
 use amqp_frames::Item;
+use router_places::Slots;
 use router_trace::{ConnectionId, Event, Peer};
 use std::alloc::{AllocError, Global};
-use std::collections::BTreeMap;
 
 /// The router refuses an event: one about a connection that isn't live, or about a new one whose number doesn't rise.
 #[derive(Clone, Copy, Debug, PartialEq, Eq)]
@@ -26,7 +25,7 @@ pub struct Refused;
 #[derive(Drop)]
 pub struct Connections {
     alloc: Global,
-    rows: BTreeMap<u64, Row>,
+    rows: Slots<Row>,
     // the live ones, by number
     live: Vec<u64>,
     // the last one that came up
@@ -42,7 +41,7 @@ impl Connections {
     {
         Connections {
             alloc,
-            rows: BTreeMap::new(alloc),
+            rows: Slots::new(alloc, CONNECTIONS),
             live: Vec::new(alloc),
             newest: None,
             roomy: true,
@@ -75,9 +74,9 @@ impl Connections {
 
     /// The phase of a live connection.
     pub fn standing(&self, conn: u64) -> Option<Conn>
-        ensures { result ≡ standing (get nat_cmp self.now.rows conn) }
+        ensures { result ≡ standing (in_slots self.now.rows conn) }
     {
-        match self.rows.get(&conn) {
+        match self.rows.get(conn) {
             None => None,
             Some(row) => row.standing(),
         }
@@ -92,9 +91,9 @@ impl Connections {
 
     /// The phase of a connection, whether live or over.
     pub fn phase(&self, conn: u64) -> Option<Conn>
-        ensures { result ≡ option_map (λ v. v.phase) (get nat_cmp self.now.rows conn) }
+        ensures { result ≡ option_map (λ v. v.phase) (in_slots self.now.rows conn) }
     {
-        match self.rows.get(&conn) {
+        match self.rows.get(conn) {
             None => None,
             Some(row) => Some(row.phase()),
         }
@@ -102,9 +101,9 @@ impl Connections {
 
     /// Whether a connection is ready: an item is waiting in its outbox, or it is over.
     pub fn is_ready(&self, conn: u64) -> bool
-        ensures { result ≡ is_ready (get nat_cmp self.now.rows conn) }
+        ensures { result ≡ is_ready (in_slots self.now.rows conn) }
     {
-        match self.rows.get(&conn) {
+        match self.rows.get(conn) {
             None => false,
             Some(row) => row.is_ready(),
         }
@@ -112,7 +111,7 @@ impl Connections {
 
     /// Whether an event ends a connection because its outbox is full.
     fn is_due(&self, event: &Event, conn: u64) -> bool
-        ensures { result ≡ is_due event.now conn (get nat_cmp self.now.rows conn) }
+        ensures { result ≡ is_due event.now conn (in_slots self.now.rows conn) }
     {
         match event {
             Event::Down(lost) => lost.0 != conn && self.is_full(conn),
@@ -122,9 +121,9 @@ impl Connections {
 
     /// Whether a connection is live and its outbox is full.
     fn is_full(&self, conn: u64) -> bool
-        ensures { result ≡ is_full (get nat_cmp self.now.rows conn) }
+        ensures { result ≡ is_full (in_slots self.now.rows conn) }
     {
-        match self.rows.get(&conn) {
+        match self.rows.get(conn) {
             None => false,
             Some(row) => row.is_full(),
         }
@@ -132,7 +131,7 @@ impl Connections {
 
     /// The live connections that an event ends because their outboxes are full.
     fn gather(&self, event: &Event) -> Result<Vec<u64>, AllocError>
-        ensures { IfOk result (λ gathered. gathered.items ≡ filter (λ k. is_due event.now k (get nat_cmp self.now.rows k)) self.now.live.items) }
+        ensures { IfOk result (λ gathered. gathered.items ≡ filter (λ k. is_due event.now k (in_slots self.now.rows k)) self.now.live.items) }
     {
         let mut gathered = Vec::new(self.alloc);
         for conn in &self.live {
@@ -148,19 +147,19 @@ impl Connections {
 
     /// Marks a connection as over.
     fn end(&mut self, conn: u64)
-        ensures rows { (c : ℕ) → get nat_cmp self.new.rows c ≡ (if conn == c then option_map ended (get nat_cmp self.old.rows c) else get nat_cmp self.old.rows c) }
+        ensures rows { (c : ℕ) → in_slots self.new.rows c ≡ (if conn == c then option_map ended (in_slots self.old.rows c) else in_slots self.old.rows c) }
         ensures live { self.new.live ≡ self.old.live }
         ensures newest { self.new.newest ≡ self.old.newest }
         ensures roomy { self.new.roomy ≡ self.old.roomy }
     {
-        if let Some(row) = self.rows.get_mut(&conn) {
+        if let Some(row) = self.rows.get_mut(conn) {
             row.end();
         }
     }
 
     /// Marks these connections as over.
     fn end_all(&mut self, ends: &[u64])
-        ensures rows { (c : ℕ) → get nat_cmp self.new.rows c ≡ unless_due ends.now (get nat_cmp self.old.rows) c }
+        ensures rows { (c : ℕ) → in_slots self.new.rows c ≡ unless_due ends.now (in_slots self.old.rows) c }
         ensures live { self.new.live.items ≡ filter (λ k. not (has k ends.now)) self.old.live.items }
         ensures last { self.new.newest ≡ self.old.newest }
         ensures roomy { self.new.roomy ≡ self.old.roomy }
@@ -243,26 +242,26 @@ impl Connections {
     /// Forgets the items in all outboxes. It takes no memory. The table then agrees with no trace in which one of them waits.
     pub fn give_up(&mut self)
         ensures none { NoneWaits self.new }
-        ensures rows { (c : ℕ) → get nat_cmp self.new.rows c ≡ option_map emptied (get nat_cmp self.old.rows c) }
+        ensures rows { (c : ℕ) → in_slots self.new.rows c ≡ option_map emptied (in_slots self.old.rows c) }
         ensures live { self.new.live ≡ self.old.live }
         ensures last { self.new.newest ≡ self.old.newest }
     {
-        empty_all(&mut self.rows);
+        self.rows.empty_all();
     }
 }
 
 /// Takes items out of a row's outbox, if the row exists; a row that is over is removed with its last item.
 fn take_from(
     alloc: Global,
-    rows: &mut BTreeMap<u64, Row>,
+    rows: &mut Slots<Row>,
     conn: u64,
     most: usize,
 ) -> Result<Option<Taken>, AllocError>
-    ensures batched { IfOk result (λ taken. IsBatch most (get nat_cmp rows.old conn) taken) }
-    ensures rows { IfOk result (λ taken. (c : ℕ) → get nat_cmp rows.new c ≡ (if conn == c then option_and_then (took (count taken)) (get nat_cmp rows.old c) else get nat_cmp rows.old c)) }
+    ensures batched { IfOk result (λ taken. IsBatch most (in_slots rows.old conn) taken) }
+    ensures rows { IfOk result (λ taken. (c : ℕ) → in_slots rows.new c ≡ (if conn == c then option_and_then (took (count taken)) (in_slots rows.old c) else in_slots rows.old c)) }
     ensures most { IfOk result (λ taken. count taken ≤ most) }
 {
-    let taken = match rows.get_mut(&conn) {
+    let taken = match rows.get_mut(conn) {
         None => return Ok(None),
         Some(row) => row.take(alloc, most)?,
     };
@@ -282,12 +281,12 @@ struct Fill {
 }
 
 /// Puts an item into a row's outbox, if the row exists.
-fn put_in(rows: &mut BTreeMap<u64, Row>, conn: u64, item: Item) -> Result<Fill, AllocError>
-    ensures rows { OnOk result ((c : ℕ) → get nat_cmp rows.new c ≡ (if conn == c then option_map (with_item item) (get nat_cmp rows.old c) else get nat_cmp rows.old c)) }
-    ensures over { IfOk result (λ fill. fill.over ≡ not (is_live (option_map (with_item item) (get nat_cmp rows.old conn)))) }
-    ensures full { IfOk result (λ fill. fill.full ≡ is_full (option_map (with_item item) (get nat_cmp rows.old conn))) }
+fn put_in(rows: &mut Slots<Row>, conn: u64, item: Item) -> Result<Fill, AllocError>
+    ensures rows { OnOk result ((c : ℕ) → in_slots rows.new c ≡ (if conn == c then option_map (with_item item) (in_slots rows.old c) else in_slots rows.old c)) }
+    ensures over { IfOk result (λ fill. fill.over ≡ not (is_live (option_map (with_item item) (in_slots rows.old conn)))) }
+    ensures full { IfOk result (λ fill. fill.full ≡ is_full (option_map (with_item item) (in_slots rows.old conn))) }
 {
-    match rows.get_mut(&conn) {
+    match rows.get_mut(conn) {
         None => {
             discard(item);
             Ok(Fill {
@@ -306,30 +305,18 @@ fn put_in(rows: &mut BTreeMap<u64, Row>, conn: u64, item: Item) -> Result<Fill, 
 }
 
 /// Adds a row.
-fn add_row(rows: &mut BTreeMap<u64, Row>, conn: u64, row: Row) -> Result<(), AllocError>
-    ensures { OnOk result ((c : ℕ) → get nat_cmp rows.new c ≡ (if conn == c then Some row else get nat_cmp rows.old c)) }
+fn add_row(rows: &mut Slots<Row>, conn: u64, row: Row) -> Result<(), AllocError>
+    ensures { OnOk result ((c : ℕ) → in_slots rows.new c ≡ (if conn == c then Some row else in_slots rows.old c)) }
 {
-    match rows.insert(conn, row) {
-        Ok(_) => Ok(()),
-        Err(_) => Err(AllocError),
-    }
+    let _ = rows.insert(conn, row)?;
+    Ok(())
 }
 
 /// Removes a row.
-fn remove_row(rows: &mut BTreeMap<u64, Row>, conn: u64)
-    ensures { (c : ℕ) → get nat_cmp rows.new c ≡ (if conn == c then None else get nat_cmp rows.old c) }
+fn remove_row(rows: &mut Slots<Row>, conn: u64)
+    ensures { (c : ℕ) → in_slots rows.new c ≡ (if conn == c then None else in_slots rows.old c) }
 {
-    let _ = rows.remove(&conn);
-}
-
-/// Forgets the items in the outboxes of all rows.
-fn empty_all(rows: &mut BTreeMap<u64, Row>)
-    ensures { (c : ℕ) → get nat_cmp rows.new c ≡ option_map emptied (get nat_cmp rows.old c) }
-{
-    rows.retain(|_conn, row| {
-        row.empty();
-        true
-    });
+    let _ = rows.remove(conn);
 }
 
 /// Appends a number to a list, which has room for 64.

@@ -1,7 +1,6 @@
 //! The users of connections, and what their opens say of links.
 ghost use Rattle.std.specs.Prelude.{◌≡◌, ◌==◌, ◌∷◌, [], List, ℕ, Option, None, false, if◌then◌else◌, unwrap_or, OnOk, IfOk};
-ghost use Rattle.std.specs.Ordering.{nat_cmp};
-ghost use Rattle.std.specs.BTreeMap.{get};
+ghost use Rattle.router_places.specs.Slots.{in_slots};
 ghost use Rattle.router_trace.specs.Trace.{Beginning};
 ghost use Rattle.router_trace.specs.Configuration.{beginning};
 ghost use Rattle.router_trace.specs.Trace.{Entry, Out, did};
@@ -13,12 +12,13 @@ ghost use Rattle.amqp_perf.specs.declared.perf.Perf.TheVariants as perf;
 ghost use Rattle.amqp_frames.specs.declared.item.Item.TheVariants as item;
 
 use crate::clocks::is_close;
+use crate::row::CONNECTIONS;
 use amqp_frames::Item;
 use amqp_perf::{Attach, Open, Perf, Role, Text};
 use book_core::{LinkKey, LinkRole};
+use router_places::Slots;
 use router_trace::{ConnectionId, Peer};
 use std::alloc::{AllocError, Global};
-use std::collections::BTreeMap;
 use std::marker::Model;
 
 /// What links need of a peer's first open (AMQP 1.0 part 2, section 2.7.1).
@@ -54,8 +54,8 @@ impl Container {
 #[derive(Drop)]
 pub struct Peers {
     alloc: Global,
-    users: BTreeMap<u64, Text>,
-    containers: BTreeMap<u64, Container>,
+    users: Slots<Text>,
+    containers: Slots<Container>,
 }
 
 impl Peers {
@@ -65,8 +65,8 @@ impl Peers {
     {
         Peers {
             alloc,
-            users: BTreeMap::new(alloc),
-            containers: BTreeMap::new(alloc),
+            users: Slots::new(alloc, CONNECTIONS),
+            containers: Slots::new(alloc, CONNECTIONS),
         }
     }
 
@@ -74,7 +74,7 @@ impl Peers {
     pub fn largest_frame(&self, conn: u64) -> u32
         ensures { (t : List Entry) → PeersFit self.now t → result ≡ largest_frame t conn }
     {
-        match self.containers.get(&conn) {
+        match self.containers.get(conn) {
             None => u32::MAX,
             Some(container) => container.largest,
         }
@@ -94,9 +94,9 @@ impl Peers {
 
     /// The user of a connection; the empty text if the connection is unknown.
     fn user(&self, conn: u64) -> Result<Text, AllocError>
-        ensures { IfOk result (λ text. text ≡ unwrap_or (get nat_cmp self.now.users conn) []) }
+        ensures { IfOk result (λ text. text ≡ unwrap_or (in_slots self.now.users conn) []) }
     {
-        match self.users.get(&conn) {
+        match self.users.get(conn) {
             None => Ok(Text::new(String::new(self.alloc))),
             Some(user) => user.clone(),
         }
@@ -104,9 +104,9 @@ impl Peers {
 
     /// The container-id of a connection's peer; the empty text if it gave none.
     fn container_id(&self, conn: u64) -> Result<Text, AllocError>
-        ensures { IfOk result (λ text. text ≡ container_id (get nat_cmp self.now.containers conn)) }
+        ensures { IfOk result (λ text. text ≡ container_id (in_slots self.now.containers conn)) }
     {
-        match self.containers.get(&conn) {
+        match self.containers.get(conn) {
             None => Ok(Text::new(String::new(self.alloc))),
             Some(container) => container.id.clone(),
         }
@@ -116,10 +116,8 @@ impl Peers {
     pub fn up(&mut self, conn: ConnectionId, peer: &Peer) -> Result<(), AllocError>
         ensures { OnOk result ((t : List Entry) → PeersFit self.old t → PeersFit self.new (did (event.Up conn peer.now) ∷ t)) }
     {
-        match self.users.insert(conn.0, peer.user.clone()?) {
-            Ok(_) => Ok(()),
-            Err(_) => Err(AllocError),
-        }
+        let _ = self.users.insert(conn.0, peer.user.clone()?)?;
+        Ok(())
     }
 
     /// A connection is lost.
@@ -161,13 +159,11 @@ impl Peers {
         ensures { OnOk result ((t : List Entry) (channel : ℕ) (payload : List ℕ) → PeersFit self.old t
             → PeersFit self.new (did (event.Item conn (item.Frame false channel (perf.Open «open».now) payload)) ∷ t)) }
     {
-        if self.containers.contains_key(&conn.0) {
+        if self.containers.get(conn.0).is_some() {
             return Ok(());
         }
-        match self.containers.insert(conn.0, Container::of(open)?) {
-            Ok(_) => Ok(()),
-            Err(_) => Err(AllocError),
-        }
+        let _ = self.containers.insert(conn.0, Container::of(open)?)?;
+        Ok(())
     }
 
     /// An item is put into the outbox of a connection: a close removes all that is known of it.
@@ -181,11 +177,11 @@ impl Peers {
 
     /// Removes all that is known of a connection.
     fn forget(&mut self, conn: u64)
-        ensures users { (c : ℕ) → get nat_cmp self.new.users c ≡ (if conn == c then None else get nat_cmp self.old.users c) }
-        ensures containers { (c : ℕ) → get nat_cmp self.new.containers c ≡ (if conn == c then None else get nat_cmp self.old.containers c) }
+        ensures users { (c : ℕ) → in_slots self.new.users c ≡ (if conn == c then None else in_slots self.old.users c) }
+        ensures containers { (c : ℕ) → in_slots self.new.containers c ≡ (if conn == c then None else in_slots self.old.containers c) }
     {
-        let _ = self.users.remove(&conn);
-        let _ = self.containers.remove(&conn);
+        let _ = self.users.remove(conn);
+        let _ = self.containers.remove(conn);
     }
 }
 

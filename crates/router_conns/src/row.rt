@@ -7,6 +7,7 @@ ghost use Rattle.router_conns.specs.Emptied.{emptied};
 use amqp_conn::Conn;
 use amqp_frames::Item;
 use amqp_perf::Perf;
+use router_places::Empties;
 use std::alloc::{AllocError, Global};
 use std::collections::VecDeque;
 use std::marker::Model;
@@ -156,19 +157,21 @@ impl Row {
         })
     }
 
-    /// Forgets the items in the outbox.
-    pub(crate) fn empty(&mut self)
-        ensures { self.new ≡ emptied self.old }
-    {
-        self.waiting.clear();
-    }
-
     /// Whether the connection is over and its outbox is empty.
     fn is_gone(&self) -> bool
         ensures gone { result ≡ is_none (unless_gone self.now) }
         ensures rest { unless_gone self.now ≡ (if result then None else Some self.now) }
     {
         self.phase.closed && self.waiting.is_empty()
+    }
+}
+
+impl Empties for Row {
+    ghost rest = { emptied };
+
+    /// Forgets the items in the outbox.
+    fn empty(&mut self) {
+        self.waiting.clear();
     }
 }
 

@@ -1,11 +1,11 @@
 -- Lemmas on takes and runs.
-use Rattle.std.proofs.Common.{◌≡◌, ◌∙◌, sym, ap, refl, subst, ℕ, ◌+◌, List, [], ◌∷◌, ◌++◌, append_assoc, append-nil, suc, length, length-append, arith, true, Some, ◌⊎◌, inl, inr}
+use Rattle.std.proofs.Common.{◌≡◌, ◌∙◌, sym, ap, refl, subst, ℕ, ◌+◌, List, [], ◌∷◌, ◌++◌, append_assoc, append-nil, suc, length, length-append, arith, true, Option, Some, None, ◌⊎◌, inl, inr}
 use Rattle.std.specs.Prelude.{map}
 use Rattle.router_core.specs.declared.driving.Sent.{Sent}
 use Rattle.router_trace.specs.declared.event.Event.{Event}
 use Rattle.router_core.specs.declared.router.Core.{Core}
 use Rattle.router_trace.specs.Trace.{Entry}
-use Rattle.router_trace.specs.Connection.{conn as known, is_ready}
+use Rattle.router_trace.specs.Connection.{Connection, conn as known, is_ready}
 use Rattle.router_conns.specs.Fits.{IsLeast}
 use Rattle.router_core.specs.Handling.{Fits, is_failed}
 use Rattle.router_core.specs.Runs.{Taking, IsNext, InTurn, took_all, took_one, sent, as_sent, items_of, Steps, Run, Waits}
@@ -87,3 +87,8 @@ pub still_waits : {D : Type 0} (old new : Core D) (c : ℕ) → ((t : List Entry
     → (new ≡ old) ⊎ (is_failed new ≡ true) → ((t : List Entry) → Fits new t → Waits t) ⊎ (is_failed new ≡ true)
 still_waits {D = D} old new c least (inl same) = inl (λ t f. (c, (least t (subst (λ (x : Core D). Fits x t) same f)).0))
 still_waits old new c least (inr failed) = inr failed
+
+-- a connection that isn't known isn't ready
+pub unready : (v : Option Connection) → v ≡ None → is_ready v ≡ true → ⊥
+unready None e f = absurd cc
+unready (Some w) e f = absurd cc

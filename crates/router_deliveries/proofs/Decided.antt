@@ -5,8 +5,9 @@ use Rattle.std.specs.List.{list_any, flat_map, AllByRecursion}
 use Rattle.std.specs.List.Sorted.{IsStrictlySortedBy}
 use Rattle.std.specs.Ordering.{nat_cmp}
 use Rattle.std.specs.declared.cmp.Ordering.TheVariants.{Less}
-use Rattle.std.specs.BTreeMap.{get, is_at}
+use Rattle.std.specs.BTreeMap.{is_at}
 use Rattle.std.specs.BTreeSet.{BTreeSet, contains}
+use Rattle.router_places.specs.Slots.{in_slots}
 use Rattle.std.proofs.lemmas.Bool.{eqb-true}
 use Rattle.std.proofs.lemmas.Bool.Decides.{nat_tests}
 use Rattle.amqp_perf.specs.declared.state.DeliveryState.{DeliveryState}
@@ -214,13 +215,13 @@ no_decision xs (Some d) e = by_test (is_undecided d) refl
 
 -- so the decisions of the deliveries that changes may decide are all of them
 pub decided_is : (s : Store) (t : Trace) (xs : List Change) (ns : BTreeSet ℕ) → StoreFit s t → IsStrictlySortedBy nat_cmp ns.keys
-    → ((n : ℕ) → decide xs (standing (get nat_cmp s.deliveries n)) ≡ true → contains nat_cmp ns n ≡ true)
-    → flat_map (λ n. decision_of xs (get nat_cmp s.deliveries n)) ns.keys ≡ decided_rows t xs
+    → ((n : ℕ) → decide xs (standing (in_slots s.deliveries n)) ≡ true → contains nat_cmp ns n ≡ true)
+    → flat_map (λ n. decision_of xs (in_slots s.deliveries n)) ns.keys ≡ decided_rows t xs
 decided_is s t xs ns fit rise there =
-    gathered (bindings t + 1) (λ n. decision_of xs (get nat_cmp s.deliveries n)) (λ n. decision_of xs (delivery t n)) ns.keys rise (λ n. ap (decision_of xs) (fit.deliveries n))
+    gathered (bindings t + 1) (λ n. decision_of xs (in_slots s.deliveries n)) (λ n. decision_of xs (delivery t n)) ns.keys rise (λ n. ap (decision_of xs) (fit.deliveries n))
     (λ n e.
     ap (decision_of xs) (sym (fit.deliveries n))
-    ∙ no_decision xs (get nat_cmp s.deliveries n) (none_there ns n (decide xs (standing (get nat_cmp s.deliveries n))) (there n) e))
+    ∙ no_decision xs (in_slots s.deliveries n) (none_there ns n (decide xs (standing (in_slots s.deliveries n))) (there n) e))
     (λ n l. ap (decision_of xs) (none_beyond t n (above_bindings (bindings t) n l)))
 
 -- and so are the rows of the deliveries that the index of ids gives
@@ -229,14 +230,14 @@ no_row c o first last None e = refl
 no_row c o first last (Some d) e = ap (λ b. if b then listed_row (row_of d.name) else []) (untells_nothing (source d) c o first last e)
 
 pub from_is : (s : Store) (t : Trace) (c o first last : ℕ) (ns : BTreeSet ℕ) → StoreFit s t → IsStrictlySortedBy nat_cmp ns.keys
-    → ((n : ℕ) → is_id_there c o first last (standing (get nat_cmp s.deliveries n)).by_id ≡ true → contains nat_cmp ns n ≡ true)
-    → flat_map (λ n. row_from c o first last (get nat_cmp s.deliveries n)) ns.keys ≡ rows_from t c o first last
+    → ((n : ℕ) → is_id_there c o first last (standing (in_slots s.deliveries n)).by_id ≡ true → contains nat_cmp ns n ≡ true)
+    → flat_map (λ n. row_from c o first last (in_slots s.deliveries n)) ns.keys ≡ rows_from t c o first last
 from_is s t c o first last ns fit rise there =
-    gathered (bindings t + 1) (λ n. row_from c o first last (get nat_cmp s.deliveries n)) (λ n. row_from c o first last (delivery t n)) ns.keys rise
+    gathered (bindings t + 1) (λ n. row_from c o first last (in_slots s.deliveries n)) (λ n. row_from c o first last (delivery t n)) ns.keys rise
     (λ n. ap (row_from c o first last) (fit.deliveries n))
     (λ n e.
     ap (row_from c o first last) (sym (fit.deliveries n))
-    ∙ no_row c o first last (get nat_cmp s.deliveries n) (none_there ns n (is_id_there c o first last (standing (get nat_cmp s.deliveries n)).by_id) (there n) e))
+    ∙ no_row c o first last (in_slots s.deliveries n) (none_there ns n (is_id_there c o first last (standing (in_slots s.deliveries n)).by_id) (there n) e))
     (λ n l. ap (row_from c o first last) (none_beyond t n (above_bindings (bindings t) n l)))
 
 -- The message makes no difference.

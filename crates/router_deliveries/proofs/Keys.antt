@@ -22,10 +22,6 @@ or_second : (a b : Bool) → (a || b) ≡ false → b ≡ false
 or_second true b e = absurd cc
 or_second false b e = e
 
-pub either_of : {P : Type 0} (a b : Bool) → (a ≡ true → P) → (b ≡ true → P) → (a || b) ≡ true → P
-either_of true b f g e = f e
-either_of false b f g e = g e
-
 -- links that end are found by their places
 by_place : (g : Gone) (a : Attachment) → is_gone g a ≡ is_gone_at g (spot_of a)
 by_place (gone.Link c o h) a = refl

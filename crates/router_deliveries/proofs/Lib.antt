@@ -23,5 +23,8 @@ mod Ranges
 mod Opened
 pub mod Listed
 pub mod Placed
+mod Rowed
+mod Handled
+mod Identified
 pub mod Detached
 mod Decided

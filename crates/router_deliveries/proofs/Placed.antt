@@ -14,16 +14,15 @@ use Rattle.std.proofs.lemmas.Bool.Decides.{nat_tests}
 use Rattle.std.proofs.lemmas.List.Folds.{list_any-append}
 use Rattle.amqp_session.specs.Serials.{distance}
 use Rattle.amqp_session.specs.Ranges.{has, in_range}
-use Rattle.router_deliveries.specs.declared.change.Gone.{Gone}
 use Rattle.router_deliveries.specs.declared.spots.Spot.{Spot}
 use Rattle.router_deliveries.specs.declared.spots.Spots.{Spots}
-use Rattle.router_deliveries.specs.Placing.{Key, key, key_cmp, numbers_of, stands, is_spot, IsSmall, SpotsFit, IsWithin, is_gone_at, is_gone_there, is_id_there}
+use Rattle.router_deliveries.specs.Placing.{Key, key, key_cmp, numbers_of, stands, is_spot, IsSmall, SpotsFit, IsWithin, is_id_there}
 
-both_first : (a b : Bool) → (a && b) ≡ true → a ≡ true
+pub both_first : (a b : Bool) → (a && b) ≡ true → a ≡ true
 both_first true b e = refl
 both_first false b e = e
 
-both_second : (a b : Bool) → (a && b) ≡ true → b ≡ true
+pub both_second : (a b : Bool) → (a && b) ≡ true → b ≡ true
 both_second true b e = e
 both_second false b e = absurd cc
 
@@ -31,7 +30,11 @@ or_right : (a b : Bool) → b ≡ true → (a || b) ≡ true
 or_right true b e = refl
 or_right false b e = e
 
-same_number : (n : ℕ) → (n == n) ≡ true
+pub either_of : {P : Type 0} (a b : Bool) → (a ≡ true → P) → (b ≡ true → P) → (a || b) ≡ true → P
+either_of true b f g e = f e
+either_of false b f g e = g e
+
+pub same_number : (n : ℕ) → (n == n) ≡ true
 same_number n = grind (arith, nat_tests)
 
 same_test : (a b : ℕ) → is_eq (nat_cmp a b) ≡ (a == b)
@@ -57,21 +60,12 @@ pub fits_same : (s : Spots) (f g : ℕ → Option Spot) → ((n : ℕ) → f n �
 fits_same s f g same x = record { stand = λ p n. x.stand p n ∙ ap (λ v. is_spot v p) (same n); small = x.small }
 
 -- a number moves
-pub fits_moved : (s t u : Spots) (m : ℕ) (before after : Option Spot) (known : ℕ → Option Spot)
-    → ((p : Spot) (n : ℕ) → stands t p n ≡ (if is_spot before p then (if m == n then false else stands s p n) else stands s p n))
-    → ((p : Spot) (n : ℕ) → stands u p n ≡ (if is_spot after p then (if m == n then true else stands t p n) else stands t p n))
-    → ((p : Spot) (n : ℕ) → (stands t p n ≡ true → IsSmall p n) → stands u p n ≡ true → IsSmall p n)
-    → known m ≡ before → SpotsFit s known → SpotsFit u (λ n. if m == n then after else known n)
-fits_moved s t u m before after known out back small is x = record {
-  stand = λ p n. by_test p n (m == n) refl;
-  small = λ p n now. small p n (λ there. x.small p n (was (is_spot before p) (m == n) (stands s p n) (sym (out p n) ∙ there))) now;
-}
+pub stand_moved : (s t u : Spot → ℕ → Bool) (m : ℕ) (before after : Option Spot) (known : ℕ → Option Spot)
+    → ((p : Spot) (n : ℕ) → t p n ≡ (if is_spot before p then (if m == n then false else s p n) else s p n))
+    → ((p : Spot) (n : ℕ) → u p n ≡ (if is_spot after p then (if m == n then true else t p n) else t p n))
+    → known m ≡ before → ((p : Spot) (n : ℕ) → s p n ≡ is_spot (known n) p) → (p : Spot) (n : ℕ) → u p n ≡ is_spot (if m == n then after else known n) p
+stand_moved s t u m before after known out back is x = λ p n. by_test p n (m == n) refl
   where
-    was : (i e o : Bool) → (if i then (if e then false else o) else o) ≡ true → o ≡ true
-    was true true o f = absurd cc
-    was true false o f = f
-    was false e o f = f
-
     gone : (i o : Bool) → o ≡ i → (if i then (if true then false else o) else o) ≡ false
     gone true o f = refl
     gone false o f = f
@@ -84,15 +78,36 @@ fits_moved s t u m before after known out back small is x = record {
     stays true b o = refl
     stays false b o = refl
 
-    by_test : (p : Spot) (n : ℕ) (b : Bool) → (m == n) ≡ b → stands u p n ≡ is_spot (if b then after else known n) p
+    by_test : (p : Spot) (n : ℕ) (b : Bool) → (m == n) ≡ b → u p n ≡ is_spot (if b then after else known n) p
     by_test p n true f =
-        let old : stands s p n ≡ is_spot before p = x.stand p n ∙ ap (λ v. is_spot v p) (ap known (sym (eqb-true m n f)) ∙ is) in
-        let middle : stands t p n ≡ false = out p n ∙ ap (λ e. if is_spot before p then (if e then false else stands s p n) else stands s p n) f ∙ gone (is_spot before p) (stands s p n) old in
-        back p n ∙ ap (λ e. if is_spot after p then (if e then true else stands t p n) else stands t p n) f ∙ comes (is_spot after p) (stands t p n) middle
+        let old : s p n ≡ is_spot before p = x p n ∙ ap (λ v. is_spot v p) (ap known (sym (eqb-true m n f)) ∙ is) in
+        let middle : t p n ≡ false = out p n ∙ ap (λ e. if is_spot before p then (if e then false else s p n) else s p n) f ∙ gone (is_spot before p) (s p n) old in
+        back p n ∙ ap (λ e. if is_spot after p then (if e then true else t p n) else t p n) f ∙ comes (is_spot after p) (t p n) middle
     by_test p n false f =
-        back p n ∙ ap (λ e. if is_spot after p then (if e then true else stands t p n) else stands t p n) f ∙ stays (is_spot after p) true (stands t p n)
-        ∙ out p n ∙ ap (λ e. if is_spot before p then (if e then false else stands s p n) else stands s p n) f ∙ stays (is_spot before p) false (stands s p n)
-        ∙ x.stand p n
+        back p n ∙ ap (λ e. if is_spot after p then (if e then true else t p n) else t p n) f ∙ stays (is_spot after p) true (t p n)
+        ∙ out p n ∙ ap (λ e. if is_spot before p then (if e then false else s p n) else s p n) f ∙ stays (is_spot before p) false (s p n)
+        ∙ x p n
+
+-- what stands after a number was taken out stood before
+pub stood : (s t : Spot → ℕ → Bool) (m : ℕ) (before : Option Spot)
+    → ((p : Spot) (n : ℕ) → t p n ≡ (if is_spot before p then (if m == n then false else s p n) else s p n))
+    → (p : Spot) (n : ℕ) → t p n ≡ true → s p n ≡ true
+stood s t m before out p n there = was (is_spot before p) (m == n) (s p n) (sym (out p n) ∙ there)
+  where
+    was : (i e o : Bool) → (if i then (if e then false else o) else o) ≡ true → o ≡ true
+    was true true o f = absurd cc
+    was true false o f = f
+    was false e o f = f
+
+pub fits_moved : (s t u : Spots) (m : ℕ) (before after : Option Spot) (known : ℕ → Option Spot)
+    → ((p : Spot) (n : ℕ) → stands t p n ≡ (if is_spot before p then (if m == n then false else stands s p n) else stands s p n))
+    → ((p : Spot) (n : ℕ) → stands u p n ≡ (if is_spot after p then (if m == n then true else stands t p n) else stands t p n))
+    → ((p : Spot) (n : ℕ) → (stands t p n ≡ true → IsSmall p n) → stands u p n ≡ true → IsSmall p n)
+    → known m ≡ before → SpotsFit s known → SpotsFit u (λ n. if m == n then after else known n)
+fits_moved s t u m before after known out back small is x = record {
+  stand = stand_moved (stands s) (stands t) (stands u) m before after known out back is x.stand;
+  small = λ p n now. small p n (λ there. x.small p n (stood (stands s) (stands t) m before out p n there)) now;
+}
 
 -- keys between two
 le_then : (p q : Ordering) → is_le p ≡ true → is_le q ≡ true → is_le (ordering_then p q) ≡ true
@@ -182,17 +197,6 @@ found_between s low high old new is known x p n there within =
     (listed (between low high) s.keys.keys (key p n) (stands_there s known x p n there)
     (is_between low high p n (small_there s known x p n there).number within))
 
--- the places of links that end
-pub found_gone : (s : Spots) (g : Gone) (low high : Spot) (new : List ℕ) (known : ℕ → Option Spot) → SpotsFit s known
-    → ((p : Spot) (n : ℕ) → IsSmall p n → is_gone_at g p ≡ true → IsWithin low high p)
-    → ((p : Spot) (n : ℕ) → known n ≡ Some p → IsWithin low high p → has n new ≡ true)
-    → (n : ℕ) → is_gone_there g (known n) ≡ true → has n new ≡ true
-found_gone s g low high new known x within found n gone = by_place (known n) refl gone
-  where
-    by_place : (v : Option Spot) → known n ≡ v → is_gone_there g v ≡ true → has n new ≡ true
-    by_place None e f = absurd cc
-    by_place (Some p) e f = found p n e (within p n (small_there s known x p n e) f)
-
 -- ids of a range
 at_most : (a b : ℕ) → nat_le a b ≡ true → a ≤ b
 at_most a b e = leb-true a b e
@@ -200,7 +204,7 @@ at_most a b e = leb-true a b e
 beyond : (a b : ℕ) → nat_le a b ≡ false → b < a
 beyond a b e = grind arith
 
-no_further : (first last id : ℕ) → in_range first last id ≡ true → distance first id ≤ distance first last
+pub no_further : (first last id : ℕ) → in_range first last id ≡ true → distance first id ≤ distance first last
 no_further first last id e = at_most (distance first id) (distance first last) (both_second (nat_lt (distance first last) (2 ^ 31)) (nat_le (distance first id) (distance first last)) e)
 
 straight : (first last id : ℕ) → first ≤ last → last < 2 ^ 32 → id < 2 ^ 32 → distance first id ≤ distance first last → (first ≤ id) × (id ≤ last)

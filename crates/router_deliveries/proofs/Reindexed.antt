@@ -4,16 +4,20 @@ use Rattle.std.specs.Prelude.{◌==◌, if◌then◌else◌}
 use Rattle.std.proofs.lemmas.Bool.{eqb-true}
 use Rattle.router_trace.specs.Deliveries.{Delivery, is_number}
 use Rattle.router_places.specs.Marks.{has as is_marked}
+use Rattle.router_deliveries.specs.declared.by_id.ById.{ById}
 use Rattle.router_deliveries.specs.declared.by_link.ByLink.{ByLink}
 use Rattle.router_deliveries.specs.declared.consumers.Consumers.{Consumers}
+use Rattle.router_deliveries.specs.declared.handles.Handles.{Handles}
 use Rattle.router_deliveries.specs.declared.index.Index.{Index}
 use Rattle.router_deliveries.specs.declared.index.Keys.{Keys}
 use Rattle.router_deliveries.specs.declared.spots.Spot.{Spot}
 use Rattle.router_deliveries.specs.declared.spots.Spots.{Spots}
 use Rattle.router_deliveries.specs.declared.tallies.Tallies.{Tallies}
 use Rattle.router_deliveries.specs.Indexing.{Indexes, standing, in_group}
-use Rattle.router_deliveries.specs.Placing.{SpotsFit}
+use Rattle.router_deliveries.specs.Placing.{SpotsFit, HandlesFit, IdsFit}
 use Rattle.router_deliveries.specs.Tallying.{IsTallied, AreTallied}
+use Rattle.router_deliveries.proofs.Handled.{handles_same}
+use Rattle.router_deliveries.proofs.Identified.{ids_same}
 use Rattle.router_deliveries.proofs.Placed.{fits_same}
 use Rattle.router_deliveries.proofs.Tallied.{tallied_same, all_same}
 
@@ -24,9 +28,9 @@ indexes_same s f g same x = record {
   unsent = λ k n. x.unsent k n ∙ ap (λ (q : Keys). is_number q.unsent k) (same n);
   held = tallied_same s.held (λ n. (f n).held) (λ n. (g n).held) (λ n. ap (λ (q : Keys). q.held) (same n)) x.held;
   to_tell = λ n. x.to_tell n ∙ ap (λ (q : Keys). q.to_tell) (same n);
-  on = fits_same s.on (λ n. (f n).on) (λ n. (g n).on) (λ n. ap (λ (q : Keys). q.on) (same n)) x.on;
-  from = fits_same s.from (λ n. (f n).from) (λ n. (g n).from) (λ n. ap (λ (q : Keys). q.from) (same n)) x.from;
-  by_id = fits_same s.by_id (λ n. (f n).by_id) (λ n. (g n).by_id) (λ n. ap (λ (q : Keys). q.by_id) (same n)) x.by_id;
+  on = handles_same s.on (λ n. (f n).on) (λ n. (g n).on) (λ n. ap (λ (q : Keys). q.on) (same n)) x.on;
+  from = handles_same s.from (λ n. (f n).from) (λ n. (g n).from) (λ n. ap (λ (q : Keys). q.from) (same n)) x.from;
+  by_id = ids_same s.by_id (λ n. (f n).by_id) (λ n. (g n).by_id) (λ n. ap (λ (q : Keys). q.by_id) (same n)) x.by_id;
   durable = fits_same s.durable (λ n. (f n).durable) (λ n. (g n).durable) (λ n. ap (λ (q : Keys). q.durable) (same n)) x.durable;
 }
 
@@ -48,11 +52,17 @@ ConsumersMove s t before after = (m : ℕ) (waiting undecided : ℕ → Option �
 abbrev SpotMoves : Spots → Spots → ℕ → Option Spot → Option Spot → Type 0
 SpotMoves s t m before after = (known : ℕ → Option Spot) → known m ≡ before → SpotsFit s known → SpotsFit t (λ n. if m == n then after else known n)
 
+abbrev HandleMoves : Handles → Handles → ℕ → Option Spot → Option Spot → Type 0
+HandleMoves s t m before after = (known : ℕ → Option Spot) → known m ≡ before → HandlesFit s known → HandlesFit t (λ n. if m == n then after else known n)
+
+abbrev IdMoves : ById → ById → ℕ → Option Spot → Option Spot → Type 0
+IdMoves s t m before after = (known : ℕ → Option Spot) → known m ≡ before → IdsFit s known → IdsFit t (λ n. if m == n then after else known n)
+
 pub indexes_moved : (s t : Index) (m : ℕ) (before after : Keys) (known : ℕ → Keys)
     → ConsumersMove s.consumers t.consumers before after → GroupMoves s.unsent t.unsent m before.unsent after.unsent
     → TallyMoves s.held t.held before.held after.held
     → (is_marked s.to_tell m ≡ before.to_tell → (n : ℕ) → is_marked t.to_tell n ≡ (if m == n then after.to_tell else is_marked s.to_tell n))
-    → SpotMoves s.on t.on m before.on after.on → SpotMoves s.from t.from m before.from after.from → SpotMoves s.by_id t.by_id m before.by_id after.by_id
+    → HandleMoves s.on t.on m before.on after.on → HandleMoves s.from t.from m before.from after.from → IdMoves s.by_id t.by_id m before.by_id after.by_id
     → SpotMoves s.durable t.durable m before.durable after.durable
     → known m ≡ before → Indexes s known → Indexes t (λ n. if m == n then after else known n)
 indexes_moved s t m before after known consumers unsent held to_tell on from by_id durable is x = record {
@@ -66,11 +76,11 @@ indexes_moved s t m before after known consumers unsent held to_tell on from by_
       (λ n. by_key (λ q. q.held) (m == n) after (known n)) (held m (λ n. (known n).held) (ap (λ (q : Keys). q.held) is) x.held);
   to_tell = λ n. to_tell (x.to_tell m ∙ ap (λ (q : Keys). q.to_tell) is) n
       ∙ ap (λ b. if m == n then after.to_tell else b) (x.to_tell n) ∙ by_key (λ q. q.to_tell) (m == n) after (known n);
-  on = fits_same t.on (λ n. if m == n then after.on else (known n).on) (λ n. (if m == n then after else known n).on)
+  on = handles_same t.on (λ n. if m == n then after.on else (known n).on) (λ n. (if m == n then after else known n).on)
       (λ n. by_key (λ q. q.on) (m == n) after (known n)) (on (λ n. (known n).on) (ap (λ (q : Keys). q.on) is) x.on);
-  from = fits_same t.from (λ n. if m == n then after.from else (known n).from) (λ n. (if m == n then after else known n).from)
+  from = handles_same t.from (λ n. if m == n then after.from else (known n).from) (λ n. (if m == n then after else known n).from)
       (λ n. by_key (λ q. q.from) (m == n) after (known n)) (from (λ n. (known n).from) (ap (λ (q : Keys). q.from) is) x.from);
-  by_id = fits_same t.by_id (λ n. if m == n then after.by_id else (known n).by_id) (λ n. (if m == n then after else known n).by_id)
+  by_id = ids_same t.by_id (λ n. if m == n then after.by_id else (known n).by_id) (λ n. (if m == n then after else known n).by_id)
       (λ n. by_key (λ q. q.by_id) (m == n) after (known n)) (by_id (λ n. (known n).by_id) (ap (λ (q : Keys). q.by_id) is) x.by_id);
   durable = fits_same t.durable (λ n. if m == n then after.durable else (known n).durable) (λ n. (if m == n then after else known n).durable)
       (λ n. by_key (λ q. q.durable) (m == n) after (known n)) (durable (λ n. (known n).durable) (ap (λ (q : Keys). q.durable) is) x.durable);

@@ -1,8 +1,7 @@
 -- What is touched after changes of a store.
 use Rattle.std.proofs.Common.{◌≡◌, ◌∙◌, ℕ, Bool, true, false, refl, sym, ap, subst, Option}
 use Rattle.std.specs.Prelude.{◌==◌, if◌then◌else◌}
-use Rattle.std.specs.Ordering.{nat_cmp}
-use Rattle.std.specs.BTreeMap.{get}
+use Rattle.router_places.specs.Slots.{in_slots}
 use Rattle.std.proofs.lemmas.Bool.{eqb-true}
 use Rattle.router_trace.specs.Deliveries.{Delivery, waits_on, undecided_on, held_from}
 use Rattle.router_deliveries.specs.declared.index.Keys.{Keys}
@@ -23,10 +22,10 @@ on_standing k v w x = record {
 }
 
 -- nothing done, and one change after the other
-pub touches_nothing : (old new : Store) → new.touched ≡ old.touched → ((n : ℕ) → get nat_cmp new.deliveries n ≡ get nat_cmp old.deliveries n) → StoreTouches old new
+pub touches_nothing : (old new : Store) → new.touched ≡ old.touched → ((n : ℕ) → in_slots new.deliveries n ≡ in_slots old.deliveries n) → StoreTouches old new
 touches_nothing old new e same = record {
   before = λ k f. ap (λ s. is_touched_in s k) (sym e) ∙ f;
-  same = λ k n f. same_on k (get nat_cmp old.deliveries n) (get nat_cmp new.deliveries n) (sym (same n));
+  same = λ k n f. same_on k (in_slots old.deliveries n) (in_slots new.deliveries n) (sym (same n));
 }
 
 pub touches_self : (s : Store) → StoreTouches s s
@@ -40,8 +39,8 @@ touches_then old middle new x y = record {
 
 -- one delivery was changed in its place, added or removed
 pub touches_at : (old new : Store) (m : ℕ) (g : Option Delivery → Option Delivery) (stood stands : Keys)
-    → stood ≡ standing (get nat_cmp old.deliveries m) → stands ≡ standing (g (get nat_cmp old.deliveries m))
-    → ((n : ℕ) → get nat_cmp new.deliveries n ≡ (if m == n then g (get nat_cmp old.deliveries n) else get nat_cmp old.deliveries n))
+    → stood ≡ standing (in_slots old.deliveries m) → stands ≡ standing (g (in_slots old.deliveries m))
+    → ((n : ℕ) → in_slots new.deliveries n ≡ (if m == n then g (in_slots old.deliveries n) else in_slots old.deliveries n))
     → ((k : ℕ) → is_touched_in new.touched k ≡ false → (is_touched_in old.touched k ≡ false) × StandsSame k stood stands)
     → StoreTouches old new
 touches_at old new m g stood stands was is at noted = record {
@@ -49,13 +48,13 @@ touches_at old new m g stood stands was is at noted = record {
   same = λ k n f. by_test k n (m == n) refl (noted k f).1;
 }
   where
-    by_test : (k n : ℕ) (b : Bool) → (m == n) ≡ b → StandsSame k stood stands → IsSameOn k (get nat_cmp old.deliveries n) (get nat_cmp new.deliveries n)
+    by_test : (k n : ℕ) (b : Bool) → (m == n) ≡ b → StandsSame k stood stands → IsSameOn k (in_slots old.deliveries n) (in_slots new.deliveries n)
     by_test k n true e x =
-        let here : get nat_cmp old.deliveries m ≡ get nat_cmp old.deliveries n = ap (get nat_cmp old.deliveries) (eqb-true m n e) in
-        let now : get nat_cmp new.deliveries n ≡ g (get nat_cmp old.deliveries n) = at n ∙ ap (λ b. if b then g (get nat_cmp old.deliveries n) else get nat_cmp old.deliveries n) e in
-        let first : StandsSame k (standing (get nat_cmp old.deliveries n)) stands = subst (λ (a : Keys). StandsSame k a stands) (was ∙ ap standing here) x in
-        let both : StandsSame k (standing (get nat_cmp old.deliveries n)) (standing (get nat_cmp new.deliveries n)) =
-        subst (λ (a : Keys). StandsSame k (standing (get nat_cmp old.deliveries n)) a) (is ∙ ap (λ v. standing (g v)) here ∙ ap standing (sym now)) first in
-        on_standing k (get nat_cmp old.deliveries n) (get nat_cmp new.deliveries n) both
-    by_test k n false e x = same_on k (get nat_cmp old.deliveries n) (get nat_cmp new.deliveries n)
-        (sym (at n ∙ ap (λ b. if b then g (get nat_cmp old.deliveries n) else get nat_cmp old.deliveries n) e))
+        let here : in_slots old.deliveries m ≡ in_slots old.deliveries n = ap (in_slots old.deliveries) (eqb-true m n e) in
+        let now : in_slots new.deliveries n ≡ g (in_slots old.deliveries n) = at n ∙ ap (λ b. if b then g (in_slots old.deliveries n) else in_slots old.deliveries n) e in
+        let first : StandsSame k (standing (in_slots old.deliveries n)) stands = subst (λ (a : Keys). StandsSame k a stands) (was ∙ ap standing here) x in
+        let both : StandsSame k (standing (in_slots old.deliveries n)) (standing (in_slots new.deliveries n)) =
+        subst (λ (a : Keys). StandsSame k (standing (in_slots old.deliveries n)) a) (is ∙ ap (λ v. standing (g v)) here ∙ ap standing (sym now)) first in
+        on_standing k (in_slots old.deliveries n) (in_slots new.deliveries n) both
+    by_test k n false e x = same_on k (in_slots old.deliveries n) (in_slots new.deliveries n)
+        (sym (at n ∙ ap (λ b. if b then g (in_slots old.deliveries n) else in_slots old.deliveries n) e))

@@ -16,7 +16,7 @@ use Rattle.router_deliveries.specs.declared.index.Index.{Index}
 use Rattle.router_deliveries.specs.declared.index.Keys.{Keys}
 use Rattle.router_deliveries.specs.declared.index.Moved.{Moved}
 use Rattle.router_deliveries.specs.declared.spots.Spot.{Spot}
-use Rattle.router_deliveries.specs.Placing.{SpotsFit, spot_of, on_spot, from_spot, id_spot, own_spot, is_gone_there, is_id_there}
+use Rattle.router_deliveries.specs.Placing.{SpotsFit, HandlesFit, IdsFit, spot_of, on_spot, from_spot, id_spot, own_spot, is_gone_there, is_id_there}
 use Rattle.router_deliveries.specs.Tallying.{IsTallied, AreTallied}
 
 -- a link and a number; ordered by link, then by number
@@ -88,9 +88,9 @@ pub record Indexes (s : Index) (known : ℕ → Keys) : Type 0 where
   pub unsent : (k n : ℕ) → in_group s.unsent k n ≡ is_number (known n).unsent k
   pub held : IsTallied s.held (λ n. (known n).held)
   pub to_tell : (n : ℕ) → is_marked s.to_tell n ≡ (known n).to_tell
-  pub on : SpotsFit s.on (λ n. (known n).on)
-  pub from : SpotsFit s.from (λ n. (known n).from)
-  pub by_id : SpotsFit s.by_id (λ n. (known n).by_id)
+  pub on : HandlesFit s.on (λ n. (known n).on)
+  pub from : HandlesFit s.from (λ n. (known n).from)
+  pub by_id : IdsFit s.by_id (λ n. (known n).by_id)
   pub durable : SpotsFit s.durable (λ n. (known n).durable)
 
 -- the change isn't a consumer's disposition, which finds its deliveries by their ids

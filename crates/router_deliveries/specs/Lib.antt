@@ -1,5 +1,6 @@
 pub mod Stepping
 pub mod Hearing
+pub mod Rowing
 pub mod Placing
 pub mod Indexing
 pub mod Finding

@@ -1,15 +1,19 @@
 -- Deliveries by place on a session: by handle, or by delivery-id.
-use Rattle.std.specs.Prelude.{◌≡◌, ◌<◌, ◌≤◌, ◌^◌, ℕ, Bool, true, false, ◌==◌, ◌&&◌, if◌then◌else◌, Option, Some, None, List, map}
+use Rattle.std.specs.Prelude.{◌≡◌, ◌<◌, ◌≤◌, ◌^◌, ℕ, Bool, true, false, ◌==◌, ◌&&◌, ◌||◌, if◌then◌else◌, Option, Some, None, List, map}
 use Rattle.std.specs.Ordering.{nat_cmp, ordering_then}
 use Rattle.std.specs.declared.cmp.Ordering.{Ordering}
 use Rattle.std.specs.BTreeSet.{contains}
 use Rattle.amqp_session.specs.Ranges.{in_range}
 use Rattle.router_trace.specs.declared.binding.Origin.{Origin}
 use Rattle.router_trace.specs.declared.handle.Attachment.{Attachment}
+use Rattle.router_trace.specs.Deliveries.{is_number}
+use Rattle.router_deliveries.specs.declared.by_id.ById.{ById}
 use Rattle.router_deliveries.specs.declared.change.Gone.{Gone}
 use Rattle.router_deliveries.specs.declared.change.Gone.TheVariants as gone
+use Rattle.router_deliveries.specs.declared.handles.Handles.{Handles}
 use Rattle.router_deliveries.specs.declared.spots.Spot.{Spot}
 use Rattle.router_deliveries.specs.declared.spots.Spots.{Spots}
+use Rattle.router_deliveries.specs.Rowing.{in_rows}
 
 -- a place, then a number; ordered by connection, session, handle or id, and number
 abbrev pub Key : Type 0
@@ -50,6 +54,34 @@ pub record IsSmallKey (k : Key) : Type 0 where
 pub record SpotsFit (s : Spots) (known : ℕ → Option Spot) : Type 0 where
   pub stand : (p : Spot) (n : ℕ) → stands s p n ≡ is_spot (known n) p
   pub small : (p : Spot) (n : ℕ) → stands s p n ≡ true → IsSmall p n
+
+-- each number has the handle of its known place on that session, and none elsewhere
+abbrev pub has_handle : Handles → Spot → ℕ → Bool
+has_handle s p n = is_number (in_rows s.rows p.conn p.own n) p.at
+
+pub record HandlesFit (s : Handles) (known : ℕ → Option Spot) : Type 0 where
+  pub stand : (p : Spot) (n : ℕ) → has_handle s p n ≡ is_spot (known n) p
+
+-- a place is on this session, and its handle
+abbrev pub on_session : Option Spot → ℕ → ℕ → Bool
+on_session None c o = false
+on_session (Some p) c o = (p.conn == c) && (p.own == o)
+
+abbrev pub handle_in : Option Spot → Option ℕ
+handle_in None = None
+handle_in (Some p) = Some p.at
+
+-- a number is at an id: as the first there, or as a further one
+abbrev pub is_first : ById → Spot → ℕ → Bool
+is_first s p n = is_number (in_rows s.first p.conn p.own p.at) n
+
+abbrev pub is_at_id : ById → Spot → ℕ → Bool
+is_at_id s p n = is_first s p n || stands s.further p n
+
+-- each number is at its known id, and nowhere else
+pub record IdsFit (s : ById) (known : ℕ → Option Spot) : Type 0 where
+  pub stand : (p : Spot) (n : ℕ) → is_at_id s p n ≡ is_spot (known n) p
+  pub small : (p : Spot) (n : ℕ) → is_at_id s p n ≡ true → IsSmall p n
 
 -- a place is between two others
 pub record IsWithin (low high p : Spot) : Type 0 where

@@ -1,7 +1,6 @@
 -- Links whose deliveries may have changed since they were last forgotten.
 use Rattle.std.specs.Prelude.{◌≡◌, ℕ, Bool, false, Option}
-use Rattle.std.specs.Ordering.{nat_cmp}
-use Rattle.std.specs.BTreeMap.{get}
+use Rattle.router_places.specs.Slots.{in_slots}
 use Rattle.router_places.specs.Marks.{has as is_marked}
 use Rattle.router_trace.specs.Deliveries.{Delivery, is_number, waits_on, undecided_on, held_from}
 use Rattle.router_deliveries.specs.declared.deliveries.Deliveries.{Deliveries}
@@ -31,7 +30,7 @@ pub record StandsSame (k : ℕ) (a b : Keys) : Type 0 where
 -- the links that are not touched have not changed and were not touched before
 pub record StoreTouches (old new : Store) : Type 0 where
   pub before : (k : ℕ) → is_touched_in new.touched k ≡ false → is_touched_in old.touched k ≡ false
-  pub same : (k n : ℕ) → is_touched_in new.touched k ≡ false → IsSameOn k (get nat_cmp old.deliveries n) (get nat_cmp new.deliveries n)
+  pub same : (k n : ℕ) → is_touched_in new.touched k ≡ false → IsSameOn k (in_slots old.deliveries n) (in_slots new.deliveries n)
 
 abbrev pub Touches : Deliveries → Deliveries → Type 0
 Touches old new = StoreTouches old.store new.store

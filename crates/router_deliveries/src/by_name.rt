@@ -1,34 +1,36 @@
 //! The numbers of deliveries by their names.
 ghost use Rattle.std.specs.Prelude.{◌≡◌, ◌==◌, ℕ, Some, None, if◌then◌else◌, OnOk};
 ghost use Rattle.std.specs.Option.{option_and_then};
-ghost use Rattle.std.specs.Ordering.{nat_cmp};
-ghost use Rattle.std.specs.BTreeMap.{get};
+ghost use Rattle.router_places.specs.Slots.{in_slots};
 ghost use Rattle.router_trace.specs.declared.binding.DeliveryName.{DeliveryName as Name};
 ghost use Rattle.router_trace.specs.Deliveries.{same_name, carried, number_tagged, tag_in};
 ghost use Rattle.router_deliveries.specs.Calling.{at_name};
 
 use crate::tag::tagged;
 use amqp_perf::Transfer;
+use router_places::Slots;
 use router_trace::DeliveryName;
 use std::alloc::{AllocError, Global};
-use std::collections::BTreeMap;
+
+/// So many neighbouring rows, and as many counters, are found without an ordered map.
+const PLACES: usize = 1024;
 
 /// The numbers of deliveries by their names.
 #[derive(Drop)]
 pub(crate) struct ByName {
-    rows: BTreeMap<u64, u64>,
-    counters: BTreeMap<u64, u64>,
+    rows: Slots<u64>,
+    counters: Slots<u64>,
 }
 
 impl ByName {
     /// An empty table.
     pub(crate) fn new(alloc: Global) -> ByName
-        ensures rows { (k : ℕ) → get nat_cmp result.rows k ≡ None }
-        ensures counters { (k : ℕ) → get nat_cmp result.counters k ≡ None }
+        ensures rows { (k : ℕ) → in_slots result.rows k ≡ None }
+        ensures counters { (k : ℕ) → in_slots result.counters k ≡ None }
     {
         ByName {
-            rows: BTreeMap::new(alloc),
-            counters: BTreeMap::new(alloc),
+            rows: Slots::new(alloc, PLACES),
+            counters: Slots::new(alloc, PLACES),
         }
     }
 
@@ -37,8 +39,8 @@ impl ByName {
         ensures { result ≡ at_name self.now name }
     {
         match name {
-            DeliveryName::Row(row) => self.rows.get(&row.0).copied(),
-            DeliveryName::Counter(counter) => self.counters.get(&counter).copied(),
+            DeliveryName::Row(row) => self.rows.get(row.0).copied(),
+            DeliveryName::Counter(counter) => self.counters.get(counter).copied(),
         }
     }
 
@@ -91,18 +93,16 @@ impl ByName {
 }
 
 /// Puts a number at a key.
-fn insert(numbers: &mut BTreeMap<u64, u64>, key: u64, number: u64) -> Result<(), AllocError>
-    ensures { OnOk result ((k : ℕ) → get nat_cmp numbers.new k ≡ (if key == k then Some number else get nat_cmp numbers.old k)) }
+fn insert(numbers: &mut Slots<u64>, key: u64, number: u64) -> Result<(), AllocError>
+    ensures { OnOk result ((k : ℕ) → in_slots numbers.new k ≡ (if key == k then Some number else in_slots numbers.old k)) }
 {
-    match numbers.insert(key, number) {
-        Ok(_) => Ok(()),
-        Err(_) => Err(AllocError),
-    }
+    let _ = numbers.insert(key, number)?;
+    Ok(())
 }
 
 /// Removes the number at a key.
-fn remove(numbers: &mut BTreeMap<u64, u64>, key: u64)
-    ensures { (k : ℕ) → get nat_cmp numbers.new k ≡ (if key == k then None else get nat_cmp numbers.old k) }
+fn remove(numbers: &mut Slots<u64>, key: u64)
+    ensures { (k : ℕ) → in_slots numbers.new k ≡ (if key == k then None else in_slots numbers.old k) }
 {
-    let _ = numbers.remove(&key);
+    let _ = numbers.remove(key);
 }

@@ -1,13 +1,15 @@
 //! How many deliveries of each consumer's link wait to start, and how many are undecided.
 ghost use Rattle.std.specs.Prelude.{◌≡◌, ◌==◌, ◌+◌, ◌-◌, ◌&&◌, ◌||◌, ℕ, Bool, Option, None, true, false, if◌then◌else◌, OnOk, IfOk};
-ghost use Rattle.std.specs.Ordering.{nat_cmp};
-ghost use Rattle.std.specs.BTreeMap.{get};
+ghost use Rattle.router_places.specs.Slots.{in_slots};
 ghost use Rattle.router_trace.specs.Deliveries.{is_number};
 ghost use Rattle.router_deliveries.specs.Tallying.{waiting_at, undecided_at, has_none, AreTallied, unless_at, more, less};
 
 use crate::index::Keys;
+use router_places::Slots;
 use std::alloc::{AllocError, Global};
-use std::collections::BTreeMap;
+
+/// The rows of so many links with neighbouring numbers are found without an ordered map.
+const PLACES: usize = 1024;
 
 /// The deliveries of a consumer's link.
 #[derive(Clone, Copy)]
@@ -18,12 +20,12 @@ pub(crate) struct OfLink {
     undecided: usize,
 }
 
-/// How many deliveries of each consumer's link wait to start, and how many are undecided; a link without any takes no room.
+/// How many deliveries of each consumer's link wait to start, and how many are undecided; a link without any has no row.
 ///
 /// Both stand in one row, since they mostly change at the same link.
 #[derive(Drop)]
 pub(crate) struct Consumers {
-    rows: BTreeMap<u64, OfLink>,
+    rows: Slots<OfLink>,
 }
 
 impl Consumers {
@@ -33,7 +35,7 @@ impl Consumers {
         ensures { AreTallied result (λ n. None) (λ n. None) }
     {
         Consumers {
-            rows: BTreeMap::new(alloc),
+            rows: Slots::new(alloc, PLACES),
         }
     }
 
@@ -41,7 +43,7 @@ impl Consumers {
     pub(crate) fn waiting(&self, link: u64) -> usize
         ensures { result ≡ waiting_at self.now link }
     {
-        match self.rows.get(&link) {
+        match self.rows.get(link) {
             None => 0,
             Some(row) => row.waiting,
         }
@@ -51,7 +53,7 @@ impl Consumers {
     pub(crate) fn undecided(&self, link: u64) -> usize
         ensures { result ≡ undecided_at self.now link }
     {
-        match self.rows.get(&link) {
+        match self.rows.get(link) {
             None => 0,
             Some(row) => row.undecided,
         }
@@ -78,7 +80,7 @@ impl Consumers {
     fn drop_from(&mut self, waiting: Option<u64>, undecided: Option<u64>)
         ensures waiting { (k : ℕ) → waiting_at self.new k ≡ less (is_number waiting k) (waiting_at self.old k) }
         ensures undecided { (k : ℕ) → undecided_at self.new k ≡ less (is_number undecided k) (undecided_at self.old k) }
-        ensures needed { (k : ℕ) → has_none (get nat_cmp self.old.rows k) ≡ false → has_none (get nat_cmp self.new.rows k) ≡ false }
+        ensures needed { (k : ℕ) → has_none (in_slots self.old.rows k) ≡ false → has_none (in_slots self.new.rows k) ≡ false }
     {
         if waiting == undecided {
             self.drop_at(waiting, true, true);
@@ -92,26 +94,26 @@ impl Consumers {
     fn drop_at(&mut self, link: Option<u64>, waiting: bool, undecided: bool)
         ensures waiting { (k : ℕ) → waiting_at self.new k ≡ less (is_number link k && waiting) (waiting_at self.old k) }
         ensures undecided { (k : ℕ) → undecided_at self.new k ≡ less (is_number link k && undecided) (undecided_at self.old k) }
-        ensures needed { (k : ℕ) → has_none (get nat_cmp self.old.rows k) ≡ false → has_none (get nat_cmp self.new.rows k) ≡ false }
+        ensures needed { (k : ℕ) → has_none (in_slots self.old.rows k) ≡ false → has_none (in_slots self.new.rows k) ≡ false }
     {
         let Some(link) = link else {
             return;
         };
-        let Some(row) = self.rows.get_mut(&link) else {
+        let Some(row) = self.rows.get_mut(link) else {
             return;
         };
         row.drop_one(waiting, undecided);
         if row.waiting > 0 || row.undecided > 0 {
             return;
         }
-        let _ = self.rows.remove(&link);
+        let _ = self.rows.remove(link);
     }
 
     /// A link has one more that waits, and a link one more that is undecided, if there are such links; one look-up, where they are the same.
     fn add_to(&mut self, waiting: Option<u64>, undecided: Option<u64>) -> Result<(), AllocError>
         ensures waiting { OnOk result ((k : ℕ) → waiting_at self.new k ≡ more (is_number waiting k) (waiting_at self.old k)) }
         ensures undecided { OnOk result ((k : ℕ) → undecided_at self.new k ≡ more (is_number undecided k) (undecided_at self.old k)) }
-        ensures needed { OnOk result ((k : ℕ) → has_none (get nat_cmp self.old.rows k) ≡ false → has_none (get nat_cmp self.new.rows k) ≡ false) }
+        ensures needed { OnOk result ((k : ℕ) → has_none (in_slots self.old.rows k) ≡ false → has_none (in_slots self.new.rows k) ≡ false) }
     {
         if waiting == undecided {
             self.add_at(waiting, true, true)?;
@@ -131,22 +133,20 @@ impl Consumers {
     ) -> Result<(), AllocError>
         ensures waiting { OnOk result ((k : ℕ) → waiting_at self.new k ≡ more (is_number link k && waiting) (waiting_at self.old k)) }
         ensures undecided { OnOk result ((k : ℕ) → undecided_at self.new k ≡ more (is_number link k && undecided) (undecided_at self.old k)) }
-        ensures needed { OnOk result ((waiting || undecided) ≡ true → (k : ℕ) → has_none (get nat_cmp self.old.rows k) ≡ false → has_none (get nat_cmp self.new.rows k) ≡ false) }
+        ensures needed { OnOk result ((waiting || undecided) ≡ true → (k : ℕ) → has_none (in_slots self.old.rows k) ≡ false → has_none (in_slots self.new.rows k) ≡ false) }
     {
         let Some(link) = link else {
             return Ok(());
         };
-        if let Some(row) = self.rows.get_mut(&link) {
+        if let Some(row) = self.rows.get_mut(link) {
             return row.add_one(waiting, undecided);
         }
         let row = OfLink {
             waiting: one_if(waiting),
             undecided: one_if(undecided),
         };
-        match self.rows.insert(link, row) {
-            Ok(_) => Ok(()),
-            Err(_) => Err(AllocError),
-        }
+        self.rows.insert(link, row)?;
+        Ok(())
     }
 }
 

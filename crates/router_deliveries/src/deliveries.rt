@@ -1,8 +1,7 @@
 //! The table of deliveries.
 ghost use Rattle.std.specs.Prelude.{◌≡◌, ◌==◌, ◌&&◌, ◌∷◌, List, ℕ, OnOk, IfOk, false, if◌then◌else◌};
 ghost use Rattle.std.specs.Option.{option_map, is_none, is_some};
-ghost use Rattle.std.specs.Ordering.{nat_cmp};
-ghost use Rattle.std.specs.BTreeMap.{get};
+ghost use Rattle.router_places.specs.Slots.{in_slots};
 ghost use Rattle.router_trace.specs.Trace.{Beginning};
 ghost use Rattle.router_trace.specs.Configuration.{beginning};
 ghost use Rattle.router_trace.specs.Trace.{Entry, Out, Bound, did};
@@ -123,7 +122,7 @@ impl Deliveries {
     pub fn forget_touched(&mut self, link: u64)
         ensures fits { (t : List Entry) → DeliveriesFit self.old t → DeliveriesFit self.new t }
         ensures touched { (k : ℕ) → is_touched self.new k ≡ (if link == k then false else is_touched self.old k) }
-        ensures deliveries { (n : ℕ) → get nat_cmp self.new.store.deliveries n ≡ get nat_cmp self.old.store.deliveries n }
+        ensures deliveries { (n : ℕ) → in_slots self.new.store.deliveries n ≡ in_slots self.old.store.deliveries n }
     {
         self.store.forget_touched(link);
     }

@@ -1,7 +1,6 @@
 //! How a peer's disposition changes the deliveries of a table.
 ghost use Rattle.std.specs.Prelude.{◌≡◌, ℕ, OnOk};
-ghost use Rattle.std.specs.Ordering.{nat_cmp};
-ghost use Rattle.std.specs.BTreeMap.{get};
+ghost use Rattle.router_places.specs.Slots.{in_slots};
 ghost use Rattle.router_deliveries.specs.Fits.{Indexed};
 ghost use Rattle.router_deliveries.specs.Hearing.{heard_by, done_to};
 ghost use Rattle.router_deliveries.specs.Naming.{AreSmall};
@@ -21,8 +20,8 @@ pub(crate) fn hear(
     names: &Names,
     change: Option<Change>,
 ) -> Result<(), AllocError>
-    ensures deliveries { OnOk result (((n : ℕ) → IsKept (get nat_cmp store.old.deliveries n)) → Indexed store.old → AreSmall (at_id names.now.ids)
-        → (n : ℕ) → get nat_cmp store.new.deliveries n ≡ heard_by change (at_id names.now.ids) n (get nat_cmp store.old.deliveries n)) }
+    ensures deliveries { OnOk result (((n : ℕ) → IsKept (in_slots store.old.deliveries n)) → Indexed store.old → AreSmall (at_id names.now.ids)
+        → (n : ℕ) → in_slots store.new.deliveries n ≡ heard_by change (at_id names.now.ids) n (in_slots store.old.deliveries n)) }
     ensures indexed { OnOk result (Indexed store.old → Indexed store.new) }
     ensures touches { OnOk result (StoreTouches store.old store.new) }
 {
@@ -34,8 +33,8 @@ pub(crate) fn hear(
 
 /// Applies a change to the deliveries.
 fn hear_one(store: &mut Store, names: &Names, change: &Change) -> Result<(), AllocError>
-    ensures deliveries { OnOk result (((n : ℕ) → IsKept (get nat_cmp store.old.deliveries n)) → Indexed store.old → AreSmall (at_id names.now.ids)
-        → (n : ℕ) → get nat_cmp store.new.deliveries n ≡ done_to change.now (at_id names.now.ids) n (get nat_cmp store.old.deliveries n)) }
+    ensures deliveries { OnOk result (((n : ℕ) → IsKept (in_slots store.old.deliveries n)) → Indexed store.old → AreSmall (at_id names.now.ids)
+        → (n : ℕ) → in_slots store.new.deliveries n ≡ done_to change.now (at_id names.now.ids) n (in_slots store.old.deliveries n)) }
     ensures indexed { OnOk result (Indexed store.old → Indexed store.new) }
     ensures touches { OnOk result (StoreTouches store.old store.new) }
 {

@@ -10,10 +10,12 @@ ghost use Rattle.router_deliveries.specs.Indexing.{Indexes, nowhere, keys, stand
 ghost use Rattle.router_deliveries.specs.Placing.{spot_of, on_spot, from_spot, id_spot, own_spot, is_gone_there};
 ghost use Rattle.amqp_session.specs.Ranges.{has};
 
+use crate::by_id::ById;
 use crate::by_link::ByLink;
 use crate::change::{Change, Gone};
 use crate::consumers::Consumers;
 use crate::delivery::Delivery;
+use crate::handles::Handles;
 use crate::kept::Kept;
 use crate::sets::add;
 use crate::spots::{Spot, Spots};
@@ -71,10 +73,10 @@ pub(crate) struct Index {
     // those whose outcome must be reported to their producer
     pub(crate) to_tell: Marks,
     // those changed by the end of a consumer's link, those by the end of a producer's link, and those by a producer's delivery-id
-    on: Spots,
-    from: Spots,
-    by_id: Spots,
-    // those whose row a consumer's disposition may decide, by the router's delivery-id
+    on: Handles,
+    from: Handles,
+    by_id: ById,
+    // those whose row a consumer's disposition may decide, by the router's delivery-id; a suspended one stays when its session ends
     durable: Spots,
 }
 
@@ -240,9 +242,9 @@ impl Index {
             unsent: ByLink::new(alloc),
             held: Tallies::new(alloc),
             to_tell: Marks::new(alloc),
-            on: Spots::new(alloc),
-            from: Spots::new(alloc),
-            by_id: Spots::new(alloc),
+            on: Handles::new(alloc),
+            from: Handles::new(alloc),
+            by_id: ById::new(alloc),
             durable: Spots::new(alloc),
         }
     }
@@ -371,6 +373,16 @@ impl Index {
     {
         self.on.append_gone(gone, numbers)?;
         self.from.append_gone(gone, numbers)?;
+        Ok(())
+    }
+
+    /// Lets go of the rows of sessions that end, where they have no deliveries.
+    pub(crate) fn end(&mut self, gone: Gone) -> Result<(), AllocError>
+        ensures { OnOk result ((known : ℕ → TheKeys) → Indexes self.old known → Indexes self.new known) }
+    {
+        self.on.end(gone)?;
+        self.from.end(gone)?;
+        self.by_id.end(gone)?;
         Ok(())
     }
 }

@@ -11,6 +11,7 @@
 //! come from it, and a disposition only those that its ids name. An id is forgotten once its delivery is decided.
 #![tactic(auto)]
 
+mod by_id;
 mod by_link;
 mod by_name;
 mod change;
@@ -18,11 +19,13 @@ mod consumers;
 mod deciding;
 mod deliveries;
 mod delivery;
+mod handles;
 mod hearing;
 mod index;
 mod kept;
 mod names;
 mod next_ids;
+mod rows;
 mod sending;
 mod sets;
 mod spots;

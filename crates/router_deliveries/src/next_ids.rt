@@ -9,19 +9,24 @@ ghost use Rattle.router_trace.specs.Trace.{Entry, Out, did};
 ghost use Rattle.router_trace.specs.declared.event.Event.TheVariants as event;
 ghost use Rattle.router_trace.specs.Deliveries.{next_id, after_id};
 ghost use Rattle.router_places.specs.Places.{in_map};
+ghost use Rattle.router_places.specs.Slots.{in_slots};
 ghost use Rattle.router_deliveries.specs.Fits.{NextIdsFit, next_in};
 
 use amqp_frames::Item;
 use amqp_perf::{Perf, Transfer};
+use router_places::Slots;
 use router_trace::ConnectionId;
 use std::alloc::{AllocError, Global};
 use std::collections::BTreeMap;
+
+/// The rows of so many connections with neighbouring numbers are found without an ordered map.
+const PLACES: usize = 64;
 
 /// The next delivery-id that the router gives on a session; 0 if no entry is kept.
 #[derive(Drop)]
 pub(crate) struct NextIds {
     alloc: Global,
-    rows: BTreeMap<u64, BTreeMap<u16, u32>>,
+    rows: Slots<BTreeMap<u16, u32>>,
 }
 
 impl NextIds {
@@ -31,7 +36,7 @@ impl NextIds {
     {
         NextIds {
             alloc,
-            rows: BTreeMap::new(alloc),
+            rows: Slots::new(alloc, PLACES),
         }
     }
 
@@ -39,7 +44,7 @@ impl NextIds {
     pub(crate) fn get(&self, conn: u64, own: u16) -> u32
         ensures { result ≡ next_in self.now conn own }
     {
-        match self.rows.get(&conn) {
+        match self.rows.get(conn) {
             None => 0,
             Some(sessions) => sessions.get(&own).copied().unwrap_or(0),
         }
@@ -49,7 +54,7 @@ impl NextIds {
     pub(crate) fn down(&mut self, conn: ConnectionId)
         ensures { (t : List Entry) → NextIdsFit self.old t → NextIdsFit self.new (did (event.Down conn) ∷ t) }
     {
-        let _ = self.rows.remove(&conn.0);
+        let _ = self.rows.remove(conn.0);
     }
 
     /// An item is put into the outbox of a connection.
@@ -73,7 +78,7 @@ impl NextIds {
             Perf::Transfer(transfer) => self.count(conn, own, transfer)?,
             Perf::End(_) => self.reset(conn, own),
             Perf::Close(_) => {
-                let _ = self.rows.remove(&conn);
+                let _ = self.rows.remove(conn);
             }
             _ => {}
         }
@@ -84,7 +89,7 @@ impl NextIds {
     fn reset(&mut self, conn: u64, own: u16)
         ensures { (c o : ℕ) → next_in self.new c o ≡ (if conn == c then (if own == o then 0 else next_in self.old c o) else next_in self.old c o) }
     {
-        if let Some(sessions) = self.rows.get_mut(&conn) {
+        if let Some(sessions) = self.rows.get_mut(conn) {
             let _ = sessions.remove(&own);
         }
     }
@@ -104,15 +109,13 @@ impl NextIds {
     fn set(&mut self, conn: u64, own: u16, id: u32) -> Result<(), AllocError>
         ensures { OnOk result ((c o : ℕ) → next_in self.new c o ≡ (if conn == c then (if own == o then id else next_in self.old c o) else next_in self.old c o)) }
     {
-        if let Some(sessions) = self.rows.get_mut(&conn) {
+        if let Some(sessions) = self.rows.get_mut(conn) {
             return set_in(sessions, own, id);
         }
         let mut sessions = BTreeMap::new(self.alloc);
         set_in(&mut sessions, own, id)?;
-        match self.rows.insert(conn, sessions) {
-            Ok(_) => Ok(()),
-            Err(_) => Err(AllocError),
-        }
+        self.rows.insert(conn, sessions)?;
+        Ok(())
     }
 }
 

@@ -4,9 +4,8 @@ ghost use Rattle.std.specs.BTreeMap.{is_at};
 ghost use Rattle.std.specs.BTreeSet.{contains};
 ghost use Rattle.amqp_session.specs.Ranges.{has};
 ghost use Rattle.router_deliveries.specs.declared.spots.Spot.{Spot as TheSpot};
-ghost use Rattle.router_deliveries.specs.Placing.{Key as TheKey, key_cmp, numbers_of, stands, is_spot, IsSmall, IsSmallKey, SpotsFit, IsWithin, is_gone_at, is_gone_there, is_id_there};
+ghost use Rattle.router_deliveries.specs.Placing.{Key as TheKey, key_cmp, numbers_of, stands, is_spot, IsSmall, IsSmallKey, SpotsFit, IsWithin, is_id_there};
 
-use crate::change::Gone;
 use amqp_session::Serial;
 use std::alloc::{AllocError, Global};
 use std::collections::BTreeSet;
@@ -26,8 +25,8 @@ pub(crate) struct Spot {
 /// A place, and the number of a delivery there.
 type Key = (u64, u16, u32, u64);
 
-/// Delivery numbers by place, each number at one place at most. The numbers of a connection, of a session, or of a range of handles
-/// or ids are adjacent, and are found without a look at anything else.
+/// Delivery numbers by place, each number at one place at most. The numbers of a range of handles or ids of a session are adjacent, and are
+/// found without a look at anything else.
 #[derive(Drop)]
 pub(crate) struct Spots {
     keys: BTreeSet<Key>,
@@ -62,7 +61,7 @@ impl Spots {
     }
 
     /// Removes a number from a place, if there is one.
-    fn drop_from(&mut self, number: u64, spot: Option<Spot>)
+    pub(crate) fn drop_from(&mut self, number: u64, spot: Option<Spot>)
         ensures { (p : TheSpot) (n : ℕ) → stands self.new p n ≡ (if is_spot spot p then (if number == n then false else stands self.old p n) else stands self.old p n) }
     {
         if let Some(spot) = spot {
@@ -71,23 +70,13 @@ impl Spots {
     }
 
     /// Adds a number to a place, if there is one.
-    fn add_to(&mut self, number: u64, spot: Option<Spot>) -> Result<(), AllocError>
+    pub(crate) fn add_to(&mut self, number: u64, spot: Option<Spot>) -> Result<(), AllocError>
         ensures stands { OnOk result ((p : TheSpot) (n : ℕ) → stands self.new p n ≡ (if is_spot spot p then (if number == n then true else stands self.old p n) else stands self.old p n)) }
         ensures small { OnOk result ((p : TheSpot) (n : ℕ) → (stands self.old p n ≡ true → IsSmall p n) → stands self.new p n ≡ true → IsSmall p n) }
     {
         if let Some(spot) = spot {
             put_in(&mut self.keys, (spot.conn, spot.own, spot.at, number))?;
         }
-        Ok(())
-    }
-
-    /// Appends the numbers at the places of links that end.
-    pub(crate) fn append_gone(&self, gone: Gone, numbers: &mut Vec<u64>) -> Result<(), AllocError>
-        ensures more { OnOk result ((n : ℕ) → has n numbers.old.items ≡ true → has n numbers.new.items ≡ true) }
-        ensures found { OnOk result ((known : ℕ → Option TheSpot) → SpotsFit self.now known → (n : ℕ) → is_gone_there gone (known n) ≡ true → has n numbers.new.items ≡ true) }
-    {
-        let (low, high) = span(gone);
-        self.append(low, high, numbers)?;
         Ok(())
     }
 
@@ -156,45 +145,6 @@ impl Spots {
         let to = (high.conn, high.own, high.at, u64::MAX);
         append(numbers, self.keys.range(from..=to))?;
         Ok(())
-    }
-}
-
-/// The first and the last place of links that end.
-fn span(gone: Gone) -> (Spot, Spot)
-    ensures conn { result.0.conn ≤ result.1.conn }
-    ensures own { result.0.own ≤ result.1.own }
-    ensures at { result.0.at ≤ result.1.at }
-    ensures within { (p : TheSpot) (n : ℕ) → IsSmall p n → is_gone_at gone p ≡ true → IsWithin result.0 result.1 p }
-{
-    match gone {
-        Gone::Link { conn, own, handle } => {
-            let spot = Spot {
-                conn,
-                own,
-                at: handle,
-            };
-            (spot, spot)
-        }
-        Gone::Session { conn, own } => (
-            Spot { conn, own, at: 0 },
-            Spot {
-                conn,
-                own,
-                at: u32::MAX,
-            },
-        ),
-        Gone::Connection(conn) => (
-            Spot {
-                conn,
-                own: 0,
-                at: 0,
-            },
-            Spot {
-                conn,
-                own: u16::MAX,
-                at: u32::MAX,
-            },
-        ),
     }
 }
 

@@ -3,7 +3,7 @@ ghost use Rattle.std.specs.Prelude.{◌≡◌, ◌==◌, ℕ, Some, None, true, 
 ghost use Rattle.std.specs.Option.{option_map, option_and_then};
 ghost use Rattle.std.specs.Ordering.{nat_cmp};
 ghost use Rattle.std.specs.Map.{keys_of};
-ghost use Rattle.std.specs.BTreeMap.{get};
+ghost use Rattle.router_places.specs.Slots.{in_slots};
 ghost use Rattle.amqp_session.specs.Ranges.{has};
 ghost use Rattle.router_trace.specs.declared.binding.DeliveryName.{DeliveryName as Name};
 ghost use Rattle.router_trace.specs.Deliveries.{unless_over, unless_called, same_name, bound, behind_frame, is_number, is_id, delivery, number_named, sending};
@@ -36,9 +36,13 @@ use crate::touched::Touched;
 use amqp_frames::Item;
 use amqp_perf::{Perf, Transfer};
 use bytes::Bytes;
+use router_places::Slots;
 use router_trace::{Binding, ConnectionId, DeliveryName};
 use std::alloc::{AllocError, Global};
-use std::collections::{BTreeMap, BTreeSet};
+use std::collections::BTreeSet;
+
+/// So many deliveries with neighbouring numbers are found without an ordered map.
+const PLACES: usize = 1024;
 
 /// Deliveries by number; one that is over is removed. If an operation fails to allocate, the contents are unspecified.
 ///
@@ -46,7 +50,7 @@ use std::collections::{BTreeMap, BTreeSet};
 #[derive(Drop)]
 pub(crate) struct Store {
     alloc: Global,
-    deliveries: BTreeMap<u64, Kept<Delivery>>,
+    deliveries: Slots<Kept<Delivery>>,
     pub(crate) by_name: ByName,
     index: Index,
     touched: Touched,
@@ -55,12 +59,12 @@ pub(crate) struct Store {
 impl Store {
     /// An empty store.
     pub(crate) fn new(alloc: Global) -> Store
-        ensures deliveries { (n : ℕ) → get nat_cmp result.deliveries n ≡ None }
+        ensures deliveries { (n : ℕ) → in_slots result.deliveries n ≡ None }
         ensures indexed { Indexed result }
     {
         Store {
             alloc,
-            deliveries: BTreeMap::new(alloc),
+            deliveries: Slots::new(alloc, PLACES),
             by_name: ByName::new(alloc),
             index: Index::new(alloc),
             touched: Touched::new(alloc),
@@ -69,9 +73,9 @@ impl Store {
 
     /// The delivery with a number.
     pub(crate) fn get(&self, number: u64) -> Option<&Delivery>
-        ensures { option_map (λ d. d.now) result ≡ get nat_cmp self.now.deliveries number }
+        ensures { option_map (λ d. d.now) result ≡ in_slots self.now.deliveries number }
     {
-        match self.deliveries.get(&number) {
+        match self.deliveries.get(number) {
             None => None,
             Some(delivery) => Some(delivery.as_ref()),
         }
@@ -148,7 +152,7 @@ impl Store {
 
     /// Whether the delivery with a number is undecided.
     pub(crate) fn is_open(&self, number: u64) -> bool
-        ensures { result ≡ is_open (get nat_cmp self.now.deliveries number) }
+        ensures { result ≡ is_open (in_slots self.now.deliveries number) }
     {
         match self.get(number) {
             None => false,
@@ -158,7 +162,7 @@ impl Store {
 
     /// Whether the delivery with a number has this id.
     pub(crate) fn has_id(&self, number: u64, id: u32) -> bool
-        ensures { result ≡ is_id (id_of (get nat_cmp self.now.deliveries number)) id }
+        ensures { result ≡ is_id (id_of (in_slots self.now.deliveries number)) id }
     {
         match self.get(number) {
             None => false,
@@ -168,7 +172,7 @@ impl Store {
 
     /// Whether the delivery with a number is undecided, belongs to a session, and has this id.
     pub(crate) fn is_open_as(&self, number: u64, conn: u64, own: u16, id: u32) -> bool
-        ensures { result ≡ is_open_as conn own id (get nat_cmp self.now.deliveries number) }
+        ensures { result ≡ is_open_as conn own id (in_slots self.now.deliveries number) }
     {
         match self.get(number) {
             None => false,
@@ -178,19 +182,19 @@ impl Store {
 
     /// Takes out the delivery with a number.
     fn take(&mut self, number: u64) -> Option<Kept<Delivery>>
-        ensures gives { result ≡ get nat_cmp self.old.deliveries number }
-        ensures gone { (n : ℕ) → get nat_cmp self.new.deliveries n ≡ (if number == n then None else get nat_cmp self.old.deliveries n) }
+        ensures gives { result ≡ in_slots self.old.deliveries number }
+        ensures gone { (n : ℕ) → in_slots self.new.deliveries n ≡ (if number == n then None else in_slots self.old.deliveries n) }
         ensures by_name { self.new.by_name ≡ self.old.by_name }
         ensures index { self.new.index ≡ self.old.index }
         ensures touched { self.new.touched ≡ self.old.touched }
     {
-        self.deliveries.remove(&number)
+        self.deliveries.remove(number)
     }
 
     /// Replaces the index entries of the delivery with a number, which was changed in its place; if it is over, removes it.
     fn settle(&mut self, number: u64, moved: &Moved) -> Result<(), AllocError>
-        ensures deliveries { OnOk result ((n : ℕ) → get nat_cmp self.new.deliveries n
-            ≡ (if moved.now.over then (if number == n then None else get nat_cmp self.old.deliveries n) else get nat_cmp self.old.deliveries n)) }
+        ensures deliveries { OnOk result ((n : ℕ) → in_slots self.new.deliveries n
+            ≡ (if moved.now.over then (if number == n then None else in_slots self.old.deliveries n) else in_slots self.old.deliveries n)) }
         ensures indexed { OnOk result ((known : ℕ → TheKeys) → known number ≡ moved.now.before → Indexes self.old.index known
             → Indexes self.new.index (λ n. if number == n then moved.now.after else known n)) }
         ensures touched { OnOk result ((k : ℕ) → is_touched_in self.new.touched k ≡ false
@@ -198,7 +202,7 @@ impl Store {
         ensures called { OnOk result ((m : Name) → at_name self.new.by_name m ≡ (if moved.now.over && same_name moved.now.name m then None else at_name self.old.by_name m)) }
     {
         if moved.over {
-            let _ = self.deliveries.remove(&number);
+            let _ = self.deliveries.remove(number);
             self.by_name.forget(moved.name);
             return self.shift(number, &moved.before, &moved.after);
         }
@@ -226,8 +230,8 @@ impl Store {
         binding: Binding,
     ) -> Result<(), AllocError>
         ensures deliveries { OnOk result (Indexed self.old
-            → (n : ℕ) → get nat_cmp self.new.deliveries n ≡ (if number == n then Some (bound name binding) else unless_called name (get nat_cmp self.old.deliveries n))) }
-        ensures indexed { OnOk result (get nat_cmp self.old.deliveries number ≡ None → Indexed self.old → Indexed self.new) }
+            → (n : ℕ) → in_slots self.new.deliveries n ≡ (if number == n then Some (bound name binding) else unless_called name (in_slots self.old.deliveries n))) }
+        ensures indexed { OnOk result (in_slots self.old.deliveries number ≡ None → Indexed self.old → Indexed self.new) }
         ensures touches { OnOk result (StoreTouches self.old self.new) }
     {
         self.remove_called(name)?;
@@ -236,8 +240,8 @@ impl Store {
 
     /// Adds a message that was bound, under its number and its name.
     fn add(&mut self, number: u64, name: DeliveryName, binding: Binding) -> Result<(), AllocError>
-        ensures deliveries { OnOk result ((n : ℕ) → get nat_cmp self.new.deliveries n ≡ (if number == n then Some (bound name binding) else get nat_cmp self.old.deliveries n)) }
-        ensures indexed { OnOk result (get nat_cmp self.old.deliveries number ≡ None → ((n : ℕ) → is_called name (get nat_cmp self.old.deliveries n) ≡ false)
+        ensures deliveries { OnOk result ((n : ℕ) → in_slots self.new.deliveries n ≡ (if number == n then Some (bound name binding) else in_slots self.old.deliveries n)) }
+        ensures indexed { OnOk result (in_slots self.old.deliveries number ≡ None → ((n : ℕ) → is_called name (in_slots self.old.deliveries n) ≡ false)
             → Indexed self.old → Indexed self.new) }
         ensures touches { OnOk result (StoreTouches self.old self.new) }
     {
@@ -253,7 +257,7 @@ impl Store {
     /// Removes the delivery with a name.
     #[tactic(auto, using(crate::proofs::Touching::touches_self))]
     fn remove_called(&mut self, name: DeliveryName) -> Result<(), AllocError>
-        ensures deliveries { OnOk result (Indexed self.old → (n : ℕ) → get nat_cmp self.new.deliveries n ≡ unless_called name (get nat_cmp self.old.deliveries n)) }
+        ensures deliveries { OnOk result (Indexed self.old → (n : ℕ) → in_slots self.new.deliveries n ≡ unless_called name (in_slots self.old.deliveries n)) }
         ensures indexed { OnOk result (Indexed self.old → Indexed self.new) }
         ensures touches { OnOk result (StoreTouches self.old self.new) }
     {
@@ -265,7 +269,7 @@ impl Store {
 
     /// Removes the delivery with a number.
     fn remove(&mut self, number: u64) -> Result<(), AllocError>
-        ensures deliveries { OnOk result ((n : ℕ) → get nat_cmp self.new.deliveries n ≡ (if number == n then None else get nat_cmp self.old.deliveries n)) }
+        ensures deliveries { OnOk result ((n : ℕ) → in_slots self.new.deliveries n ≡ (if number == n then None else in_slots self.old.deliveries n)) }
         ensures indexed { OnOk result (Indexed self.old → Indexed self.new) }
         ensures touches { OnOk result (StoreTouches self.old self.new) }
     {
@@ -285,8 +289,8 @@ impl Store {
         transfer: &Transfer,
         count: u64,
     ) -> Result<(), AllocError>
-        ensures deliveries { OnOk result ((n : ℕ) → get nat_cmp self.new.deliveries n
-            ≡ (if number == n then option_and_then (λ d. unless_over (behind_frame transfer.now count d)) (get nat_cmp self.old.deliveries n) else get nat_cmp self.old.deliveries n)) }
+        ensures deliveries { OnOk result ((n : ℕ) → in_slots self.new.deliveries n
+            ≡ (if number == n then option_and_then (λ d. unless_over (behind_frame transfer.now count d)) (in_slots self.old.deliveries n) else in_slots self.old.deliveries n)) }
         ensures indexed { OnOk result (Indexed self.old → Indexed self.new) }
         ensures touches { OnOk result (StoreTouches self.old self.new) }
     {
@@ -300,8 +304,8 @@ impl Store {
 
     /// Changes the delivery with a number.
     fn change(&mut self, number: u64, change: &Change) -> Result<(), AllocError>
-        ensures deliveries { OnOk result ((n : ℕ) → get nat_cmp self.new.deliveries n
-            ≡ (if number == n then behind change.now (get nat_cmp self.old.deliveries n) else get nat_cmp self.old.deliveries n)) }
+        ensures deliveries { OnOk result ((n : ℕ) → in_slots self.new.deliveries n
+            ≡ (if number == n then behind change.now (in_slots self.old.deliveries n) else in_slots self.old.deliveries n)) }
         ensures indexed { OnOk result (Indexed self.old → Indexed self.new) }
         ensures touches { OnOk result (StoreTouches self.old self.new) }
     {
@@ -316,8 +320,8 @@ impl Store {
     /// Changes the deliveries with these numbers.
     #[tactic(auto, using(crate::proofs::Touching::touches_self))]
     pub(crate) fn change_all(&mut self, numbers: &[u64], change: &Change) -> Result<(), AllocError>
-        ensures deliveries { OnOk result ((n : ℕ) → get nat_cmp self.new.deliveries n
-            ≡ (if has n numbers.now then behind change.now (get nat_cmp self.old.deliveries n) else get nat_cmp self.old.deliveries n)) }
+        ensures deliveries { OnOk result ((n : ℕ) → in_slots self.new.deliveries n
+            ≡ (if has n numbers.now then behind change.now (in_slots self.old.deliveries n) else in_slots self.old.deliveries n)) }
         ensures indexed { OnOk result (Indexed self.old → Indexed self.new) }
         ensures touches { OnOk result (StoreTouches self.old self.new) }
     {
@@ -329,20 +333,34 @@ impl Store {
 
     /// Applies a change that isn't a consumer's disposition to all deliveries. It looks only at those that the indexes give for the change.
     pub(crate) fn apply(&mut self, change: &Change) -> Result<(), AllocError>
-        ensures deliveries { OnOk result (is_by_place change.now ≡ true → ((n : ℕ) → IsKept (get nat_cmp self.old.deliveries n)) → Indexed self.old
-            → (n : ℕ) → get nat_cmp self.new.deliveries n ≡ behind change.now (get nat_cmp self.old.deliveries n)) }
+        ensures deliveries { OnOk result (is_by_place change.now ≡ true → ((n : ℕ) → IsKept (in_slots self.old.deliveries n)) → Indexed self.old
+            → (n : ℕ) → in_slots self.new.deliveries n ≡ behind change.now (in_slots self.old.deliveries n)) }
         ensures indexed { OnOk result (Indexed self.old → Indexed self.new) }
         ensures touches { OnOk result (StoreTouches self.old self.new) }
     {
         let numbers = self.index.concerned(self.alloc, change)?;
-        self.change_all(numbers.as_slice(), change)
+        self.change_all(numbers.as_slice(), change)?;
+        self.leave(change)?;
+        Ok(())
+    }
+
+    /// Lets go of what the indexes keep for sessions that a change ends.
+    fn leave(&mut self, change: &Change) -> Result<(), AllocError>
+        ensures deliveries { self.new.deliveries ≡ self.old.deliveries }
+        ensures touched { self.new.touched ≡ self.old.touched }
+        ensures indexed { OnOk result (Indexed self.old → Indexed self.new) }
+    {
+        if let Change::Ends { gone, .. } = change {
+            self.index.end(*gone)?;
+        }
+        Ok(())
     }
 
     /// Applies a change that isn't a consumer's disposition to all deliveries, if there is one.
     #[tactic(auto, using(crate::proofs::Touching::touches_self))]
     pub(crate) fn apply_any(&mut self, change: Option<Change>) -> Result<(), AllocError>
-        ensures deliveries { OnOk result (are_by_place change ≡ true → ((n : ℕ) → IsKept (get nat_cmp self.old.deliveries n)) → Indexed self.old
-            → (n : ℕ) → get nat_cmp self.new.deliveries n ≡ behind_any change (get nat_cmp self.old.deliveries n)) }
+        ensures deliveries { OnOk result (are_by_place change ≡ true → ((n : ℕ) → IsKept (in_slots self.old.deliveries n)) → Indexed self.old
+            → (n : ℕ) → in_slots self.new.deliveries n ≡ behind_any change (in_slots self.old.deliveries n)) }
         ensures indexed { OnOk result (Indexed self.old → Indexed self.new) }
         ensures touches { OnOk result (StoreTouches self.old self.new) }
     {
@@ -360,8 +378,8 @@ impl Store {
         transfer: &Transfer,
         payload: &Bytes,
     ) -> Result<(), AllocError>
-        ensures deliveries { OnOk result ((n : ℕ) → get nat_cmp self.new.deliveries n
-            ≡ (if is_number number n then option_and_then (λ d. unless_over (behind_frame transfer.now (length payload.now) d)) (get nat_cmp self.old.deliveries n) else get nat_cmp self.old.deliveries n)) }
+        ensures deliveries { OnOk result ((n : ℕ) → in_slots self.new.deliveries n
+            ≡ (if is_number number n then option_and_then (λ d. unless_over (behind_frame transfer.now (length payload.now) d)) (in_slots self.old.deliveries n) else in_slots self.old.deliveries n)) }
         ensures indexed { OnOk result (Indexed self.old → Indexed self.new) }
         ensures touches { OnOk result (StoreTouches self.old self.new) }
     {
@@ -387,8 +405,8 @@ impl Store {
 
     /// The ids of the deliveries on the link that an item of the router detaches.
     pub(crate) fn detached_ids(&self, conn: u64, item: &Item) -> Result<Vec<u32>, AllocError>
-        ensures { IfOk result (λ ids. Indexed self.now → (n id : ℕ) → is_detached item.now conn (standing (get nat_cmp self.now.deliveries n)) ≡ true
-            → is_id (id_of (get nat_cmp self.now.deliveries n)) id ≡ true → has id ids.items ≡ true) }
+        ensures { IfOk result (λ ids. Indexed self.now → (n id : ℕ) → is_detached item.now conn (standing (in_slots self.now.deliveries n)) ≡ true
+            → is_id (id_of (in_slots self.now.deliveries n)) id ≡ true → has id ids.items ≡ true) }
     {
         match item {
             Item::Frame { channel, perf, .. } => Ok(self.ids_detached_in(conn, *channel, perf)?),
@@ -398,8 +416,8 @@ impl Store {
 
     /// The ids of the deliveries on the link that a performative of the router detaches.
     fn ids_detached_in(&self, conn: u64, own: u16, perf: &Perf) -> Result<Vec<u32>, AllocError>
-        ensures { IfOk result (λ ids. Indexed self.now → (n id : ℕ) → is_detached_in perf.now conn own (standing (get nat_cmp self.now.deliveries n)) ≡ true
-            → is_id (id_of (get nat_cmp self.now.deliveries n)) id ≡ true → has id ids.items ≡ true) }
+        ensures { IfOk result (λ ids. Indexed self.now → (n id : ℕ) → is_detached_in perf.now conn own (standing (in_slots self.now.deliveries n)) ≡ true
+            → is_id (id_of (in_slots self.now.deliveries n)) id ≡ true → has id ids.items ≡ true) }
     {
         match perf {
             Perf::Detach(detach) => {
@@ -416,8 +434,8 @@ impl Store {
 
     /// The ids of the deliveries that a change may change, if it isn't a consumer's disposition.
     fn ids_on(&self, change: &Change) -> Result<Vec<u32>, AllocError>
-        ensures { IfOk result (λ ids. Indexed self.now → (n id : ℕ) → concerns change.now (standing (get nat_cmp self.now.deliveries n)) ≡ true
-            → is_id (id_of (get nat_cmp self.now.deliveries n)) id ≡ true → has id ids.items ≡ true) }
+        ensures { IfOk result (λ ids. Indexed self.now → (n id : ℕ) → concerns change.now (standing (in_slots self.now.deliveries n)) ≡ true
+            → is_id (id_of (in_slots self.now.deliveries n)) id ≡ true → has id ids.items ≡ true) }
     {
         let numbers = self.index.concerned(self.alloc, change)?;
         let mut ids = Vec::new(self.alloc);
@@ -429,7 +447,7 @@ impl Store {
 
     /// The numbers of the deliveries whose rows one of these changes may decide.
     pub(crate) fn deciding_by(&self, changes: &[Change]) -> Result<BTreeSet<u64>, AllocError>
-        ensures { IfOk result (λ numbers. Indexed self.now → (n : ℕ) → decide changes.now (standing (get nat_cmp self.now.deliveries n)) ≡ true
+        ensures { IfOk result (λ numbers. Indexed self.now → (n : ℕ) → decide changes.now (standing (in_slots self.now.deliveries n)) ≡ true
             → contains nat_cmp numbers n ≡ true) }
     {
         Ok(self.index.deciding_by(self.alloc, changes)?)
@@ -443,7 +461,7 @@ impl Store {
         first: u32,
         last: u32,
     ) -> Result<BTreeSet<u64>, AllocError>
-        ensures { IfOk result (λ numbers. Indexed self.now → (n : ℕ) → is_id_there conn own first last (standing (get nat_cmp self.now.deliveries n)).by_id ≡ true
+        ensures { IfOk result (λ numbers. Indexed self.now → (n : ℕ) → is_id_there conn own first last (standing (in_slots self.now.deliveries n)).by_id ≡ true
             → contains nat_cmp numbers n ≡ true) }
     {
         let mut numbers = BTreeSet::new(self.alloc);
@@ -502,30 +520,28 @@ impl Store {
 
 /// Gives a number this delivery; the result are the index entries of the one that it had.
 fn put(
-    deliveries: &mut BTreeMap<u64, Kept<Delivery>>,
+    deliveries: &mut Slots<Kept<Delivery>>,
     number: u64,
     delivery: Kept<Delivery>,
 ) -> Result<Keys, AllocError>
-    ensures deliveries { OnOk result ((n : ℕ) → get nat_cmp deliveries.new n ≡ (if number == n then Some delivery else get nat_cmp deliveries.old n)) }
-    ensures before { IfOk result (λ before. before ≡ standing (get nat_cmp deliveries.old number)) }
+    ensures deliveries { OnOk result ((n : ℕ) → in_slots deliveries.new n ≡ (if number == n then Some delivery else in_slots deliveries.old n)) }
+    ensures before { IfOk result (λ before. before ≡ standing (in_slots deliveries.old number)) }
 {
-    match deliveries.insert(number, delivery) {
-        Ok(before) => Ok(Keys::standing(&before)),
-        Err(_) => Err(AllocError),
-    }
+    let before = deliveries.insert(number, delivery)?;
+    Ok(Keys::standing(&before))
 }
 
 /// Changes the delivery with a number in its place.
 fn change_in(
-    deliveries: &mut BTreeMap<u64, Kept<Delivery>>,
+    deliveries: &mut Slots<Kept<Delivery>>,
     number: u64,
     change: &Change,
 ) -> Result<Option<Moved>, AllocError>
-    ensures deliveries { OnOk result ((n : ℕ) → get nat_cmp deliveries.new n
-        ≡ (if number == n then option_map (changed change.now) (get nat_cmp deliveries.old n) else get nat_cmp deliveries.old n)) }
-    ensures found { IfOk result (λ found. found ≡ option_map (λ d. moved (keys d) (changed change.now d)) (get nat_cmp deliveries.old number)) }
+    ensures deliveries { OnOk result ((n : ℕ) → in_slots deliveries.new n
+        ≡ (if number == n then option_map (changed change.now) (in_slots deliveries.old n) else in_slots deliveries.old n)) }
+    ensures found { IfOk result (λ found. found ≡ option_map (λ d. moved (keys d) (changed change.now d)) (in_slots deliveries.old number)) }
 {
-    let Some(kept) = deliveries.get_mut(&number) else {
+    let Some(kept) = deliveries.get_mut(number) else {
         return Ok(None);
     };
     let delivery = kept.as_mut();
@@ -536,16 +552,16 @@ fn change_in(
 
 /// Notes a transfer that carries `count` bytes of the delivery with a number, in its place.
 fn note_in(
-    deliveries: &mut BTreeMap<u64, Kept<Delivery>>,
+    deliveries: &mut Slots<Kept<Delivery>>,
     number: u64,
     transfer: &Transfer,
     count: u64,
 ) -> Result<Option<Moved>, AllocError>
-    ensures deliveries { OnOk result ((n : ℕ) → get nat_cmp deliveries.new n
-        ≡ (if number == n then option_map (behind_frame transfer.now count) (get nat_cmp deliveries.old n) else get nat_cmp deliveries.old n)) }
-    ensures found { IfOk result (λ found. found ≡ option_map (λ d. moved (keys d) (behind_frame transfer.now count d)) (get nat_cmp deliveries.old number)) }
+    ensures deliveries { OnOk result ((n : ℕ) → in_slots deliveries.new n
+        ≡ (if number == n then option_map (behind_frame transfer.now count) (in_slots deliveries.old n) else in_slots deliveries.old n)) }
+    ensures found { IfOk result (λ found. found ≡ option_map (λ d. moved (keys d) (behind_frame transfer.now count d)) (in_slots deliveries.old number)) }
 {
-    let Some(kept) = deliveries.get_mut(&number) else {
+    let Some(kept) = deliveries.get_mut(number) else {
         return Ok(None);
     };
     let delivery = kept.as_mut();

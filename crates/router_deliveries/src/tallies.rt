@@ -1,17 +1,19 @@
 //! How many deliveries each link has.
 ghost use Rattle.std.specs.Prelude.{◌≡◌, ◌==◌, ◌+◌, ◌-◌, ℕ, Option, None, false, if◌then◌else◌, OnOk};
-ghost use Rattle.std.specs.Ordering.{nat_cmp};
-ghost use Rattle.std.specs.BTreeMap.{get};
+ghost use Rattle.router_places.specs.Slots.{in_slots};
 ghost use Rattle.router_trace.specs.Deliveries.{is_number};
 ghost use Rattle.router_deliveries.specs.Tallying.{tally, is_zero, IsTallied};
 
+use router_places::Slots;
 use std::alloc::{AllocError, Global};
-use std::collections::BTreeMap;
 
-/// How many deliveries each link has; a link without any takes no room.
+/// The counts of so many links with neighbouring numbers are found without an ordered map.
+const PLACES: usize = 1024;
+
+/// How many deliveries each link has; a link without any has no entry.
 #[derive(Drop)]
 pub(crate) struct Tallies {
-    counts: BTreeMap<u64, usize>,
+    counts: Slots<usize>,
 }
 
 impl Tallies {
@@ -21,7 +23,7 @@ impl Tallies {
         ensures { IsTallied result (λ n. None) }
     {
         Tallies {
-            counts: BTreeMap::new(alloc),
+            counts: Slots::new(alloc, PLACES),
         }
     }
 
@@ -29,7 +31,7 @@ impl Tallies {
     pub(crate) fn count(&self, link: u64) -> usize
         ensures { result ≡ tally self.now link }
     {
-        self.counts.get(&link).copied().unwrap_or(0)
+        self.counts.get(link).copied().unwrap_or(0)
     }
 
     /// A delivery moves from one link to another. Fails if memory is refused, and if the count overflows.
@@ -52,36 +54,34 @@ impl Tallies {
     /// A link has one less, if there is one.
     fn drop_from(&mut self, link: Option<u64>)
         ensures counts { (k : ℕ) → tally self.new k ≡ (if is_number link k then tally self.old k - 1 else tally self.old k) }
-        ensures needed { (k : ℕ) → is_zero (get nat_cmp self.old.counts k) ≡ false → is_zero (get nat_cmp self.new.counts k) ≡ false }
+        ensures needed { (k : ℕ) → is_zero (in_slots self.old.counts k) ≡ false → is_zero (in_slots self.new.counts k) ≡ false }
     {
         let Some(link) = link else {
             return;
         };
-        let Some(count) = self.counts.get_mut(&link) else {
+        let Some(count) = self.counts.get_mut(link) else {
             return;
         };
         if *count > 1 {
             *count -= 1;
             return;
         }
-        let _ = self.counts.remove(&link);
+        let _ = self.counts.remove(link);
     }
 
     /// A link has one more, if there is one.
     fn add_to(&mut self, link: Option<u64>) -> Result<(), AllocError>
         ensures counts { OnOk result ((k : ℕ) → tally self.new k ≡ (if is_number link k then tally self.old k + 1 else tally self.old k)) }
-        ensures needed { OnOk result ((k : ℕ) → is_zero (get nat_cmp self.old.counts k) ≡ false → is_zero (get nat_cmp self.new.counts k) ≡ false) }
+        ensures needed { OnOk result ((k : ℕ) → is_zero (in_slots self.old.counts k) ≡ false → is_zero (in_slots self.new.counts k) ≡ false) }
     {
         let Some(link) = link else {
             return Ok(());
         };
-        if let Some(count) = self.counts.get_mut(&link) {
+        if let Some(count) = self.counts.get_mut(link) {
             return add_one(count);
         }
-        match self.counts.insert(link, 1) {
-            Ok(_) => Ok(()),
-            Err(_) => Err(AllocError),
-        }
+        self.counts.insert(link, 1)?;
+        Ok(())
     }
 }
 

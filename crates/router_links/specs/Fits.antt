@@ -10,8 +10,9 @@ use Rattle.amqp_link.specs.Figures.{unused_at}
 use Rattle.book_core.specs.declared.terminus.LinkKey.{LinkKey}
 use Rattle.router_trace.specs.Trace.{Trace}
 use Rattle.router_trace.specs.declared.handle.Attachment.{Attachment}
+use Rattle.router_trace.specs.declared.handle.Asked.{Asked}
 use Rattle.router_trace.specs.declared.handle.PeerHandle.{PeerHandle}
-use Rattle.router_trace.specs.Links.{Link as View, attachments, key_at, link, names, names_by}
+use Rattle.router_trace.specs.Links.{Link as View, attachments, asked, key_at, link, names, names_by}
 use Rattle.router_trace.specs.declared.handle.LinkAt.{LinkAt}
 use Rattle.router_trace.specs.declared.handle.LinkAt.TheVariants as found
 use Rattle.router_links.specs.declared.link.Link.{Link}
@@ -82,6 +83,11 @@ key_in t c _ = None
 abbrev pub key_by : Trace → ℕ → Item → Option LinkKey
 key_by t c (item.Frame sasl own body payload) = key_in t c body
 key_by t c _ = None
+
+-- what the peer's last attach asks for, which the table of links needs for an attach of the router
+abbrev pub asked_in : Trace → ℕ → Perf → Option Asked
+asked_in t c (perf.Attach a) = asked t c
+asked_in t c _ = None
 
 -- the channel of an item; 0 if it has none
 abbrev pub channel_of : Item → ℕ

@@ -17,7 +17,8 @@ ghost use Rattle.std.specs.BTreeMap.{get};
 ghost use Rattle.router_links.specs.Touching.{Touches, is_touched, IsLowest};
 ghost use Rattle.std.specs.Option.{option_map};
 ghost use Rattle.router_trace.specs.declared.event.Event.TheVariants as event;
-ghost use Rattle.router_links.specs.Fits.{LinksFit, key_in, key_by, channel_of};
+ghost use Rattle.router_links.specs.Fits.{LinksFit, key_in, key_by, asked_in, channel_of};
+ghost use Rattle.router_links.specs.Handled.{HandlesFit};
 
 use crate::handles::HandleTable;
 use crate::link::Link;
@@ -27,7 +28,7 @@ use amqp_link::{Delivery, Part};
 use amqp_perf::Perf;
 use book_core::LinkKey;
 use bytes::Bytes;
-use router_trace::{Attachment, ConnectionId, LinkAt, PeerHandle};
+use router_trace::{Asked, Attachment, ConnectionId, LinkAt, PeerHandle};
 use std::alloc::{AllocError, Global};
 
 /// The links of all connections. If an operation fails to allocate, the table's contents are unspecified.
@@ -259,9 +260,19 @@ impl Links {
             → LinksFit self.new (Out conn (item.Frame sasl own perf.now payload.now) ∷ t)) }
         ensures touches { OnOk result (Touches self.old self.new) }
     {
-        let last = self.handles.asked(conn);
+        let last = asked_by(&self.handles, conn, perf);
         self.table.put(conn, own, perf, payload, key, last)?;
         self.handles.put(conn, own, perf)?;
         Ok(())
+    }
+}
+
+/// What the peer's last attach asks for, if the router puts an attach.
+fn asked_by(handles: &HandleTable, conn: u64, perf: &Perf) -> Option<Asked>
+    ensures { (t : List Entry) → HandlesFit handles.now t → result ≡ asked_in t conn perf.now }
+{
+    match perf {
+        Perf::Attach(_) => handles.asked(conn),
+        _ => None,
     }
 }

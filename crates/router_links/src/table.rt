@@ -21,11 +21,11 @@ ghost use Rattle.router_links.specs.declared.link.Side.TheVariants.{Peer, Router
 ghost use Rattle.router_links.specs.Ends.{begun, noted};
 ghost use Rattle.router_links.specs.Giving.{part_here, part_named};
 ghost use Rattle.router_links.specs.Looking.{middle_named, durable_at, attachment_of, numbered_here};
-ghost use Rattle.router_links.specs.Fits.{TableFit, with_mark, asks_drain, names_in, key_in, found_at, attachment, IsNoted};
+ghost use Rattle.router_links.specs.Fits.{TableFit, with_mark, asks_drain, names_in, key_in, asked_in, found_at, attachment, IsNoted};
 ghost use Rattle.router_links.specs.Naming.{on_conn, on_session, on_handle, Thinned};
 ghost use Rattle.router_places.specs.Places.{at};
 ghost use Rattle.router_links.specs.Owed.{owed_of, owes_on};
-ghost use Rattle.router_links.specs.Touching.{is_numbered, in_session, in_connection, Touched, IsLowest};
+ghost use Rattle.router_links.specs.Touching.{is_numbered, named_link, in_session, in_connection, Touched, IsLowest};
 
 use crate::link::{Link, LinkEnd, Side, address_by};
 use crate::names::Names;
@@ -263,8 +263,8 @@ impl LinkTable {
         ensures touches { OnOk result (Touched self.old self.new) }
     {
         mark(&mut self.owing, conn.0, asks_drain(perf))?;
-        touch_at(&mut self.touched, &self.links, conn.0, own, handle)?;
         let part = note(
+            &mut self.touched,
             &mut self.links,
             conn.0,
             own,
@@ -287,7 +287,7 @@ impl LinkTable {
         key: Option<LinkKey>,
         last: Option<Asked>,
     ) -> Result<(), AllocError>
-        ensures fits { OnOk result ((t : List Entry) (sasl : Bool) → key ≡ key_in t conn perf.now → last ≡ asked t conn
+        ensures fits { OnOk result ((t : List Entry) (sasl : Bool) → key ≡ key_in t conn perf.now → last ≡ asked_in t conn perf.now
             → TableFit self.old t → TableFit self.new (Out conn (item.Frame sasl own perf.now payload.now) ∷ t)) }
         ensures touches { OnOk result (Touched self.old self.new) }
     {
@@ -322,13 +322,7 @@ impl LinkTable {
             → TableFit self.old t → TableFit self.new (Out conn (item.Frame sasl own (perf.Attach attach.now) payload) ∷ t)) }
         ensures touches { OnOk result (Touched self.old self.new) }
     {
-        touch_at(
-            &mut self.touched,
-            &self.links,
-            conn,
-            Some(own),
-            Some(attach.handle),
-        )?;
+        touch_at(&mut self.touched, &self.links, conn, own, attach.handle)?;
         leave(&mut self.links, &mut self.names, conn, own, attach.handle);
         let Some(address) = address_by(attach.role, attach) else {
             return Ok(());
@@ -395,8 +389,15 @@ impl LinkTable {
             → TableFit self.old t → TableFit self.new (Out conn (item.Frame sasl own perf.now payload.now) ∷ t)) }
         ensures touches { OnOk result (Touched self.old self.new) }
     {
-        touch_at(&mut self.touched, &self.links, conn, Some(own), handle)?;
-        note_ours(&mut self.links, conn, own, handle, perf, payload)?;
+        note_ours(
+            &mut self.touched,
+            &mut self.links,
+            conn,
+            own,
+            handle,
+            perf,
+            payload,
+        )?;
         Ok(())
     }
 
@@ -406,13 +407,7 @@ impl LinkTable {
             → TableFit self.new (Out conn (item.Frame sasl own (perf.Detach detach.now) payload) ∷ t)) }
         ensures touches { OnOk result (Touched self.old self.new) }
     {
-        touch_at(
-            &mut self.touched,
-            &self.links,
-            conn,
-            Some(own),
-            Some(detach.handle),
-        )?;
+        touch_at(&mut self.touched, &self.links, conn, own, detach.handle)?;
         leave(&mut self.links, &mut self.names, conn, own, detach.handle);
         Ok(())
     }
@@ -487,8 +482,9 @@ fn leave_connection(
     touch_connection(touched, &sessions)
 }
 
-/// Applies a performative of one side to a link, if there is one, and returns what a transfer of the peer makes of its delivery.
+/// Applies a performative of one side to a link, if there is one, and touches it. Returns what a transfer of the peer makes of its delivery.
 fn note(
+    touched: &mut Marks,
     links: &mut ByHandle<Link>,
     conn: u64,
     own: Option<u16>,
@@ -500,16 +496,19 @@ fn note(
     ensures links { OnOk result ((c o h : ℕ) → at links.new c o h
         ≡ (if conn == c then (if is_channel own o then (if is_handle handle h then option_map (noted side perf.now payload.now) (at links.old c o h) else at links.old c o h) else at links.old c o h) else at links.old c o h)) }
     ensures part { IfOk result (λ p. p ≡ part_named side perf.now payload.now own handle (at links.old conn)) }
+    ensures touched { OnOk result ((k : ℕ) → has touched.new k
+        ≡ (if is_numbered k (named_link own handle (at links.old conn)) then true else has touched.old k)) }
 {
     let (Some(own), Some(handle)) = (own, handle) else {
         return Ok(None);
     };
-    note_at(links, conn, own, handle, side, perf, payload)
+    note_at(touched, links, conn, own, handle, side, perf, payload)
 }
 
-/// Applies a performative of one side to the link at a place, if there is one. Returns what a transfer of the peer makes of its delivery.
-/// If memory is refused, the link's state is unspecified.
+/// Applies a performative of one side to the link at a place, if there is one, and touches it. Returns what a transfer of the peer makes of its
+/// delivery. If memory is refused, the link's state is unspecified.
 fn note_at(
+    touched: &mut Marks,
     links: &mut ByHandle<Link>,
     conn: u64,
     own: u16,
@@ -521,15 +520,21 @@ fn note_at(
     ensures links { OnOk result ((c o h : ℕ) → at links.new c o h
         ≡ (if conn == c then (if own == o then (if handle == h then option_map (noted side perf.now payload.now) (at links.old c o h) else at links.old c o h) else at links.old c o h) else at links.old c o h)) }
     ensures part { IfOk result (λ p. p ≡ part_here side perf.now payload.now (at links.old conn own handle)) }
+    ensures touched { OnOk result ((k : ℕ) → has touched.new k
+        ≡ (if is_numbered k (at links.old conn own handle) then true else has touched.old k)) }
 {
     match links.get_mut(conn, own, handle) {
         None => Ok(None),
-        Some(link) => link.note(side, perf, payload),
+        Some(link) => {
+            touch(touched, link.number)?;
+            link.note(side, perf, payload)
+        }
     }
 }
 
-/// Applies a performative of the router to a link, if there is one.
+/// Applies a performative of the router to a link, if there is one, and touches it.
 fn note_ours(
+    touched: &mut Marks,
     links: &mut ByHandle<Link>,
     conn: u64,
     own: u16,
@@ -537,10 +542,21 @@ fn note_ours(
     perf: &Perf,
     payload: &Bytes,
 ) -> Result<(), AllocError>
-    ensures { OnOk result ((c o h : ℕ) → at links.new c o h
+    ensures links { OnOk result ((c o h : ℕ) → at links.new c o h
         ≡ (if conn == c then (if own == o then (if is_handle handle h then option_map (noted Router perf.now payload.now) (at links.old c o h) else at links.old c o h) else at links.old c o h) else at links.old c o h)) }
+    ensures touched { OnOk result ((k : ℕ) → has touched.new k
+        ≡ (if is_numbered k (named_link (Some own) handle (at links.old conn)) then true else has touched.old k)) }
 {
-    let _ = note(links, conn, Some(own), handle, Side::Router, perf, payload)?;
+    let _ = note(
+        touched,
+        links,
+        conn,
+        Some(own),
+        handle,
+        Side::Router,
+        perf,
+        payload,
+    )?;
     Ok(())
 }
 

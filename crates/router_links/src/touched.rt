@@ -2,7 +2,7 @@
 ghost use Rattle.std.specs.Prelude.{◌≡◌, ◌==◌, ◌||◌, ℕ, true, if◌then◌else◌, OnOk};
 ghost use Rattle.router_places.specs.Marks.{has};
 ghost use Rattle.router_places.specs.Places.{at};
-ghost use Rattle.router_links.specs.Touching.{is_numbered, named_link, in_session, in_connection};
+ghost use Rattle.router_links.specs.Touching.{is_numbered, in_session, in_connection};
 
 use crate::link::Link;
 use router_places::{ByHandle, InConnection, InSession, Marks};
@@ -15,20 +15,16 @@ pub(crate) fn touch(touched: &mut Marks, number: u64) -> Result<(), AllocError>
     touched.insert(number)
 }
 
-/// Touches the link at a session and a handle of a connection, if there is one.
+/// Touches the link at a handle of a session, if there is one.
 pub(crate) fn touch_at(
     touched: &mut Marks,
     links: &ByHandle<Link>,
     conn: u64,
-    own: Option<u16>,
-    handle: Option<u32>,
+    own: u16,
+    handle: u32,
 ) -> Result<(), AllocError>
-    ensures { OnOk result ((k : ℕ) → has touched.new k
-        ≡ (if is_numbered k (named_link own handle (at links.now conn)) then true else has touched.old k)) }
+    ensures { OnOk result ((k : ℕ) → has touched.new k ≡ (if is_numbered k (at links.now conn own handle) then true else has touched.old k)) }
 {
-    let (Some(own), Some(handle)) = (own, handle) else {
-        return Ok(());
-    };
     match links.get(conn, own, handle) {
         None => Ok(()),
         Some(link) => touch(touched, link.number),

@@ -3,3 +3,5 @@ pub mod Among
 pub mod Leasts
 pub mod Ids
 pub mod Results
+pub mod Remainders
+pub mod Emptied

@@ -8,11 +8,11 @@ use Rattle.std.specs.BTreeMap.{BTreeMap, get, is_at, WritesThrough}
 use Rattle.std.proofs.lemmas.Bool.{eqb-true, ltb-true}
 use Rattle.router_places.specs.Places.{in_map}
 
-by_test : {P : Type 0} (b : Bool) → (b ≡ true → P) → (b ≡ false → P) → P
+pub by_test : {P : Type 0} (b : Bool) → (b ≡ true → P) → (b ≡ false → P) → P
 by_test true f g = f refl
 by_test false f g = g refl
 
-same_test : (a b : ℕ) → is_at (nat_cmp a) b ≡ (a == b)
+pub same_test : (a b : ℕ) → is_at (nat_cmp a) b ≡ (a == b)
 same_test a b =
     by_test (nat_lt a b)
     (λ e. by_test (a == b)

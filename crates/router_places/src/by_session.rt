@@ -1,22 +1,31 @@
 //! Values by connection, session and delivery-id.
-ghost use Rattle.std.specs.Prelude.{◌≡◌, ◌==◌, ◌<◌, ◌^◌, ◌&&◌, ℕ, Some, None, if◌then◌else◌, OnOk, IfOk};
+ghost use Rattle.std.specs.Prelude.{◌≡◌, ◌==◌, ◌<◌, ◌+◌, ◌^◌, ◌&&◌, ◌||◌, ℕ, true, Some, None, if◌then◌else◌, OnOk, IfOk};
 ghost use Rattle.std.specs.Borrow.{sem};
 ghost use Rattle.std.specs.Option.{is_some, option_copied, option_copied_mut};
 ghost use Rattle.std.specs.Ordering.{nat_cmp};
 ghost use Rattle.std.specs.BTreeMap.{get};
+ghost use Rattle.amqp_session.specs.Serials.{distance};
 ghost use Rattle.amqp_session.specs.Ranges.{in_range, has, IsRising};
 ghost use Rattle.router_places.specs.Places.{in_map};
-ghost use Rattle.router_places.specs.Ids.{in_ids, at_id, LendsId};
+ghost use Rattle.router_places.specs.Slots.{in_slots};
+ghost use Rattle.router_places.specs.Ids.{in_ids, at_id, IsAsked, LendsId};
 
+use crate::slots::Slots;
 use amqp_session::{DeliveryIds, Serial};
 use std::alloc::{AllocError, Global};
 use std::collections::BTreeMap;
+
+/// So many neighbouring ids of a session have places of their own.
+const PLACES: usize = 64;
+
+/// A range of up to so many ids is asked id by id.
+const FEW_IDS: u32 = 64;
 
 /// Values by connection, the router's channel of a session, and the delivery-id on it.
 #[derive(Drop)]
 pub struct BySession<V> {
     alloc: Global,
-    rows: BTreeMap<u64, BTreeMap<u16, DeliveryIds<V>>>,
+    rows: BTreeMap<u64, BTreeMap<u16, Slots<V>>>,
 }
 
 impl<V: Drop> BySession<V> {
@@ -31,7 +40,7 @@ impl<V: Drop> BySession<V> {
     }
 
     /// The values of a session.
-    fn session(&self, conn: u64, own: u16) -> Option<&DeliveryIds<V>>
+    fn session(&self, conn: u64, own: u16) -> Option<&Slots<V>>
         ensures { option_copied result ≡ in_map (get nat_cmp self.now.rows conn) own }
     {
         self.rows.get(&conn)?.get(&own)
@@ -43,7 +52,7 @@ impl<V: Drop> BySession<V> {
     {
         match self.session(conn, own) {
             None => None,
-            Some(ids) => ids.get(Serial::new(id)),
+            Some(ids) => ids.get(u64::from(id)),
         }
     }
 
@@ -54,10 +63,11 @@ impl<V: Drop> BySession<V> {
     {
         let sessions = self.rows.get_mut(&conn)?;
         let ids = sessions.get_mut(&own)?;
-        ids.get_mut(Serial::new(id))
+        ids.get_mut(u64::from(id))
     }
 
-    /// The ids in a disposition's range that have a value, in the range's order (AMQP 1.0 part 2, section 2.7.6).
+    /// The ids in a disposition's range that have a value, in the range's order (AMQP 1.0 part 2, section 2.7.6). A range of up
+    /// to 64 ids is asked id by id; for a longer one those that are there are put in order, so that it costs what it finds, the count of places and a logarithm. Fails if memory is refused.
     pub fn in_range(
         &self,
         conn: u64,
@@ -73,7 +83,7 @@ impl<V: Drop> BySession<V> {
         }
         match self.session(conn, own) {
             None => Ok(Vec::new(self.alloc)),
-            Some(ids) => ids.in_range(self.alloc, Serial::new(first), Serial::new(last)),
+            Some(ids) => range_of(self.alloc, ids, Serial::new(first), Serial::new(last)),
         }
     }
 
@@ -137,7 +147,7 @@ impl<V: Drop> BySession<V> {
 /// Gives an id of a session this value, instead of any that it had.
 fn insert_in<V: Drop>(
     alloc: Global,
-    sessions: &mut BTreeMap<u16, DeliveryIds<V>>,
+    sessions: &mut BTreeMap<u16, Slots<V>>,
     own: u16,
     id: u32,
     value: V,
@@ -148,7 +158,7 @@ fn insert_in<V: Drop>(
     if let Some(ids) = sessions.get_mut(&own) {
         return put(ids, id, value);
     }
-    let mut ids = DeliveryIds::new(alloc);
+    let mut ids = Slots::new(alloc, PLACES);
     put(&mut ids, id, value)?;
     match sessions.insert(own, ids) {
         Ok(_) => Ok(()),
@@ -157,21 +167,122 @@ fn insert_in<V: Drop>(
 }
 
 /// Gives an id this value, instead of any that it had.
-fn put<V: Drop>(ids: &mut DeliveryIds<V>, id: u32, value: V) -> Result<(), AllocError>
-    ensures { OnOk result ((q : ℕ) → get nat_cmp ids.new.deliveries q ≡ (if id == q then Some value else get nat_cmp ids.old.deliveries q)) }
+fn put<V: Drop>(ids: &mut Slots<V>, id: u32, value: V) -> Result<(), AllocError>
+    ensures { OnOk result ((q : ℕ) → in_slots ids.new q ≡ (if id == q then Some value else in_slots ids.old q)) }
 {
-    match ids.insert(Serial::new(id), value) {
-        Ok(_) => Ok(()),
-        Err(_) => Err(AllocError),
-    }
+    let _ = ids.insert(u64::from(id), value)?;
+    Ok(())
 }
 
 /// Removes the value of an id of a session.
-fn remove_in<V: Drop>(sessions: &mut BTreeMap<u16, DeliveryIds<V>>, own: u16, id: u32)
+fn remove_in<V: Drop>(sessions: &mut BTreeMap<u16, Slots<V>>, own: u16, id: u32)
     ensures { (o q : ℕ) → in_ids (get nat_cmp sessions.new o) q
         ≡ (if own == o then (if id == q then None else in_ids (get nat_cmp sessions.old o) q) else in_ids (get nat_cmp sessions.old o) q) }
 {
     if let Some(ids) = sessions.get_mut(&own) {
-        let _ = ids.remove(Serial::new(id));
+        let _ = ids.remove(u64::from(id));
     }
+}
+
+/// The ids in a range that have a value, in the range's order. Fails if memory is refused.
+fn range_of<V: Drop>(
+    alloc: Global,
+    ids: &Slots<V>,
+    first: Serial,
+    last: Serial,
+) -> Result<Vec<Serial>, AllocError>
+    ensures exact { IfOk result (λ found. (q : ℕ) → q < 2 ^ 32 → has q found.items ≡ (in_range first last q && is_some (in_slots ids.now q))) }
+    ensures rising { IfOk result (λ found. IsRising first found.items) }
+{
+    if first.distance_to(last) < FEW_IDS {
+        return short_range(alloc, ids, first, last);
+    }
+    let there = ordered(alloc, ids, first, last)?;
+    let found = there.in_range(alloc, first, last)?;
+    Ok(found)
+}
+
+/// The ids in a range of few that have a value, in the range's order: each is asked. Fails if memory is refused.
+fn short_range<V: Drop>(
+    alloc: Global,
+    ids: &Slots<V>,
+    first: Serial,
+    last: Serial,
+) -> Result<Vec<Serial>, AllocError>
+    requires { distance first last < 64 }
+    ensures exact { IfOk result (λ found. (q : ℕ) → q < 2 ^ 32 → has q found.items ≡ (in_range first last q && is_some (in_slots ids.now q))) }
+    ensures rising { IfOk result (λ found. IsRising first found.items) }
+{
+    let count = first.distance_to(last) + 1;
+    let mut found = Vec::new(alloc);
+    for step in 0..count {
+        ask(ids, &mut found, first, step)?;
+    }
+    Ok(found)
+}
+
+/// Appends the id that is so many steps behind the first, if it has a value. Fails if memory is refused.
+fn ask<V: Drop>(
+    ids: &Slots<V>,
+    found: &mut Vec<Serial>,
+    first: Serial,
+    step: u32,
+) -> Result<(), AllocError>
+    ensures { OnOk result (IsAsked first (λ q. is_some (in_slots ids.now q)) step found.old.items → IsAsked first (λ q. is_some (in_slots ids.now q)) (step + 1) found.new.items) }
+{
+    let id = first.plus(step);
+    if ids.get(u64::from(id.number())).is_none() {
+        return Ok(());
+    }
+    found.push(id)?;
+    Ok(())
+}
+
+/// The ids that have a value, in order: those of a range, and maybe others. Fails if memory is refused.
+fn ordered<V: Drop>(
+    alloc: Global,
+    ids: &Slots<V>,
+    first: Serial,
+    last: Serial,
+) -> Result<DeliveryIds<()>, AllocError>
+    ensures { IfOk result (λ there. (q : ℕ) → q < 2 ^ 32 → in_range first last q ≡ true → is_some (get nat_cmp there.deliveries q) ≡ is_some (in_slots ids.now q)) }
+{
+    let numbers = numbers_in(alloc, ids, first, last)?;
+    let mut there = DeliveryIds::new(alloc);
+    for number in &numbers {
+        add_id(&mut there, *number)?;
+    }
+    Ok(there)
+}
+
+/// The numbers that have a value, in no order: those of a disposition's range (AMQP 1.0 part 2, section 2.7.6), and maybe others. It looks at each place, and in the
+/// ordered map only between the range's ends. Fails if memory is refused.
+pub fn numbers_in<V: Drop>(
+    alloc: Global,
+    ids: &Slots<V>,
+    first: Serial,
+    last: Serial,
+) -> Result<Vec<u64>, AllocError>
+    ensures { IfOk result (λ numbers. (q : ℕ) → q < 2 ^ 32 → in_range first last q ≡ true → has q numbers.items ≡ is_some (in_slots ids.now q)) }
+{
+    let mut numbers = Vec::new(alloc);
+    let (low, high) = (u64::from(first.number()), u64::from(last.number()));
+    if low <= high {
+        ids.append_between(low, high, &mut numbers)?;
+        return Ok(numbers);
+    }
+    ids.append_between(low, u64::from(u32::MAX), &mut numbers)?;
+    ids.append_between(0, high, &mut numbers)?;
+    Ok(numbers)
+}
+
+/// Adds an id, if the number is one. Fails if memory is refused.
+fn add_id(there: &mut DeliveryIds<()>, number: u64) -> Result<(), AllocError>
+    ensures { OnOk result ((q : ℕ) → q < 2 ^ 32 → is_some (get nat_cmp there.new.deliveries q) ≡ (is_some (get nat_cmp there.old.deliveries q) || q == number)) }
+{
+    let Ok(id) = u32::try_from(number) else {
+        return Ok(());
+    };
+    let _ = there.insert(Serial::new(id), ())?;
+    Ok(())
 }

@@ -3,9 +3,13 @@
 
 mod by_handle;
 mod by_session;
+mod emptying;
 mod few;
 mod marks;
+mod slots;
 
 pub use by_handle::{ByHandle, InConnection, InSession};
-pub use by_session::BySession;
+pub use by_session::{BySession, numbers_in};
+pub use emptying::Empties;
 pub use marks::Marks;
+pub use slots::Slots;

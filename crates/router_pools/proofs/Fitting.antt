@@ -1,8 +1,6 @@
 -- How the pools follow what each link has.
 use Rattle.std.proofs.Common.{◌≡◌, ◌∙◌, sym, ap, refl, subst, ℕ, Bool, true, false, true≢false, not, ◌&&◌, ◌||◌, ◌<◌, ◌⊎◌, inl, inr, ⊎_elim, cond, if◌then◌else◌, Option, Some, None, option_map, is_some, List, []}
 use Rattle.std.specs.Prelude.{◌==◌}
-use Rattle.std.specs.BTreeMap.{is_at}
-use Rattle.std.specs.Ordering.{nat_cmp}
 use Rattle.std.specs.Str.{bytes_eq}
 use Rattle.std.specs.List.Sorted.{IsStrictlySortedBy}
 use Rattle.std.proofs.lemmas.Bool.{eqb-true, eq-eqb}
@@ -14,7 +12,6 @@ use Rattle.route_credit.specs.declared.offer.Offer.{Offer}
 use Rattle.route_credit.proofs.Entries.{InOrder, with_ordered, without_ordered}
 use Rattle.route_credit.proofs.Gains.{grants_but_last, kept_producer, no_more_grants}
 use Rattle.route_credit.proofs.Grants.{all_consumers, all_distribution, all_last, all_ordered, none_by_all}
-use Rattle.route_credit.proofs.Indices.{same_test}
 use Rattle.route_credit.proofs.Lookups.{link_with, link_without}
 use Rattle.router_pools.specs.Addresses.{rested, with_pool, without}
 use Rattle.router_pools.specs.Fits.{chosen_at, Fits, HasNoted, is_place, offers, or_last}
@@ -419,11 +416,11 @@ pub offers_none : (v : Option Figure) (a q : List ℕ) (unused held : ℕ) → v
 offers_none v a q unused held is = ap (λ figure. offers figure a) is
 
 -- how maps and sets by number describe a change
-pub places_moved : {V : Type 0} (read : V → List ℕ) (f g : ℕ → Option V) (n : ℕ) (x : Option V) → ((q : ℕ) → g q ≡ cond (is_at (nat_cmp n) q) x (f q))
+pub places_moved : {V : Type 0} (read : V → List ℕ) (f g : ℕ → Option V) (n : ℕ) (x : Option V) → ((q : ℕ) → g q ≡ (if n == q then x else f q))
     → (m : ℕ) → option_map read (g m) ≡ (if n == m then option_map read x else option_map read (f m))
-places_moved read f g n x moves m = ap (option_map read) (moves m ∙ ap (λ b. cond b x (f m)) (same_test n m)) ∙ inside (n == m)
+places_moved read f g n x moves m = ap (option_map read) (moves m) ∙ inside (n == m)
   where
-    inside : (b : Bool) → option_map read (cond b x (f m)) ≡ (if b then option_map read x else option_map read (f m))
+    inside : (b : Bool) → option_map read (if b then x else f m) ≡ (if b then option_map read x else option_map read (f m))
     inside true = refl
     inside false = refl
 

@@ -1,12 +1,9 @@
 -- The pools of all addresses after a change in one row.
-use Rattle.std.proofs.Common.{◌≡◌, ◌∙◌, sym, ap, refl, subst, ℕ, Bool, true, false, true≢false, cond, if◌then◌else◌, Option, Some, None, is_some, List}
+use Rattle.std.proofs.Common.{◌≡◌, ◌∙◌, sym, ap, refl, subst, ℕ, Bool, true, false, true≢false, cond, if◌then◌else◌, option_map, Option, Some, None, List}
 use Rattle.std.specs.Prelude.{◌==◌}
-use Rattle.std.specs.BTreeMap.{BTreeMap, get, UpdatesBy, WritesThrough}
-use Rattle.std.specs.Ordering.{nat_cmp}
 use Rattle.std.specs.Str.{bytes_eq}
 use Rattle.std.proofs.lemmas.Bool.{eqb-true, eq-eqb}
 use Rattle.route_credit.specs.Pool.{no_links, Sharing}
-use Rattle.route_credit.proofs.Indices.{same_test}
 use Rattle.route_table.specs.declared.sections.Distribution.{Distribution}
 use Rattle.router_pools.specs.Addresses.{pool_or, with_pool}
 use Rattle.router_pools.specs.Digest.{digest_of}
@@ -16,16 +13,18 @@ use Rattle.router_pools.proofs.AtAddress.{by_test, same_bytes}
 use Rattle.router_pools.proofs.Places.{nothing}
 
 -- a row that was lent and written
-pub lent : (m n : BTreeMap ℕ Row) (key : ℕ) (old new : Row) → Some old ≡ get nat_cmp m key → WritesThrough nat_cmp (nat_cmp key) m new n → (d : ℕ) → get nat_cmp n d ≡ (if key == d then Some new else get nat_cmp m d)
-lent m n key old new found through d = (through.3 (sym (ap is_some found))).0 d ∙ ap (λ b. cond b (Some new) (get nat_cmp m d)) (same_test key d)
+pub lent : (rows rows' : ℕ → Option Row) (key : ℕ) (old new : Row) → Some old ≡ rows key → ((d : ℕ) → rows' d ≡ (if key == d then option_map (λ _. new) (rows d) else rows d)) → (d : ℕ) → rows' d ≡ (if key == d then Some new else rows d)
+lent rows rows' key old new found through d = through d ∙ by_test (key == d)
+    (λ e. let here : rows d ≡ Some old = ap rows (sym (eqb-true key d e)) ∙ sym found in rw (e, here) refl)
+    (λ e. rw e refl)
 
 -- and one that was then removed
-pub swept : (m l n : BTreeMap ℕ Row) (key : ℕ) (old new : Row) → Some old ≡ get nat_cmp m key → WritesThrough nat_cmp (nat_cmp key) m new l → UpdatesBy nat_cmp (nat_cmp key) l n None
-    → (d : ℕ) → get nat_cmp n d ≡ (if key == d then None else get nat_cmp m d)
-swept m l n key old new found through gone d =
-    gone.0 d ∙ ap (λ b. cond b None (get nat_cmp l d)) (same_test key d) ∙ ap (λ r. cond (key == d) None r) (lent m l key old new found through d) ∙ inside (key == d) (get nat_cmp m d)
+pub swept : (rows lent_rows rows' : ℕ → Option Row) (key : ℕ) (old new : Row) → Some old ≡ rows key → ((d : ℕ) → lent_rows d ≡ (if key == d then option_map (λ _. new) (rows d) else rows d))
+    → ((d : ℕ) → rows' d ≡ (if key == d then None else lent_rows d)) → (d : ℕ) → rows' d ≡ (if key == d then None else rows d)
+swept rows lent_rows rows' key old new found through gone d =
+    gone d ∙ ap (λ r. if key == d then None else r) (lent rows lent_rows key old new found through d) ∙ inside (key == d) (rows d)
   where
-    inside : (b : Bool) (r : Option Row) → cond b None (cond b (Some new) r) ≡ cond b None r
+    inside : (b : Bool) (r : Option Row) → (if b then None else (if b then Some new else r)) ≡ (if b then None else r)
     inside true r = refl
     inside false r = refl
 

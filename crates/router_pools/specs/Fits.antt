@@ -1,6 +1,5 @@
 -- When the pools agree with what each link has.
 use Rattle.std.specs.Prelude.{◌≡◌, ◌==◌, ◌||◌, ◌<◌, ◌⊎◌, ℕ, Bool, true, false, List, [], Option, None, Some, option_map, is_some, if◌then◌else◌}
-use Rattle.std.specs.BTreeMap.{get}
 use Rattle.std.specs.List.Sorted.{IsStrictlySortedBy}
 use Rattle.std.specs.Map.{keys_of}
 use Rattle.std.specs.Ordering.{nat_cmp}
@@ -9,11 +8,13 @@ use Rattle.route_credit.specs.Granting.{grants_of}
 use Rattle.route_credit.specs.Links.{link_at}
 use Rattle.route_credit.specs.Pool.{Sharing}
 use Rattle.route_credit.specs.declared.offer.Offer.{Offer}
+use Rattle.router_places.specs.Slots.{in_slots}
 use Rattle.router_places.specs.Marks.{has as has_mark, size}
-use Rattle.router_pools.specs.Addresses.{among, pool_or}
+use Rattle.router_pools.specs.Addresses.{pool_or}
 use Rattle.router_pools.specs.ByBytes.{at, has_none}
 use Rattle.route_table.specs.declared.sections.Distribution.{Distribution}
 use Rattle.route_table.specs.Places.{distribution_of}
+use Rattle.router_pools.specs.Sets.{is_in}
 use Rattle.router_pools.specs.Sharing.{demand_at, Figure, offer_at}
 use Rattle.router_pools.specs.Digest.{digest_of}
 use Rattle.router_pools.specs.declared.by_address.ByAddress.{ByAddress}
@@ -34,7 +35,7 @@ in_row (Some row) address = at row.pools address
 
 -- the row of the digest of an address
 abbrev pub row_of : ByAddress → List ℕ → Option Row
-row_of pools address = get nat_cmp pools.rows (digest_of address)
+row_of pools address = in_slots pools.rows (digest_of address)
 
 -- the pool of an address, with this distribution of addresses
 abbrev pub pool_in : (List ℕ → Distribution) → ByAddress → List ℕ → Sharing
@@ -57,11 +58,11 @@ touched_count pools = size pools.touched
 
 -- whether an address may have grants
 abbrev pub is_due : Pools → List ℕ → Bool
-is_due pools address = among pools.due.addresses.keys (λ k. k.items) address
+is_due pools address = is_in pools.due address
 
 -- the address that a link is at
 abbrev pub place_of : Pools → ℕ → Option (List ℕ)
-place_of pools number = option_map (λ place. place.items) (get nat_cmp pools.places number)
+place_of pools number = option_map (λ seat. seat.address.items) (in_slots pools.seats number)
 
 abbrev pub is_place : Option (List ℕ) → List ℕ → Bool
 is_place None address = false

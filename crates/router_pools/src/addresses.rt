@@ -4,45 +4,69 @@ ghost use Rattle.std.specs.Cmp.Lexicographic.{slice_cmp};
 ghost use Rattle.std.specs.Ordering.{nat_cmp};
 ghost use Rattle.std.specs.declared.cmp.Ordering.TheVariants.{Less};
 ghost use Rattle.std.specs.Str.{bytes_eq};
-ghost use Rattle.router_pools.specs.Addresses.{among};
+ghost use Rattle.router_pools.specs.Sets.{count, is_it, is_in};
 
+use crate::same::same;
 use std::alloc::{AllocError, Global};
 use std::collections::BTreeSet;
 
-/// Addresses, ordered by their bytes.
+/// Addresses, ordered by their bytes. One stands in place, and only what comes beyond it in an ordered set: mostly there is one alone.
 #[derive(Drop)]
 pub(crate) struct Addresses {
     alloc: Global,
-    addresses: BTreeSet<Vec<u8>>,
+    first: Option<Vec<u8>>,
+    more: BTreeSet<Vec<u8>>,
 }
 
 impl Addresses {
     pub(crate) fn new(alloc: Global) -> Addresses
-        ensures { (a : List ℕ) → among result.addresses.keys (λ k. k.items) a ≡ false }
+        ensures { (a : List ℕ) → is_in result a ≡ false }
     {
         Addresses {
             alloc,
-            addresses: BTreeSet::new(alloc),
+            first: None,
+            more: BTreeSet::new(alloc),
         }
     }
 
-    /// Adds an address.
-    pub(crate) fn add(&mut self, address: &[u8]) -> Result<(), AllocError>
-        ensures added { OnOk result (among self.new.addresses.keys (λ k. k.items) address.now ≡ true) }
-        ensures others { OnOk result ((a : List ℕ) → among self.new.addresses.keys (λ k. k.items) a ≡ false → among self.old.addresses.keys (λ k. k.items) a ≡ false) }
+    /// Whether this is the address in place.
+    fn is_first(&self, address: &[u8]) -> bool
+        ensures { result ≡ is_it self.now.first (λ k. k.items) address.now }
     {
-        if self.addresses.contains(address) {
+        match &self.first {
+            None => false,
+            Some(first) => same(first.as_slice(), address),
+        }
+    }
+
+    /// Whether an address is among them.
+    fn has(&self, address: &[u8]) -> bool
+        ensures { result ≡ is_in self.now address.now }
+    {
+        self.is_first(address) || self.more.contains(address)
+    }
+
+    /// Adds an address. One that is there is not copied.
+    pub(crate) fn add(&mut self, address: &[u8]) -> Result<(), AllocError>
+        ensures added { OnOk result (is_in self.new address.now ≡ true) }
+        ensures others { OnOk result ((a : List ℕ) → is_in self.new a ≡ false → is_in self.old a ≡ false) }
+    {
+        if self.has(address) {
             return Ok(());
         }
         let key = address.to_vec(self.alloc)?;
-        let _ = self.addresses.insert(key)?;
+        if self.first.is_none() {
+            self.first = Some(key);
+            return Ok(());
+        }
+        let _ = self.more.insert(key)?;
         Ok(())
     }
 
     /// Adds an address if this is wanted.
     pub(crate) fn add_if(&mut self, address: &[u8], wanted: bool) -> Result<(), AllocError>
-        ensures without { OnOk result (among self.new.addresses.keys (λ k. k.items) address.now ≡ false → wanted ≡ false) }
-        ensures others { OnOk result ((a : List ℕ) → among self.new.addresses.keys (λ k. k.items) a ≡ false → among self.old.addresses.keys (λ k. k.items) a ≡ false) }
+        ensures without { OnOk result (is_in self.new address.now ≡ false → wanted ≡ false) }
+        ensures others { OnOk result ((a : List ℕ) → is_in self.new a ≡ false → is_in self.old a ≡ false) }
     {
         if !wanted {
             return Ok(());
@@ -52,12 +76,31 @@ impl Addresses {
 
     /// Removes and returns the first address.
     pub(crate) fn pop(&mut self) -> Option<Vec<u8>>
-        ensures none { IfNone result ((a : List ℕ) → among self.old.addresses.keys (λ k. k.items) a ≡ false) }
-        ensures kept { IfNone result ((a : List ℕ) → among self.new.addresses.keys (λ k. k.items) a ≡ false) }
-        ensures first { IfSome result (λ first. (a : List ℕ) → slice_cmp nat_cmp a first.items ≡ Less → among self.old.addresses.keys (λ k. k.items) a ≡ false) }
-        ensures others { IfSome result (λ first. (a : List ℕ) → bytes_eq first.items a ≡ false → among self.new.addresses.keys (λ k. k.items) a ≡ false → among self.old.addresses.keys (λ k. k.items) a ≡ false) }
-        ensures fewer { IfSome result (λ first. length self.new.addresses.keys < length self.old.addresses.keys) }
+        ensures none { IfNone result ((a : List ℕ) → is_in self.old a ≡ false) }
+        ensures kept { IfNone result ((a : List ℕ) → is_in self.new a ≡ false) }
+        ensures first { IfSome result (λ first. (a : List ℕ) → slice_cmp nat_cmp a first.items ≡ Less → is_in self.old a ≡ false) }
+        ensures others { IfSome result (λ first. (a : List ℕ) → bytes_eq first.items a ≡ false → is_in self.new a ≡ false → is_in self.old a ≡ false) }
+        ensures fewer { IfSome result (λ first. count self.new < count self.old) }
     {
-        self.addresses.pop_first()
+        let Some(first) = self.first.take() else {
+            return self.more.pop_first();
+        };
+        let Some(other) = self.more.pop_first() else {
+            return Some(first);
+        };
+        if is_behind(first.as_slice(), other.as_slice()) {
+            self.first = Some(first);
+            return Some(other);
+        }
+        self.first = Some(other);
+        Some(first)
     }
+}
+
+/// Whether an address is behind another in their order.
+fn is_behind(one: &[u8], other: &[u8]) -> bool
+    ensures behind { result ≡ true → slice_cmp nat_cmp other.now one.now ≡ Less }
+    ensures before { result ≡ false → slice_cmp nat_cmp other.now one.now ≡ Less → ⊥ }
+{
+    other.cmp(one).is_lt()
 }

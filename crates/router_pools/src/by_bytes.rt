@@ -5,6 +5,7 @@ ghost use Rattle.std.specs.Option.{option_copied_mut};
 ghost use Rattle.std.specs.Str.{bytes_eq};
 ghost use Rattle.router_pools.specs.ByBytes.{at, first_at, has_none, LendsAt};
 
+use crate::same::same;
 use std::alloc::{AllocError, Global};
 use std::collections::BTreeMap;
 
@@ -102,7 +103,7 @@ impl<V: Drop> ByBytes<V> {
     {
         match &self.first {
             None => false,
-            Some(first) => address == first.address.as_slice(),
+            Some(first) => same(address, first.address.as_slice()),
         }
     }
 

@@ -12,5 +12,7 @@ mod digest;
 pub mod laws;
 mod pools;
 mod row;
+mod same;
+mod seat;
 
 pub use pools::{Grants, Pools};

@@ -10,17 +10,22 @@ ghost use Rattle.route_credit.specs.Granting.{choice, grants_of};
 ghost use Rattle.route_credit.specs.Links.{link_at};
 ghost use Rattle.route_credit.specs.Pool.{by_id};
 ghost use Rattle.router_places.specs.Marks.{has};
+ghost use Rattle.router_pools.specs.Digest.{digest_of};
+ghost use Rattle.router_pools.specs.Sets.{count};
 ghost use Rattle.router_pools.specs.Fits.{AgreeBut, chosen_at, is_due, is_place, is_touched, is_granted, NoneTouched, offers, place_of, pool_at, PoolsFit, PoolsFitBut, touched_count};
 ghost use Rattle.router_pools.specs.Sharing.{AreNumbered, Figure, sharing};
 ghost use Rattle.router_pools.specs.Sharing.Figure.{consumer, producer};
 
 use crate::addresses::Addresses;
 use crate::by_address::ByAddress;
+use crate::seat::Seat;
 use route_credit::{ConsumerId, ProducerId};
 use route_table::{Distribution, Table};
-use router_places::Marks;
+use router_places::{Marks, Slots};
 use std::alloc::{AllocError, Global};
-use std::collections::BTreeMap;
+
+/// So many places stand for links, each for those of the numbers whose remainder it is.
+const SEATS: usize = 64;
 
 /// The pools of all addresses, with the links that may have changed, and the addresses that may have grants.
 ///
@@ -33,7 +38,7 @@ pub struct Pools {
     alloc: Global,
     table: Table,
     pools: ByAddress,
-    places: BTreeMap<u64, Vec<u8>>,
+    seats: Slots<Seat>,
     due: Addresses,
     touched: Marks,
 }
@@ -54,7 +59,7 @@ impl Pools {
             alloc,
             table,
             pools: ByAddress::new(alloc),
-            places: BTreeMap::new(alloc),
+            seats: Slots::new(alloc, SEATS),
             due: Addresses::new(alloc),
             touched: Marks::new(alloc),
         }
@@ -98,10 +103,10 @@ impl Pools {
         ensures fewer { OnOk result (is_touched self.old number ≡ true → touched_count self.new < touched_count self.old) }
     {
         let place = address.as_bytes();
-        self.place(number, place)?;
+        let digest = self.place(number, place)?;
         let may = self
             .pools
-            .offer(&self.table, address, number, free, undecided)?;
+            .offer(&self.table, digest, address, number, free, undecided)?;
         self.due.add_if(place, may)?;
         self.touched.remove(number);
         Ok(())
@@ -121,8 +126,10 @@ impl Pools {
         ensures fewer { OnOk result (is_touched self.old number ≡ true → touched_count self.new < touched_count self.old) }
     {
         let place = address.as_bytes();
-        self.place(number, place)?;
-        let may = self.pools.want(&self.table, address, number, unused, held)?;
+        let digest = self.place(number, place)?;
+        let may = self
+            .pools
+            .want(&self.table, digest, address, number, unused, held)?;
         self.due.add_if(place, may)?;
         self.touched.remove(number);
         Ok(())
@@ -198,7 +205,7 @@ impl Pools {
             → (a : List ℕ) → slice_cmp nat_cmp a grants.address.items ≡ Less → grants_of (sharing (share a) known count (last a) a) ≡ [])) }
         ensures fits { OnOk result ((share : List ℕ → Distribution) (known actual : ℕ → Option Figure) (last : List ℕ → ℕ) → PoolsFit self.old share known actual last → PoolsFit self.new share known actual last) }
         ensures touched { IfOk result (λ r. (n : ℕ) → is_touched self.new n ≡ (is_touched self.old n || is_granted (option_map (λ grants. by_id grants.sums.items) r) n)) }
-        ensures fewer { IfOk result (λ r. IfSome r (λ grants. length self.new.due.addresses.keys < length self.old.due.addresses.keys)) }
+        ensures fewer { IfOk result (λ r. IfSome r (λ grants. count self.new.due < count self.old.due)) }
     {
         let address = match self.due.pop() {
             None => return Ok(None),
@@ -219,34 +226,36 @@ impl Pools {
         ensures due { OnOk result ((a : List ℕ) → is_due self.new a ≡ false → is_due self.old a ≡ false) }
         ensures touched { OnOk result (self.new.touched ≡ self.old.touched) }
     {
-        match self.places.remove(&number) {
+        match self.seats.remove(number) {
             None => Ok(()),
-            Some(place) => {
-                let address = place.as_slice();
+            Some(seat) => {
+                let address = seat.address.as_slice();
                 self.due.add(address)?;
-                self.pools.leave(address, number);
-                self.pools.forget(address);
+                self.pools.leave(seat.digest, address, number);
+                self.pools.forget(seat.digest, address);
                 Ok(())
             }
         }
     }
 
-    /// Places a link at an address, and removes it from where it was before, which may then have grants.
-    fn place(&mut self, number: u64, address: &[u8]) -> Result<(), AllocError>
+    /// Places a link at an address, and removes it from where it was before, which may then have grants. Returns the address's digest.
+    fn place(&mut self, number: u64, address: &[u8]) -> Result<u64, AllocError>
+        ensures digest { IfOk result (λ digest. digest ≡ digest_of address.now) }
         ensures fits { OnOk result ((share : List ℕ → Distribution) (known actual : ℕ → Option Figure) (last : List ℕ → ℕ) → PoolsFitBut number self.old share known actual last
             → ((a : List ℕ) → bytes_eq address.now a ≡ false → offers (actual number) a ≡ false) → PoolsFitBut number self.new share known actual last) }
         ensures there { OnOk result (place_of self.new number ≡ Some address.now) }
         ensures due { OnOk result ((a : List ℕ) → is_due self.new a ≡ false → is_due self.old a ≡ false) }
         ensures touched { OnOk result (self.new.touched ≡ self.old.touched) }
     {
-        if !self.stands_at(number, address) {
-            self.move_to(number, address)?;
+        match self.digest_at(number, address) {
+            Some(digest) => Ok(digest),
+            None => self.move_to(number, address),
         }
-        Ok(())
     }
 
-    /// Places a link at an address where it isn't yet.
-    fn move_to(&mut self, number: u64, address: &[u8]) -> Result<(), AllocError>
+    /// Places a link at an address where it isn't yet, and returns the address's digest.
+    fn move_to(&mut self, number: u64, address: &[u8]) -> Result<u64, AllocError>
+        ensures digest { IfOk result (λ digest. digest ≡ digest_of address.now) }
         ensures fits { OnOk result ((share : List ℕ → Distribution) (known actual : ℕ → Option Figure) (last : List ℕ → ℕ) → PoolsFitBut number self.old share known actual last
             → is_place (place_of self.old number) address.now ≡ false → ((a : List ℕ) → bytes_eq address.now a ≡ false → offers (actual number) a ≡ false)
             → PoolsFitBut number self.new share known actual last) }
@@ -255,19 +264,21 @@ impl Pools {
         ensures touched { OnOk result (self.new.touched ≡ self.old.touched) }
     {
         self.take_out(number)?;
-        let place = address.to_vec(self.alloc)?;
-        let _ = self.places.insert(number, place)?;
-        Ok(())
+        let seat = Seat::new(self.alloc, address)?;
+        let digest = seat.digest;
+        let _ = self.seats.insert(number, seat)?;
+        Ok(digest)
     }
 
-    /// Whether a link is at an address.
-    fn stands_at(&self, number: u64, address: &[u8]) -> bool
-        ensures there { result ≡ true → place_of self.now number ≡ Some address.now }
-        ensures elsewhere { result ≡ false → is_place (place_of self.now number) address.now ≡ false }
+    /// The digest of an address, if a link is there.
+    fn digest_at(&self, number: u64, address: &[u8]) -> Option<u64>
+        ensures digest { IfSome result (λ digest. digest ≡ digest_of address.now) }
+        ensures there { IfSome result (λ digest. place_of self.now number ≡ Some address.now) }
+        ensures elsewhere { IfNone result (is_place (place_of self.now number) address.now ≡ false) }
     {
-        match self.places.get(&number) {
-            None => false,
-            Some(place) => place.as_slice() == address,
+        match self.seats.get(number) {
+            None => None,
+            Some(seat) => seat.digest_at(address),
         }
     }
 }

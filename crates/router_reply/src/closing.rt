@@ -5,7 +5,9 @@ ghost use Rattle.router_state.specs.Tables.{TablesFit};
 ghost use Rattle.router_trace.specs.LinkFrames.{detach_item};
 ghost use Rattle.router_trace.specs.Frames.{closing, open_item, close_item};
 ghost use Rattle.router_rows.specs.Rows.{said};
-ghost use Rattle.router_reply.specs.Replies.{ends};
+ghost use Rattle.router_reply.specs.Replies.{ends, closing_of};
+ghost use Rattle.router_trace.specs.Connection.{conn as known};
+ghost use Rattle.router_trace.specs.declared.condition.Condition.TheVariants.{ResourceLimitExceeded};
 
 use amqp_conn::Conn;
 use router_rows::Answer;
@@ -78,9 +80,17 @@ pub fn close_all(state: &mut State, id: &RouterId, due: &[u64]) -> Result<(), Al
     ensures { OnOk result ((t : List Entry) → TablesFit state.old t → TablesFit state.new (ends id.now due.now t)) }
 {
     for conn in due {
-        if let Some(phase) = state.phase(*conn) {
-            close_with(state, id, *conn, phase, Condition::ResourceLimitExceeded)?;
-        }
+        close_full(state, id, *conn)?;
+    }
+    Ok(())
+}
+
+/// Closes a connection because its outbox is full, if it is known.
+fn close_full(state: &mut State, id: &RouterId, conn: u64) -> Result<(), AllocError>
+    ensures { OnOk result ((t : List Entry) → TablesFit state.old t → TablesFit state.new (puts conn (closing_of id.now (known t conn) ResourceLimitExceeded) t)) }
+{
+    if let Some(phase) = state.phase(conn) {
+        close_with(state, id, conn, phase, Condition::ResourceLimitExceeded)?;
     }
     Ok(())
 }

@@ -3,6 +3,7 @@ use Rattle.std.specs.Prelude.{◌≡◌, ◌<◌, ◌==◌, ℕ, Bool, true, fal
 use Rattle.std.specs.Ordering.{nat_cmp}
 use Rattle.std.specs.BTreeMap.{get}
 use Rattle.std.specs.BTreeSet.{contains}
+use Rattle.router_places.specs.Slots.{in_slots}
 use Rattle.amqp_perf.specs.declared.perf.Begin.{Begin}
 use Rattle.amqp_perf.specs.declared.perf.Perf.{Perf}
 use Rattle.amqp_perf.specs.declared.perf.Perf.TheVariants as perf
@@ -71,8 +72,8 @@ pub record RowsFit (known : ℕ → Option ConnectionSessions) (t : Trace) : Typ
 
 -- the table of sessions agrees with the trace
 pub record SessionsFit (s : Sessions) (t : Trace) : Type 0 where
-  pub rows : RowsFit (get nat_cmp s.rows) t
-  pub marks : Marked (get nat_cmp s.rows) (contains nat_cmp s.narrow)
+  pub rows : RowsFit (in_slots s.rows) t
+  pub marks : Marked (in_slots s.rows) (contains nat_cmp s.narrow)
 
 -- a list of one value, if there is one
 abbrev pub listed : {A : Type 0} → Option A → List A

@@ -1,7 +1,6 @@
 //! The sessions of all connections, without the marks.
 ghost use Rattle.std.specs.Prelude.{◌≡◌, ◌==◌, ◌∷◌, List, ℕ, Bool, None, true, false, is_some, if◌then◌else◌, OnOk, IfOk};
-ghost use Rattle.std.specs.Ordering.{nat_cmp};
-ghost use Rattle.std.specs.BTreeMap.{get};
+ghost use Rattle.router_places.specs.Slots.{in_slots};
 ghost use Rattle.router_trace.specs.Trace.{Entry, Out, did};
 ghost use Rattle.router_trace.specs.Sessions.{maps};
 ghost use Rattle.router_sessions.specs.Windows.{is_narrow_window, is_narrow_at};
@@ -15,25 +14,25 @@ ghost use Rattle.amqp_perf.specs.declared.perf.End.{End};
 
 use crate::connection::ConnectionSessions;
 use amqp_perf::{Begin, Flow, Perf};
+use router_places::Slots;
 use router_trace::ConnectionId;
 use std::alloc::{AllocError, Global};
-use std::collections::BTreeMap;
 
 /// A performative was received on a connection. Returns whether its session's window is narrow.
 pub fn hear(
-    rows: &mut BTreeMap<u64, ConnectionSessions>,
+    rows: &mut Slots<ConnectionSessions>,
     conn: ConnectionId,
     channel: u16,
     perf: &Perf,
 ) -> bool
-    ensures fits { (t : List Entry) (payload : List ℕ) → (if is_begin perf.now then is_some (get nat_cmp rows.old conn.0) else true) ≡ true → RowsFit (get nat_cmp rows.old) t
-        → RowsFit (get nat_cmp rows.new) (did (event.Item conn (item.Frame false channel perf.now payload)) ∷ t) }
-    ensures others { (c o : ℕ) → (conn.0 == c) ≡ false → window_in (get nat_cmp rows.new c) o ≡ window_in (get nat_cmp rows.old c) o }
-    ensures windows { (o : ℕ) → window_in (get nat_cmp rows.new conn.0) o
-        ≡ heard_window perf.now (maps (theirs_in (get nat_cmp rows.old conn.0) channel) o) (window_in (get nat_cmp rows.old conn.0) o) }
-    ensures narrow { result ≡ is_narrow_at (theirs_in (get nat_cmp rows.old conn.0) channel) (window_in (get nat_cmp rows.new conn.0)) }
+    ensures fits { (t : List Entry) (payload : List ℕ) → (if is_begin perf.now then is_some (in_slots rows.old conn.0) else true) ≡ true → RowsFit (in_slots rows.old) t
+        → RowsFit (in_slots rows.new) (did (event.Item conn (item.Frame false channel perf.now payload)) ∷ t) }
+    ensures others { (c o : ℕ) → (conn.0 == c) ≡ false → window_in (in_slots rows.new c) o ≡ window_in (in_slots rows.old c) o }
+    ensures windows { (o : ℕ) → window_in (in_slots rows.new conn.0) o
+        ≡ heard_window perf.now (maps (theirs_in (in_slots rows.old conn.0) channel) o) (window_in (in_slots rows.old conn.0) o) }
+    ensures narrow { result ≡ is_narrow_at (theirs_in (in_slots rows.old conn.0) channel) (window_in (in_slots rows.new conn.0)) }
 {
-    match rows.get_mut(&conn.0) {
+    match rows.get_mut(conn.0) {
         None => false,
         Some(row) => row.hear(channel, perf),
     }
@@ -41,81 +40,79 @@ pub fn hear(
 
 /// The router begins a session. Returns whether its window is narrow.
 pub fn begin(
-    rows: &mut BTreeMap<u64, ConnectionSessions>,
+    rows: &mut Slots<ConnectionSessions>,
     conn: u64,
     own: u16,
     begin: &Begin,
 ) -> Result<bool, AllocError>
-    ensures fits { OnOk result ((t : List Entry) (sasl : Bool) (payload : List ℕ) → RowsFit (get nat_cmp rows.old) t
-        → RowsFit (get nat_cmp rows.new) (Out conn (item.Frame sasl own (perf.Begin begin.now) payload) ∷ t)) }
-    ensures others { OnOk result ((c o : ℕ) → (conn == c) ≡ false → window_in (get nat_cmp rows.new c) o ≡ window_in (get nat_cmp rows.old c) o) }
-    ensures windows { OnOk result ((o : ℕ) → (own == o) ≡ false → window_in (get nat_cmp rows.new conn) o ≡ window_in (get nat_cmp rows.old conn) o) }
-    ensures narrow { IfOk result (λ narrow. narrow ≡ is_narrow_window (window_in (get nat_cmp rows.new conn) own)) }
+    ensures fits { OnOk result ((t : List Entry) (sasl : Bool) (payload : List ℕ) → RowsFit (in_slots rows.old) t
+        → RowsFit (in_slots rows.new) (Out conn (item.Frame sasl own (perf.Begin begin.now) payload) ∷ t)) }
+    ensures others { OnOk result ((c o : ℕ) → (conn == c) ≡ false → window_in (in_slots rows.new c) o ≡ window_in (in_slots rows.old c) o) }
+    ensures windows { OnOk result ((o : ℕ) → (own == o) ≡ false → window_in (in_slots rows.new conn) o ≡ window_in (in_slots rows.old conn) o) }
+    ensures narrow { IfOk result (λ narrow. narrow ≡ is_narrow_window (window_in (in_slots rows.new conn) own)) }
 {
-    match rows.get_mut(&conn) {
+    match rows.get_mut(conn) {
         None => Err(AllocError),
         Some(row) => row.begin(own, begin),
     }
 }
 
 /// The router sends a flow with its window. Returns whether it is narrow.
-pub fn tell(rows: &mut BTreeMap<u64, ConnectionSessions>, conn: u64, own: u16, flow: &Flow) -> bool
-    ensures fits { (t : List Entry) (sasl : Bool) (payload : List ℕ) → RowsFit (get nat_cmp rows.old) t
-        → RowsFit (get nat_cmp rows.new) (Out conn (item.Frame sasl own (perf.Flow flow.now) payload) ∷ t) }
-    ensures others { (c o : ℕ) → (conn == c) ≡ false → window_in (get nat_cmp rows.new c) o ≡ window_in (get nat_cmp rows.old c) o }
-    ensures windows { (o : ℕ) → (own == o) ≡ false → window_in (get nat_cmp rows.new conn) o ≡ window_in (get nat_cmp rows.old conn) o }
-    ensures narrow { result ≡ is_narrow_window (window_in (get nat_cmp rows.new conn) own) }
+pub fn tell(rows: &mut Slots<ConnectionSessions>, conn: u64, own: u16, flow: &Flow) -> bool
+    ensures fits { (t : List Entry) (sasl : Bool) (payload : List ℕ) → RowsFit (in_slots rows.old) t
+        → RowsFit (in_slots rows.new) (Out conn (item.Frame sasl own (perf.Flow flow.now) payload) ∷ t) }
+    ensures others { (c o : ℕ) → (conn == c) ≡ false → window_in (in_slots rows.new c) o ≡ window_in (in_slots rows.old c) o }
+    ensures windows { (o : ℕ) → (own == o) ≡ false → window_in (in_slots rows.new conn) o ≡ window_in (in_slots rows.old conn) o }
+    ensures narrow { result ≡ is_narrow_window (window_in (in_slots rows.new conn) own) }
 {
-    match rows.get_mut(&conn) {
+    match rows.get_mut(conn) {
         None => false,
         Some(row) => row.tell(own, flow),
     }
 }
 
 /// The router sends a transfer.
-pub fn send(rows: &mut BTreeMap<u64, ConnectionSessions>, conn: u64, own: u16)
-    ensures fits { (t : List Entry) (sasl : Bool) (payload : List ℕ) (x : Transfer) → RowsFit (get nat_cmp rows.old) t
-        → RowsFit (get nat_cmp rows.new) (Out conn (item.Frame sasl own (perf.Transfer x) payload) ∷ t) }
-    ensures windows { (c o : ℕ) → is_narrow_window (window_in (get nat_cmp rows.new c) o) ≡ is_narrow_window (window_in (get nat_cmp rows.old c) o) }
+pub fn send(rows: &mut Slots<ConnectionSessions>, conn: u64, own: u16)
+    ensures fits { (t : List Entry) (sasl : Bool) (payload : List ℕ) (x : Transfer) → RowsFit (in_slots rows.old) t
+        → RowsFit (in_slots rows.new) (Out conn (item.Frame sasl own (perf.Transfer x) payload) ∷ t) }
+    ensures windows { (c o : ℕ) → is_narrow_window (window_in (in_slots rows.new c) o) ≡ is_narrow_window (window_in (in_slots rows.old c) o) }
 {
-    if let Some(row) = rows.get_mut(&conn) {
+    if let Some(row) = rows.get_mut(conn) {
         row.send(own);
     }
 }
 
 /// The router ends a session.
-pub fn end(rows: &mut BTreeMap<u64, ConnectionSessions>, conn: u64, own: u16)
-    ensures fits { (t : List Entry) (sasl : Bool) (payload : List ℕ) (x : End) → RowsFit (get nat_cmp rows.old) t
-        → RowsFit (get nat_cmp rows.new) (Out conn (item.Frame sasl own (perf.End x) payload) ∷ t) }
-    ensures windows { (c o : ℕ) → is_narrow_window (window_in (get nat_cmp rows.old c) o) ≡ false → is_narrow_window (window_in (get nat_cmp rows.new c) o) ≡ false }
+pub fn end(rows: &mut Slots<ConnectionSessions>, conn: u64, own: u16)
+    ensures fits { (t : List Entry) (sasl : Bool) (payload : List ℕ) (x : End) → RowsFit (in_slots rows.old) t
+        → RowsFit (in_slots rows.new) (Out conn (item.Frame sasl own (perf.End x) payload) ∷ t) }
+    ensures windows { (c o : ℕ) → is_narrow_window (window_in (in_slots rows.old c) o) ≡ false → is_narrow_window (window_in (in_slots rows.new c) o) ≡ false }
 {
-    if let Some(row) = rows.get_mut(&conn) {
+    if let Some(row) = rows.get_mut(conn) {
         row.end(own);
     }
 }
 
 /// Forgets a connection.
-pub fn forget(rows: &mut BTreeMap<u64, ConnectionSessions>, conn: u64)
-    ensures rows { (c : ℕ) → get nat_cmp rows.new c ≡ (if conn == c then None else get nat_cmp rows.old c) }
-    ensures windows { (c o : ℕ) → is_narrow_window (window_in (get nat_cmp rows.old c) o) ≡ false → is_narrow_window (window_in (get nat_cmp rows.new c) o) ≡ false }
+pub fn forget(rows: &mut Slots<ConnectionSessions>, conn: u64)
+    ensures rows { (c : ℕ) → in_slots rows.new c ≡ (if conn == c then None else in_slots rows.old c) }
+    ensures windows { (c o : ℕ) → is_narrow_window (window_in (in_slots rows.old c) o) ≡ false → is_narrow_window (window_in (in_slots rows.new c) o) ≡ false }
 {
-    let _ = rows.remove(&conn);
+    let _ = rows.remove(conn);
 }
 
 /// Gives a connection a row if it has none.
 pub fn know(
     alloc: Global,
-    rows: &mut BTreeMap<u64, ConnectionSessions>,
+    rows: &mut Slots<ConnectionSessions>,
     conn: u64,
 ) -> Result<(), AllocError>
-    ensures same { OnOk result (SameRows (get nat_cmp rows.old) (get nat_cmp rows.new)) }
-    ensures there { OnOk result (is_some (get nat_cmp rows.new conn) ≡ true) }
+    ensures same { OnOk result (SameRows (in_slots rows.old) (in_slots rows.new)) }
+    ensures there { OnOk result (is_some (in_slots rows.new conn) ≡ true) }
 {
-    if rows.contains_key(&conn) {
+    if rows.get(conn).is_some() {
         return Ok(());
     }
-    match rows.insert(conn, ConnectionSessions::new(alloc)) {
-        Ok(_) => Ok(()),
-        Err(_) => Err(AllocError),
-    }
+    let _ = rows.insert(conn, ConnectionSessions::new(alloc))?;
+    Ok(())
 }

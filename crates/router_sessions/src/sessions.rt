@@ -1,8 +1,8 @@
 //! The table of sessions of all connections.
 ghost use Rattle.std.specs.Prelude.{◌≡◌, ◌<◌, ◌∷◌, ◌++◌, List, ℕ, Bool, true, false, is_some, OnOk};
 ghost use Rattle.std.specs.Ordering.{nat_cmp};
-ghost use Rattle.std.specs.BTreeMap.{get};
 ghost use Rattle.std.specs.BTreeSet.{contains};
+ghost use Rattle.router_places.specs.Slots.{in_slots};
 ghost use Rattle.router_trace.specs.Trace.{Beginning};
 ghost use Rattle.router_trace.specs.Configuration.{beginning};
 ghost use Rattle.router_trace.specs.Trace.{Entry, Out, did, puts_of};
@@ -22,9 +22,10 @@ use crate::rows;
 use amqp_frames::Item;
 use amqp_perf::{Begin, Flow, Perf};
 use amqp_session::Window;
+use router_places::Slots;
 use router_trace::{ConnectionId, Outgoing};
 use std::alloc::{AllocError, Global};
-use std::collections::{BTreeMap, BTreeSet};
+use std::collections::BTreeSet;
 
 /// The number of channels that the router accepts.
 const CHANNEL_COUNT: u16 = 15;
@@ -32,11 +33,14 @@ const CHANNEL_COUNT: u16 = 15;
 /// The channels that the router accepts.
 pub const CHANNELS: [u16; 15] = [0, 1, 2, 3, 4, 5, 6, 7, 8, 9, 10, 11, 12, 13, 14];
 
+// Numbers of connections rise by one, and no more than this are live.
+const PLACES: usize = 64;
+
 /// The sessions of all connections.
 #[derive(Drop)]
 pub struct Sessions {
     alloc: Global,
-    rows: BTreeMap<u64, ConnectionSessions>,
+    rows: Slots<ConnectionSessions>,
     // the connections that may have a narrow window
     narrow: BTreeSet<u64>,
 }
@@ -48,7 +52,7 @@ impl Sessions {
     {
         Sessions {
             alloc,
-            rows: BTreeMap::new(alloc),
+            rows: Slots::new(alloc, PLACES),
             narrow: BTreeSet::new(alloc),
         }
     }
@@ -57,7 +61,7 @@ impl Sessions {
     pub fn place(&self, conn: u64, channel: u16) -> Place
         ensures { (t : List Entry) → SessionsFit self.now t → result ≡ found_of (place t conn channel) }
     {
-        match self.rows.get(&conn) {
+        match self.rows.get(conn) {
             None => Place::Nowhere,
             Some(row) => row.place(channel),
         }
@@ -67,7 +71,7 @@ impl Sessions {
     pub fn own_channel(&self, conn: u64, channel: u16) -> Option<u16>
         ensures { (t : List Entry) → SessionsFit self.now t → (o : ℕ) → is_channel result o ≡ maps (theirs t conn channel) o }
     {
-        match self.rows.get(&conn) {
+        match self.rows.get(conn) {
             None => None,
             Some(row) => row.own_channel(channel),
         }
@@ -95,9 +99,9 @@ impl Sessions {
 
     /// The windows of a session.
     pub fn window(&self, conn: u64, own: u16) -> Option<Window>
-        ensures { result ≡ window_in (get nat_cmp self.now.rows conn) own }
+        ensures { result ≡ window_in (in_slots self.now.rows conn) own }
     {
-        match self.rows.get(&conn) {
+        match self.rows.get(conn) {
             None => None,
             Some(row) => row.window(own),
         }
@@ -107,7 +111,7 @@ impl Sessions {
     fn due(&self, conn: u64, own: u16) -> Option<Outgoing>
         ensures { (t : List Entry) → SessionsFit self.now t → flow_due conn own (session t conn own) ≡ puts_of (listed result) }
     {
-        self.rows.get(&conn)?.due(conn, own)
+        self.rows.get(conn)?.due(conn, own)
     }
 
     /// Adds the flows that are due on a connection, by the router's channel.
@@ -148,7 +152,7 @@ impl Sessions {
 
     /// Whether a connection has a narrow window.
     fn has_narrow(&self, conn: u64) -> bool
-        ensures { result ≡ false → (o : ℕ) → o < 15 → is_narrow_window (window_in (get nat_cmp self.now.rows conn) o) ≡ false }
+        ensures { result ≡ false → (o : ℕ) → o < 15 → is_narrow_window (window_in (in_slots self.now.rows conn) o) ≡ false }
     {
         for own in 0..CHANNEL_COUNT {
             if self.is_narrow(conn, own) {
@@ -160,9 +164,9 @@ impl Sessions {
 
     /// Whether the window of a session is narrow.
     fn is_narrow(&self, conn: u64, own: u16) -> bool
-        ensures { result ≡ is_narrow_window (window_in (get nat_cmp self.now.rows conn) own) }
+        ensures { result ≡ is_narrow_window (window_in (in_slots self.now.rows conn) own) }
     {
-        match self.rows.get(&conn) {
+        match self.rows.get(conn) {
             None => false,
             Some(row) => row.is_narrow(own),
         }

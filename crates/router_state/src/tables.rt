@@ -1,6 +1,5 @@
 //! All tables, changed together.
 ghost use Rattle.std.specs.Prelude.{◌≡◌, ◌==◌, ◌≤◌, ◌&&◌, nat_lt, if◌then◌else◌, ◌∷◌, ◌++◌, ℕ, List, [], true, false, Option, option_map, OnOk, OnErr, IfOk};
-ghost use Rattle.std.specs.Ordering.{nat_cmp};
 ghost use Rattle.std.specs.Prelude.{is_some};
 ghost use Rattle.route_table.specs.Places.{FindsAs};
 ghost use Rattle.router_trace.specs.Trace.{Beginning};
@@ -15,7 +14,6 @@ ghost use Rattle.router_deliveries.specs.Calling.{Knows};
 ghost use Rattle.router_deliveries.specs.Finding.{IsFirst, is_above};
 ghost use Rattle.router_passing.specs.Passing.{attachment_at, consumer_of, passing, with_bound, grants_due, grant_flow};
 ghost use Rattle.router_passing.specs.Asking.{has_unsent, goes_on, owes_drain, drained_state};
-ghost use Rattle.std.specs.BTreeMap.{get};
 ghost use Rattle.router_trace.specs.Trace.{Entry, Out, Took, did, newest, goes, puts_of};
 ghost use Rattle.router_trace.specs.Sessions.{place, free_channel};
 ghost use Rattle.router_trace.specs.Clocks.{terms, channel_max_of};
@@ -28,7 +26,7 @@ ghost use Rattle.amqp_session.specs.Session.{Session};
 ghost use Rattle.router_sessions.specs.Fits.{SessionsFit, found_of, window_by};
 ghost use Rattle.router_sessions.specs.Windows.{windows};
 ghost use Rattle.router_trace.specs.Connection.{conn as known, standing, phase_before, is_ready, has};
-ghost use Rattle.router_conns.specs.Fits.{IsLeast, IsBatch, count};
+ghost use Rattle.router_conns.specs.Fits.{in_slots, IsLeast, IsBatch, count};
 ghost use Rattle.router_conns.specs.Noting.{is_noted};
 ghost use Rattle.router_trace.specs.Refusing.{rises, refuses};
 ghost use Rattle.router_state.specs.Tables.{TablesFit, TablesAt, TablesFind, beat_if, beats_over, beats};
@@ -677,14 +675,14 @@ fn settle_all(sessions: &mut Sessions, conns: &[u64])
 
 /// Notes whether a connection is ready.
 fn note(ready: &mut Ready, connections: &Connections, conn: u64) -> Result<(), AllocError>
-    ensures { OnOk result ((c : ℕ) → is_noted ready.new c ≡ (if conn == c then is_ready (get nat_cmp connections.now.rows c) else is_noted ready.old c)) }
+    ensures { OnOk result ((c : ℕ) → is_noted ready.new c ≡ (if conn == c then is_ready (in_slots connections.now.rows c) else is_noted ready.old c)) }
 {
     ready.note(conn, connections.is_ready(conn))
 }
 
 /// Notes whether each of these connections is ready.
 fn note_all(ready: &mut Ready, connections: &Connections, ends: &[u64]) -> Result<(), AllocError>
-    ensures { OnOk result ((c : ℕ) → is_noted ready.new c ≡ (if has c ends.now then is_ready (get nat_cmp connections.now.rows c) else is_noted ready.old c)) }
+    ensures { OnOk result ((c : ℕ) → is_noted ready.new c ≡ (if has c ends.now then is_ready (in_slots connections.now.rows c) else is_noted ready.old c)) }
 {
     for conn in ends {
         note(ready, connections, *conn)?;

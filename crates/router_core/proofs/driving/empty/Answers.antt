@@ -1,9 +1,10 @@
 use Rattle.std.proofs.Common.{◌∙◌, ◌≡◌, ◌++◌, refl, ◌⊎◌, List, true, rules}
+use Rattle.std.proofs.lemmas.Result.{err_from_is_err_and}
 use Rattle.router_trace.specs.Trace.{Entry}
 use Rattle.router_core.specs.Handling.{Fits, is_failed}
 use Rattle.router_core.specs.Runs.{Taking, InTurn, sent, taking, Waits}
 use Rattle.router_core.specs.declared.fault.CoreFault.TheVariants.{Memory}
-use Rattle.router_core.proofs.RunLemmas.{one_more, still_waits}
+use Rattle.router_core.proofs.RunLemmas.{one_more, still_waits, unready}
 use Rattle.router_core.proofs.driving.empty.Goals as goal
 
 pub loop-turn-preserved : goal.loop-turn-preserved
@@ -29,3 +30,8 @@ returns-in_err-take_one-in-Some-clause-broken g c =
     let broken : (t : List Entry) → Fits c.args.core.now t → (takes : List Taking) × InTurn takes t × (c.take_one.new.taken.items ≡ c.args.taken.now.items ++ sent c.args.event takes t)
     = λ t f. let w = c.loop-turn.invariant.fits t f in (w.0, w.1, c.in_err-take_one-in-Some.ensures.kept ∙ w.3) in
     search (broken, rules)
+
+pub returns-in_err-take_one-in-Some-clause-known : goal.returns-in_err-take_one-in-Some-clause-known
+returns-in_err-take_one-in-Some-clause-known g c =
+    let p = err_from_is_err_and c.from_residual.result c.from_residual.ensures.1 in
+    rw (p.1, p.2) (λ t f is. let w = c.loop-turn.invariant.fits t f in unready _ (c.in_err-take_one-in-Some.ensures.known is _ w.2) (c.in-Some.ensures _ w.2).0)

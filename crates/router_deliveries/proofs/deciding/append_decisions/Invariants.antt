@@ -1,11 +1,10 @@
 use Rattle.std.proofs.Common.{◌≡◌, ◌++◌}
 use Rattle.std.specs.List.{flat_map}
-use Rattle.std.specs.Ordering.{nat_cmp}
-use Rattle.std.specs.BTreeMap.{get}
+use Rattle.router_places.specs.Slots.{in_slots}
 use Rattle.router_deliveries.specs.Deciding.{decision_of}
 use Rattle.router_deliveries.proofs.deciding.append_decisions.Given as goal
 
 -- the decisions so far, and those of the remaining numbers
 abbrev pub invariant-loop-number : goal.invariant-loop-number
-invariant-loop-number l = l.rows.items ++ flat_map (λ n. decision_of l.changes (get nat_cmp l.store.deliveries n)) l.number-iterator
-    ≡ l.fn.rows.items ++ flat_map (λ n. decision_of l.changes (get nat_cmp l.store.deliveries n)) l.numbers.keys
+invariant-loop-number l = l.rows.items ++ flat_map (λ n. decision_of l.changes (in_slots l.store.deliveries n)) l.number-iterator
+    ≡ l.fn.rows.items ++ flat_map (λ n. decision_of l.changes (in_slots l.store.deliveries n)) l.numbers.keys

@@ -1,6 +1,5 @@
 use Rattle.std.proofs.Common.{◌∙◌}
-use Rattle.std.specs.Ordering.{nat_cmp}
-use Rattle.std.specs.BTreeMap.{get}
+use Rattle.router_places.specs.Slots.{in_slots}
 use Rattle.router_trace.specs.Deliveries.{named}
 use Rattle.router_places.specs.Ids.{at_id}
 use Rattle.router_deliveries.proofs.Opened.{used_is}
@@ -8,5 +7,5 @@ use Rattle.router_deliveries.proofs.deliveries.Deliveries.is_used.Goals as goal
 
 pub returns : goal.returns
 returns c = λ t fit. c.is_used.ensures
-    ∙ used_is t (at_id c.args.self.now.names.ids c.args.conn c.args.own c.args.id) (named t c.args.conn c.args.own c.args.id) (get nat_cmp c.args.self.now.store.deliveries) fit.store.deliveries
+    ∙ used_is t (at_id c.args.self.now.names.ids c.args.conn c.args.own c.args.id) (named t c.args.conn c.args.own c.args.id) (in_slots c.args.self.now.store.deliveries) fit.store.deliveries
     (fit.names.names c.args.conn c.args.own c.args.id)

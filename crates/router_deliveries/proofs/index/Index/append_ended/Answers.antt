@@ -1,5 +1,5 @@
 use Rattle.router_deliveries.specs.Placing.{is_gone_there}
-use Rattle.router_deliveries.proofs.Keys.{either_of}
+use Rattle.router_deliveries.proofs.Placed.{either_of}
 use Rattle.router_deliveries.proofs.index.Index.append_ended.Goals as goal
 
 pub returns : goal.returns

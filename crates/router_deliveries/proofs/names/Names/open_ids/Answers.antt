@@ -1,8 +1,7 @@
 use Rattle.std.proofs.Common.{rules, ℕ, Bool, ◌<◌, ◌^◌, ◌∙◌, ◌++◌, ap, sym}
 use Rattle.std.specs.List.{filter}
 use Rattle.std.specs.Option.{is_some}
-use Rattle.std.specs.Ordering.{nat_cmp}
-use Rattle.std.specs.BTreeMap.{get}
+use Rattle.router_places.specs.Slots.{in_slots}
 use Rattle.std.proofs.lemmas.List.{append-nil, drop_all}
 use Rattle.router_deliveries.specs.Naming.{opens}
 use Rattle.router_places.specs.Ids.{at_id}
@@ -14,7 +13,7 @@ pub returns : goal.returns
 returns c = λ small.
     let conn = c.args.conn in
     let own = c.args.own in
-    let known = get nat_cmp c.args.store.now.deliveries in
+    let known = in_slots c.args.store.now.deliveries in
     let names = at_id c.args.self.now.ids conn own in
     let pick : ℕ → Bool = λ id. opens known conn own id (names id) in
     let ids = c.deref-id-items.result.now in

@@ -1,10 +1,9 @@
 use Rattle.std.proofs.Common.{◌≡◌, ℕ, List}
-use Rattle.std.specs.Ordering.{nat_cmp}
-use Rattle.std.specs.BTreeMap.{get}
+use Rattle.router_places.specs.Slots.{in_slots}
 use Rattle.router_trace.specs.Trace.{Entry}
 use Rattle.router_trace.specs.Deliveries.{delivery}
 use Rattle.router_deliveries.specs.Naming.{NamesFit}
 use Rattle.router_deliveries.proofs.names.Names.settle.Given as goal
 
 abbrev pub invariant-loop-id : goal.invariant-loop-id
-invariant-loop-id l = (t : List Entry) → ((n : ℕ) → get nat_cmp l.store.deliveries n ≡ delivery t n) → NamesFit l.fn.self t → NamesFit l.self t
+invariant-loop-id l = (t : List Entry) → ((n : ℕ) → in_slots l.store.deliveries n ≡ delivery t n) → NamesFit l.fn.self t → NamesFit l.self t

@@ -1,13 +1,12 @@
-use Rattle.std.proofs.Common.{◌∙◌, sym}
-use Rattle.std.specs.Ordering.{nat_cmp}
-use Rattle.std.specs.BTreeMap.{get}
+use Rattle.std.proofs.Common.{◌∙◌, refl, sym}
+use Rattle.router_places.specs.Slots.{in_slots}
 use Rattle.router_deliveries.specs.Stepping.{changed}
 use Rattle.router_deliveries.proofs.Called.{name_changed}
-use Rattle.router_deliveries.proofs.Settled.{Stepped, one_stepped}
+use Rattle.router_deliveries.proofs.Settled.{Stepped, one_stepped, unfound}
 use Rattle.router_deliveries.proofs.store.Store.change.Goals as goal
 
 stepped : (c : goal.In_ok-settle) → Stepped c.args.self.now c.settle.new.self
-stepped c = one_stepped (changed c.args.change.now) c.args.number c.in-Some.moved c.args.self.now c.settle.new.self (get nat_cmp c.change_in.new.deliveries) (name_changed c.args.change.now)
+stepped c = one_stepped (changed c.args.change.now) c.args.number c.in-Some.moved c.args.self.now c.settle.new.self (in_slots c.change_in.new.deliveries) (name_changed c.args.change.now)
     (sym c.in-Some.is ∙ c.in_ok-found.ensures.found) c.in_ok-found.ensures.deliveries
     c.in_ok-settle.ensures.deliveries c.in_ok-settle.ensures.indexed c.in_ok-settle.ensures.called c.in_ok-settle.ensures.touched
 
@@ -16,3 +15,6 @@ returns-clause-indexed c = (stepped c).indexed
 
 pub returns-clause-touches : goal.returns-clause-touches
 returns-clause-touches c = (stepped c).touches
+
+pub returns-in_default-clause-indexed : goal.returns-in_default-clause-indexed
+returns-in_default-clause-indexed c = unfound (changed c.args.change.now) c.args.number c.args.self.now _ c.in_ok-found.found c.in_ok-found.ensures.found c.in_default.not-Some c.in_ok-found.ensures.deliveries refl refl

@@ -1,6 +1,5 @@
 use Rattle.std.proofs.Common.{◌≡◌, ℕ, drop}
-use Rattle.std.specs.Ordering.{nat_cmp}
-use Rattle.std.specs.BTreeMap.{get}
+use Rattle.router_places.specs.Slots.{in_slots}
 use Rattle.amqp_session.specs.Ranges.{has}
 use Rattle.router_deliveries.specs.Fits.{Indexed}
 use Rattle.router_deliveries.specs.Touching.{StoreTouches}
@@ -9,7 +8,7 @@ use Rattle.router_deliveries.proofs.store.Store.change_all.Given as goal
 
 -- what the remaining numbers would still change
 abbrev pub invariant-loop-number : goal.invariant-loop-number
-invariant-loop-number l = ((n : ℕ) → finish l.change (has n (drop l.number-index l.numbers)) (get nat_cmp l.self.deliveries n)
-    ≡ finish l.change (has n l.numbers) (get nat_cmp l.fn.self.deliveries n))
+invariant-loop-number l = ((n : ℕ) → finish l.change (has n (drop l.number-index l.numbers)) (in_slots l.self.deliveries n)
+    ≡ finish l.change (has n l.numbers) (in_slots l.fn.self.deliveries n))
     × (Indexed l.fn.self → Indexed l.self)
     × StoreTouches l.fn.self l.self

@@ -1,7 +1,6 @@
-use Rattle.std.specs.Ordering.{nat_cmp}
-use Rattle.std.specs.BTreeMap.{get}
+use Rattle.router_places.specs.Slots.{in_slots}
 use Rattle.router_deliveries.specs.Indexing.{standing}
 use Rattle.router_deliveries.proofs.store.Store.with_ids.Goals as goal
 
 pub returns : goal.returns
-returns c = λ indexed. c.in_ok-add_concerned.ensures.found (λ n. standing (get nat_cmp c.args.self.now.deliveries n)) indexed.indexes
+returns c = λ indexed. c.in_ok-add_concerned.ensures.found (λ n. standing (in_slots c.args.self.now.deliveries n)) indexed.indexes

@@ -4,14 +4,15 @@ use Rattle.amqp_perf.specs.declared.perf.Perf.{Perf}
 use Rattle.amqp_perf.specs.declared.perf.Perf.TheVariants as perf
 use Rattle.amqp_frames.specs.declared.item.Item.TheVariants as item
 use Rattle.router_trace.specs.Trace.{Out}
-use Rattle.router_links.specs.Fits.{TableFit, IsNoted, key_in}
+use Rattle.router_links.specs.Fits.{TableFit, IsNoted, key_in, asked_in}
 use Rattle.router_links.proofs.table.LinkTable.put.Goals as goal
 
 pub returns-in_ok-put_attach-in-Attach-clause-fits : goal.returns-in_ok-put_attach-in-Attach-clause-fits
 returns-in_ok-put_attach-in-Attach-clause-fits c = λ t sasl key last fit.
     let is : c.args.perf.now ≡ perf.Attach c.as_ref.result.now = c.in-Attach.is ∙ ap (λ a. perf.Attach a) (sym c.as_ref.ensures) in
     subst (λ (p : Perf). TableFit c.put_attach.new.self (Out c.args.conn (item.Frame sasl c.args.own p c.args.payload.now) ∷ t)) (sym is)
-    (c.in_ok-put_attach-in-Attach.ensures.fits t sasl c.args.payload.now (key ∙ ap (λ (p : Perf). key_in t c.args.conn p) is) last fit)
+    (c.in_ok-put_attach-in-Attach.ensures.fits t sasl c.args.payload.now (key ∙ ap (λ (p : Perf). key_in t c.args.conn p) is)
+    (last ∙ ap (λ (p : Perf). asked_in t c.args.conn p) is) fit)
 
 pub returns-in_ok-put_note-in-Flow-clause-fits : goal.returns-in_ok-put_note-in-Flow-clause-fits
 returns-in_ok-put_note-in-Flow-clause-fits c = λ t sasl key last fit.

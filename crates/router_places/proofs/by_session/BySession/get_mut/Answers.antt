@@ -4,6 +4,7 @@ use Rattle.std.specs.Option.{option_map}
 use Rattle.std.specs.Ordering.{nat_cmp}
 use Rattle.std.specs.BTreeMap.{get}
 use Rattle.router_places.specs.Ids.{in_ids}
+use Rattle.router_places.specs.Slots.{in_slots}
 use Rattle.router_places.proofs.Placed.{placed, unplaced}
 use Rattle.router_places.proofs.by_session.BySession.get_mut.Goals as goal
 
@@ -19,9 +20,9 @@ returns g c =
       (
         refl,
         (λ w. placed in_ids rows (c.get_mut.follows.lender (c.get_mut-2.follows.lender (after w))) sessions (c.get_mut-2.follows.lender (after w)) ids (after w) c.args.conn c.args.own in_conn in_session (c.get_mut.follows.holds (c.get_mut-2.follows.lender (after w))) (c.get_mut-2.follows.holds (after w))
-            c.args.id w (subst (λ k. (q : ℕ) → get nat_cmp (after w).deliveries q ≡ (if k == q then option_map (λ _. w) (get nat_cmp ids.deliveries q) else get nat_cmp ids.deliveries q)) c.new.ensures (c.get_mut-3.follows.holds w).0)),
+            c.args.id w (subst (λ k. (q : ℕ) → in_slots (after w) q ≡ (if k == q then option_map (λ _. w) (in_slots ids q) else in_slots ids q)) c.from.ensures (c.get_mut-3.follows.holds w))),
         unplaced in_ids rows (c.get_mut.follows.lender (c.get_mut-2.follows.lender none)) sessions (c.get_mut-2.follows.lender none) ids none c.args.conn c.args.own in_conn in_session
-            (c.get_mut.follows.holds (c.get_mut-2.follows.lender none)) (c.get_mut-2.follows.holds none) c.get_mut-3.follows.holds-at-none.0,
+            (c.get_mut.follows.holds (c.get_mut-2.follows.lender none)) (c.get_mut-2.follows.holds none) c.get_mut-3.follows.holds-at-none,
       ),
       search rules,
     )

@@ -1,12 +1,11 @@
 use Rattle.std.proofs.Common.{◌∙◌, ap, None, Some}
-use Rattle.std.specs.BTreeMap.{get}
-use Rattle.std.specs.Ordering.{nat_cmp}
 use Rattle.route_credit.specs.Granting.{choice}
+use Rattle.router_places.specs.Slots.{in_slots}
 use Rattle.router_pools.proofs.Rows.{found}
 use Rattle.router_pools.proofs.by_address.ByAddress.peek.Goals as goal
 
 pub returns-in-None : goal.returns-in-None
-returns-in-None c share = ap choice (found share (get nat_cmp c.args.self.now.rows) c.args.address.now c.digest-place.result c.digest-place.ensures None c.in-None.ensures.value)
+returns-in-None c share = ap choice (found share (in_slots c.args.self.now.rows) c.args.address.now c.digest-place.result c.digest-place.ensures None c.in-None.ensures)
 
 pub returns-in-Some : goal.returns-in-Some
-returns-in-Some c share = c.peek.ensures share ∙ ap choice (found share (get nat_cmp c.args.self.now.rows) c.args.address.now c.digest-place.result c.digest-place.ensures (Some c.in-Some.row.now) c.in-Some.ensures.value)
+returns-in-Some c share = c.peek.ensures share ∙ ap choice (found share (in_slots c.args.self.now.rows) c.args.address.now c.digest-place.result c.digest-place.ensures (Some c.in-Some.row.now) c.in-Some.ensures)

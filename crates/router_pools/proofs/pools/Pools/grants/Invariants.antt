@@ -1,6 +1,7 @@
-use Rattle.std.proofs.Common.{◌≡◌, ℕ, List, Option, length}
+use Rattle.std.proofs.Common.{◌≡◌, ℕ, List, Option}
 use Rattle.route_table.specs.declared.sections.Distribution.{Distribution}
 use Rattle.router_pools.specs.Fits.{is_touched, PoolsFit}
+use Rattle.router_pools.specs.Sets.{count}
 use Rattle.router_pools.specs.Sharing.{Figure}
 use Rattle.router_pools.proofs.pools.Pools.grants.Given as goal
 
@@ -9,4 +10,4 @@ abbrev pub invariant-loop-grants : goal.invariant-loop-grants
 invariant-loop-grants l = ((share : List ℕ → Distribution) (known actual : ℕ → Option Figure) (last : List ℕ → ℕ) → PoolsFit l.fn.self share known actual last → PoolsFit l.self share known actual last) × ((n : ℕ) → is_touched l.self n ≡ is_touched l.fn.self n)
 
 abbrev pub decreases-loop-grants : goal.decreases-loop-grants
-decreases-loop-grants l = length l.self.due.addresses.keys
+decreases-loop-grants l = count l.self.due

@@ -6,5 +6,5 @@ use Rattle.router_pools.proofs.pools.Pools.new.Goals as goal
 
 pub returns : goal.returns
 returns c g finds known none =
-    let new : Pools = record { alloc = c.args.alloc; table = c.args.table; pools = c.new.result; places = c.new-2.result; due = c.new-3.result; touched = c.new-4.result } in
+    let new : Pools = record { alloc = c.args.alloc; table = c.args.table; pools = c.new.result; seats = c.new-2.result; due = c.new-3.result; touched = c.new-4.result } in
     none_fits (is_touched new) (table_of new) (distribution_of g) (pool_at new) (place_of new) (is_due new) known finds.distribution (c.new.ensures (table_of new)) none

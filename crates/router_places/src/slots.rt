@@ -1,0 +1,352 @@
+//! Values by number, for tables whose numbers mostly rise by one.
+ghost use Rattle.std.specs.Prelude.{◌≡◌, ◌==◌, ◌<◌, ◌≤◌, ◌||◌, ◌++◌, ℕ, true, false, Some, None, length, bit_and, if◌then◌else◌, slice_get, slice_set, OnOk, IfOk};
+ghost use Rattle.std.specs.Borrow.{sem};
+ghost use Rattle.std.specs.Option.{is_some, option_map, option_copied, option_copied_mut};
+ghost use Rattle.std.specs.Ordering.{nat_cmp};
+ghost use Rattle.std.specs.BTreeMap.{get};
+ghost use Rattle.std.specs.Map.{keys_of};
+ghost use Rattle.amqp_session.specs.Ranges.{has};
+ghost use Rattle.router_places.specs.Slots.{in_slots, in_places, no_entry, is_free_for, is_listed, tells, LendsSlot, LendsPlaced};
+
+use std::alloc::{AllocError, Global};
+use std::collections::BTreeMap;
+use std::collections::btree_map::Range;
+use std::mem;
+
+/// A value with its number.
+#[derive(Drop)]
+pub(crate) struct Entry<V> {
+    pub(crate) number: u64,
+    pub(crate) value: V,
+}
+
+/// Places of which each number has one: its remainder by their count, which the values of other numbers may take.
+#[derive(Drop)]
+pub(crate) struct Places<V> {
+    pub(crate) places: Vec<Option<Entry<V>>>,
+    count: usize,
+    mask: u64,
+}
+
+/// Values by number. A number's place among a fixed count of places is its remainder by the count, and only a value whose place another one
+/// takes stands in an ordered map. So while no more neighbouring numbers than that have values, each call is a few instructions, and takes memory
+/// once, with the first value; what comes beyond costs a logarithm of the count at most. If an operation fails to allocate, the contents
+/// are unspecified.
+#[derive(Drop)]
+pub struct Slots<V> {
+    alloc: Global,
+    pub(crate) placed: Places<V>,
+    pub(crate) others: BTreeMap<u64, V>,
+}
+
+impl<V: Drop> Slots<V> {
+    /// No value. The count of places is a power of two; of any other count some places stay unused.
+    pub fn new(alloc: Global, places: usize) -> Slots<V>
+        ensures { (n : ℕ) → in_slots result n ≡ None }
+    {
+        Slots {
+            alloc,
+            placed: Places::new(alloc, places),
+            others: BTreeMap::new(alloc),
+        }
+    }
+
+    /// The value of a number.
+    pub fn get(&self, number: u64) -> Option<&V>
+        ensures { option_copied result ≡ in_slots self.now number }
+    {
+        match self.placed.get(number) {
+            Some(value) => Some(value),
+            None => self.others.get(&number),
+        }
+    }
+
+    /// The value of a number, to change it.
+    pub fn get_mut(&mut self, number: u64) -> Option<&mut V>
+        ensures* lends { sem 𝓛 (LendsSlot V.row self.entry number result) }
+        ensures value { option_copied_mut result ≡ in_slots self.old number }
+    {
+        if self.placed.has(number) {
+            return self.placed.get_mut(number);
+        }
+        self.others.get_mut(&number)
+    }
+
+    /// Gives a number this value, and gives back the one that it had. Fails if memory is refused.
+    pub fn insert(&mut self, number: u64, value: V) -> Result<Option<V>, AllocError>
+        ensures set { OnOk result ((q : ℕ) → in_slots self.new q ≡ (if number == q then Some value else in_slots self.old q)) }
+        ensures before { IfOk result (λ before. before ≡ in_slots self.old number) }
+    {
+        self.placed.fill(self.alloc)?;
+        if self.placed.has_room(number) {
+            let other = self.remove_other(number);
+            let placed = self.placed.put(number, value);
+            return Ok(placed.or(other));
+        }
+        match self.others.insert(number, value) {
+            Ok(before) => Ok(before),
+            Err(_) => Err(AllocError),
+        }
+    }
+
+    /// Removes the value of a number, and gives it.
+    pub fn remove(&mut self, number: u64) -> Option<V>
+        ensures gone { (q : ℕ) → in_slots self.new q ≡ (if number == q then None else in_slots self.old q) }
+        ensures before { result ≡ in_slots self.old number }
+    {
+        let placed = self.placed.take(number);
+        let other = self.remove_other(number);
+        placed.or(other)
+    }
+
+    /// Removes the value of a number from the ordered map, and gives it.
+    fn remove_other(&mut self, number: u64) -> Option<V>
+        ensures placed { self.new.placed ≡ self.old.placed }
+        ensures gone { (q : ℕ) → get nat_cmp self.new.others q ≡ (if number == q then None else get nat_cmp self.old.others q) }
+        ensures before { result ≡ get nat_cmp self.old.others number }
+    {
+        if self.others.is_empty() {
+            return None;
+        }
+        self.others.remove(&number)
+    }
+
+    /// Appends the numbers that have a value, in no order. Fails if memory is refused.
+    pub fn append_numbers(&self, numbers: &mut Vec<u64>) -> Result<(), AllocError>
+        ensures { OnOk result ((n : ℕ) → has n numbers.new.items ≡ (has n numbers.old.items || is_some (in_slots self.now n))) }
+    {
+        self.placed.append_numbers(numbers)?;
+        append_keys(&self.others, numbers)?;
+        Ok(())
+    }
+
+    /// Appends numbers that have a value, in no order: all that stand in their places, and of the others those from a lowest to a highest. So it costs
+    /// what it finds, the count of places and a logarithm. Fails if memory is refused.
+    pub(crate) fn append_between(
+        &self,
+        low: u64,
+        high: u64,
+        numbers: &mut Vec<u64>,
+    ) -> Result<(), AllocError>
+        requires { low ≤ high }
+        ensures { OnOk result ((n : ℕ) → has n numbers.new.items ≡ (has n numbers.old.items || is_listed self.now low high n)) }
+    {
+        self.placed.append_numbers(numbers)?;
+        append_range(self.others.range(low..=high), numbers)?;
+        Ok(())
+    }
+
+    /// Whether no number has a value. It looks at each place.
+    #[tactic(auto, using(crate::proofs::Remainders::nothing))]
+    pub fn is_empty(&self) -> bool
+        ensures { result ≡ true → (n : ℕ) → in_slots self.now n ≡ None }
+    {
+        if !self.others.is_empty() {
+            return false;
+        }
+        self.placed.is_empty()
+    }
+}
+
+impl<V: Drop> Places<V> {
+    /// So many places.
+    fn new(alloc: Global, count: usize) -> Places<V>
+        ensures { (n : ℕ) → in_places result n ≡ None }
+    {
+        Places {
+            places: Vec::new(alloc),
+            count,
+            mask: (count as u64).saturating_sub(1),
+        }
+    }
+
+    /// Makes the places, where there are none yet. Fails if memory is refused.
+    fn fill(&mut self, alloc: Global) -> Result<(), AllocError>
+        ensures { OnOk result ((n : ℕ) → in_places self.new n ≡ in_places self.old n) }
+    {
+        if !self.places.is_empty() {
+            return Ok(());
+        }
+        self.places = free_places(alloc, self.count)?;
+        Ok(())
+    }
+
+    /// The index of a number's place.
+    fn index(&self, number: u64) -> usize
+        ensures { result ≡ bit_and number self.now.mask }
+    {
+        (number & self.mask) as usize
+    }
+
+    /// The value of a number, if it stands in its place.
+    fn get(&self, number: u64) -> Option<&V>
+        ensures { option_copied result ≡ in_places self.now number }
+    {
+        match self.places.get(self.index(number)) {
+            None => None,
+            Some(place) => match place {
+                None => None,
+                Some(entry) => {
+                    if entry.number == number {
+                        Some(&entry.value)
+                    } else {
+                        None
+                    }
+                }
+            },
+        }
+    }
+
+    /// Whether a number has a value in its place.
+    fn has(&self, number: u64) -> bool
+        ensures { result ≡ is_some (in_places self.now number) }
+    {
+        self.get(number).is_some()
+    }
+
+    /// Whether a number's place has no value of another number.
+    fn has_room(&self, number: u64) -> bool
+        ensures { result ≡ is_free_for number (slice_get self.now.places.items (bit_and number self.now.mask)) }
+    {
+        match self.places.get(self.index(number)) {
+            None => false,
+            Some(place) => match place {
+                None => true,
+                Some(entry) => entry.number == number,
+            },
+        }
+    }
+
+    /// Puts this in a number's place, and gives what was there.
+    fn replace(&mut self, number: u64, entry: Option<Entry<V>>) -> Option<Entry<V>>
+        requires { bit_and number self.old.mask < length self.old.places.items }
+        ensures places { self.new.places.items ≡ slice_set self.old.places.items (bit_and number self.old.mask) entry }
+        ensures mask { self.new.mask ≡ self.old.mask }
+        ensures before { Some result ≡ slice_get self.old.places.items (bit_and number self.old.mask) }
+    {
+        let index = self.index(number);
+        mem::replace(&mut self.places[index], entry)
+    }
+
+    /// Puts a value in its number's place, and gives the one that the number had there.
+    fn put(&mut self, number: u64, value: V) -> Option<V>
+        requires { is_free_for number (slice_get self.old.places.items (bit_and number self.old.mask)) ≡ true }
+        ensures set { (q : ℕ) → in_places self.new q ≡ (if number == q then Some value else in_places self.old q) }
+        ensures before { result ≡ in_places self.old number }
+    {
+        value_of(self.replace(number, Some(Entry { number, value })))
+    }
+
+    /// Takes the value of a number out of its place.
+    fn take(&mut self, number: u64) -> Option<V>
+        ensures gone { (q : ℕ) → in_places self.new q ≡ (if number == q then None else in_places self.old q) }
+        ensures before { result ≡ in_places self.old number }
+    {
+        if !self.has(number) {
+            return None;
+        }
+        value_of(self.replace(number, None))
+    }
+
+    /// The value of a number, if it stands in its place, to change it.
+    fn get_mut(&mut self, number: u64) -> Option<&mut V>
+        ensures* lends { sem 𝓛 (LendsPlaced V.row self.entry number result) }
+        ensures value { option_copied_mut result ≡ in_places self.old number }
+    {
+        let index = self.index(number);
+        let place = self.places.get_mut(index)?;
+        let Some(entry) = place else {
+            return None;
+        };
+        if entry.number == number {
+            return Some(&mut entry.value);
+        }
+        None
+    }
+
+    /// Appends the numbers that have a value in their places, in the order of the places. Fails if memory is refused.
+    fn append_numbers(&self, numbers: &mut Vec<u64>) -> Result<(), AllocError>
+        ensures { OnOk result ((n : ℕ) → has n numbers.new.items ≡ (has n numbers.old.items || is_some (in_places self.now n))) }
+    {
+        for place in &self.places {
+            self.append_number(place, numbers)?;
+        }
+        Ok(())
+    }
+
+    /// Appends the number of this entry, if its value stands in its place. Fails if memory is refused.
+    fn append_number(
+        &self,
+        place: &Option<Entry<V>>,
+        numbers: &mut Vec<u64>,
+    ) -> Result<(), AllocError>
+        ensures { OnOk result ((n : ℕ) → has n numbers.new.items ≡ (has n numbers.old.items || tells (is_some (in_places self.now n)) n place.now)) }
+    {
+        let Some(entry) = place else {
+            return Ok(());
+        };
+        if !self.has(entry.number) {
+            return Ok(());
+        }
+        numbers.push(entry.number)?;
+        Ok(())
+    }
+
+    /// Whether no place has a value.
+    fn is_empty(&self) -> bool
+        ensures { result ≡ true → (n : ℕ) → in_places self.now n ≡ None }
+    {
+        for place in &self.places {
+            if place.is_some() {
+                return false;
+            }
+        }
+        true
+    }
+}
+
+/// Appends the numbers of an ordered map. Fails if memory is refused.
+fn append_keys<V>(values: &BTreeMap<u64, V>, numbers: &mut Vec<u64>) -> Result<(), AllocError>
+    ensures { OnOk result (numbers.new.items ≡ numbers.old.items ++ keys_of values.now.entries) }
+{
+    for (number, _) in values {
+        numbers.push(*number)?;
+    }
+    Ok(())
+}
+
+/// Appends the numbers of a part of an ordered map. Fails if memory is refused.
+fn append_range<V>(values: Range<'_, u64, V>, numbers: &mut Vec<u64>) -> Result<(), AllocError>
+    ensures { OnOk result (numbers.new.items ≡ numbers.old.items ++ keys_of values.entry) }
+{
+    for (number, _) in values {
+        numbers.push(*number)?;
+    }
+    Ok(())
+}
+
+/// So many places without a value. Fails if memory is refused.
+fn free_places<V: Drop>(alloc: Global, count: usize) -> Result<Vec<Option<Entry<V>>>, AllocError>
+    ensures { IfOk result (λ places. (i : ℕ) → no_entry (slice_get places.items i) ≡ true) }
+{
+    let mut places = Vec::with_capacity(alloc, count)?;
+    for _ in 0..count {
+        places.push(None)?;
+    }
+    Ok(places)
+}
+
+/// The value of an entry.
+fn value_of<V>(entry: Option<Entry<V>>) -> Option<V>
+    ensures { result ≡ option_map (λ e. e.value) entry }
+{
+    match entry {
+        None => None,
+        Some(
+            Entry {
+                number: _number,
+                value,
+            },
+        ) => Some(value),
+    }
+}
