@@ -1,5 +1,5 @@
 -- The sums of all grants.
-use Rattle.std.proofs.Common.{◌≡◌, ◌∙◌, sym, ap, refl, subst, ℕ, zero, suc, Bool, true, false, cond, ◌&&◌, ◌+◌, ◌<◌, Option, Some, None, Result, Ok, Err, OnOk, IfOk, List, [], ◌∷◌, arith}
+use Rattle.std.proofs.Common.{◌≡◌, ◌∙◌, sym, ap, refl, subst, ℕ, zero, suc, Bool, true, false, cond, ◌&&◌, ◌+◌, ◌<◌, ◌⊎◌, ⊎_elim, Option, Some, None, Result, Ok, Err, OnOk, List, [], ◌∷◌, arith}
 use Rattle.std.specs.Prelude.{◌==◌, nat_lt, is_some, if◌then◌else◌}
 use Rattle.std.specs.BTreeMap.{is_at}
 use Rattle.std.specs.List.{list_any}
@@ -11,7 +11,9 @@ use Rattle.std.proofs.lemmas.Map.Made.{is_some-lookup}
 use Rattle.route_credit.specs.Giving.{IsGiving}
 use Rattle.route_credit.specs.Granting.{all_granted, gain, gains, granting, granted, given_to, grants_of, least, next, room}
 use Rattle.route_credit.specs.Links.{amount_at, link_at}
-use Rattle.route_credit.specs.Pool.{given, is_short, IsNext, lent_at, need, part_of, Sharing}
+use Rattle.route_credit.specs.Pool.{given, is_short, IsNext, lent_at, need, part_of, Sharing, short_by}
+use Rattle.route_table.specs.declared.sections.Distribution.{Distribution}
+use Rattle.route_table.specs.declared.sections.Distribution.TheVariants.{Balanced, Closest}
 use Rattle.route_credit.specs.declared.demand.Demand.{Demand}
 use Rattle.route_credit.proofs.Entries.{Above, InOrder, keys_with, same_entries}
 use Rattle.route_credit.proofs.Grants.{all_done, all_keys, kept_by_all, none_granted, one_of_all}
@@ -190,6 +192,6 @@ pub on_ok : {T E : Type 0} (r : Result T E) (P : Type 0) → P → OnOk r P
 on_ok (Ok x) P is = is
 on_ok (Err e) P is = tt
 
-pub told_is : {T E X : Type 0} (r : Result T E) (shown : T → X) (one other : X) → IfOk r (λ t. shown t ≡ one) → one ≡ other → IfOk r (λ t. shown t ≡ other)
-told_is (Ok x) shown one other is same = is ∙ same
-told_is (Err e) shown one other is same = tt
+-- what an address is short by where it lends by what is free
+pub short_by_figures : (distribution : Distribution) → (distribution ≡ Balanced) ⊎ (distribution ≡ Closest) → (b : Bool) → b ≡ short_by distribution b
+short_by_figures distribution is b = ⊎_elim (λ e. ap (λ d. short_by d b) (sym e)) (λ e. ap (λ d. short_by d b) (sym e)) is

@@ -1,3 +1,4 @@
+pub mod Alone
 pub mod Choices
 pub mod Counted
 pub mod Entries
@@ -12,3 +13,4 @@ pub mod Moved
 pub mod Remembered
 pub mod Steps
 pub mod Sums
+pub mod Tallies

@@ -11,7 +11,7 @@ use Rattle.route_credit.specs.Links.{link_at, with_link, without_link}
 use Rattle.route_credit.proofs.Indices.{same_test}
 use Rattle.route_credit.proofs.Moved.{by_test}
 
-test_sym : (a b : ℕ) → (a == b) ≡ (b == a)
+pub test_sym : (a b : ℕ) → (a == b) ≡ (b == a)
 test_sym a b = by_test (b == a) (λ e. rw e (eq-eqb a b (sym (eqb-true b a e)))) (λ e. by_test (a == b) (λ f. absurd (true≢false (sym (eq-eqb b a (sym (eqb-true a b f))) ∙ e))) (λ f. f ∙ sym e))
 
 is_test : (a b : ℕ) (o : Ordering) → nat_cmp a b ≡ o → is_eq o ≡ (a == b)

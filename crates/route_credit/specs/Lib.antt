@@ -6,3 +6,5 @@ pub mod Laws
 pub mod Links
 pub mod Pool
 pub mod Ranks
+pub mod Side
+pub mod Tally

@@ -22,6 +22,7 @@ pub struct Demand {
 
 impl Demand {
     /// What a link has by its figures.
+    #[inline]
     pub(crate) fn new(unused: u32, due: u32, held: u32) -> Demand
         ensures { result ≡ demand_of unused due held }
     {
@@ -33,6 +34,7 @@ impl Demand {
     }
 
     /// How much the next grant gives, where the link is in need.
+    #[inline]
     pub(crate) fn part(self, distribution: Distribution) -> u32
         ensures { result ≡ part_of distribution self }
     {
@@ -48,6 +50,7 @@ impl Weigh for Demand {
 
     ghost amount = { λ demand. demand.lent };
 
+    #[inline]
     fn rank(self, distribution: Distribution) -> Option<u64> {
         let lent = u64::from(self.lent);
         let needs = match distribution {
@@ -59,10 +62,12 @@ impl Weigh for Demand {
         if needs { Some(lent) } else { None }
     }
 
+    #[inline]
     fn is_same(self, other: Self) -> bool {
         self == other
     }
 
+    #[inline]
     fn amount(self) -> u64 {
         u64::from(self.lent)
     }

@@ -24,6 +24,7 @@ impl Few {
     }
 
     /// Whether this stands there: a place, or none.
+    #[inline]
     fn stands(&self, at: usize, wanted: Option<Place>) -> bool
         requires { at < 4 }
         ensures there { result ≡ true → slice_index_or self.now.places at None ≡ wanted }
@@ -33,6 +34,7 @@ impl Few {
     }
 
     /// Puts this there.
+    #[inline]
     fn set(&mut self, at: usize, place: Option<Place>)
         requires { at < 4 }
         ensures { self.new.places ≡ slice_set self.old.places at place }
@@ -41,6 +43,7 @@ impl Few {
     }
 
     /// Puts a place, or none, where another one stands, or none; whether that one was found.
+    #[inline]
     pub(crate) fn replace(&mut self, before: Option<Place>, after: Option<Place>) -> bool
         ensures replaced { result ≡ true → (place : Place) → count self.new.places place + once (is_there before place) ≡ count self.old.places place + once (is_there after place) }
         ensures kept { result ≡ false → self.new ≡ self.old }
@@ -56,6 +59,7 @@ impl Few {
     }
 
     /// The first in order.
+    #[inline]
     pub(crate) fn first(&self) -> Option<Place>
         ensures { IsFirst (count self.now.places) result }
     {

@@ -12,6 +12,8 @@ mod offer;
 mod place;
 mod pool;
 mod ranking;
+mod side;
+mod tally;
 mod weigh;
 
 pub use demand::Demand;

@@ -34,6 +34,7 @@ impl<T: Weigh> Links<T> {
     }
 
     /// What is known of a link.
+    #[inline]
     pub(crate) fn get(&self, id: u64) -> Option<T>
         ensures { result ≡ link_at self.now.rows.entries id }
     {
@@ -41,6 +42,7 @@ impl<T: Weigh> Links<T> {
     }
 
     /// Whether there are none.
+    #[inline]
     pub(crate) fn is_empty(&self) -> bool
         ensures { result ≡ (length self.now.rows.entries == 0) }
     {
@@ -48,6 +50,7 @@ impl<T: Weigh> Links<T> {
     }
 
     /// The sum of the amounts of all links.
+    #[inline]
     pub(crate) fn total(&self) -> u64
         ensures { result ≡ self.now.total }
     {
@@ -107,20 +110,28 @@ impl<T: Weigh> Links<T> {
     }
 
     /// Removes a link.
+    #[inline]
     pub(crate) fn remove(&mut self, distribution: Distribution, id: u64)
         ensures removed { self.new.rows.entries ≡ without_link self.old.rows.entries id }
         ensures whole { IsIndexed (T.rank distribution) T.amount self.old → IsIndexed (T.rank distribution) T.amount self.new }
     {
-        let old = self.get(id);
-        if old.is_none() {
-            return;
+        if self.rows.contains_key(&id) {
+            self.take_out(distribution, id);
         }
+    }
+
+    /// Removes a link that is there, with its place and its part in the sum.
+    fn take_out(&mut self, distribution: Distribution, id: u64)
+        ensures removed { self.new.rows.entries ≡ without_link self.old.rows.entries id }
+        ensures whole { IsIndexed (T.rank distribution) T.amount self.old → IsIndexed (T.rank distribution) T.amount self.new }
+    {
+        let old = self.rows.remove(&id);
         self.ranking.unset(id, rank_of(distribution, old));
         self.total = self.total.saturating_sub(amount_of(old));
-        let _ = self.rows.remove(&id);
     }
 
     /// The link whose turn is first.
+    #[inline]
     pub(crate) fn first(&self) -> Option<u64>
         ensures { (rank : T → Option ℕ) → IsIndexed rank T.amount self.now → IsLeast (rank_at rank self.now.rows.entries) result }
     {
@@ -128,6 +139,7 @@ impl<T: Weigh> Links<T> {
     }
 
     /// The first link after this one, in the order of their numbers, where every rank is 0.
+    #[inline]
     pub(crate) fn first_behind(&self, id: u64) -> Option<u64>
         ensures { (rank : T → Option ℕ) → IsIndexed rank T.amount self.now → ((other m : ℕ) → rank_at rank self.now.rows.entries other ≡ Some m → m ≡ 0) → IsLeast (behind id (rank_at rank self.now.rows.entries)) result }
     {
@@ -136,6 +148,7 @@ impl<T: Weigh> Links<T> {
 }
 
 /// Changes what is known of a link, with its place and its part in the sum. Where memory is refused nothing changes.
+#[inline]
 fn change<T: Weigh>(
     known: &mut T,
     ranking: &mut Ranking,
@@ -162,6 +175,7 @@ fn change<T: Weigh>(
     Ok(())
 }
 
+#[inline]
 fn rank_of<T: Weigh>(distribution: Distribution, link: Option<T>) -> Option<u64>
     ensures { result ≡ option_and_then (T.rank distribution) link }
 {
@@ -171,6 +185,7 @@ fn rank_of<T: Weigh>(distribution: Distribution, link: Option<T>) -> Option<u64>
     }
 }
 
+#[inline]
 fn amount_of<T: Weigh>(link: Option<T>) -> u64
     ensures { result ≡ amount_at T.amount link }
 {

@@ -16,6 +16,7 @@ impl Weigh for Offer {
 
     ghost amount = { λ offer. offer.free };
 
+    #[inline]
     fn rank(self, distribution: Distribution) -> Option<u64> {
         if self.free == 0 {
             return None;
@@ -27,10 +28,12 @@ impl Weigh for Offer {
         }
     }
 
+    #[inline]
     fn is_same(self, other: Self) -> bool {
         self == other
     }
 
+    #[inline]
     fn amount(self) -> u64 {
         self.free
     }

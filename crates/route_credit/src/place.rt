@@ -12,6 +12,7 @@ pub(crate) struct Place {
 
 impl Place {
     /// The place of a link with this rank, if it has one.
+    #[inline]
     pub(crate) fn of(id: u64, rank: Option<u64>) -> Option<Place>
         ensures { result ≡ place_of id rank }
     {
@@ -22,6 +23,7 @@ impl Place {
     }
 
     /// Whether it is before another in the order, or the same.
+    #[inline]
     fn is_before(self, other: Place) -> bool
         ensures before { result ≡ true → IsBefore self other }
         ensures after { result ≡ false → IsBefore other self }
@@ -31,6 +33,7 @@ impl Place {
 }
 
 /// The first of two places, where there are two.
+#[inline]
 pub(crate) fn sooner(one: Option<Place>, other: Option<Place>) -> Option<Place>
     ensures { (f g : Place → ℕ) → IsFirst f one → IsFirst g other → IsFirst (λ place. f place + g place) result }
 {
@@ -42,6 +45,7 @@ pub(crate) fn sooner(one: Option<Place>, other: Option<Place>) -> Option<Place>
 }
 
 /// This place, if its link has a number above another.
+#[inline]
 pub(crate) fn behind(found: Option<Place>, id: u64) -> Option<Place>
     ensures { IsFirst (λ place. if nat_lt id place.id then once (is_there found place) else 0) result }
 {

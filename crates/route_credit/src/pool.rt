@@ -1,6 +1,5 @@
 //! The pool of an address.
 ghost use Rattle.std.specs.Prelude.{◌≡◌, ◌+◌, ◌⊎◌, ℕ, List, [], false, None, Some, OnOk, OnErr, IfOk, option_map, nat_lt, ◌==◌, if◌then◌else◌};
-ghost use Rattle.std.specs.BTreeMap.{get};
 ghost use Rattle.std.specs.List.Sorted.{IsStrictlySortedBy};
 ghost use Rattle.std.specs.Map.{keys_of};
 ghost use Rattle.std.specs.Ordering.{nat_cmp};
@@ -11,11 +10,11 @@ ghost use Rattle.route_credit.specs.declared.demand.Demand.{Demand};
 
 use crate::demand::Demand;
 use crate::ids::{ConsumerId, ProducerId};
-use crate::links::Links;
 use crate::offer::Offer;
+use crate::side::Side;
+use crate::tally::Tally;
 use route_table::Distribution;
 use std::alloc::{AllocError, Global};
-use std::collections::BTreeMap;
 use std::marker::Model;
 
 /// The links of one address: who gets the next delivery, and who gets credit.
@@ -26,21 +25,21 @@ use std::marker::Model;
 pub struct Pool {
     alloc: Global,
     distribution: Distribution,
-    consumers: Links<Offer>,
-    producers: Links<Demand>,
+    consumers: Side<Offer>,
+    producers: Side<Demand>,
     last: u64,
 }
 
 impl Model for Pool {
-    ghost use Rattle.route_credit.specs.Indexed.{IsIndexed};
     ghost use Rattle.route_credit.specs.Pool.{need_of, Sharing};
     ghost use Rattle.route_credit.specs.Ranks.{offer_rank};
+    ghost use Rattle.route_credit.specs.Side.{IsWhole, links_of};
 
     ghost Value = { Sharing };
 
-    ghost view = { λ p. record { distribution = p.distribution; consumers = p.consumers.rows.entries; producers = p.producers.rows.entries; last = p.last } };
+    ghost view = { λ p. record { distribution = p.distribution; consumers = links_of p.consumers; producers = links_of p.producers; last = p.last } };
 
-    ghost invariant = { λ p. IsIndexed (offer_rank p.distribution) (λ offer. offer.free) p.consumers × IsIndexed (need_of p.distribution) (λ demand. demand.lent) p.producers };
+    ghost invariant = { λ p. IsWhole (offer_rank p.distribution) (λ offer. offer.free) p.consumers × IsWhole (need_of p.distribution) (λ demand. demand.lent) p.producers };
 }
 
 impl Pool {
@@ -51,13 +50,14 @@ impl Pool {
         Pool {
             alloc,
             distribution,
-            consumers: Links::new(alloc, distribution),
-            producers: Links::new(alloc, distribution),
+            consumers: Side::Empty,
+            producers: Side::Empty,
             last: 0,
         }
     }
 
     /// How the address shares its messages.
+    #[inline]
     pub fn distribution(&self) -> Distribution
         ensures { result ≡ self.now.distribution }
     {
@@ -65,6 +65,7 @@ impl Pool {
     }
 
     /// Whether it has no links.
+    #[inline]
     pub fn is_empty(&self) -> bool
         ensures { result ≡ has_no_links self.now }
     {
@@ -73,6 +74,7 @@ impl Pool {
 
     /// Stores what a consumer link has now: its free credit and its undecided deliveries. The first call for a link is
     /// its attach.
+    #[inline]
     pub fn offer(
         &mut self,
         consumer: ConsumerId,
@@ -83,11 +85,13 @@ impl Pool {
         ensures err { OnErr result (self.new ≡ self.old) }
     {
         let offer = Offer { free, undecided };
-        self.consumers.set(self.distribution, consumer.0, offer)
+        self.consumers
+            .set(self.alloc, self.distribution, consumer.0, offer)
     }
 
     /// Stores what a producer link has now: its unused credit, how much of that is due, and its deliveries that are
     /// undecided or not forgotten. The first call for a link is its attach.
+    #[inline]
     pub fn want(
         &mut self,
         producer: ProducerId,
@@ -99,10 +103,12 @@ impl Pool {
         ensures err { OnErr result (self.new ≡ self.old) }
     {
         let demand = Demand::new(unused, due, held);
-        self.producers.set(self.distribution, producer.0, demand)
+        self.producers
+            .set(self.alloc, self.distribution, producer.0, demand)
     }
 
     /// Removes a consumer link. If it was the one last chosen, it is still remembered as that.
+    #[inline]
     pub fn drop_consumer(&mut self, consumer: ConsumerId)
         ensures { self.new ≡ without_consumer self.old consumer.0 }
     {
@@ -110,6 +116,7 @@ impl Pool {
     }
 
     /// Removes a producer link.
+    #[inline]
     pub fn drop_producer(&mut self, producer: ProducerId)
         ensures { self.new ≡ without_producer self.old producer.0 }
     {
@@ -152,30 +159,37 @@ impl Pool {
         ensures filled { OnOk result (self.new ≡ all_granted self.old) }
         ensures sums { IfOk result (λ sums. by_id sums.items ≡ grants_of self.old) }
     {
-        let mut sums = BTreeMap::new(self.alloc);
+        let mut sums = Tally::new(self.alloc);
         while let Some(id) = self.next_producer() {
             let part = self.give(id)?;
-            add(&mut sums, id, part)?;
+            sums.add(id, part)?;
         }
-        told(self.alloc, &sums)
+        sums.told()
     }
 
     /// The consumer whose turn is first.
+    #[inline]
     fn next_consumer(&self) -> Option<u64>
         ensures choice { IsChoice self.now result }
         ensures ordered { IsStrictlySortedBy nat_cmp (keys_of self.now.consumers) }
     {
-        match self.distribution {
-            Distribution::Balanced | Distribution::Multicast => self.consumers.first(),
-            Distribution::Closest => match self.consumers.first_behind(self.last) {
-                None => self.consumers.first(),
-                Some(id) => Some(id),
-            },
+        let distribution = self.distribution;
+        match distribution {
+            Distribution::Balanced | Distribution::Multicast => {
+                self.consumers.first(distribution)
+            }
+            Distribution::Closest => {
+                match self.consumers.first_behind(distribution, self.last) {
+                    None => self.consumers.first(distribution),
+                    Some(id) => Some(id),
+                }
+            }
         }
     }
 
     /// Whether any credit is to be given. If not, it has no grants.
     #[tactic(auto, using(crate::proofs::Gains::none_where_enough))]
+    #[inline]
     pub fn is_short(&self) -> bool
         ensures short { result ≡ is_short self.now }
         ensures quiet { result ≡ false → grants_of self.now ≡ [] }
@@ -190,6 +204,7 @@ impl Pool {
     }
 
     /// The producer that is given credit next.
+    #[inline]
     fn next_producer(&self) -> Option<u64>
         ensures next { IsNext self.now result }
         ensures ordered { IsStrictlySortedBy nat_cmp (keys_of self.now.producers) }
@@ -197,7 +212,7 @@ impl Pool {
         if !self.is_short() {
             return None;
         }
-        self.producers.first()
+        self.producers.first(self.distribution)
     }
 
     /// Gives a producer its part, and returns how much that is.
@@ -215,39 +230,7 @@ impl Pool {
             return Err(AllocError);
         };
         let more = Demand { lent, ..demand };
-        self.producers.set(self.distribution, id, more)?;
+        self.producers.set(self.alloc, self.distribution, id, more)?;
         Ok(part)
     }
-}
-
-/// Adds a part to the sum of a producer.
-fn add(sums: &mut BTreeMap<u64, u32>, id: u64, part: u32) -> Result<(), AllocError>
-    ensures { OnOk result ((q : ℕ) → get nat_cmp sums.new q ≡ (if id == q then Some (amount_at (λ n. n) (get nat_cmp sums.old id) + part) else get nat_cmp sums.old q)) }
-{
-    let before = match sums.get(&id) {
-        None => 0,
-        Some(sum) => *sum,
-    };
-    let Some(sum) = before.checked_add(part) else {
-        return Err(AllocError);
-    };
-    match sums.insert(id, sum) {
-        Ok(_) => Ok(()),
-        Err(_) => Err(AllocError),
-    }
-}
-
-/// The sums in order of attach.
-fn told(alloc: Global, sums: &BTreeMap<u64, u32>) -> Result<Vec<(ProducerId, u32)>, AllocError>
-    ensures told { IfOk result (λ told. by_id told.items ≡ sums.now.entries) }
-    ensures ordered { IsStrictlySortedBy nat_cmp (keys_of sums.now.entries) }
-{
-    let mut told = Vec::with_capacity(alloc, sums.len())?;
-    for (id, sum) in sums {
-        match told.push((ProducerId(*id), *sum)) {
-            Ok(()) => {}
-            Err(_) => return Err(AllocError),
-        }
-    }
-    Ok(told)
 }

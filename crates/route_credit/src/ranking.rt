@@ -31,6 +31,7 @@ impl Ranking {
     }
 
     /// Puts a place that isn't there.
+    #[inline]
     fn put(&mut self, place: Option<Place>) -> Result<(), AllocError>
         ensures put { OnOk result ((p : Place) → times self.old p + once (is_there place p) ≤ 1 → times self.new p ≡ times self.old p + once (is_there place p)) }
         ensures err { OnErr result ((p : Place) → times self.new p ≡ times self.old p) }
@@ -48,6 +49,7 @@ impl Ranking {
     }
 
     /// Takes a place away.
+    #[inline]
     fn take(&mut self, place: Option<Place>)
         ensures { (p : Place) → times self.old p ≤ 1 → times self.new p ≡ times self.old p - once (is_there place p) }
     {
@@ -60,6 +62,7 @@ impl Ranking {
     }
 
     /// Moves a link from its rank to another.
+    #[inline]
     pub(crate) fn set(
         &mut self,
         id: u64,
@@ -83,6 +86,7 @@ impl Ranking {
     }
 
     /// Removes a link, which has this rank.
+    #[inline]
     pub(crate) fn unset(&mut self, id: u64, rank: Option<u64>)
         ensures { (ranks : ℕ → Option ℕ) → Ranks self.old ranks → ranks id ≡ rank → Ranks self.new (ranked ranks id None) }
     {
@@ -90,6 +94,7 @@ impl Ranking {
     }
 
     /// The link whose turn is first.
+    #[inline]
     pub(crate) fn first(&self) -> Option<u64>
         ensures { (ranks : ℕ → Option ℕ) → Ranks self.now ranks → IsLeast ranks result }
     {
@@ -111,6 +116,7 @@ impl Ranking {
 }
 
 /// The first place of an ordered set.
+#[inline]
 fn first(places: &BTreeSet<Place>) -> Option<Place>
     ensures { IsFirst (λ place. once (contains place_cmp places.now place)) result }
 {

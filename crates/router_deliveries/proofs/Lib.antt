@@ -18,6 +18,7 @@ pub mod Numbers
 mod Asked
 pub mod Touching
 mod Above
+mod Pairs
 pub mod Unsent
 mod Ranges
 mod Opened

@@ -1,5 +1,5 @@
 -- Numbers by place.
-use Rattle.std.proofs.Common.{◌≡◌, ◌∙◌, ◌<◌, ◌≤◌, ◌^◌, ◌++◌, ℕ, Bool, true, false, refl, sym, ap, arith, cond, List, [], ◌∷◌, Option, Some, None}
+use Rattle.std.proofs.Common.{◌≡◌, ◌∙◌, ◌<◌, ◌≤◌, ◌^◌, ◌++◌, ℕ, Bool, true, false, refl, sym, ap, arith, cond, List, [], ◌∷◌, length, Option, Some, None}
 use Rattle.std.specs.Prelude.{◌&&◌, ◌||◌, ◌==◌, not, nat_lt, nat_le, if◌then◌else◌}
 use Rattle.std.specs.List.{filter, list_any}
 use Rattle.std.specs.Ordering.{nat_cmp, ordering_then, is_eq, is_le, is_lt}
@@ -54,6 +54,23 @@ key_test k x =
     ∙ ap (λ b. b && is_eq (nat_cmp k.1 x.1)) (same_test k.0 x.0) ∙ ap (λ b. (k.0 == x.0) && b) (same_test k.1 x.1))
     ∙ ap (λ b. ((k.0 == x.0) && (k.1 == x.1)) && b) (same_test k.2 x.2))
     ∙ ap (λ b. (((k.0 == x.0) && (k.1 == x.1)) && (k.2 == x.2)) && b) (same_test k.3 x.3)
+
+-- where nothing stands, no number has a place
+pub nowhere_at : (s : Spots) (known : ℕ → Option Spot) → SpotsFit s known → length s.keys.keys ≡ 0 → (n : ℕ) → known n ≡ None
+nowhere_at s known fit empty n = by_spot (known n) refl
+  where
+    none_of : (ks : List Key) (k : Key) → length ks ≡ 0 → list_any (is_at (key_cmp k)) ks ≡ false
+    none_of [] k e = refl
+    none_of (x ∷ ks) k e = absurd (omega (arith, e))
+
+    same : (p : Spot) → is_spot (Some p) p ≡ true
+    same p = rw (same_number p.conn, same_number p.own, same_number p.at) refl
+
+    by_spot : (v : Option Spot) → known n ≡ v → v ≡ None
+    by_spot None e = refl
+    by_spot (Some p) e =
+        let wrong : true ≡ false = sym (fit.stand p n ∙ ap (λ v. is_spot v p) e ∙ same p) ∙ none_of s.keys.keys (key p n) empty in
+        absurd cc
 
 -- the same known places, by an equal function
 pub fits_same : (s : Spots) (f g : ℕ → Option Spot) → ((n : ℕ) → f n ≡ g n) → SpotsFit s f → SpotsFit s g

@@ -136,3 +136,10 @@ unfound f m s u found is none at index by_name x = record {
             at n ∙ ap (λ b. if b then option_map f (in_slots s.deliveries n) else in_slots s.deliveries n) e
             ∙ mapped (in_slots s.deliveries n) (ap (in_slots s.deliveries) (sym (eqb-true m n e)) ∙ nowhere (in_slots s.deliveries m) is)
         by_test false e = at n ∙ ap (λ b. if b then option_map f (in_slots s.deliveries n) else in_slots s.deliveries n) e
+
+-- whether there was one, told by a Boolean
+pub one_there : (b : Bool) (x : Moved) (r : Option Moved) → b ≡ true → (if b then Some x else None) ≡ r → Some x ≡ r
+one_there b x r is e = sym (ap (λ c. if c then Some x else None) is) ∙ e
+
+pub none_there : (b : Bool) (x : Moved) (r : Option Moved) → b ≡ false → (if b then Some x else None) ≡ r → None ≡ r
+none_there b x r is e = sym (ap (λ c. if c then Some x else None) is) ∙ e

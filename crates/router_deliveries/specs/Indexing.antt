@@ -4,8 +4,9 @@ use Rattle.std.specs.Ordering.{nat_cmp, ordering_then, is_gt}
 use Rattle.std.specs.declared.cmp.Ordering.{Ordering}
 use Rattle.std.specs.declared.ops.Bound.{Bound}
 use Rattle.std.specs.declared.ops.Bound.TheVariants.{Excluded, Unbounded}
+use Rattle.std.specs.BTreeMap.{is_at}
 use Rattle.std.specs.BTreeMap.Range.{IsFromStart}
-use Rattle.std.specs.BTreeSet.{BTreeSet, contains}
+use Rattle.std.specs.BTreeSet.{contains}
 use Rattle.router_places.specs.Marks.{has as is_marked}
 use Rattle.router_trace.specs.declared.binding.Origin.{Origin}
 use Rattle.router_trace.specs.Deliveries.{Delivery, has_row, source, sender, holder, is_over, is_undecided, unless_over, is_number}
@@ -26,15 +27,24 @@ Pair = ℕ × ℕ
 abbrev pub pair_cmp : Pair → Pair → Ordering
 pair_cmp p q = ordering_then (nat_cmp p.0 q.0) (nat_cmp p.1 q.1)
 
+-- a pair is this one
+abbrev pub is_pair : Option Pair → Pair → Bool
+is_pair None q = false
+is_pair (Some p) q = is_at (pair_cmp p) q
+
+-- a pair is the one in place, or among the others
+abbrev pub has_pair : ByLink → Pair → Bool
+has_pair g q = is_pair g.place q || contains pair_cmp g.others q
+
 -- a number belongs to a link
 abbrev pub in_group : ByLink → ℕ → ℕ → Bool
-in_group g k n = contains pair_cmp g.pairs (k, n)
+in_group g k n = has_pair g (k, n)
 
--- the first pair that a set has from a bound on, if it has any
-abbrev pub IsFirstPair : BTreeSet Pair → Bound Pair → Option Pair → Type 0
-IsFirstPair s low None = (q : Pair) → IsFromStart pair_cmp low q → contains pair_cmp s q ≡ false
-IsFirstPair s low (Some p) = IsFromStart pair_cmp low p × (contains pair_cmp s p ≡ true)
-    × ((q : Pair) → IsFromStart pair_cmp low q → contains pair_cmp s q ≡ true → is_gt (pair_cmp p q) ≡ false)
+-- the first pair from a bound on that passes, if any does
+abbrev pub IsFirstPair : (Pair → Bool) → Bound Pair → Option Pair → Type 0
+IsFirstPair passes low None = (q : Pair) → IsFromStart pair_cmp low q → passes q ≡ false
+IsFirstPair passes low (Some p) = IsFromStart pair_cmp low p × (passes p ≡ true)
+    × ((q : Pair) → IsFromStart pair_cmp low q → passes q ≡ true → is_gt (pair_cmp p q) ≡ false)
 
 -- the number of a pair of this link
 abbrev pub number_on : ℕ → Option Pair → Option ℕ

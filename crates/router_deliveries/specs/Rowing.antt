@@ -2,8 +2,7 @@
 use Rattle.std.specs.Prelude.{ℕ, Bool, Option, Some, None}
 use Rattle.std.specs.List.{list_any}
 use Rattle.std.specs.Option.{is_some}
-use Rattle.std.specs.Ordering.{nat_cmp}
-use Rattle.std.specs.BTreeMap.{BTreeMap, get}
+use Rattle.std.specs.BTreeMap.{BTreeMap}
 use Rattle.router_places.specs.declared.slots.Slots.{Slots}
 use Rattle.router_places.specs.Places.{in_map}
 use Rattle.router_places.specs.Slots.{in_slots}
@@ -15,7 +14,7 @@ in_row (Some s) n = in_slots s n
 
 -- of the session on a channel of the router, of a connection
 abbrev pub in_rows : {V : Type 0} → Rows V → ℕ → ℕ → ℕ → Option V
-in_rows s c o n = in_row (in_map (get nat_cmp s.rows c) o) n
+in_rows s c o n = in_row (in_map (in_slots s.rows c) o) n
 
 -- one of these sessions has a value of the number
 abbrev pub is_in_any : {V : Type 0} → ℕ → BTreeMap ℕ (Slots V) → Bool

@@ -1,12 +1,13 @@
 //! How a peer's disposition changes the deliveries of a table.
-ghost use Rattle.std.specs.Prelude.{◌≡◌, ℕ, OnOk};
+ghost use Rattle.std.specs.Prelude.{◌≡◌, if◌then◌else◌, ℕ, OnOk};
 ghost use Rattle.router_places.specs.Slots.{in_slots};
 ghost use Rattle.router_deliveries.specs.Fits.{Indexed};
 ghost use Rattle.router_deliveries.specs.Hearing.{heard_by, done_to};
 ghost use Rattle.router_deliveries.specs.Naming.{AreSmall};
 ghost use Rattle.router_places.specs.Ids.{at_id};
-ghost use Rattle.router_deliveries.specs.Stepping.{IsKept};
+ghost use Rattle.router_deliveries.specs.Stepping.{IsKept, behind};
 ghost use Rattle.router_deliveries.specs.Touching.{StoreTouches};
+ghost use Rattle.router_trace.specs.Deliveries.{is_number};
 
 use crate::change::Change;
 use crate::names::Names;
@@ -31,7 +32,7 @@ pub(crate) fn hear(
     }
 }
 
-/// Applies a change to the deliveries.
+/// Applies a change to the deliveries. A decision of one id alone looks that id up, and no list is made.
 fn hear_one(store: &mut Store, names: &Names, change: &Change) -> Result<(), AllocError>
     ensures deliveries { OnOk result (((n : ℕ) → IsKept (in_slots store.old.deliveries n)) → Indexed store.old → AreSmall (at_id names.now.ids)
         → (n : ℕ) → in_slots store.new.deliveries n ≡ done_to change.now (at_id names.now.ids) n (in_slots store.old.deliveries n)) }
@@ -46,9 +47,26 @@ fn hear_one(store: &mut Store, names: &Names, change: &Change) -> Result<(), All
             last,
             ..
         } => {
+            if *first == *last {
+                return decide(store, names.picked(store, *conn, *own, *first), change);
+            }
             let numbers = names.in_range(store, *conn, *own, *first, *last)?;
             store.change_all(numbers.as_slice(), change)
         }
         _ => store.apply(change),
+    }
+}
+
+/// Applies a change to the delivery with a number, if there is one.
+#[tactic(auto, using(crate::proofs::Touching::touches_self))]
+fn decide(store: &mut Store, number: Option<u64>, change: &Change) -> Result<(), AllocError>
+    ensures deliveries { OnOk result ((n : ℕ) → in_slots store.new.deliveries n
+        ≡ (if is_number number n then behind change.now (in_slots store.old.deliveries n) else in_slots store.old.deliveries n)) }
+    ensures indexed { OnOk result (Indexed store.old → Indexed store.new) }
+    ensures touches { OnOk result (StoreTouches store.old store.new) }
+{
+    match number {
+        None => Ok(()),
+        Some(number) => store.change(number, change),
     }
 }

@@ -5,7 +5,7 @@ ghost use Rattle.std.specs.BTreeSet.{contains};
 ghost use Rattle.router_places.specs.Marks.{has as is_marked};
 ghost use Rattle.router_deliveries.specs.declared.index.Keys.{Keys as TheKeys};
 ghost use Rattle.router_deliveries.specs.Deciding.{decides, decide};
-ghost use Rattle.router_trace.specs.Deliveries.{unless_over};
+ghost use Rattle.router_trace.specs.Deliveries.{is_over, unless_over};
 ghost use Rattle.router_deliveries.specs.Indexing.{Indexes, nowhere, keys, standing, moved, on_link, durable_spot, concerns};
 ghost use Rattle.router_deliveries.specs.Placing.{spot_of, on_spot, from_spot, id_spot, own_spot, is_gone_there};
 ghost use Rattle.amqp_session.specs.Ranges.{has};
@@ -16,11 +16,10 @@ use crate::change::{Change, Gone};
 use crate::consumers::Consumers;
 use crate::delivery::Delivery;
 use crate::handles::Handles;
-use crate::kept::Kept;
 use crate::sets::add;
 use crate::spots::{Spot, Spots};
 use crate::tallies::Tallies;
-use router_places::Marks;
+use router_places::{Kept, Marks};
 use router_trace::{Attachment, DeliveryName, Origin};
 use std::alloc::{AllocError, Global};
 use std::collections::BTreeSet;
@@ -112,10 +111,30 @@ impl Keys {
     pub(crate) fn of(delivery: &Delivery) -> Keys
         ensures { result ≡ keys delivery.now }
     {
+        let mut keys = Keys::nowhere();
+        keys.set(delivery);
+        keys
+    }
+
+    /// Becomes the entries of a delivery, unless that is over.
+    fn set_kept(&mut self, delivery: &Delivery, over: bool)
+        ensures { over ≡ is_over delivery.now → self.new ≡ standing (unless_over delivery.now) }
+    {
+        if over {
+            *self = Keys::nowhere();
+        } else {
+            self.set(delivery);
+        }
+    }
+
+    /// Becomes the entries of a delivery.
+    fn set(&mut self, delivery: &Delivery)
+        ensures { self.new ≡ keys delivery.now }
+    {
         let undecided = delivery.outcome.is_none();
         let open = undecided && !delivery.suspended;
         let source = delivery.source();
-        Keys {
+        *self = Keys {
             waiting: on_link(
                 delivery.link.number,
                 delivery.id.is_none() && delivery.going_on,
@@ -131,32 +150,36 @@ impl Keys {
             from: from_spot(delivery.sender()),
             by_id: id_spot(source),
             durable: durable_spot(delivery),
-        }
+        };
     }
 }
 
 impl Moved {
-    /// A delivery that was changed and had these entries before.
-    pub(crate) fn of(delivery: &Delivery, before: &Keys) -> Moved
-        ensures { result ≡ moved before.now delivery.now }
-    {
+    /// Of no delivery yet.
+    pub(crate) fn new() -> Moved {
         Moved {
-            name: delivery.name,
-            over: delivery.is_over(),
-            before: *before,
-            after: kept_keys(delivery),
+            name: DeliveryName::Counter(0),
+            over: false,
+            before: Keys::nowhere(),
+            after: Keys::nowhere(),
         }
     }
-}
 
-/// The entries of a delivery, unless it is over.
-fn kept_keys(delivery: &Delivery) -> Keys
-    ensures { result ≡ standing (unless_over delivery.now) }
-{
-    if delivery.is_over() {
-        return Keys::nowhere();
+    /// Notes the entries of a delivery before it is changed.
+    pub(crate) fn note_before(&mut self, delivery: &Delivery)
+        ensures { self.new.before ≡ keys delivery.now }
+    {
+        self.before.set(delivery);
     }
-    Keys::of(delivery)
+
+    /// Notes what a delivery is once it was changed.
+    pub(crate) fn note_after(&mut self, delivery: &Delivery)
+        ensures { self.new ≡ moved self.old.before delivery.now }
+    {
+        self.name = delivery.name;
+        self.over = delivery.is_over();
+        self.after.set_kept(delivery, self.over);
+    }
 }
 
 /// The link, if `holds`.

@@ -22,7 +22,6 @@ mod delivery;
 mod handles;
 mod hearing;
 mod index;
-mod kept;
 mod names;
 mod next_ids;
 mod rows;

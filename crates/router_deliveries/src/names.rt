@@ -52,7 +52,7 @@ impl Names {
     }
 
     /// The number of the delivery that an id names, if the delivery has this id.
-    fn picked(&self, store: &Store, conn: u64, own: u16, id: u32) -> Option<u64>
+    pub(crate) fn picked(&self, store: &Store, conn: u64, own: u16, id: u32) -> Option<u64>
         ensures { (n : ℕ) → is_number result n ≡ picks (at_id self.now.ids conn own) n (id_of (in_slots store.now.deliveries n)) id }
     {
         let number = self.get(conn, own, id)?;
@@ -200,7 +200,7 @@ impl Names {
         Ok(())
     }
 
-    /// Forgets those ids in a session's range that name deliveries which aren't undecided.
+    /// Forgets those ids in a session's range that name deliveries which aren't undecided. One id alone is looked up, and no list of ids is made.
     pub(crate) fn settle(
         &mut self,
         store: &Store,
@@ -211,6 +211,9 @@ impl Names {
     ) -> Result<(), AllocError>
         ensures { OnOk result ((t : List Entry) → ((n : ℕ) → in_slots store.now.deliveries n ≡ delivery t n) → NamesFit self.old t → NamesFit self.new t) }
     {
+        if first == last {
+            return self.settle_one(store, conn, own, first);
+        }
         let ids = self.ids.in_range(conn, own, first, last)?;
         for id in &ids {
             self.settle_one(store, conn, own, id.number())?;

@@ -13,7 +13,9 @@ use router_places::Slots;
 use std::alloc::{AllocError, Global};
 use std::collections::BTreeMap;
 
-/// So many neighbouring numbers of a session are found without an ordered map.
+/// So many connections with neighbouring numbers are found without an ordered map, and so many neighbouring numbers of a session.
+const CONNECTIONS: usize = 64;
+
 const PLACES: usize = 64;
 
 /// The values of a connection, by the router's channel of a session.
@@ -27,7 +29,7 @@ type InConnection<V> = BTreeMap<u16, Slots<V>>;
 #[derive(Drop)]
 pub(crate) struct Rows<V> {
     alloc: Global,
-    rows: BTreeMap<u64, InConnection<V>>,
+    rows: Slots<InConnection<V>>,
 }
 
 impl<V: Drop> Rows<V> {
@@ -37,7 +39,7 @@ impl<V: Drop> Rows<V> {
     {
         Rows {
             alloc,
-            rows: BTreeMap::new(alloc),
+            rows: Slots::new(alloc, CONNECTIONS),
         }
     }
 
@@ -48,9 +50,9 @@ impl<V: Drop> Rows<V> {
 
     /// The values of a session.
     pub(crate) fn session(&self, conn: u64, own: u16) -> Option<&Slots<V>>
-        ensures { option_copied result ≡ in_map (get nat_cmp self.now.rows conn) own }
+        ensures { option_copied result ≡ in_map (in_slots self.now.rows conn) own }
     {
-        self.rows.get(&conn)?.get(&own)
+        self.rows.get(conn)?.get(&own)
     }
 
     /// The value of a number.
@@ -75,15 +77,13 @@ impl<V: Drop> Rows<V> {
             ≡ (if conn == c then (if own == o then (if number == n then Some value else in_rows self.old c o n) else in_rows self.old c o n) else in_rows self.old c o n)) }
     {
         let alloc = self.alloc;
-        if let Some(sessions) = self.rows.get_mut(&conn) {
+        if let Some(sessions) = self.rows.get_mut(conn) {
             return insert_in(alloc, sessions, own, number, value);
         }
         let mut sessions = BTreeMap::new(alloc);
         insert_in(alloc, &mut sessions, own, number, value)?;
-        match self.rows.insert(conn, sessions) {
-            Ok(_) => Ok(()),
-            Err(_) => Err(AllocError),
-        }
+        self.rows.insert(conn, sessions)?;
+        Ok(())
     }
 
     /// Removes the value of a number.
@@ -91,7 +91,7 @@ impl<V: Drop> Rows<V> {
         ensures { (c o n : ℕ) → in_rows self.new c o n
             ≡ (if conn == c then (if own == o then (if number == n then None else in_rows self.old c o n) else in_rows self.old c o n) else in_rows self.old c o n) }
     {
-        if let Some(sessions) = self.rows.get_mut(&conn) {
+        if let Some(sessions) = self.rows.get_mut(conn) {
             remove_in(sessions, own, number);
         }
     }
@@ -120,7 +120,7 @@ impl<V: Drop> Rows<V> {
         ensures more { OnOk result ((n : ℕ) → has n numbers.old.items ≡ true → has n numbers.new.items ≡ true) }
         ensures found { OnOk result ((o n : ℕ) → is_some (in_rows self.now conn o n) ≡ true → has n numbers.new.items ≡ true) }
     {
-        let Some(sessions) = self.rows.get(&conn) else {
+        let Some(sessions) = self.rows.get(conn) else {
             return Ok(());
         };
         append_all(sessions, numbers)?;
@@ -143,7 +143,7 @@ impl<V: Drop> Rows<V> {
     fn end_session(&mut self, conn: u64, own: u16)
         ensures { (c o n : ℕ) → in_rows self.new c o n ≡ in_rows self.old c o n }
     {
-        if let Some(sessions) = self.rows.get_mut(&conn) {
+        if let Some(sessions) = self.rows.get_mut(conn) {
             end_in(sessions, own);
         }
     }
@@ -155,7 +155,7 @@ impl<V: Drop> Rows<V> {
         let mut left = Vec::new(self.alloc);
         self.append_connection(conn, &mut left)?;
         if left.is_empty() {
-            let _ = self.rows.remove(&conn);
+            let _ = self.rows.remove(conn);
         }
         Ok(())
     }

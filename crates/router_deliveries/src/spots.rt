@@ -92,6 +92,9 @@ impl Spots {
         ensures more { OnOk result ((n : ℕ) → has n numbers.old.items ≡ true → has n numbers.new.items ≡ true) }
         ensures found { OnOk result ((known : ℕ → Option TheSpot) → SpotsFit self.now known → (n : ℕ) → is_id_there conn own first last (known n) ≡ true → has n numbers.new.items ≡ true) }
     {
+        if self.keys.is_empty() {
+            return Ok(());
+        }
         if Serial::new(first).distance_to(Serial::new(last)) >= 0x8000_0000 {
             return Ok(());
         }

@@ -30,13 +30,12 @@ use crate::by_name::ByName;
 use crate::change::{Change, Gone, behind_put};
 use crate::delivery::Delivery;
 use crate::index::{Index, Keys, Moved};
-use crate::kept::Kept;
 use crate::sets::{behind, first};
 use crate::touched::Touched;
 use amqp_frames::Item;
 use amqp_perf::{Perf, Transfer};
 use bytes::Bytes;
-use router_places::Slots;
+use router_places::{Kept, Slots};
 use router_trace::{Binding, ConnectionId, DeliveryName};
 use std::alloc::{AllocError, Global};
 use std::collections::BTreeSet;
@@ -294,26 +293,28 @@ impl Store {
         ensures indexed { OnOk result (Indexed self.old → Indexed self.new) }
         ensures touches { OnOk result (StoreTouches self.old self.new) }
     {
-        let found = note_in(&mut self.deliveries, number, transfer, count)?;
-        let Some(moved) = found else {
+        let mut entries = Moved::new();
+        let found = note_in(&mut self.deliveries, number, transfer, count, &mut entries)?;
+        if !found {
             return Ok(());
-        };
-        self.settle(number, &moved)?;
+        }
+        self.settle(number, &entries)?;
         Ok(())
     }
 
     /// Changes the delivery with a number.
-    fn change(&mut self, number: u64, change: &Change) -> Result<(), AllocError>
+    pub(crate) fn change(&mut self, number: u64, change: &Change) -> Result<(), AllocError>
         ensures deliveries { OnOk result ((n : ℕ) → in_slots self.new.deliveries n
             ≡ (if number == n then behind change.now (in_slots self.old.deliveries n) else in_slots self.old.deliveries n)) }
         ensures indexed { OnOk result (Indexed self.old → Indexed self.new) }
         ensures touches { OnOk result (StoreTouches self.old self.new) }
     {
-        let found = change_in(&mut self.deliveries, number, change)?;
-        let Some(moved) = found else {
+        let mut entries = Moved::new();
+        let found = change_in(&mut self.deliveries, number, change, &mut entries)?;
+        if !found {
             return Ok(());
-        };
-        self.settle(number, &moved)?;
+        }
+        self.settle(number, &entries)?;
         Ok(())
     }
 
@@ -531,43 +532,47 @@ fn put(
     Ok(Keys::standing(&before))
 }
 
-/// Changes the delivery with a number in its place.
+/// Changes the delivery with a number in its place, and notes its entries; whether there is one.
 fn change_in(
     deliveries: &mut Slots<Kept<Delivery>>,
     number: u64,
     change: &Change,
-) -> Result<Option<Moved>, AllocError>
+    entries: &mut Moved,
+) -> Result<bool, AllocError>
     ensures deliveries { OnOk result ((n : ℕ) → in_slots deliveries.new n
         ≡ (if number == n then option_map (changed change.now) (in_slots deliveries.old n) else in_slots deliveries.old n)) }
-    ensures found { IfOk result (λ found. found ≡ option_map (λ d. moved (keys d) (changed change.now d)) (in_slots deliveries.old number)) }
+    ensures found { IfOk result (λ found. (if found then Some entries.new else None) ≡ option_map (λ d. moved (keys d) (changed change.now d)) (in_slots deliveries.old number)) }
 {
     let Some(kept) = deliveries.get_mut(number) else {
-        return Ok(None);
+        return Ok(false);
     };
     let delivery = kept.as_mut();
-    let before = Keys::of(delivery);
+    entries.note_before(delivery);
     delivery.change(change)?;
-    Ok(Some(Moved::of(delivery, &before)))
+    entries.note_after(delivery);
+    Ok(true)
 }
 
-/// Notes a transfer that carries `count` bytes of the delivery with a number, in its place.
+/// Notes a transfer that carries `count` bytes of the delivery with a number, in its place, and notes its entries; whether there is one.
 fn note_in(
     deliveries: &mut Slots<Kept<Delivery>>,
     number: u64,
     transfer: &Transfer,
     count: u64,
-) -> Result<Option<Moved>, AllocError>
+    entries: &mut Moved,
+) -> Result<bool, AllocError>
     ensures deliveries { OnOk result ((n : ℕ) → in_slots deliveries.new n
         ≡ (if number == n then option_map (behind_frame transfer.now count) (in_slots deliveries.old n) else in_slots deliveries.old n)) }
-    ensures found { IfOk result (λ found. found ≡ option_map (λ d. moved (keys d) (behind_frame transfer.now count d)) (in_slots deliveries.old number)) }
+    ensures found { IfOk result (λ found. (if found then Some entries.new else None) ≡ option_map (λ d. moved (keys d) (behind_frame transfer.now count d)) (in_slots deliveries.old number)) }
 {
     let Some(kept) = deliveries.get_mut(number) else {
-        return Ok(None);
+        return Ok(false);
     };
     let delivery = kept.as_mut();
-    let before = Keys::of(delivery);
+    entries.note_before(delivery);
     delivery.note_frame(transfer, count)?;
-    Ok(Some(Moved::of(delivery, &before)))
+    entries.note_after(delivery);
+    Ok(true)
 }
 
 /// Appends the id of a delivery, if it has one.

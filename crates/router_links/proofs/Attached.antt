@@ -4,6 +4,7 @@ use Rattle.std.specs.Prelude.{◌&&◌, ◌==◌, if◌then◌else◌, is_some}
 use Rattle.std.specs.Ordering.{nat_cmp, is_eq}
 use Rattle.std.specs.BTreeMap.{get}
 use Rattle.amqp_perf.specs.declared.perf.Attach.{Attach}
+use Rattle.amqp_perf.specs.declared.perf.Detach.{Detach}
 use Rattle.amqp_perf.specs.declared.perf.Perf.TheVariants as perf
 use Rattle.amqp_frames.specs.declared.item.Item.{Item}
 use Rattle.amqp_frames.specs.declared.item.Item.TheVariants as item
@@ -16,6 +17,7 @@ use Rattle.router_trace.specs.Links.{Link, has_number, link, attached, asked, ad
 use Rattle.router_links.specs.declared.names.Names.{Names}
 use Rattle.router_links.specs.Naming.{on_handle, IsThinned, Thinned, Remembers, NamesFit}
 use Rattle.router_links.proofs.Numbered.{old_key, old_number, newest_same, did_stays, out_stays, attached_other, not_next}
+use Rattle.router_places.specs.Slots.{in_slots}
 
 -- From one trace to another, for the attachments of the first: an attachment that isn't attached stays so, and those that pass a test end.
 pub record Going (t u : Trace) (gone : Attachment → Bool) : Type 0 where
@@ -92,7 +94,7 @@ pub names_taken : (d own : ℕ) (sasl : Bool) (x : Attach) (payload : List ℕ) 
     → ((b : Attachment) → b.number ≤ attachments t → gone b ≡ true → is_attached (Out d (item.Frame sasl own (perf.Attach x) payload) ∷ t) b ≡ false)
     → Thinned gone old middle
     → ((k : LinkKey) → get key_cmp new.keys.entries k ≡ (if is_eq (key_cmp (key_at t d x) k) then Some a else get key_cmp middle.keys.entries k))
-    → ((n : ℕ) → get nat_cmp new.numbers.entries n ≡ (if a.number == n then Some a else get nat_cmp middle.numbers.entries n))
+    → ((n : ℕ) → in_slots new.numbers.entries n ≡ (if a.number == n then Some a else in_slots middle.numbers.entries n))
     → NamesFit old t → NamesFit new (Out d (item.Frame sasl own (perf.Attach x) payload) ∷ t)
 names_taken d own sasl x payload t gone old middle new a is addressed goes thin keys numbers fit =
     let i : Item = item.Frame sasl own (perf.Attach x) payload in
@@ -105,13 +107,13 @@ names_taken d own sasl x payload t gone old middle new a is addressed goes thin 
           (kept t u gone _ _ (numbered t n) going (old_number t n) (thin.numbers n) (fit.numbers n));
     }
   where
-    number_of : (n : ℕ) → a.number ≡ attachments t + 1 → get nat_cmp new.numbers.entries n ≡ (if attachments t + 1 == n then Some a else get nat_cmp middle.numbers.entries n)
-    number_of n e = numbers n ∙ ap (λ m. if m == n then Some a else get nat_cmp middle.numbers.entries n) e
+    number_of : (n : ℕ) → a.number ≡ attachments t + 1 → in_slots new.numbers.entries n ≡ (if attachments t + 1 == n then Some a else in_slots middle.numbers.entries n)
+    number_of n e = numbers n ∙ ap (λ m. if m == n then Some a else in_slots middle.numbers.entries n) e
 
     number : Attachment → ℕ
     number b = b.number
 
-    at_number : (n : ℕ) → get nat_cmp new.numbers.entries n ≡ (if attachments t + 1 == n then Some a else get nat_cmp middle.numbers.entries n)
+    at_number : (n : ℕ) → in_slots new.numbers.entries n ≡ (if attachments t + 1 == n then Some a else in_slots middle.numbers.entries n)
     at_number n = number_of n (ap number is)
 
 -- the link that was where an attach is now has ended
@@ -128,3 +130,8 @@ pub attach_goes : (d own : ℕ) (sasl : Bool) (x : Attach) (payload : List ℕ) 
 attach_goes d own sasl x payload t b below e =
     place_gone (d == b.conn.0) (own == b.channel) (x.handle == b.handle) b.number _ (link t b.conn.0 b.channel b.handle) e
     (attached_other b.number (attachments t + 1) (key_at t b.conn.0 x) x (asked t b.conn.0) (address_by x.role x) (not_next (attachments t) b.number below))
+
+pub detach_goes : (d own : ℕ) (sasl : Bool) (x : Detach) (payload : List ℕ) (t : Trace) (b : Attachment) → b.number ≤ attachments t → on_handle d own x.handle b ≡ true
+    → is_attached (Out d (item.Frame sasl own (perf.Detach x) payload) ∷ t) b ≡ false
+detach_goes d own sasl x payload t b below e =
+    place_gone (d == b.conn.0) (own == b.channel) (x.handle == b.handle) b.number None (link t b.conn.0 b.channel b.handle) e refl

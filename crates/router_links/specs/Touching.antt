@@ -8,6 +8,7 @@ use Rattle.router_links.specs.declared.link.Link.{Link}
 use Rattle.router_links.specs.declared.links.Links.{Links}
 use Rattle.router_links.specs.declared.table.LinkTable.{LinkTable}
 use Rattle.router_places.specs.Places.{at}
+use Rattle.router_places.specs.Slots.{in_slots}
 
 -- a link has this number
 abbrev pub is_numbered : ℕ → Option Link → Bool
@@ -35,7 +36,7 @@ in_connection k sessions = list_any (λ e. in_session k e.1) sessions.entries
 pub record Touched (old new : LinkTable) : Type 0 where
   pub before : (k : ℕ) → has new.touched k ≡ false → has old.touched k ≡ false
   pub links : (k : ℕ) → has new.touched k ≡ false → (c o h : ℕ) → if_number k (at old.links c o h) ≡ if_number k (at new.links c o h)
-  pub numbers : (k : ℕ) → has new.touched k ≡ false → get nat_cmp old.names.numbers.entries k ≡ get nat_cmp new.names.numbers.entries k
+  pub numbers : (k : ℕ) → has new.touched k ≡ false → in_slots old.names.numbers.entries k ≡ in_slots new.names.numbers.entries k
 
 -- the number of a link that may have changed
 abbrev pub is_touched : Links → ℕ → Bool

@@ -6,13 +6,17 @@ ghost use Rattle.book_core.specs.Keys.{key_cmp};
 ghost use Rattle.book_core.specs.declared.terminus.LinkKey.{LinkKey as AKey};
 ghost use Rattle.router_links.specs.Naming.{on_conn, on_session, on_handle, unless, Thinned};
 ghost use Rattle.router_links.specs.Touching.{in_session, in_connection};
+ghost use Rattle.router_places.specs.Slots.{in_slots};
 
 use crate::link::Link;
 use book_core::LinkKey;
-use router_places::{InConnection, InSession};
+use router_places::{InConnection, InSession, Slots};
 use router_trace::Attachment;
 use std::alloc::{AllocError, Global};
 use std::collections::BTreeMap;
+
+/// So many attachments with neighbouring numbers are found without an ordered map.
+const PLACES: usize = 1024;
 
 /// Attachments by the name that identifies them.
 #[derive(Drop)]
@@ -61,6 +65,51 @@ impl<K: Ord + Drop> Attachments<K> {
     }
 }
 
+/// Attachments by number.
+#[derive(Drop)]
+pub(crate) struct Numbers {
+    pub(crate) entries: Slots<Attachment>,
+}
+
+impl Numbers {
+    /// An empty table.
+    fn new(alloc: Global) -> Numbers
+        ensures { (n : ℕ) → in_slots result.entries n ≡ None }
+    {
+        Numbers {
+            entries: Slots::new(alloc, PLACES),
+        }
+    }
+
+    /// The attachment with a number.
+    fn get(&self, number: u64) -> Option<Attachment>
+        ensures { result ≡ in_slots self.now.entries number }
+    {
+        self.entries.get(number).copied()
+    }
+
+    /// Gives an attachment its number.
+    fn insert(&mut self, attachment: Attachment) -> Result<(), AllocError>
+        ensures { OnOk result ((n : ℕ) → in_slots self.new.entries n ≡ (if attachment.number == n then Some attachment else in_slots self.old.entries n)) }
+    {
+        let _ = self.entries.insert(attachment.number, attachment)?;
+        Ok(())
+    }
+
+    /// Removes a number if its attachment is at this place.
+    fn forget(&mut self, number: u64, conn: u64, own: u16, handle: u32)
+        ensures { (n : ℕ) → in_slots self.new.entries n
+            ≡ (if number == n then unless (on_handle conn own handle) (in_slots self.old.entries n) else in_slots self.old.entries n) }
+    {
+        let Some(attachment) = self.get(number) else {
+            return;
+        };
+        if is_on(attachment, conn, own, handle) {
+            let _ = self.entries.remove(number);
+        }
+    }
+}
+
 /// Whether an attachment is at this place.
 fn is_on(attachment: Attachment, conn: u64, own: u16, handle: u32) -> bool
     ensures { result ≡ on_handle conn own handle attachment }
@@ -72,18 +121,18 @@ fn is_on(attachment: Attachment, conn: u64, own: u16, handle: u32) -> bool
 #[derive(Drop)]
 pub(crate) struct Names {
     pub(crate) keys: Attachments<LinkKey>,
-    pub(crate) numbers: Attachments<u64>,
+    pub(crate) numbers: Numbers,
 }
 
 impl Names {
     /// An empty table.
     pub(crate) fn new(alloc: Global) -> Names
         ensures keys { (k : AKey) → get key_cmp result.keys.entries k ≡ None }
-        ensures numbers { (n : ℕ) → get nat_cmp result.numbers.entries n ≡ None }
+        ensures numbers { (n : ℕ) → in_slots result.numbers.entries n ≡ None }
     {
         Names {
             keys: Attachments::new(alloc),
-            numbers: Attachments::new(alloc),
+            numbers: Numbers::new(alloc),
         }
     }
 
@@ -96,33 +145,33 @@ impl Names {
 
     /// The attachment with a number.
     pub(crate) fn of_number(&self, number: u64) -> Option<Attachment>
-        ensures { result ≡ get nat_cmp self.now.numbers.entries number }
+        ensures { result ≡ in_slots self.now.numbers.entries number }
     {
-        self.numbers.get(&number)
+        self.numbers.get(number)
     }
 
     /// Enters an attachment under its key and its number.
     pub(crate) fn take(&mut self, key: LinkKey, attachment: Attachment) -> Result<(), AllocError>
         ensures keys { OnOk result ((k : AKey) → get key_cmp self.new.keys.entries k ≡ (if is_eq (key_cmp key k) then Some attachment else get key_cmp self.old.keys.entries k)) }
-        ensures numbers { OnOk result ((n : ℕ) → get nat_cmp self.new.numbers.entries n ≡ (if attachment.number == n then Some attachment else get nat_cmp self.old.numbers.entries n)) }
+        ensures numbers { OnOk result ((n : ℕ) → in_slots self.new.numbers.entries n ≡ (if attachment.number == n then Some attachment else in_slots self.old.numbers.entries n)) }
     {
         self.keys.insert(key, attachment)?;
-        self.numbers.insert(attachment.number, attachment)
+        self.numbers.insert(attachment)
     }
 
     /// Removes the names of a link that ends.
     pub(crate) fn forget(&mut self, conn: u64, own: u16, handle: u32, link: &Link)
         ensures thinned { Thinned (on_handle conn own handle) self.old self.new }
-        ensures others { (k : ℕ) → (link.now.number == k) ≡ false → get nat_cmp self.old.numbers.entries k ≡ get nat_cmp self.new.numbers.entries k }
+        ensures others { (k : ℕ) → (link.now.number == k) ≡ false → in_slots self.old.numbers.entries k ≡ in_slots self.new.numbers.entries k }
     {
         self.keys.forget(&link.key, conn, own, handle);
-        self.numbers.forget(&link.number, conn, own, handle);
+        self.numbers.forget(link.number, conn, own, handle);
     }
 
     /// Removes the names of the links of a session that ends.
     pub(crate) fn forget_session(&mut self, conn: u64, own: u16, handles: &InSession<Link>)
         ensures thinned { Thinned (on_session conn own) self.old self.new }
-        ensures others { (k : ℕ) → in_session k handles.now ≡ false → get nat_cmp self.old.numbers.entries k ≡ get nat_cmp self.new.numbers.entries k }
+        ensures others { (k : ℕ) → in_session k handles.now ≡ false → in_slots self.old.numbers.entries k ≡ in_slots self.new.numbers.entries k }
     {
         for (handle, link) in handles {
             self.forget(conn, own, *handle, link);
@@ -132,7 +181,7 @@ impl Names {
     /// Removes the names of the links of a connection that ends.
     pub(crate) fn forget_connection(&mut self, conn: u64, sessions: &InConnection<Link>)
         ensures thinned { Thinned (on_conn conn) self.old self.new }
-        ensures others { (k : ℕ) → in_connection k sessions.now ≡ false → get nat_cmp self.old.numbers.entries k ≡ get nat_cmp self.new.numbers.entries k }
+        ensures others { (k : ℕ) → in_connection k sessions.now ≡ false → in_slots self.old.numbers.entries k ≡ in_slots self.new.numbers.entries k }
     {
         for (own, handles) in sessions {
             self.forget_session(conn, *own, handles);

@@ -4,6 +4,7 @@ ghost use Rattle.std.specs.Ordering.{nat_cmp};
 ghost use Rattle.std.specs.BTreeMap.{get};
 ghost use Rattle.std.specs.BTreeSet.{contains};
 ghost use Rattle.router_links.specs.Owed.{owed_here, owed_in_session, owed_in_connection, owed_of_connection, owed_of, owes_in_session, owes_in_connection, owes_on};
+ghost use Rattle.router_places.specs.Slots.{in_slots};
 
 use crate::link::Link;
 use router_places::{ByHandle, InConnection, InSession};
@@ -67,7 +68,7 @@ fn append_of(
     conn: u64,
     links: &ByHandle<Link>,
 ) -> Result<(), AllocError>
-    ensures { OnOk result (owed.new.items ≡ owed.old.items ++ owed_of_connection conn (get nat_cmp links.now.rows conn)) }
+    ensures { OnOk result (owed.new.items ≡ owed.old.items ++ owed_of_connection conn (in_slots links.now.rows conn)) }
 {
     match links.connection(conn) {
         None => Ok(()),
@@ -81,7 +82,7 @@ pub(crate) fn append_all(
     conns: &BTreeSet<u64>,
     links: &ByHandle<Link>,
 ) -> Result<(), AllocError>
-    ensures { OnOk result (owed.new.items ≡ owed.old.items ++ owed_of (get nat_cmp links.now.rows) conns.now.keys) }
+    ensures { OnOk result (owed.new.items ≡ owed.old.items ++ owed_of (in_slots links.now.rows) conns.now.keys) }
 {
     for conn in conns {
         append_of(owed, *conn, links)?;
@@ -115,7 +116,7 @@ fn owes_in_connection(sessions: &InConnection<Link>) -> bool
 
 /// Whether the connection has a link that owes a drain.
 fn owes_on(links: &ByHandle<Link>, conn: u64) -> bool
-    ensures { result ≡ owes_on (get nat_cmp links.now.rows conn) }
+    ensures { result ≡ owes_on (in_slots links.now.rows conn) }
 {
     match links.connection(conn) {
         None => false,
@@ -125,7 +126,7 @@ fn owes_on(links: &ByHandle<Link>, conn: u64) -> bool
 
 /// Unmarks the connections on which no link owes a drain.
 pub(crate) fn settle(marks: &mut BTreeSet<u64>, links: &ByHandle<Link>)
-    ensures { (c : ℕ) → contains nat_cmp marks.new c ≡ (owes_on (get nat_cmp links.now.rows c) && contains nat_cmp marks.old c) }
+    ensures { (c : ℕ) → contains nat_cmp marks.new c ≡ (owes_on (in_slots links.now.rows c) && contains nat_cmp marks.old c) }
 {
     marks.retain(|conn| owes_on(links, *conn));
 }

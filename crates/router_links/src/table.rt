@@ -26,6 +26,7 @@ ghost use Rattle.router_links.specs.Naming.{on_conn, on_session, on_handle, Thin
 ghost use Rattle.router_places.specs.Places.{at};
 ghost use Rattle.router_links.specs.Owed.{owed_of, owes_on};
 ghost use Rattle.router_links.specs.Touching.{is_numbered, named_link, in_session, in_connection, Touched, IsLowest};
+ghost use Rattle.router_places.specs.Slots.{in_slots};
 
 use crate::link::{Link, LinkEnd, Side, address_by};
 use crate::names::Names;
@@ -170,7 +171,7 @@ impl LinkTable {
 
     /// The link of the attachment with a number, if it still has it.
     pub fn by_number(&self, number: u64) -> Option<&Link>
-        ensures { option_map (λ l. l.now) result ≡ numbered_here (at self.now.links) (get nat_cmp self.now.names.numbers.entries number) }
+        ensures { option_map (λ l. l.now) result ≡ numbered_here (at self.now.links) (in_slots self.now.names.numbers.entries number) }
     {
         let place = self.names.of_number(number)?;
         let link = self.links.get(place.conn.0, place.channel, place.handle)?;
@@ -208,7 +209,7 @@ impl LinkTable {
 
     /// The attachments of the links that owe a drain and on which the router is the sender, by connection and by channel.
     pub fn owed(&self) -> Result<Vec<Attachment>, AllocError>
-        ensures { IfOk result (λ xs. xs.items ≡ owed_of (get nat_cmp self.now.links.rows) self.now.owing.keys) }
+        ensures { IfOk result (λ xs. xs.items ≡ owed_of (in_slots self.now.links.rows) self.now.owing.keys) }
     {
         let mut owed = Vec::new(self.alloc);
         append_all(&mut owed, &self.owing, &self.links)?;
@@ -218,7 +219,7 @@ impl LinkTable {
     /// Unmarks the connections on which no link owes a drain.
     pub fn settle_owed(&mut self)
         ensures rest { self.new ≡ record self.old { owing = self.new.owing } }
-        ensures marks { (c : ℕ) → contains nat_cmp self.new.owing c ≡ (owes_on (get nat_cmp self.old.links.rows c) && contains nat_cmp self.old.owing c) }
+        ensures marks { (c : ℕ) → contains nat_cmp self.new.owing c ≡ (owes_on (in_slots self.old.links.rows c) && contains nat_cmp self.old.owing c) }
     {
         settle(&mut self.owing, &self.links);
     }
@@ -349,8 +350,8 @@ impl LinkTable {
         ensures count { OnOk result (self.new.count ≡ self.old.count + 1) }
         ensures keys { OnOk result ((k : AKey) → get key_cmp self.new.names.keys.entries k
             ≡ (if is_eq (key_cmp key k) then Some (attachment (self.old.count + 1) conn own attach.now.handle) else get key_cmp self.old.names.keys.entries k)) }
-        ensures numbers { OnOk result ((n : ℕ) → get nat_cmp self.new.names.numbers.entries n
-            ≡ (if self.old.count + 1 == n then Some (attachment (self.old.count + 1) conn own attach.now.handle) else get nat_cmp self.old.names.numbers.entries n)) }
+        ensures numbers { OnOk result ((n : ℕ) → in_slots self.new.names.numbers.entries n
+            ≡ (if self.old.count + 1 == n then Some (attachment (self.old.count + 1) conn own attach.now.handle) else in_slots self.old.names.numbers.entries n)) }
         ensures owing { self.new.owing ≡ self.old.owing }
         ensures touched { OnOk result ((k : ℕ) → has self.new.touched k ≡ (if self.old.count + 1 == k then true else has self.old.touched k)) }
     {
@@ -444,7 +445,7 @@ fn leave(links: &mut ByHandle<Link>, names: &mut Names, conn: u64, own: u16, han
     ensures links { (c o h : ℕ) → at links.new c o h
         ≡ (if conn == c then (if own == o then (if handle == h then None else at links.old c o h) else at links.old c o h) else at links.old c o h) }
     ensures names { Thinned (on_handle conn own handle) names.old names.new }
-    ensures others { (k : ℕ) → is_numbered k (at links.old conn own handle) ≡ false → get nat_cmp names.old.numbers.entries k ≡ get nat_cmp names.new.numbers.entries k }
+    ensures others { (k : ℕ) → is_numbered k (at links.old conn own handle) ≡ false → in_slots names.old.numbers.entries k ≡ in_slots names.new.numbers.entries k }
 {
     if let Some(link) = links.remove(conn, own, handle) {
         names.forget(conn, own, handle, &link);
@@ -460,7 +461,7 @@ fn leave_session(
     handles: InSession<Link>,
 ) -> Result<(), AllocError>
     ensures names { Thinned (on_session conn own) names.old names.new }
-    ensures others { (k : ℕ) → in_session k handles ≡ false → get nat_cmp names.old.numbers.entries k ≡ get nat_cmp names.new.numbers.entries k }
+    ensures others { (k : ℕ) → in_session k handles ≡ false → in_slots names.old.numbers.entries k ≡ in_slots names.new.numbers.entries k }
     ensures touched { OnOk result ((k : ℕ) → has touched.new k ≡ (in_session k handles || has touched.old k)) }
 {
     names.forget_session(conn, own, &handles);
@@ -475,7 +476,7 @@ fn leave_connection(
     sessions: InConnection<Link>,
 ) -> Result<(), AllocError>
     ensures names { Thinned (on_conn conn) names.old names.new }
-    ensures others { (k : ℕ) → in_connection k sessions ≡ false → get nat_cmp names.old.numbers.entries k ≡ get nat_cmp names.new.numbers.entries k }
+    ensures others { (k : ℕ) → in_connection k sessions ≡ false → in_slots names.old.numbers.entries k ≡ in_slots names.new.numbers.entries k }
     ensures touched { OnOk result ((k : ℕ) → has touched.new k ≡ (in_connection k sessions || has touched.old k)) }
 {
     names.forget_connection(conn, &sessions);

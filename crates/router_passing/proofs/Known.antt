@@ -38,6 +38,7 @@ use Rattle.router_passing.specs.Fits.{IsTold, NotedFit, PassingFit, PoolsKnow, U
 use Rattle.router_passing.specs.Passing.{binding_to, last_behind, last_chosen, lasts, with_bound}
 use Rattle.router_passing.proofs.Rising.{Rises, entry_counts, entry_rises}
 use Rattle.router_passing.proofs.Seen.{by_test, figure_same}
+use Rattle.router_places.specs.Slots.{in_slots}
 
 -- a consumer stood where it stands now, or its number is above the one chosen last there
 abbrev pub Later : (ℕ → Option Figure) → (ℕ → Option Figure) → (List ℕ → ℕ) → Type 0
@@ -195,7 +196,7 @@ links_bound s b t fit = record {
   table = record {
     links = fit.table.links;
     count = fit.table.count;
-    names = record { keys = λ k. remembers (get key_cmp s.table.names.keys.entries k) (last_of_key t k) (fit.table.names.keys k); numbers = λ n. remembers (get nat_cmp s.table.names.numbers.entries n) (numbered t n) (fit.table.names.numbers n) };
+    names = record { keys = λ k. remembers (get key_cmp s.table.names.keys.entries k) (last_of_key t k) (fit.table.names.keys k); numbers = λ n. remembers (in_slots s.table.names.numbers.entries n) (numbered t n) (fit.table.names.numbers n) };
     owing = fit.table.owing;
   };
 }

@@ -33,6 +33,7 @@ use Rattle.router_passing.specs.Passing.{last_chosen}
 use Rattle.router_passing.proofs.Known.{IsStep, count_alike, moved}
 use Rattle.router_passing.proofs.Rising.{same_rises}
 use Rattle.std.specs.Option.{option_map}
+use Rattle.router_places.specs.Slots.{in_slots}
 
 -- two traces agree on links, deliveries and claims, and on the distribution of addresses
 pub record IsQuiet (t u : Trace) : Type 0 where
@@ -78,7 +79,7 @@ links_quiet s t u q fit = record {
     names = record {
       keys = λ k. remembers (get key_cmp s.table.names.keys.entries k) (last_of_key t k) (last_of_key u k) (holder t k) (holder u k) (q.keys k)
           (attached_same t u q (last_of_key u k) ∙ ap (if_attached t) (q.keys k)) (fit.table.names.keys k);
-      numbers = λ n. remembers (get nat_cmp s.table.names.numbers.entries n) (numbered t n) (numbered u n) (place_of t n) (place_of u n) (q.numbers n)
+      numbers = λ n. remembers (in_slots s.table.names.numbers.entries n) (numbered t n) (numbered u n) (place_of t n) (place_of u n) (q.numbers n)
           (attached_same t u q (numbered u n) ∙ ap (if_attached t) (q.numbers n)) (fit.table.names.numbers n);
     };
     owing = fit.table.owing;

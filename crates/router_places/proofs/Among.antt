@@ -1,85 +1,118 @@
--- Numbers among a few places.
-use Rattle.std.proofs.Common.{◌≡◌, ◌≢◌, ◌∙◌, ◌⊎◌, inl, inr, sym, ap, refl, ℕ, zero, suc, ◌<◌, ◌≤◌, ◌+◌, ◌==◌, ◌&&◌, ◌||◌, not, Bool, true, false, List, [], ◌∷◌, length, Option, Some, None, get_or, set, arith}
+-- Numbers among the first of a few places.
+use Rattle.std.proofs.Common.{◌≡◌, ◌≢◌, ◌∙◌, ◌⊎◌, inl, inr, sym, ap, refl, ℕ, zero, suc, ◌<◌, ◌≤◌, ◌+◌, ◌==◌, ◌&&◌, ◌||◌, not, Bool, true, false, List, [], ◌∷◌, length, get_or, set, arith}
 use Rattle.std.proofs.lemmas.Bool.Decides.{eqb_tells}
-use Rattle.std.proofs.lemmas.Bool.{eqb-true}
-use Rattle.std.proofs.lemmas.List.{get_or-set_same, get_or-set_other}
-use Rattle.router_places.specs.Among.{is_number, is_among, filled}
+use Rattle.router_places.specs.Among.{is_among}
 
 or_swap : (a b c : Bool) → (b || (a || c)) ≡ (a || (b || c))
 or_swap true true c = refl
 or_swap true false c = refl
 or_swap false b c = refl
 
--- a number is put where there was none
-pub placed : (few : List (Option ℕ)) (place k : ℕ) → place < length few → get_or few place None ≡ None → (n : ℕ)
-    → is_among (set few place (Some k)) n ≡ (k == n || is_among few n)
+or_other : (a b : Bool) → (a || b) ≡ (b || a)
+or_other true true = refl
+or_other true false = refl
+or_other false true = refl
+or_other false false = refl
+
+or_joined : (a b c : Bool) → (a || (b || c)) ≡ ((a || b) || c)
+or_joined true b c = refl
+or_joined false b c = refl
+
+-- tests of two numbers
+pub is_same : (a b : ℕ) → a ≡ b → (a == b) ≡ true
+is_same a b same = by_test (eqb_tells a b)
+  where
+    by_test : (((a == b) ≡ true) × (a ≡ b)) ⊎ (((a == b) ≡ false) × (a ≢ b)) → (a == b) ≡ true
+    by_test (inl (e, _)) = e
+    by_test (inr (e, other)) = absurd (other same)
+
+pub is_other : (a b : ℕ) → a ≢ b → (a == b) ≡ false
+is_other a b other = by_test (eqb_tells a b)
+  where
+    by_test : (((a == b) ≡ true) × (a ≡ b)) ⊎ (((a == b) ≡ false) × (a ≢ b)) → (a == b) ≡ false
+    by_test (inl (e, same)) = absurd (other same)
+    by_test (inr (e, _)) = e
+
+one_behind : (n : ℕ) → n + 1 ≡ suc n
+one_behind n = omega arith
+
+-- no number is among no places
+pub none_so_far : (few : List ℕ) (n : ℕ) → is_among 0 few n ≡ false
 unfolding is_among
-placed [] place k below free n = absurd (omega (arith, below))
-placed (x ∷ few) zero k below free n = ap (λ y. k == n || (is_number y n || is_among few n)) (sym free)
-placed (x ∷ few) (suc place) k below free n =
-    ap (λ b. is_number x n || b) (placed few place k (omega (arith, below)) free n) ∙ or_swap (k == n) (is_number x n) (is_among few n)
+none_so_far few n = refl
+
+next : (place : ℕ) (few : List ℕ) (n : ℕ) → place < length few → is_among (suc place) few n ≡ (is_among place few n || get_or few place 0 == n)
+unfolding is_among
+next place [] n below = absurd (omega (arith, below))
+next zero (x ∷ few) n below = or_other (x == n) false
+next (suc place) (x ∷ few) n below =
+    ap (λ b. x == n || b) (next place few n (omega (arith, below))) ∙ or_joined (x == n) (is_among place few n) (get_or few place 0 == n)
+
+-- a place more has one number more
+pub one_more : (place : ℕ) (few : List ℕ) (n : ℕ) → place < length few → is_among (place + 1) few n ≡ (is_among place few n || get_or few place 0 == n)
+one_more place few n below = ap (λ places. is_among places few n) (one_behind place) ∙ next place few n below
+
+-- a place that hasn't the number adds nothing
+pub not_there : (place : ℕ) (few : List ℕ) (n : ℕ) → place < length few → is_among place few n ≡ false → get_or few place 0 ≢ n → is_among (place + 1) few n ≡ false
+not_there place few n below before here = one_more place few n below ∙ rw (before, is_other (get_or few place 0) n here) refl
 
 -- a number is among the places where it stands
-pub found : (few : List (Option ℕ)) (place n : ℕ) → place < length few → is_number (get_or few place None) n ≡ true → is_among few n ≡ true
+pub found : (count place : ℕ) (few : List ℕ) (n : ℕ) → place < count → place < length few → get_or few place 0 ≡ n → is_among count few n ≡ true
 unfolding is_among
-found [] place n below is = absurd (omega (arith, below))
-found (x ∷ few) zero n below is = rw is refl
-found (x ∷ few) (suc place) n below is = ap (λ b. is_number x n || b) (found few place n (omega (arith, below)) is) ∙ or_true (is_number x n)
-  where
-    or_true : (a : Bool) → (a || true) ≡ true
-    or_true true = refl
-    or_true false = refl
+found count place [] n within below is = absurd (omega (arith, below))
+found zero place (x ∷ few) n within below is = absurd (omega (arith, within))
+found (suc count) zero (x ∷ few) n within below is = rw (is_same x n is) refl
+found (suc count) (suc place) (x ∷ few) n within below is = ap (λ b. x == n || b) (found count place few n (omega (arith, within)) (omega (arith, below)) is) ∙ or_other (x == n) true
 
--- a number that stands at no place isn't among them
-pub nowhere : (few : List (Option ℕ)) (n : ℕ) → ((place : ℕ) → place < length few → is_number (get_or few place None) n ≡ false) → is_among few n ≡ false
+put_next : (count : ℕ) (few : List ℕ) (k n : ℕ) → count < length few → is_among (suc count) (set few count k) n ≡ (k == n || is_among count few n)
 unfolding is_among
-nowhere [] n none = refl
-nowhere (x ∷ few) n none = rw (none 0 (omega arith)) (nowhere few n (λ place below. none (suc place) (omega (arith, below))))
+put_next count [] k n below = absurd (omega (arith, below))
+put_next zero (x ∷ few) k n below = refl
+put_next (suc count) (x ∷ few) k n below = ap (λ b. x == n || b) (put_next count few k n (omega (arith, below))) ∙ or_swap (k == n) (x == n) (is_among count few n)
 
--- where a number was taken away the others stay
-pub others_stay : (few : List (Option ℕ)) (place k : ℕ) → is_number (get_or few place None) k ≡ true → (n : ℕ) → (k == n) ≡ false
-    → is_among (set few place None) n ≡ is_among few n
+-- a number is put behind the others
+pub placed : (count : ℕ) (few : List ℕ) (k n : ℕ) → count < length few → is_among (count + 1) (set few count k) n ≡ (k == n || is_among count few n)
+placed count few k n below = ap (λ places. is_among places (set few count k) n) (one_behind count) ∙ put_next count few k n below
+
+-- what is put at a place changes none before it
+pub before_it : (count place : ℕ) (few : List ℕ) (x n : ℕ) → count ≤ place → is_among count (set few place x) n ≡ is_among count few n
 unfolding is_among
-others_stay [] place k is n other = refl
-others_stay (None ∷ few) zero k is n other = refl
-others_stay (Some m ∷ few) zero k is n other = rw (eqb-true m k is, other) refl
-others_stay (x ∷ few) (suc place) k is n other = ap (λ b. is_number x n || b) (others_stay few place k is n other)
+before_it zero place few x n within = refl
+before_it (suc count) place [] x n within = refl
+before_it (suc count) zero (y ∷ few) x n within = absurd (omega (arith, within))
+before_it (suc count) (suc place) (y ∷ few) x n within = ap (λ b. y == n || b) (before_it count place few x n (omega (arith, within)))
+
+moved : (last place : ℕ) (few : List ℕ) (n : ℕ) → place ≤ last → last < length few → (get_or few place 0 == n) ≡ false
+    → is_among last (set few place (get_or few last 0)) n ≡ is_among (suc last) few n
+unfolding is_among
+moved last place [] n within below other = absurd (omega (arith, below))
+moved zero zero (x ∷ few) n within below other = rw other refl
+moved zero (suc place) (x ∷ few) n within below other = absurd (omega (arith, within))
+moved (suc last) zero (x ∷ few) n within below other = or_other (get_or few last 0 == n) (is_among last few n) ∙ sym (next last few n (omega (arith, below)))
+    ∙ sym (ap (λ b. b || is_among (suc last) few n) other)
+moved (suc last) (suc place) (x ∷ few) n within below other = ap (λ b. x == n || b) (moved last place few n (omega (arith, within)) (omega (arith, below)) other)
+
+-- where the last number closes a gap, all but the one that stood there stay
+pub closed : (last place : ℕ) (few : List ℕ) (n : ℕ) → place ≤ last → last < length few → (get_or few place 0 == n) ≡ false
+    → is_among last (set few place (get_or few last 0)) n ≡ is_among (last + 1) few n
+closed last place few n within below other = moved last place few n within below other ∙ sym (ap (λ places. is_among places few n) (one_behind last))
+
+-- the same as a call tells it
+pub closed_at : (place last count : ℕ) (few new : List ℕ) (k n : ℕ) → place < count → count ≤ length few → last + 1 ≡ count
+    → new ≡ set few place (get_or few last 0) → get_or few place 0 ≡ k → (k == n) ≡ false → is_among last new n ≡ is_among count few n
+closed_at place last count few new k n within fits less are is other =
+    ap (λ places. is_among last places n) are
+    ∙ closed last place few n (omega (arith, within, less)) (omega (arith, fits, less)) (ap (λ m. m == n) is ∙ other)
+    ∙ ap (λ places. is_among places few n) less
+
+-- where no place is left, all were looked at
+pub at_all : (place count : ℕ) (few : List ℕ) (n : ℕ) → place ≤ count → count ≤ place → is_among count few n ≡ is_among place few n
+at_all place count few n within ended = ap (λ places. is_among places few n) (omega (arith, within, ended))
 
 -- a number that is nowhere now, where the others stay, was taken away
-pub taken : (k n : ℕ) (new old : List (Option ℕ)) → is_among new k ≡ false → ((k == n) ≡ false → is_among new n ≡ is_among old n)
-    → is_among new n ≡ (not (k == n) && is_among old n)
+pub taken : (k n : ℕ) (new old : ℕ → Bool) → new k ≡ false → ((k == n) ≡ false → new n ≡ old n) → new n ≡ (not (k == n) && old n)
 taken k n new old gone others = by_number (eqb_tells k n)
   where
-    by_number : (((k == n) ≡ true) × (k ≡ n)) ⊎ (((k == n) ≡ false) × (k ≢ n)) → is_among new n ≡ (not (k == n) && is_among old n)
-    by_number (inl (e, same)) = rw e (ap (λ m. is_among new m) (sym same) ∙ gone)
+    by_number : (((k == n) ≡ true) × (k ≡ n)) ⊎ (((k == n) ≡ false) × (k ≢ n)) → new n ≡ (not (k == n) && old n)
+    by_number (inl (e, same)) = rw e (ap new (sym same) ∙ gone)
     by_number (inr (e, other)) = rw e (others e)
-
--- the places so far, and the one at which a number was taken away, haven't it
-pub gone_there : (few : List (Option ℕ)) (place k : ℕ) → place < length few → ((q : ℕ) → q < place → is_number (get_or few q None) k ≡ false)
-    → (q : ℕ) → q < place + 1 → is_number (get_or (set few place None) q None) k ≡ false
-gone_there few place k below before q within = by_place (eqb_tells place q)
-  where
-    by_place : (((place == q) ≡ true) × (place ≡ q)) ⊎ (((place == q) ≡ false) × (place ≢ q)) → is_number (get_or (set few place None) q None) k ≡ false
-    by_place (inl (e, same)) = ap (λ p. is_number (get_or (set few place None) p None) k) (sym same) ∙ ap (λ x. is_number x k) (get_or-set_same few place None None below)
-    by_place (inr (e, other)) = ap (λ x. is_number x k) (get_or-set_other few place q None None (λ is. other (sym is))) ∙ before q (omega (arith, within, other))
-
--- the places so far, and one that hasn't the number
-pub not_there : (few : List (Option ℕ)) (place k : ℕ) → is_number (get_or few place None) k ≡ false → ((q : ℕ) → q < place → is_number (get_or few q None) k ≡ false)
-    → (q : ℕ) → q < place + 1 → is_number (get_or few q None) k ≡ false
-not_there few place k here before q within = by_place (eqb_tells place q)
-  where
-    by_place : (((place == q) ≡ true) × (place ≡ q)) ⊎ (((place == q) ≡ false) × (place ≢ q)) → is_number (get_or few q None) k ≡ false
-    by_place (inl (e, same)) = ap (λ p. is_number (get_or few p None) k) (sym same) ∙ here
-    by_place (inr (e, other)) = before q (omega (arith, within, other))
-
--- a number that is taken away from its place leaves one fewer
-pub fewer_there : (few : List (Option ℕ)) (place k : ℕ) → is_number (get_or few place None) k ≡ true → filled (set few place None) < filled few
-unfolding filled
-fewer_there [] place k is = absurd (cc)
-fewer_there (None ∷ few) zero k is = absurd (cc)
-fewer_there (Some m ∷ few) zero k is = omega arith
-fewer_there (None ∷ few) (suc place) k is = fewer_there few place k is
-fewer_there (Some m ∷ few) (suc place) k is = let rest = fewer_there few place k is in omega (arith, rest)
-
-pub fewer_left : (few : List (Option ℕ)) (place k : ℕ) → is_number (get_or few place None) k ≡ true → (most : ℕ) → filled few ≤ most → filled (set few place None) < most
-fewer_left few place k is most below = let less = fewer_there few place k is in omega (arith, less, below)

@@ -6,7 +6,6 @@ use Rattle.std.specs.Option.{option_map}
 use Rattle.std.specs.Ordering.{nat_cmp}
 use Rattle.std.specs.BTreeMap.{BTreeMap, get, is_at, WritesThrough}
 use Rattle.std.proofs.lemmas.Bool.{eqb-true, ltb-true}
-use Rattle.router_places.specs.Places.{in_map}
 
 pub by_test : {P : Type 0} (b : Bool) → (b ≡ true → P) → (b ≡ false → P) → P
 by_test true f g = f refl
@@ -51,44 +50,45 @@ written {X} m n key w through q = by_found (get nat_cmp m key) refl
         (λ e. rw e (now ∙ ap (λ b. cond b (Some w) (get nat_cmp m q)) e))
 
 -- at a key whose value was lent is what was written
-there : {X : Type 0} (m n : BTreeMap ℕ X) (key : ℕ) (x w : X) → get nat_cmp m key ≡ Some x → WritesThrough nat_cmp (nat_cmp key) m w n
-    → (q : ℕ) → (key == q) ≡ true → get nat_cmp n q ≡ Some w
+there : {X : Type 0} (m n : ℕ → Option X) (key : ℕ) (x w : X) → m key ≡ Some x → ((q : ℕ) → n q ≡ (if key == q then option_map (λ _. w) (m q) else m q))
+    → (q : ℕ) → (key == q) ≡ true → n q ≡ Some w
 there m n key x w is through q e =
-    written m n key w through q
-    ∙ ap (λ b. if b then option_map (λ _. w) (get nat_cmp m q) else get nat_cmp m q) e
-    ∙ ap (option_map (λ _. w)) (ap (get nat_cmp m) (sym (eqb-true key q e)) ∙ is)
+    through q
+    ∙ ap (λ b. if b then option_map (λ _. w) (m q) else m q) e
+    ∙ ap (option_map (λ _. w)) (ap m (sym (eqb-true key q e)) ∙ is)
 
-elsewhere : {X : Type 0} (m n : BTreeMap ℕ X) (key : ℕ) (w : X) → WritesThrough nat_cmp (nat_cmp key) m w n
-    → (q : ℕ) → (key == q) ≡ false → get nat_cmp n q ≡ get nat_cmp m q
-elsewhere m n key w through q e = written m n key w through q ∙ ap (λ b. if b then option_map (λ _. w) (get nat_cmp m q) else get nat_cmp m q) e
+elsewhere : {X : Type 0} (m n : ℕ → Option X) (key : ℕ) (w : X) → ((q : ℕ) → n q ≡ (if key == q then option_map (λ _. w) (m q) else m q))
+    → (q : ℕ) → (key == q) ≡ false → n q ≡ m q
+elsewhere m n key w through q e = through q ∙ ap (λ b. if b then option_map (λ _. w) (m q) else m q) e
 
--- three levels, of which the last is any that is looked up so
-module _ {H V : Type 0} (look : Option H → ℕ → Option V) (rows new : BTreeMap ℕ (BTreeMap ℕ H)) (sessions changed : BTreeMap ℕ H) (last after : H) (conn own : ℕ)
-    (in_conn : get nat_cmp rows conn ≡ Some sessions) (in_session : get nat_cmp sessions own ≡ Some last)
-    (at_conn : WritesThrough nat_cmp (nat_cmp conn) rows changed new) (at_own : WritesThrough nat_cmp (nat_cmp own) sessions after changed) where
+-- three levels: connections are any function, and sessions and their values are any that are looked up so
+module _ {S H V : Type 0} (find : Option S → ℕ → Option H) (look : Option H → ℕ → Option V) (rows new : ℕ → Option S) (sessions changed : S) (last after : H) (conn own : ℕ)
+    (in_conn : rows conn ≡ Some sessions) (in_session : find (Some sessions) own ≡ Some last)
+    (at_conn : (q : ℕ) → new q ≡ (if conn == q then option_map (λ _. changed) (rows q) else rows q))
+    (at_own : (q : ℕ) → find (Some changed) q ≡ (if own == q then option_map (λ _. after) (find (Some sessions) q) else find (Some sessions) q)) where
   -- the session's values are the changed ones, and all others what they were
-  behind : (c o h : ℕ) (x : Option V) → ((conn == c) ≡ true → (own == o) ≡ true → look (in_map (get nat_cmp rows c) o) h ≡ look (Some last) h → look (Some after) h ≡ x)
-      → look (in_map (get nat_cmp new c) o) h
-      ≡ (if conn == c then (if own == o then x else look (in_map (get nat_cmp rows c) o) h) else look (in_map (get nat_cmp rows c) o) h)
+  behind : (c o h : ℕ) (x : Option V) → ((conn == c) ≡ true → (own == o) ≡ true → look (find (rows c) o) h ≡ look (Some last) h → look (Some after) h ≡ x)
+      → look (find (new c) o) h
+      ≡ (if conn == c then (if own == o then x else look (find (rows c) o) h) else look (find (rows c) o) h)
   behind c o h x is =
       by_test (conn == c)
-      (λ e. let old : get nat_cmp rows c ≡ Some sessions = ap (get nat_cmp rows) (sym (eqb-true conn c e)) ∙ in_conn in
-      let now : get nat_cmp new c ≡ Some changed = there rows new conn sessions changed in_conn at_conn c e in
+      (λ e. let old : rows c ≡ Some sessions = ap rows (sym (eqb-true conn c e)) ∙ in_conn in
+      let now : new c ≡ Some changed = there rows new conn sessions changed in_conn at_conn c e in
       by_test (own == o)
-      (λ f. rw (e, f) (ap (λ m. look (in_map m o) h) now ∙ ap (λ m. look m h) (there sessions changed own last after in_session at_own o f)
-      ∙ is e f (ap (λ m. look (in_map m o) h) old ∙ ap (λ m. look m h) (ap (get nat_cmp sessions) (sym (eqb-true own o f)) ∙ in_session))))
-      (λ f. rw (e, f) (ap (λ m. look (in_map m o) h) now ∙ ap (λ m. look m h) (elsewhere sessions changed own after at_own o f) ∙ sym (ap (λ m. look (in_map m o) h) old))))
-      (λ e. rw e (ap (λ m. look (in_map m o) h) (elsewhere rows new conn changed at_conn c e)))
+      (λ f. rw (e, f) (ap (λ m. look (find m o) h) now ∙ ap (λ m. look m h) (there (find (Some sessions)) (find (Some changed)) own last after in_session at_own o f)
+      ∙ is e f (ap (λ m. look (find m o) h) old ∙ ap (λ m. look m h) (ap (find (Some sessions)) (sym (eqb-true own o f)) ∙ in_session))))
+      (λ f. rw (e, f) (ap (λ m. look (find m o) h) now ∙ ap (λ m. look m h) (elsewhere (find (Some sessions)) (find (Some changed)) own after at_own o f) ∙ sym (ap (λ m. look (find m o) h) old))))
+      (λ e. rw e (ap (λ m. look (find m o) h) (elsewhere rows new conn changed at_conn c e)))
 
   pub placed : (handle : ℕ) (w : V)
       → ((h : ℕ) → look (Some after) h ≡ (if handle == h then option_map (λ _. w) (look (Some last) h) else look (Some last) h))
-      → (c o h : ℕ) → look (in_map (get nat_cmp new c) o) h
-      ≡ (if conn == c then (if own == o then (if handle == h then option_map (λ _. w) (look (in_map (get nat_cmp rows c) o) h) else look (in_map (get nat_cmp rows c) o) h) else look (in_map (get nat_cmp rows c) o) h) else look (in_map (get nat_cmp rows c) o) h)
+      → (c o h : ℕ) → look (find (new c) o) h
+      ≡ (if conn == c then (if own == o then (if handle == h then option_map (λ _. w) (look (find (rows c) o) h) else look (find (rows c) o) h) else look (find (rows c) o) h) else look (find (rows c) o) h)
   placed handle w at_handle c o h =
-      behind c o h (if handle == h then option_map (λ _. w) (look (in_map (get nat_cmp rows c) o) h) else look (in_map (get nat_cmp rows c) o) h)
+      behind c o h (if handle == h then option_map (λ _. w) (look (find (rows c) o) h) else look (find (rows c) o) h)
       (λ e f old. at_handle h ∙ ap (λ v. if handle == h then option_map (λ _. w) v else v) (sym old))
 
-  pub unplaced : ((h : ℕ) → look (Some after) h ≡ look (Some last) h) → (c o h : ℕ) → look (in_map (get nat_cmp new c) o) h ≡ look (in_map (get nat_cmp rows c) o) h
+  pub unplaced : ((h : ℕ) → look (Some after) h ≡ look (Some last) h) → (c o h : ℕ) → look (find (new c) o) h ≡ look (find (rows c) o) h
   unplaced same c o h =
-      behind c o h (look (in_map (get nat_cmp rows c) o) h) (λ e f old. same h ∙ sym old)
+      behind c o h (look (find (rows c) o) h) (λ e f old. same h ∙ sym old)
       ∙ by_test (conn == c) (λ e. by_test (own == o) (λ f. rw (e, f) refl) (λ f. rw (e, f) refl)) (λ e. rw e refl)

@@ -1,20 +1,11 @@
 -- Numbers among a few places, and the lowest that passes a test.
-use Rattle.std.specs.Prelude.{◌≡◌, ◌==◌, ◌<◌, ◌+◌, ◌||◌, ℕ, Bool, true, false, List, [], ◌∷◌, Option, Some, None}
+use Rattle.std.specs.Prelude.{◌≡◌, ◌==◌, ◌<◌, ◌||◌, ℕ, zero, suc, Bool, true, false, List, [], ◌∷◌, Option, Some, None}
 
-abbrev pub is_number : Option ℕ → ℕ → Bool
-is_number None n = false
-is_number (Some m) n = m == n
-
--- one of these places has the number
-unfoldable pub is_among : List (Option ℕ) → ℕ → Bool
-is_among [] n = false
-is_among (x ∷ xs) n = is_number x n || is_among xs n
-
--- how many of these places have a number
-unfoldable pub filled : List (Option ℕ) → ℕ
-filled [] = 0
-filled (None ∷ xs) = filled xs
-filled (Some n ∷ xs) = 1 + filled xs
+-- one of the first so many places has the number
+unfoldable pub is_among : ℕ → List ℕ → ℕ → Bool
+is_among zero xs n = false
+is_among (suc count) [] n = false
+is_among (suc count) (x ∷ xs) n = x == n || is_among count xs n
 
 -- the lowest number that passes, if any does
 abbrev pub IsLeast : (ℕ → Bool) → Option ℕ → Type 0

@@ -2,12 +2,9 @@
 use Rattle.std.specs.Prelude.{◌≡◌, ◌==◌, ◌&&◌, ◌<◌, ◌^◌, ℕ, Bool, List, nat_lt, Option, Some, None, if◌then◌else◌}
 use Rattle.std.specs.Option.{option_map}
 use Rattle.std.specs.Borrow.{LendsSo, MutBor, Fml, RattleType}
-use Rattle.std.specs.Ordering.{nat_cmp}
-use Rattle.std.specs.BTreeMap.{get}
 use Rattle.std.specs.List.{AllByRecursion}
 use Rattle.amqp_session.specs.Serials.{distance}
 use Rattle.amqp_session.specs.Ranges.{has, IsRising}
-use Rattle.router_places.specs.Places.{in_map}
 use Rattle.router_places.specs.Slots.{in_slots}
 use Rattle.router_places.specs.declared.slots.Slots.{Slots}
 use Rattle.router_places.specs.declared.by_session.BySession.{BySession}
@@ -19,7 +16,7 @@ in_ids (Some m) id = in_slots m id
 
 -- of the session on a channel of the router, of a connection
 abbrev pub at_id : {V : Type 0} → BySession V → ℕ → ℕ → ℕ → Option V
-at_id s c o id = in_ids (in_map (get nat_cmp s.rows c) o) id
+at_id s c o id = in_ids (in_ids (in_slots s.rows c) o) id
 
 -- These ids are those of the first so many of a range that are there.
 pub record IsAsked (first : ℕ) (there : ℕ → Bool) (steps : ℕ) (ids : List ℕ) : Type 0 where

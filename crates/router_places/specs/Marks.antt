@@ -2,13 +2,13 @@
 use Rattle.std.specs.Prelude.{◌||◌, ◌+◌, ℕ, Bool, length}
 use Rattle.std.specs.Ordering.{nat_cmp}
 use Rattle.std.specs.BTreeSet.{contains}
-use Rattle.router_places.specs.Among.{is_among, filled}
+use Rattle.router_places.specs.Among.{is_among}
 use Rattle.router_places.specs.declared.marks.Marks.{Marks}
 
 -- how many places and entries it takes
 abbrev pub size : Marks → ℕ
-size s = filled s.few.places + length s.more.keys
+size s = s.few.count + length s.more.keys
 
 -- a number is in it
 abbrev pub has : Marks → ℕ → Bool
-has s n = is_among s.few.places n || contains nat_cmp s.more n
+has s n = is_among s.few.count s.few.places n || contains nat_cmp s.more n

@@ -5,9 +5,14 @@ ghost use Rattle.std.specs.Ordering.{nat_cmp};
 ghost use Rattle.std.specs.BTreeMap.{get};
 ghost use Rattle.std.specs.Borrow.{sem};
 ghost use Rattle.router_places.specs.Places.{in_map, at, LendsPlace};
+ghost use Rattle.router_places.specs.Slots.{in_slots};
 
+use crate::slots::Slots;
 use std::alloc::{AllocError, Global};
 use std::collections::BTreeMap;
+
+/// So many connections with neighbouring numbers have places of their own.
+const PLACES: usize = 64;
 
 /// Values by handle.
 pub type InSession<V> = BTreeMap<u32, V>;
@@ -19,7 +24,7 @@ pub type InConnection<V> = BTreeMap<u16, InSession<V>>;
 #[derive(Drop)]
 pub struct ByHandle<V> {
     alloc: Global,
-    rows: BTreeMap<u64, InConnection<V>>,
+    rows: Slots<InConnection<V>>,
 }
 
 impl<V: Drop> ByHandle<V> {
@@ -29,7 +34,7 @@ impl<V: Drop> ByHandle<V> {
     {
         ByHandle {
             alloc,
-            rows: BTreeMap::new(alloc),
+            rows: Slots::new(alloc, PLACES),
         }
     }
 
@@ -37,7 +42,7 @@ impl<V: Drop> ByHandle<V> {
     pub fn get(&self, conn: u64, own: u16, handle: u32) -> Option<&V>
         ensures { option_map (λ v. v.now) result ≡ at self.now conn own handle }
     {
-        match self.rows.get(&conn) {
+        match self.rows.get(conn) {
             None => None,
             Some(sessions) => match sessions.get(&own) {
                 None => None,
@@ -51,16 +56,16 @@ impl<V: Drop> ByHandle<V> {
         ensures* lends { sem 𝓛 (LendsPlace V.row self.entry conn own handle result) }
         ensures value { option_copied_mut result ≡ at self.old conn own handle }
     {
-        let sessions = self.rows.get_mut(&conn)?;
+        let sessions = self.rows.get_mut(conn)?;
         let handles = sessions.get_mut(&own)?;
         handles.get_mut(&handle)
     }
 
     /// The values of a session.
     pub fn session(&self, conn: u64, own: u16) -> Option<&InSession<V>>
-        ensures { option_map (λ m. m.now) result ≡ in_map (get nat_cmp self.now.rows conn) own }
+        ensures { option_map (λ m. m.now) result ≡ in_map (in_slots self.now.rows conn) own }
     {
-        match self.rows.get(&conn) {
+        match self.rows.get(conn) {
             None => None,
             Some(sessions) => sessions.get(&own),
         }
@@ -68,9 +73,9 @@ impl<V: Drop> ByHandle<V> {
 
     /// The values of a connection.
     pub fn connection(&self, conn: u64) -> Option<&InConnection<V>>
-        ensures { option_map (λ m. m.now) result ≡ get nat_cmp self.now.rows conn }
+        ensures { option_map (λ m. m.now) result ≡ in_slots self.now.rows conn }
     {
-        self.rows.get(&conn)
+        self.rows.get(conn)
     }
 
     /// Puts a value at a place and replaces the one there.
@@ -79,15 +84,13 @@ impl<V: Drop> ByHandle<V> {
             ≡ (if conn == c then (if own == o then (if handle == h then Some value else at self.old c o h) else at self.old c o h) else at self.old c o h)) }
     {
         let alloc = self.alloc;
-        if let Some(sessions) = self.rows.get_mut(&conn) {
+        if let Some(sessions) = self.rows.get_mut(conn) {
             return insert_in(alloc, sessions, own, handle, value);
         }
         let mut sessions = BTreeMap::new(alloc);
         insert_in(alloc, &mut sessions, own, handle, value)?;
-        match self.rows.insert(conn, sessions) {
-            Ok(_) => Ok(()),
-            Err(_) => Err(AllocError),
-        }
+        self.rows.insert(conn, sessions)?;
+        Ok(())
     }
 
     /// Removes the value at a place.
@@ -96,7 +99,7 @@ impl<V: Drop> ByHandle<V> {
         ensures gone { (c o h : ℕ) → at self.new c o h
             ≡ (if conn == c then (if own == o then (if handle == h then None else at self.old c o h) else at self.old c o h) else at self.old c o h) }
     {
-        match self.rows.get_mut(&conn) {
+        match self.rows.get_mut(conn) {
             None => None,
             Some(sessions) => remove_in(sessions, own, handle),
         }
@@ -104,10 +107,10 @@ impl<V: Drop> ByHandle<V> {
 
     /// Removes all values of a session.
     pub fn end(&mut self, conn: u64, own: u16) -> Option<InSession<V>>
-        ensures gives { result ≡ in_map (get nat_cmp self.old.rows conn) own }
+        ensures gives { result ≡ in_map (in_slots self.old.rows conn) own }
         ensures gone { (c o h : ℕ) → at self.new c o h ≡ (if conn == c then (if own == o then None else at self.old c o h) else at self.old c o h) }
     {
-        match self.rows.get_mut(&conn) {
+        match self.rows.get_mut(conn) {
             None => None,
             Some(sessions) => sessions.remove(&own),
         }
@@ -115,10 +118,10 @@ impl<V: Drop> ByHandle<V> {
 
     /// Removes all values of a connection.
     pub fn forget(&mut self, conn: u64) -> Option<InConnection<V>>
-        ensures gives { result ≡ get nat_cmp self.old.rows conn }
+        ensures gives { result ≡ in_slots self.old.rows conn }
         ensures gone { (c o h : ℕ) → at self.new c o h ≡ (if conn == c then None else at self.old c o h) }
     {
-        self.rows.remove(&conn)
+        self.rows.remove(conn)
     }
 }
 

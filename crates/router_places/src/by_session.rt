@@ -6,14 +6,12 @@ ghost use Rattle.std.specs.Ordering.{nat_cmp};
 ghost use Rattle.std.specs.BTreeMap.{get};
 ghost use Rattle.amqp_session.specs.Serials.{distance};
 ghost use Rattle.amqp_session.specs.Ranges.{in_range, has, IsRising};
-ghost use Rattle.router_places.specs.Places.{in_map};
 ghost use Rattle.router_places.specs.Slots.{in_slots};
 ghost use Rattle.router_places.specs.Ids.{in_ids, at_id, IsAsked, LendsId};
 
 use crate::slots::Slots;
 use amqp_session::{DeliveryIds, Serial};
 use std::alloc::{AllocError, Global};
-use std::collections::BTreeMap;
 
 /// So many neighbouring ids of a session have places of their own.
 const PLACES: usize = 64;
@@ -21,11 +19,19 @@ const PLACES: usize = 64;
 /// A range of up to so many ids is asked id by id.
 const FEW_IDS: u32 = 64;
 
+/// So many connections with neighbouring numbers have places of their own, and so many sessions of each.
+const CONNECTIONS: usize = 64;
+
+const SESSIONS: usize = 16;
+
+/// Values by the router's channel of a session, and the delivery-id on it.
+type Sessions<V> = Slots<Slots<V>>;
+
 /// Values by connection, the router's channel of a session, and the delivery-id on it.
 #[derive(Drop)]
 pub struct BySession<V> {
     alloc: Global,
-    rows: BTreeMap<u64, BTreeMap<u16, Slots<V>>>,
+    rows: Slots<Sessions<V>>,
 }
 
 impl<V: Drop> BySession<V> {
@@ -35,15 +41,15 @@ impl<V: Drop> BySession<V> {
     {
         BySession {
             alloc,
-            rows: BTreeMap::new(alloc),
+            rows: Slots::new(alloc, CONNECTIONS),
         }
     }
 
     /// The values of a session.
     fn session(&self, conn: u64, own: u16) -> Option<&Slots<V>>
-        ensures { option_copied result ≡ in_map (get nat_cmp self.now.rows conn) own }
+        ensures { option_copied result ≡ in_ids (in_slots self.now.rows conn) own }
     {
-        self.rows.get(&conn)?.get(&own)
+        self.rows.get(conn)?.get(u64::from(own))
     }
 
     /// The value of an id.
@@ -61,8 +67,8 @@ impl<V: Drop> BySession<V> {
         ensures* lends { sem 𝓛 (LendsId V.row self.entry conn own id result) }
         ensures value { option_copied_mut result ≡ at_id self.old conn own id }
     {
-        let sessions = self.rows.get_mut(&conn)?;
-        let ids = sessions.get_mut(&own)?;
+        let sessions = self.rows.get_mut(conn)?;
+        let ids = sessions.get_mut(u64::from(own))?;
         ids.get_mut(u64::from(id))
     }
 
@@ -106,15 +112,13 @@ impl<V: Drop> BySession<V> {
             ≡ (if conn == c then (if own == o then (if id == q then Some value else at_id self.old c o q) else at_id self.old c o q) else at_id self.old c o q)) }
     {
         let alloc = self.alloc;
-        if let Some(sessions) = self.rows.get_mut(&conn) {
+        if let Some(sessions) = self.rows.get_mut(conn) {
             return insert_in(alloc, sessions, own, id, value);
         }
-        let mut sessions = BTreeMap::new(alloc);
+        let mut sessions = Slots::new(alloc, SESSIONS);
         insert_in(alloc, &mut sessions, own, id, value)?;
-        match self.rows.insert(conn, sessions) {
-            Ok(_) => Ok(()),
-            Err(_) => Err(AllocError),
-        }
+        self.rows.insert(conn, sessions)?;
+        Ok(())
     }
 
     /// Removes the value of an id.
@@ -122,7 +126,7 @@ impl<V: Drop> BySession<V> {
         ensures { (c o q : ℕ) → at_id self.new c o q
             ≡ (if conn == c then (if own == o then (if id == q then None else at_id self.old c o q) else at_id self.old c o q) else at_id self.old c o q) }
     {
-        if let Some(sessions) = self.rows.get_mut(&conn) {
+        if let Some(sessions) = self.rows.get_mut(conn) {
             remove_in(sessions, own, id);
         }
     }
@@ -131,8 +135,8 @@ impl<V: Drop> BySession<V> {
     pub fn end(&mut self, conn: u64, own: u16)
         ensures { (c o q : ℕ) → at_id self.new c o q ≡ (if conn == c then (if own == o then None else at_id self.old c o q) else at_id self.old c o q) }
     {
-        if let Some(sessions) = self.rows.get_mut(&conn) {
-            let _ = sessions.remove(&own);
+        if let Some(sessions) = self.rows.get_mut(conn) {
+            let _ = sessions.remove(u64::from(own));
         }
     }
 
@@ -140,30 +144,28 @@ impl<V: Drop> BySession<V> {
     pub fn forget(&mut self, conn: u64)
         ensures { (c o q : ℕ) → at_id self.new c o q ≡ (if conn == c then None else at_id self.old c o q) }
     {
-        let _ = self.rows.remove(&conn);
+        let _ = self.rows.remove(conn);
     }
 }
 
 /// Gives an id of a session this value, instead of any that it had.
 fn insert_in<V: Drop>(
     alloc: Global,
-    sessions: &mut BTreeMap<u16, Slots<V>>,
+    sessions: &mut Sessions<V>,
     own: u16,
     id: u32,
     value: V,
 ) -> Result<(), AllocError>
-    ensures { OnOk result ((o q : ℕ) → in_ids (get nat_cmp sessions.new o) q
-        ≡ (if own == o then (if id == q then Some value else in_ids (get nat_cmp sessions.old o) q) else in_ids (get nat_cmp sessions.old o) q)) }
+    ensures { OnOk result ((o q : ℕ) → in_ids (in_slots sessions.new o) q
+        ≡ (if own == o then (if id == q then Some value else in_ids (in_slots sessions.old o) q) else in_ids (in_slots sessions.old o) q)) }
 {
-    if let Some(ids) = sessions.get_mut(&own) {
+    if let Some(ids) = sessions.get_mut(u64::from(own)) {
         return put(ids, id, value);
     }
     let mut ids = Slots::new(alloc, PLACES);
     put(&mut ids, id, value)?;
-    match sessions.insert(own, ids) {
-        Ok(_) => Ok(()),
-        Err(_) => Err(AllocError),
-    }
+    sessions.insert(u64::from(own), ids)?;
+    Ok(())
 }
 
 /// Gives an id this value, instead of any that it had.
@@ -175,11 +177,11 @@ fn put<V: Drop>(ids: &mut Slots<V>, id: u32, value: V) -> Result<(), AllocError>
 }
 
 /// Removes the value of an id of a session.
-fn remove_in<V: Drop>(sessions: &mut BTreeMap<u16, Slots<V>>, own: u16, id: u32)
-    ensures { (o q : ℕ) → in_ids (get nat_cmp sessions.new o) q
-        ≡ (if own == o then (if id == q then None else in_ids (get nat_cmp sessions.old o) q) else in_ids (get nat_cmp sessions.old o) q) }
+fn remove_in<V: Drop>(sessions: &mut Sessions<V>, own: u16, id: u32)
+    ensures { (o q : ℕ) → in_ids (in_slots sessions.new o) q
+        ≡ (if own == o then (if id == q then None else in_ids (in_slots sessions.old o) q) else in_ids (in_slots sessions.old o) q) }
 {
-    if let Some(ids) = sessions.get_mut(&own) {
+    if let Some(ids) = sessions.get_mut(u64::from(own)) {
         let _ = ids.remove(u64::from(id));
     }
 }

@@ -5,11 +5,13 @@ mod by_handle;
 mod by_session;
 mod emptying;
 mod few;
+mod kept;
 mod marks;
 mod slots;
 
 pub use by_handle::{ByHandle, InConnection, InSession};
 pub use by_session::{BySession, numbers_in};
 pub use emptying::Empties;
+pub use kept::Kept;
 pub use marks::Marks;
 pub use slots::Slots;

@@ -52,16 +52,29 @@ impl<V: Drop> Slots<V> {
     }
 
     /// The value of a number.
+    #[inline]
     pub fn get(&self, number: u64) -> Option<&V>
         ensures { option_copied result ≡ in_slots self.now number }
     {
         match self.placed.get(number) {
             Some(value) => Some(value),
-            None => self.others.get(&number),
+            None => self.get_other(number),
         }
     }
 
+    /// The value of a number in the ordered map.
+    #[inline]
+    fn get_other(&self, number: u64) -> Option<&V>
+        ensures { option_copied result ≡ get nat_cmp self.now.others number }
+    {
+        if self.others.is_empty() {
+            return None;
+        }
+        get_in(&self.others, number)
+    }
+
     /// The value of a number, to change it.
+    #[inline]
     pub fn get_mut(&mut self, number: u64) -> Option<&mut V>
         ensures* lends { sem 𝓛 (LendsSlot V.row self.entry number result) }
         ensures value { option_copied_mut result ≡ in_slots self.old number }
@@ -100,6 +113,7 @@ impl<V: Drop> Slots<V> {
     }
 
     /// Removes the value of a number from the ordered map, and gives it.
+    #[inline]
     fn remove_other(&mut self, number: u64) -> Option<V>
         ensures placed { self.new.placed ≡ self.old.placed }
         ensures gone { (q : ℕ) → get nat_cmp self.new.others q ≡ (if number == q then None else get nat_cmp self.old.others q) }
@@ -108,7 +122,7 @@ impl<V: Drop> Slots<V> {
         if self.others.is_empty() {
             return None;
         }
-        self.others.remove(&number)
+        remove_in(&mut self.others, number)
     }
 
     /// Appends the numbers that have a value, in no order. Fails if memory is refused.
@@ -161,6 +175,7 @@ impl<V: Drop> Places<V> {
     }
 
     /// Makes the places, where there are none yet. Fails if memory is refused.
+    #[inline]
     fn fill(&mut self, alloc: Global) -> Result<(), AllocError>
         ensures { OnOk result ((n : ℕ) → in_places self.new n ≡ in_places self.old n) }
     {
@@ -172,6 +187,7 @@ impl<V: Drop> Places<V> {
     }
 
     /// The index of a number's place.
+    #[inline]
     fn index(&self, number: u64) -> usize
         ensures { result ≡ bit_and number self.now.mask }
     {
@@ -179,6 +195,7 @@ impl<V: Drop> Places<V> {
     }
 
     /// The value of a number, if it stands in its place.
+    #[inline]
     fn get(&self, number: u64) -> Option<&V>
         ensures { option_copied result ≡ in_places self.now number }
     {
@@ -198,6 +215,7 @@ impl<V: Drop> Places<V> {
     }
 
     /// Whether a number has a value in its place.
+    #[inline]
     fn has(&self, number: u64) -> bool
         ensures { result ≡ is_some (in_places self.now number) }
     {
@@ -205,6 +223,7 @@ impl<V: Drop> Places<V> {
     }
 
     /// Whether a number's place has no value of another number.
+    #[inline]
     fn has_room(&self, number: u64) -> bool
         ensures { result ≡ is_free_for number (slice_get self.now.places.items (bit_and number self.now.mask)) }
     {
@@ -218,6 +237,7 @@ impl<V: Drop> Places<V> {
     }
 
     /// Puts this in a number's place, and gives what was there.
+    #[inline]
     fn replace(&mut self, number: u64, entry: Option<Entry<V>>) -> Option<Entry<V>>
         requires { bit_and number self.old.mask < length self.old.places.items }
         ensures places { self.new.places.items ≡ slice_set self.old.places.items (bit_and number self.old.mask) entry }
@@ -229,6 +249,7 @@ impl<V: Drop> Places<V> {
     }
 
     /// Puts a value in its number's place, and gives the one that the number had there.
+    #[inline]
     fn put(&mut self, number: u64, value: V) -> Option<V>
         requires { is_free_for number (slice_get self.old.places.items (bit_and number self.old.mask)) ≡ true }
         ensures set { (q : ℕ) → in_places self.new q ≡ (if number == q then Some value else in_places self.old q) }
@@ -238,6 +259,7 @@ impl<V: Drop> Places<V> {
     }
 
     /// Takes the value of a number out of its place.
+    #[inline]
     fn take(&mut self, number: u64) -> Option<V>
         ensures gone { (q : ℕ) → in_places self.new q ≡ (if number == q then None else in_places self.old q) }
         ensures before { result ≡ in_places self.old number }
@@ -249,6 +271,7 @@ impl<V: Drop> Places<V> {
     }
 
     /// The value of a number, if it stands in its place, to change it.
+    #[inline]
     fn get_mut(&mut self, number: u64) -> Option<&mut V>
         ensures* lends { sem 𝓛 (LendsPlaced V.row self.entry number result) }
         ensures value { option_copied_mut result ≡ in_places self.old number }
@@ -305,6 +328,23 @@ impl<V: Drop> Places<V> {
     }
 }
 
+/// The value of a number in an ordered map.
+#[inline(never)]
+fn get_in<V>(values: &BTreeMap<u64, V>, number: u64) -> Option<&V>
+    ensures { option_copied result ≡ get nat_cmp values.now number }
+{
+    values.get(&number)
+}
+
+/// Removes the value of a number from an ordered map, and gives it.
+#[inline(never)]
+fn remove_in<V: Drop>(values: &mut BTreeMap<u64, V>, number: u64) -> Option<V>
+    ensures gone { (q : ℕ) → get nat_cmp values.new q ≡ (if number == q then None else get nat_cmp values.old q) }
+    ensures before { result ≡ get nat_cmp values.old number }
+{
+    values.remove(&number)
+}
+
 /// Appends the numbers of an ordered map. Fails if memory is refused.
 fn append_keys<V>(values: &BTreeMap<u64, V>, numbers: &mut Vec<u64>) -> Result<(), AllocError>
     ensures { OnOk result (numbers.new.items ≡ numbers.old.items ++ keys_of values.now.entries) }
@@ -337,6 +377,7 @@ fn free_places<V: Drop>(alloc: Global, count: usize) -> Result<Vec<Option<Entry<
 }
 
 /// The value of an entry.
+#[inline]
 fn value_of<V>(entry: Option<Entry<V>>) -> Option<V>
     ensures { result ≡ option_map (λ e. e.value) entry }
 {

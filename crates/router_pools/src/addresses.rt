@@ -30,6 +30,7 @@ impl Addresses {
     }
 
     /// Whether this is the address in place.
+    #[inline]
     fn is_first(&self, address: &[u8]) -> bool
         ensures { result ≡ is_it self.now.first (λ k. k.items) address.now }
     {
@@ -40,6 +41,7 @@ impl Addresses {
     }
 
     /// Whether an address is among them.
+    #[inline]
     fn has(&self, address: &[u8]) -> bool
         ensures { result ≡ is_in self.now address.now }
     {
@@ -64,6 +66,7 @@ impl Addresses {
     }
 
     /// Adds an address if this is wanted.
+    #[inline]
     pub(crate) fn add_if(&mut self, address: &[u8], wanted: bool) -> Result<(), AllocError>
         ensures without { OnOk result (is_in self.new address.now ≡ false → wanted ≡ false) }
         ensures others { OnOk result ((a : List ℕ) → is_in self.new a ≡ false → is_in self.old a ≡ false) }

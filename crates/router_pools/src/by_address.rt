@@ -17,7 +17,7 @@ use router_places::Slots;
 use std::alloc::{AllocError, Global};
 
 /// So many places stand for rows, each for those of the digests whose remainder it is.
-const PLACES: usize = 64;
+const PLACES: usize = 1024;
 
 /// Pools by address: first by the address's digest, then by its bytes. So a look-up compares bytes about once, and addresses that were
 /// chosen to have one digest cost no more than a map by bytes does. A pool without links is removed, and a row without pools.
@@ -48,6 +48,7 @@ impl ByAddress {
 
     /// Sets what a consumer offers to an address, whose pool is shared as this table says. It is no producer there.
     /// Returns whether the address may have grants then.
+    #[inline]
     pub(crate) fn offer(
         &mut self,
         table: &Table,
@@ -72,6 +73,7 @@ impl ByAddress {
 
     /// Sets what a producer wants of an address, whose pool is shared as this table says. It is no consumer there.
     /// Returns whether the address may have grants then.
+    #[inline]
     pub(crate) fn want(
         &mut self,
         table: &Table,
@@ -120,6 +122,7 @@ impl ByAddress {
     }
 
     /// The consumer that would be chosen for the next delivery of an address.
+    #[inline]
     pub(crate) fn peek(&self, address: &[u8]) -> Option<ConsumerId>
         ensures { (share : List ℕ → Distribution) → option_map (λ c. c.0) result ≡ choice (pool_in share self.now address.now) }
     {
@@ -131,6 +134,7 @@ impl ByAddress {
     }
 
     /// Chooses the consumer of the next delivery of an address.
+    #[inline]
     pub(crate) fn choose(&mut self, address: &[u8]) -> Option<ConsumerId>
         ensures chosen { (share : List ℕ → Distribution) → option_map (λ c. c.0) result ≡ choice (pool_in share self.old address.now) }
         ensures noted { (share : List ℕ → Distribution) (a : List ℕ) → pool_in share self.new a ≡ with_pool (pool_in share self.old) address.now (λ pool. chose pool (option_map (λ c. c.0) result)) a }
@@ -143,6 +147,7 @@ impl ByAddress {
     }
 
     /// The grants of an address.
+    #[inline]
     pub(crate) fn grants(&mut self, address: &[u8]) -> Result<Vec<(ProducerId, u32)>, AllocError>
         ensures sums { IfOk result (λ sums. (share : List ℕ → Distribution) → by_id sums.items ≡ grants_of (pool_in share self.old address.now)) }
         ensures filled { OnOk result ((share : List ℕ → Distribution) (a : List ℕ) → pool_in share self.new a ≡ with_pool (pool_in share self.old) address.now all_granted a) }

@@ -6,6 +6,7 @@ ghost use Rattle.std.specs.Str.{bytes_eq};
 ghost use Rattle.router_pools.specs.ByBytes.{at, first_at, has_none, LendsAt};
 
 use crate::same::same;
+use router_places::Kept;
 use std::alloc::{AllocError, Global};
 use std::collections::BTreeMap;
 
@@ -16,12 +17,13 @@ struct Place<V> {
     value: V,
 }
 
-/// Values by the bytes of their addresses. One stands in place, and only what comes beyond it in an ordered map: where there is one alone, a
+/// Values by the bytes of their addresses. One stands in a box of its own, and only what comes beyond it in an ordered map: where there is one alone, a
 /// look-up compares its bytes once. If that one is removed its place stays empty until another is put. Each call costs a logarithm of the
 /// count at most. If an operation fails to allocate, the contents are unspecified.
 #[derive(Drop)]
 pub(crate) struct ByBytes<V> {
-    first: Option<Place<V>>,
+    alloc: Global,
+    first: Option<Kept<Place<V>>>,
     more: BTreeMap<Vec<u8>, V>,
 }
 
@@ -31,23 +33,26 @@ impl<V: Drop> ByBytes<V> {
         ensures { (a : List ℕ) → at result a ≡ None }
     {
         ByBytes {
+            alloc,
             first: None,
             more: BTreeMap::new(alloc),
         }
     }
 
     /// The value at an address.
+    #[inline]
     pub(crate) fn get(&self, address: &[u8]) -> Option<&V>
         ensures { option_map (λ v. v.now) result ≡ at self.now address.now }
     {
         if self.is_first(address) {
             let first = self.first.as_ref()?;
-            return Some(&first.value);
+            return Some(&first.as_ref().value);
         }
         self.more.get(address)
     }
 
     /// The value at an address, to change it.
+    #[inline]
     pub(crate) fn get_mut(&mut self, address: &[u8]) -> Option<&mut V>
         ensures* lends { sem 𝓛 (LendsAt V.row self.entry address.now result) }
         ensures value { option_copied_mut result ≡ at self.old address.now }
@@ -56,7 +61,7 @@ impl<V: Drop> ByBytes<V> {
             let Some(first) = &mut self.first else {
                 return None;
             };
-            return Some(&mut first.value);
+            return Some(&mut first.as_mut().value);
         }
         self.more.get_mut(address)
     }
@@ -68,7 +73,7 @@ impl<V: Drop> ByBytes<V> {
         let place = address.as_slice();
         self.remove(place);
         if self.first.is_none() {
-            self.first = Some(Place { address, value });
+            self.first = Some(Kept::new(self.alloc, Place { address, value })?);
             return Ok(());
         }
         match self.more.insert(address, value) {
@@ -88,6 +93,7 @@ impl<V: Drop> ByBytes<V> {
     }
 
     /// Removes the value in place, if it is at this address.
+    #[inline]
     fn take_first(&mut self, address: &[u8])
         ensures first { (a : List ℕ) → first_at self.new.first a ≡ (if bytes_eq address.now a then None else first_at self.old.first a) }
         ensures more { self.new.more ≡ self.old.more }
@@ -98,16 +104,18 @@ impl<V: Drop> ByBytes<V> {
     }
 
     /// Whether the value in place is at this address.
+    #[inline]
     fn is_first(&self, address: &[u8]) -> bool
         ensures { result ≡ is_some (first_at self.now.first address.now) }
     {
         match &self.first {
             None => false,
-            Some(first) => same(address, first.address.as_slice()),
+            Some(first) => same(address, first.as_ref().address.as_slice()),
         }
     }
 
     /// Whether there are none.
+    #[inline]
     pub(crate) fn is_empty(&self) -> bool
         ensures { result ≡ has_none self.now }
     {

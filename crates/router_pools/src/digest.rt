@@ -3,6 +3,7 @@ ghost use Rattle.std.specs.Prelude.{◌≡◌};
 ghost use Rattle.router_pools.specs.Digest.{digest_of};
 
 /// A number of an address: FNV-1a, of 64 bits. Few addresses have the same one, unless somebody chose them so.
+#[inline]
 pub(crate) fn digest(address: &[u8]) -> u64
     ensures { result ≡ digest_of address.now }
 {

@@ -25,7 +25,7 @@ use router_places::{Marks, Slots};
 use std::alloc::{AllocError, Global};
 
 /// So many places stand for links, each for those of the numbers whose remainder it is.
-const SEATS: usize = 64;
+const SEATS: usize = 1024;
 
 /// The pools of all addresses, with the links that may have changed, and the addresses that may have grants.
 ///
@@ -66,6 +66,7 @@ impl Pools {
     }
 
     /// How the links of an address share its messages.
+    #[inline]
     pub fn distribution(&self, address: &str) -> Distribution
         ensures { (share : List ℕ → Distribution) (known actual : ℕ → Option Figure) (last : List ℕ → ℕ) → PoolsFit self.now share known actual last → result ≡ share address.now }
     {
@@ -73,6 +74,7 @@ impl Pools {
     }
 
     /// Notes that what a link has may have changed.
+    #[inline]
     pub fn touch(&mut self, number: u64) -> Result<(), AllocError>
         ensures fits { OnOk result ((share : List ℕ → Distribution) (known other actual : ℕ → Option Figure) (last : List ℕ → ℕ) → PoolsFit self.old share known actual last → AgreeBut number other known → PoolsFit self.new share other actual last) }
         ensures touched { OnOk result ((n : ℕ) → is_touched self.new n ≡ (number == n || is_touched self.old n)) }
@@ -81,6 +83,7 @@ impl Pools {
     }
 
     /// The first link that may have changed.
+    #[inline]
     pub fn touched(&self) -> Option<u64>
         ensures none { IfNone result (NoneTouched self.now) }
         ensures first { IfSome result (λ first. is_touched self.now first ≡ true) }
@@ -148,6 +151,7 @@ impl Pools {
     }
 
     /// The consumer that [`Pools::choose`] would choose now, by number. Nothing is noted, so asked again it answers the same.
+    #[inline]
     pub fn peek(&self, address: &str) -> Option<u64>
         ensures { (share : List ℕ → Distribution) (known actual : ℕ → Option Figure) (last : List ℕ → ℕ) (count : ℕ) → PoolsFit self.now share known actual last → NoneTouched self.now → AreNumbered known count
             → result ≡ choice (sharing (share address.now) known count (last address.now) address.now) }
@@ -159,6 +163,7 @@ impl Pools {
     }
 
     /// Chooses the consumer of the next delivery of an address; none if no consumer has free credit. It allocates no memory.
+    #[inline]
     pub fn choose(&mut self, address: &str) -> Option<ConsumerId>
         ensures chosen { (share : List ℕ → Distribution) (known actual : ℕ → Option Figure) (last : List ℕ → ℕ) (count : ℕ) → PoolsFit self.old share known actual last → NoneTouched self.old → AreNumbered known count
             → option_map (λ c. c.0) result ≡ choice (sharing (share address.now) known count (last address.now) address.now) }
@@ -239,6 +244,7 @@ impl Pools {
     }
 
     /// Places a link at an address, and removes it from where it was before, which may then have grants. Returns the address's digest.
+    #[inline]
     fn place(&mut self, number: u64, address: &[u8]) -> Result<u64, AllocError>
         ensures digest { IfOk result (λ digest. digest ≡ digest_of address.now) }
         ensures fits { OnOk result ((share : List ℕ → Distribution) (known actual : ℕ → Option Figure) (last : List ℕ → ℕ) → PoolsFitBut number self.old share known actual last
@@ -271,6 +277,7 @@ impl Pools {
     }
 
     /// The digest of an address, if a link is there.
+    #[inline]
     fn digest_at(&self, number: u64, address: &[u8]) -> Option<u64>
         ensures digest { IfSome result (λ digest. digest ≡ digest_of address.now) }
         ensures there { IfSome result (λ digest. place_of self.now number ≡ Some address.now) }

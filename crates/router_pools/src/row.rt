@@ -111,6 +111,7 @@ impl Row {
     }
 
     /// Whether it has no pool.
+    #[inline]
     pub(crate) fn is_empty(&self) -> bool
         ensures { result ≡ has_no_pools self.now }
     {
@@ -118,6 +119,7 @@ impl Row {
     }
 
     /// The consumer that would be chosen for the next delivery of an address.
+    #[inline]
     pub(crate) fn peek(&self, address: &[u8]) -> Option<ConsumerId>
         ensures { (share : List ℕ → Distribution) → option_map (λ c. c.0) result ≡ choice (pool_in_row share self.now address.now) }
     {
@@ -128,6 +130,7 @@ impl Row {
     }
 
     /// Chooses the consumer of the next delivery of an address.
+    #[inline]
     pub(crate) fn choose(&mut self, address: &[u8]) -> Option<ConsumerId>
         ensures chosen { (share : List ℕ → Distribution) → option_map (λ c. c.0) result ≡ choice (pool_in_row share self.old address.now) }
         ensures noted { (share : List ℕ → Distribution) (a : List ℕ) → pool_in_row share self.new a ≡ with_pool (pool_in_row share self.old) address.now (λ pool. chose pool (option_map (λ c. c.0) result)) a }
@@ -139,6 +142,7 @@ impl Row {
     }
 
     /// The grants of an address.
+    #[inline]
     pub(crate) fn grants(&mut self, address: &[u8]) -> Result<Vec<(ProducerId, u32)>, AllocError>
         ensures sums { IfOk result (λ sums. (share : List ℕ → Distribution) → by_id sums.items ≡ grants_of (pool_in_row share self.old address.now)) }
         ensures filled { OnOk result ((share : List ℕ → Distribution) (a : List ℕ) → pool_in_row share self.new a ≡ with_pool (pool_in_row share self.old) address.now all_granted a) }

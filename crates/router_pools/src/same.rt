@@ -3,6 +3,7 @@ ghost use Rattle.std.specs.Prelude.{◌≡◌};
 ghost use Rattle.std.specs.Str.{bytes_eq};
 
 /// Whether these bytes are the same. Eight stand in a register at once, so that an address costs a few instructions.
+#[inline]
 pub(crate) fn same(one: &[u8], other: &[u8]) -> bool
     ensures { result ≡ bytes_eq one.now other.now }
 {

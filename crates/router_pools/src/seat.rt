@@ -29,6 +29,7 @@ impl Seat {
     }
 
     /// The digest of the address, if the seat is at this one.
+    #[inline]
     pub(crate) fn digest_at(&self, address: &[u8]) -> Option<u64>
         ensures there { IfSome result (λ digest. (self.now.address.items ≡ address.now) × (digest ≡ digest_of address.now)) }
         ensures elsewhere { IfNone result (bytes_eq self.now.address.items address.now ≡ false) }

@@ -31,11 +31,11 @@ answered_in (Some s) o = get nat_cmp s.answered o
 
 abbrev pub theirs_in : Option ConnectionSessions → ℕ → Option PeerChannel
 theirs_in None p = None
-theirs_in (Some s) p = get nat_cmp s.theirs p
+theirs_in (Some s) p = in_slots s.theirs p
 
 abbrev pub window_in : Option ConnectionSessions → ℕ → Option Window
 window_in None o = None
-window_in (Some s) o = get nat_cmp s.windows o
+window_in (Some s) o = in_slots s.windows o
 
 -- the window of a session
 abbrev pub window_by : Option Session → Option Window

@@ -1,10 +1,10 @@
-use Rattle.std.proofs.Common.{◌∙◌, ◌∷◌, ◌++◌, [], List, ℕ, ap, subst, sym, rules, arith}
+use Rattle.std.proofs.Common.{◌≡◌, ◌∙◌, ◌∷◌, ◌++◌, [], List, ℕ, ap, length, refl, subst, sym, rules, arith}
 use Rattle.std.specs.Vec.Iter.{into_iter_items}
 use Rattle.router_trace.specs.declared.event.Event.{Event}
 use Rattle.router_core.specs.Handling.{id_of}
 use Rattle.router_core.specs.Runs.{Broken}
 use Rattle.router_core.proofs.RunLemmas.{all_run, past_more}
-use Rattle.router_core.proofs.Remains.{next_moment}
+use Rattle.router_core.proofs.Remains.{first_moment, next_moment}
 use Rattle.router_core.proofs.driving.drive.Goals as goal
 
 pub returns-clause-ran : goal.returns-clause-ran
@@ -16,6 +16,19 @@ returns-clause-ran g c = λ none t f.
           w.2 (sym c.loop-event.event-iterator.rest.ok.0 ∙ c.in-None.ensures.steps.0) w.4,
       w.5,
     )
+
+pub loop-event-init : goal.loop-event-init
+loop-event-init g c =
+    let all : c.args.events.items ≡ into_iter_items c.into_iter-event-iterator.result = search rules in
+    record {
+      past = λ t f. ([], t, all, refl, (refl, c.new-taken.ensures.items), f);
+      works = λ e. e;
+      named = refl;
+      stands = λ s. s;
+      moments = λ t f s. first_moment g.D.Disk.seen g.D.Disk.may_leave g.D.Disk.moment g.D.Disk.left_since g.met.D.Disk.only_now c.args.core.now t c.args.events.items f s;
+      failures = refl;
+      count = let h : length c.args.events.items ≡ length (into_iter_items c.into_iter-event-iterator.result) = ap (λ (es : List Event). length es) all in grind (arith, h);
+    }
 
 pub loop-event-preserved : goal.loop-event-preserved
 loop-event-preserved g c = record {

@@ -1,21 +1,6 @@
-use Rattle.std.proofs.Common.{◌∙◌, sym, ap, ◌-◌, not, is_some}
-use Rattle.std.specs.Prelude.{option_and_then}
-use Rattle.route_credit.specs.Ranks.{rank_at}
-use Rattle.route_credit.specs.Links.{amount_at, link_at}
-use Rattle.route_credit.proofs.Indices.{indexed_less}
-use Rattle.route_credit.proofs.Lookups.{absent_gone, without_first}
+use Rattle.std.proofs.Common.{◌∙◌, sym, ap, not}
+use Rattle.route_credit.proofs.Lookups.{absent_gone}
 use Rattle.route_credit.proofs.links.Links.remove.Goals as goal
 
-pub returns-clause-whole : goal.returns-clause-whole
-returns-clause-whole g c is =
-    let rank = g.T.Weigh.rank c.args.distribution in
-    let ranks = rank_at rank c.args.self.now.rows.entries in
-    let before = sym (c.rank_of.ensures ∙ ap (option_and_then rank) c.get-old.ensures) in
-    indexed_less rank g.T.Weigh.amount c.args.self.now _ c.args.id is
-    (c.unset.ensures ranks is.ranks before) c.remove.ensures.entries c.remove.ensures.updates.0 (c.saturating_sub-self.ensures ∙ ap (λ n. c.args.self.now.total - n) (c.amount_of.ensures ∙ ap (amount_at g.T.Weigh.amount) c.get-old.ensures)) c.remove.ensures.ordered
-
-pub returns-clause-removed : goal.returns-clause-removed
-returns-clause-removed g c = c.remove.ensures.entries ∙ without_first c.args.self.now.rows.entries c.args.id (ap (λ es. link_at es c.args.id) (sym c.remove.ensures.entries) ∙ c.remove.ensures.updates.1)
-
-pub returns-then-is_none-clause-removed : goal.returns-then-is_none-clause-removed
-returns-then-is_none-clause-removed g c = absent_gone c.args.self.now.rows.entries c.args.id (ap (λ x. not (is_some x)) (sym c.get-old.ensures) ∙ ap not c.is_none.ensures ∙ ap (λ b. not (not b)) c.if-is_none.true)
+pub returns-else-contains_key-clause-removed : goal.returns-else-contains_key-clause-removed
+returns-else-contains_key-clause-removed g c = absent_gone c.args.self.now.rows.entries c.args.id (ap not (sym c.contains_key.ensures ∙ c.if-contains_key.false))

@@ -1,6 +1,8 @@
 use Rattle.std.proofs.Common.{subst, Some}
 use Rattle.route_credit.specs.Pool.{IsChoice}
 use Rattle.route_credit.specs.Ranks.{offer_rank}
+use Rattle.route_credit.specs.Side.{links_of}
+use Rattle.route_credit.proofs.Alone.{whole_ordered}
 use Rattle.route_credit.proofs.Choices.{choice_behind, choice_first, choice_round, flat_ranks, not_closest}
 use Rattle.route_credit.proofs.Entries.{InOrder}
 use Rattle.route_credit.proofs.pool.Pool.next_consumer.Goals as goal
@@ -9,30 +11,30 @@ pub returns-in-Balanced-clause-choice : goal.returns-in-Balanced-clause-choice
 returns-in-Balanced-clause-choice c =
     let distribution = c.self.inside.distribution in
     subst (λ p. IsChoice p c.first.result) c.self.view_is
-    (choice_first distribution c.self.inside.last c.self.inside.consumers.rows.entries c.first.result (not_closest distribution c.in-Balanced.is) (c.first.ensures (offer_rank distribution) c.self.invariant.0))
+    (choice_first distribution c.self.inside.last (links_of c.self.inside.consumers) c.first.result (not_closest distribution c.in-Balanced.is) (c.first.ensures c.self.invariant.0))
 
 pub returns-in-None-clause-choice : goal.returns-in-None-clause-choice
 returns-in-None-clause-choice c =
     let distribution = c.self.inside.distribution in
-    let links = c.self.inside.consumers.rows.entries in
+    let links = (links_of c.self.inside.consumers) in
     let flat = flat_ranks distribution links c.in-Closest.is in
     subst (λ p. IsChoice p c.first-in-None.result) c.self.view_is
     (choice_round distribution c.self.inside.last links c.first-in-None.result c.in-Closest.is
-    (c.in-None.ensures (offer_rank distribution) c.self.invariant.0 flat) (c.first-in-None.ensures (offer_rank distribution) c.self.invariant.0))
+    (c.in-None.ensures c.self.invariant.0 flat) (c.first-in-None.ensures c.self.invariant.0))
 
 pub returns-in-Some-clause-choice : goal.returns-in-Some-clause-choice
 returns-in-Some-clause-choice c =
     let distribution = c.self.inside.distribution in
-    let links = c.self.inside.consumers.rows.entries in
+    let links = (links_of c.self.inside.consumers) in
     let flat = flat_ranks distribution links c.in-Closest.is in
     subst (λ p. IsChoice p (Some c.in-Some.id)) c.self.view_is
-    (choice_behind distribution c.self.inside.last links c.in-Some.id c.in-Closest.is (c.in-Some.ensures (offer_rank distribution) c.self.invariant.0 flat))
+    (choice_behind distribution c.self.inside.last links c.in-Some.id c.in-Closest.is (c.in-Some.ensures c.self.invariant.0 flat))
 
 pub returns-in-Balanced-clause-ordered : goal.returns-in-Balanced-clause-ordered
-returns-in-Balanced-clause-ordered c = subst (λ p. InOrder p.consumers) c.self.view_is c.self.invariant.0.ordered
+returns-in-Balanced-clause-ordered c = subst (λ p. InOrder p.consumers) c.self.view_is (whole_ordered (offer_rank c.self.inside.distribution) (λ offer. offer.free) c.self.inside.consumers c.self.invariant.0)
 
 pub returns-in-None-clause-ordered : goal.returns-in-None-clause-ordered
-returns-in-None-clause-ordered c = subst (λ p. InOrder p.consumers) c.self.view_is c.self.invariant.0.ordered
+returns-in-None-clause-ordered c = subst (λ p. InOrder p.consumers) c.self.view_is (whole_ordered (offer_rank c.self.inside.distribution) (λ offer. offer.free) c.self.inside.consumers c.self.invariant.0)
 
 pub returns-in-Some-clause-ordered : goal.returns-in-Some-clause-ordered
-returns-in-Some-clause-ordered c = subst (λ p. InOrder p.consumers) c.self.view_is c.self.invariant.0.ordered
+returns-in-Some-clause-ordered c = subst (λ p. InOrder p.consumers) c.self.view_is (whole_ordered (offer_rank c.self.inside.distribution) (λ offer. offer.free) c.self.inside.consumers c.self.invariant.0)

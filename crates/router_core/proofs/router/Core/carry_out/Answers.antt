@@ -49,3 +49,14 @@ returns-clause-any_moment g c = λ t f taken stands.
     (λ file. OpensTo file (book_of s) ⊎ OpensTo file (effects (book_of s) acts))) same c.write.ensures.any_moment stands in
     subst (λ (s : Store _). LeavesOnly g.D.Disk.moment g.D.Disk.left_since (disk_of (store_of core)) (disk_of s) (BeforeOrBehind t e)) (sym c.answer.ensures.store)
     (known_moment g.D.Disk.seen g.D.Disk.may_leave g.D.Disk.moment g.D.Disk.left_since core (disk_of (store_of c.write.new.self)) t e acts f (c.in-Ok.ensures.acts t f taken) run)
+
+pub returns-in_default-answer-clause-any_moment : goal.returns-in_default-answer-clause-any_moment
+returns-in_default-answer-clause-any_moment g c = λ t f taken stands.
+    let core = c.args.self.now in
+    let e = c.args.event in
+    let acts = c.in-Ok.prepared.acts.items in
+    let same = ap store_of c.prepare.ensures.rest in
+    let run = subst (λ (s : Store _). Stands g.D.Disk.seen g.D.Disk.may_leave s → LeavesOnly g.D.Disk.moment g.D.Disk.left_since (disk_of s) (disk_of (store_of c.write.new.self))
+    (λ file. OpensTo file (book_of s) ⊎ OpensTo file (effects (book_of s) acts))) same c.write.ensures.any_moment stands in
+    subst (λ (s : Store _). LeavesOnly g.D.Disk.moment g.D.Disk.left_since (disk_of (store_of core)) (disk_of s) (BeforeOrBehind t e)) (sym c.answer.ensures.store)
+    (known_moment g.D.Disk.seen g.D.Disk.may_leave g.D.Disk.moment g.D.Disk.left_since core (disk_of (store_of c.write.new.self)) t e acts f (c.in-Ok.ensures.acts t f taken) run)

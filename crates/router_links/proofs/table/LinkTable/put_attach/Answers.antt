@@ -16,6 +16,7 @@ use Rattle.router_places.specs.Places.{at}
 use Rattle.router_links.proofs.Attached.{names_put, names_taken, attach_goes}
 use Rattle.router_links.proofs.Rows.{attached_row, over, none_at, begun_there, counted, uncounted, set_owes, same_key_of}
 use Rattle.router_links.proofs.Touches.{left_touches, joined_touches}
+use Rattle.router_places.specs.Slots.{in_slots}
 use Rattle.router_links.proofs.table.LinkTable.put_attach.Goals as goal
 
 pub returns-in_default-clause-fits : goal.returns-in_default-clause-fits
@@ -70,7 +71,7 @@ returns-clause-touches c =
     let count = c.args.self.now.count in
     let n = begun (count + 1) c.in-Some-key.key a (initial_of c.args.last) c.in-Some.address.now in
     joined_touches c.args.conn c.args.own a.handle n (attachment (count + 1) c.args.conn c.args.own a.handle) _ _
-    (has c.touch_at.new.touched) (get nat_cmp c.leave.new.names.numbers.entries)
+    (has c.touch_at.new.touched) (in_slots c.leave.new.names.numbers.entries)
     c.in_ok-touch_at.ensures c.in_ok-join.ensures.touched
     (λ d o h. over (c.args.conn == d) (c.args.own == o) (a.handle == h) (Some n) _ _ (at c.args.self.now.links d o h) (c.in_ok-join.ensures.links d o h) (c.leave.ensures.links d o h))
     c.leave.ensures.others c.in_ok-join.ensures.numbers

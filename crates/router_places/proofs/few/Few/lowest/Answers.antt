@@ -1,13 +1,22 @@
-use Rattle.std.proofs.Common.{◌||◌, ℕ, None, get_or}
-use Rattle.router_places.specs.Among.{is_number}
-use Rattle.router_places.proofs.Leasts.{among_four, itself}
+use Rattle.std.proofs.Common.{◌==◌, arith}
+use Rattle.router_places.specs.Among.{is_among}
+use Rattle.router_places.proofs.Among.{none_so_far}
+use Rattle.router_places.proofs.Leasts.{itself, least_at_all, least_so_far}
 use Rattle.router_places.proofs.few.Few.lowest.Goals as goal
 
+pub loop-place-init : goal.loop-place-init
+loop-place-init c = (omega arith, λ n. none_so_far c.args.self.now.places n)
+
+pub loop-place-preserved : goal.loop-place-preserved
+loop-place-preserved c =
+    let few = c.args.self.now in
+    let place = c.loop-place.place in (
+      omega (arith, c.loop-place.invariant.0, c.if-place-self.false),
+      least_so_far place few.places c.at.result c.lower-least.result
+          (omega (arith, c.loop-place-test.true, few.four)) c.at.ensures
+          (c.lower-least.ensures (λ n. is_among place few.places n) (λ n. c.at.result == n) c.loop-place.invariant.1 (itself c.at.result)),
+    )
+
 pub returns : goal.returns
-returns c =
-    let few = c.args.self.now.places in
-    let at = λ (place : ℕ). get_or few place None in
-    among_four few c.args.self.now.four c.lower-2.result
-    (c.lower-2.ensures (λ n. is_number (at 0) n || is_number (at 1) n) (λ n. is_number (at 2) n || is_number (at 3) n)
-    (c.lower-first.ensures (is_number (at 0)) (is_number (at 1)) (itself (at 0)) (itself (at 1)))
-    (c.lower.ensures (is_number (at 2)) (is_number (at 3)) (itself (at 2)) (itself (at 3))))
+returns c = least_at_all c.loop-place.place c.args.self.now.count c.args.self.now.places c.loop-place.least
+    c.loop-place.invariant.0 (omega (arith, c.loop-place-test.false, c.args.self.now.fits)) c.loop-place.invariant.1

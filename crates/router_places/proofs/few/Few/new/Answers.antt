@@ -1,7 +1,6 @@
-use Rattle.std.proofs.Common.{refl}
-use Rattle.router_places.specs.Among.{is_among}
+use Rattle.std.proofs.Common.{[], ◌∷◌}
+use Rattle.router_places.proofs.Among.{none_so_far}
 use Rattle.router_places.proofs.few.Few.new.Goals as goal
 
 pub returns : goal.returns
-unfolding is_among
-returns c = λ n. refl
+returns c = λ n. none_so_far (0 ∷ 0 ∷ 0 ∷ 0 ∷ []) n

@@ -1,13 +1,13 @@
 //! A value in a box of its own, for tables whose entries would be large where they are moved. A contract sees the value itself.
 ghost use Rattle.std.specs.Prelude.{◌≡◌, IfOk};
 ghost use Rattle.std.specs.Borrow.{Lends, sem};
-ghost use Rattle.router_deliveries.specs.contracts.kept.Kept.{the_row};
+ghost use Rattle.router_places.specs.contracts.kept.Kept.{the_row};
 
 use std::alloc::{AllocError, Global};
 use std::marker::Model;
 
 /// A value in a box of its own.
-pub(crate) struct Kept<T> {
+pub struct Kept<T> {
     value: Box<T>,
 }
 
@@ -28,7 +28,7 @@ impl<T> Model for Kept<T> {
 
 impl<T> Kept<T> {
     /// Puts a value into a box. Fails if memory is refused; the value is dropped then.
-    pub(crate) fn new(alloc: Global, value: T) -> Result<Kept<T>, AllocError>
+    pub fn new(alloc: Global, value: T) -> Result<Kept<T>, AllocError>
     where
         T: Drop,
         ensures { IfOk result (λ k. k ≡ value) }
@@ -40,14 +40,14 @@ impl<T> Kept<T> {
     }
 
     /// The value.
-    pub(crate) fn as_ref(&self) -> &T
+    pub fn as_ref(&self) -> &T
         ensures { result.now ≡ self.now }
     {
         self.value.as_ref()
     }
 
     /// The value, to change it in its place.
-    pub(crate) fn as_mut(&mut self) -> &mut T
+    pub fn as_mut(&mut self) -> &mut T
         ensures* lends { sem 𝓛 (Lends (the_row T.row) T.row self.entry result (λ w. w)) }
         ensures value { result.now ≡ self.old }
     {
