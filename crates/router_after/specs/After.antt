@@ -1,8 +1,7 @@
 -- What follows an event's rows: outcomes are sent to producers, deliveries to consumers, drains are answered, credit is granted, and at last narrow
 -- windows are restored.
-use Rattle.std.specs.Prelude.{List, [], ◌∷◌, Option, Some, None}
-use Rattle.router_trace.specs.declared.outgoing.Outgoing.{Outgoing}
-use Rattle.router_trace.specs.Trace.{Trace, Put, goes, put_of}
+use Rattle.std.specs.Prelude.{List}
+use Rattle.router_trace.specs.Trace.{Trace, Put, goes}
 use Rattle.router_trace.specs.Following.{as_long_as_due, tells, sends_due, drains_due}
 use Rattle.router_passing.specs.Passing.{grants_due}
 use Rattle.router_sessions.specs.Windows.{windows}
@@ -33,8 +32,3 @@ due_in Outcomes = tells
 due_in Deliveries = sends_due
 due_in Drains = drains_due
 due_in Grants = grants_due
-
--- the item that is due, if there is one
-abbrev pub puts_in : Option Outgoing → List Put
-puts_in None = []
-puts_in (Some x) = put_of x ∷ []

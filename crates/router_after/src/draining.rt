@@ -1,30 +1,27 @@
 //! Answers to drains.
-ghost use Rattle.std.specs.Prelude.{◌≡◌, true, List, Some, IfOk};
-ghost use Rattle.amqp_session.specs.Session.{Session};
-ghost use Rattle.router_trace.specs.Frames.{told_of};
-ghost use Rattle.router_trace.specs.Trace.{Entry};
+ghost use Rattle.std.specs.Prelude.{◌≡◌, true, false, List, [], OnOk, IfOk};
+ghost use Rattle.router_trace.specs.Trace.{Entry, goes};
 ghost use Rattle.router_trace.specs.Sessions.{session};
 ghost use Rattle.router_trace.specs.Following.{link_of, drain_on, drains_due};
 ghost use Rattle.router_state.specs.Tables.{TablesFit};
 ghost use Rattle.router_passing.specs.Asking.{owes_drain};
-ghost use Rattle.router_after.specs.After.{puts_in};
 ghost use Rattle.router_after.specs.Draining.{drains_at};
 ghost use Rattle.router_after.specs.Soonest.{IsSoonest, IsSoonestOn};
 
 use crate::candidate::{Candidate, sooner};
-use amqp_session::FlowState;
 use router_state::State;
-use router_trace::{Attachment, Outgoing, link_flow_item};
+use router_trace::{Attachment, link_flow_item};
 use std::alloc::AllocError;
 
-/// The flow that is due first of those that answer a drain, by connection, by the router's channel and by attach: on a link whose peer asks
-/// for one, once every delivery bound to it was sent (AMQP 1.0 part 2, section 2.6.7).
-pub(crate) fn drain_due(state: &State) -> Result<Option<Outgoing>, AllocError>
-    ensures { IfOk result (λ due. (t : List Entry) → TablesFit state.now t → puts_in due ≡ drains_due t) }
+/// Puts the flow that is due first of those that answer a drain, by connection, by the router's channel and by attach: on a link whose peer asks
+/// for one, once every delivery bound to it was sent (AMQP 1.0 part 2, section 2.6.7). Returns whether there was one.
+pub(crate) fn answer_first(state: &mut State) -> Result<bool, AllocError>
+    ensures put { OnOk result ((t : List Entry) → TablesFit state.old t → TablesFit state.new (goes (drains_due t) t)) }
+    ensures over { IfOk result (λ due. due ≡ false → (t : List Entry) → TablesFit state.old t → drains_due t ≡ []) }
 {
     match soonest(state)? {
-        None => Ok(None),
-        Some(next) => Ok(drain_on(state, next.place)),
+        None => Ok(false),
+        Some(next) => answer(state, next.place),
     }
 }
 
@@ -60,25 +57,17 @@ fn drained_at(state: &State, link: u64) -> Option<Candidate>
     }
 }
 
-/// The flow that answers the drain of an attachment's link.
-fn drain_on(state: &State, place: Attachment) -> Option<Outgoing>
-    ensures { (t : List Entry) → TablesFit state.now t → puts_in result ≡ drain_on place (session t place.conn.0 place.channel) (link_of t place) }
+/// Puts the flow that answers the drain of an attachment's link; returns whether there was one.
+fn answer(state: &mut State, place: Attachment) -> Result<bool, AllocError>
+    ensures put { OnOk result ((t : List Entry) → TablesFit state.old t → TablesFit state.new (goes (drain_on place (session t place.conn.0 place.channel) (link_of t place)) t)) }
+    ensures over { IfOk result (λ due. due ≡ false → (t : List Entry) → TablesFit state.old t → drain_on place (session t place.conn.0 place.channel) (link_of t place) ≡ []) }
 {
-    match state.told(place.conn.0, place.channel) {
-        None => None,
-        Some(told) => flow_at(state, place, told),
-    }
-}
-
-/// The flow that answers the drain of an attachment's link, with its session's state.
-fn flow_at(state: &State, place: Attachment, told: FlowState) -> Option<Outgoing>
-    ensures { (t : List Entry) → TablesFit state.now t → (s : Session) → told ≡ told_of s → puts_in result ≡ drain_on place (Some s) (link_of t place) }
-{
-    match state.drained(place) {
-        None => None,
-        Some(drained) => Some(Outgoing {
-            conn: place.conn,
-            item: link_flow_item(place.channel, told, drained),
-        }),
-    }
+    let Some(told) = state.told(place.conn.0, place.channel) else {
+        return Ok(false);
+    };
+    let Some(drained) = state.drained(place) else {
+        return Ok(false);
+    };
+    state.put(place.conn.0, link_flow_item(place.channel, told, drained))?;
+    Ok(true)
 }

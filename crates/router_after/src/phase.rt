@@ -1,16 +1,15 @@
 //! The phases that repeat as long as something is due.
 ghost use Rattle.std.specs.Prelude.{◌≡◌, false, List, [], OnOk, IfOk};
-ghost use Rattle.router_trace.specs.Trace.{Entry, goes, puts_of};
+ghost use Rattle.router_trace.specs.Trace.{Entry, goes};
 ghost use Rattle.router_trace.specs.Following.{as_long_as_due};
 ghost use Rattle.router_state.specs.Tables.{TablesFit};
 ghost use Rattle.router_passing.specs.Passing.{grants_due};
-ghost use Rattle.router_after.specs.After.{due_in, puts_in};
+ghost use Rattle.router_after.specs.After.{due_in};
 
-use crate::draining::drain_due;
-use crate::sending::frame_due;
-use crate::telling::outcome_due;
+use crate::draining::answer_first;
+use crate::sending::send_first;
+use crate::telling::tell_first;
 use router_state::State;
-use router_trace::Outgoing;
 use std::alloc::AllocError;
 
 /// A phase that repeats as long as something is due.
@@ -45,33 +44,10 @@ impl Phase {
         ensures over { IfOk result (λ due. due ≡ false → (t : List Entry) → TablesFit state.old t → due_in self t ≡ []) }
     {
         match self {
-            Phase::Outcomes => {
-                let due = outcome_due(state)?;
-                put(state, due)
-            }
-            Phase::Deliveries => {
-                let due = frame_due(state)?;
-                put(state, due)
-            }
-            Phase::Drains => {
-                let due = drain_due(state)?;
-                put(state, due)
-            }
-            Phase::Grants => Ok(grant(state)?),
-        }
-    }
-}
-
-/// Puts an item, if there is one; returns whether there was one.
-fn put(state: &mut State, due: Option<Outgoing>) -> Result<bool, AllocError>
-    ensures put { OnOk result ((t : List Entry) → TablesFit state.old t → TablesFit state.new (goes (puts_in due) t)) }
-    ensures over { IfOk result (λ put. put ≡ false → puts_in due ≡ []) }
-{
-    match due {
-        None => Ok(false),
-        Some(due) => {
-            state.put(due.conn.0, due.item)?;
-            Ok(true)
+            Phase::Outcomes => tell_first(state),
+            Phase::Deliveries => send_first(state),
+            Phase::Drains => answer_first(state),
+            Phase::Grants => grant(state),
         }
     }
 }

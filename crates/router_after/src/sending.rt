@@ -1,10 +1,9 @@
 //! Deliveries to consumers.
-ghost use Rattle.std.specs.Prelude.{◌≡◌, List, IfOk};
-ghost use Rattle.router_trace.specs.Trace.{Entry};
+ghost use Rattle.std.specs.Prelude.{◌≡◌, false, List, [], OnOk, IfOk};
+ghost use Rattle.router_trace.specs.Trace.{Entry, goes};
 ghost use Rattle.router_trace.specs.Deliveries.{delivery};
 ghost use Rattle.router_trace.specs.Following.{send, sends_due, transfer_of};
 ghost use Rattle.router_state.specs.Tables.{TablesFit};
-ghost use Rattle.router_after.specs.After.{puts_in};
 ghost use Rattle.router_after.specs.Soonest.{IsSoonest};
 ghost use Rattle.router_after.specs.Starting.{places};
 
@@ -14,20 +13,20 @@ use amqp_perf::Transfer;
 use router_deliveries::Delivery;
 use router_frames::{delivery_frame, first_transfer, later_transfer};
 use router_state::State;
-use router_trace::Outgoing;
 use std::alloc::AllocError;
 
 /// The longest frame that the router writes, in bytes.
 const MAX_FRAME: u32 = 16_384;
 
-/// The transfer that is due first, by connection, by the router's channel, then in order of binding (AMQP 1.0 part 2, sections
-/// 2.5.6, 2.6.7 and 2.6.12).
-pub(crate) fn frame_due(state: &State) -> Result<Option<Outgoing>, AllocError>
-    ensures { IfOk result (λ due. (t : List Entry) → TablesFit state.now t → puts_in due ≡ sends_due t) }
+/// Puts the transfer that is due first, by connection, by the router's channel, then in order of binding (AMQP 1.0 part 2, sections
+/// 2.5.6, 2.6.7 and 2.6.12). Returns whether there was one.
+pub(crate) fn send_first(state: &mut State) -> Result<bool, AllocError>
+    ensures put { OnOk result ((t : List Entry) → TablesFit state.old t → TablesFit state.new (goes (sends_due t) t)) }
+    ensures over { IfOk result (λ due. due ≡ false → (t : List Entry) → TablesFit state.old t → sends_due t ≡ []) }
 {
     match soonest(state)? {
-        None => Ok(None),
-        Some(next) => Ok(frame_of(state, next.number)?),
+        None => Ok(false),
+        Some(next) => send(state, next.number),
     }
 }
 
@@ -48,27 +47,26 @@ fn soonest(state: &State) -> Result<Option<Candidate>, AllocError>
     Err(AllocError)
 }
 
-/// The next frame of a delivery.
-fn frame_of(state: &State, number: u64) -> Result<Option<Outgoing>, AllocError>
-    ensures { IfOk result (λ due. (t : List Entry) → TablesFit state.now t → puts_in due ≡ send t (delivery t number)) }
+/// Puts the next frame of a delivery; returns whether there is such a delivery.
+fn send(state: &mut State, number: u64) -> Result<bool, AllocError>
+    ensures put { OnOk result ((t : List Entry) → TablesFit state.old t → TablesFit state.new (goes (send t (delivery t number)) t)) }
+    ensures over { IfOk result (λ due. due ≡ false → (t : List Entry) → TablesFit state.old t → send t (delivery t number) ≡ []) }
 {
     let Some(delivery) = state.delivery(number) else {
-        return Ok(None);
+        return Ok(false);
     };
     let link = delivery.link;
-    let transfer = transfer_of(state, delivery);
     let largest = state.largest_frame(link.conn.0).min(MAX_FRAME);
-    Ok(Some(Outgoing {
-        conn: link.conn,
-        item: delivery_frame(
-            state.alloc(),
-            largest,
-            link.channel,
-            transfer,
-            &delivery.payload,
-            delivery.sent,
-        )?,
-    }))
+    let item = delivery_frame(
+        state.alloc(),
+        largest,
+        link.channel,
+        transfer_of(state, delivery),
+        &delivery.payload,
+        delivery.sent,
+    )?;
+    state.put(link.conn.0, item)?;
+    Ok(true)
 }
 
 /// The next transfer of a delivery, without its payload.

@@ -1,25 +1,25 @@
 //! Outcomes to producers.
-ghost use Rattle.std.specs.Prelude.{◌≡◌, List, IfOk};
-ghost use Rattle.router_trace.specs.Trace.{Entry};
+ghost use Rattle.std.specs.Prelude.{◌≡◌, false, List, [], OnOk, IfOk};
+ghost use Rattle.router_trace.specs.Trace.{Entry, goes};
 ghost use Rattle.router_trace.specs.Deliveries.{delivery};
 ghost use Rattle.router_trace.specs.Following.{is_to_be_told, tell, tells};
 ghost use Rattle.router_deliveries.specs.Finding.{IsFirst};
 ghost use Rattle.router_state.specs.Tables.{TablesFit};
-ghost use Rattle.router_after.specs.After.{puts_in};
 
 use amqp_perf::Role;
 use router_frames::outcome_item;
 use router_state::State;
-use router_trace::Outgoing;
 use std::alloc::AllocError;
 
-/// The disposition that is due first: it reports the outcome of a decided delivery to its producer (AMQP 1.0 part 2, section 2.7.6).
-pub(crate) fn outcome_due(state: &State) -> Result<Option<Outgoing>, AllocError>
-    ensures { IfOk result (λ due. (t : List Entry) → TablesFit state.now t → puts_in due ≡ tells t) }
+/// Puts the disposition that is due first: it reports the outcome of a decided delivery to its producer (AMQP 1.0 part 2, section 2.7.6).
+/// Returns whether there was one.
+pub(crate) fn tell_first(state: &mut State) -> Result<bool, AllocError>
+    ensures put { OnOk result ((t : List Entry) → TablesFit state.old t → TablesFit state.new (goes (tells t) t)) }
+    ensures over { IfOk result (λ due. due ≡ false → (t : List Entry) → TablesFit state.old t → tells t ≡ []) }
 {
     match first_to_tell(state)? {
-        None => Ok(None),
-        Some(number) => Ok(outcome_of(state, number)?),
+        None => Ok(false),
+        Some(number) => tell(state, number),
     }
 }
 
@@ -56,29 +56,29 @@ fn is_to_be_told(state: &State, number: u64) -> bool
     }
 }
 
-/// The disposition that reports a delivery's outcome to its producer.
-fn outcome_of(state: &State, number: u64) -> Result<Option<Outgoing>, AllocError>
-    ensures { IfOk result (λ due. (t : List Entry) → TablesFit state.now t → puts_in due ≡ tell (delivery t number)) }
+/// Puts the disposition that reports a delivery's outcome to its producer; returns whether there was one.
+fn tell(state: &mut State, number: u64) -> Result<bool, AllocError>
+    ensures put { OnOk result ((t : List Entry) → TablesFit state.old t → TablesFit state.new (goes (tell (delivery t number)) t)) }
+    ensures over { IfOk result (λ due. due ≡ false → (t : List Entry) → TablesFit state.old t → tell (delivery t number) ≡ []) }
 {
     let Some(delivery) = state.delivery(number) else {
-        return Ok(None);
+        return Ok(false);
     };
     let Some(origin) = delivery.origin else {
-        return Ok(None);
+        return Ok(false);
     };
     let Some(outcome) = &delivery.outcome else {
-        return Ok(None);
+        return Ok(false);
     };
     let link = origin.link;
-    Ok(Some(Outgoing {
-        conn: link.conn,
-        item: outcome_item(
-            state.alloc(),
-            link.channel,
-            Role::Receiver,
-            origin.id,
-            !delivery.name.has_row(),
-            outcome,
-        )?,
-    }))
+    let item = outcome_item(
+        state.alloc(),
+        link.channel,
+        Role::Receiver,
+        origin.id,
+        !delivery.name.has_row(),
+        outcome,
+    )?;
+    state.put(link.conn.0, item)?;
+    Ok(true)
 }

@@ -69,11 +69,15 @@ struct Ready {
     heard: Heard,
 }
 
-/// An event that was handled, and the acts that are to be written before it is answered.
-#[derive(Drop)]
-struct Prepared {
-    ready: Ready,
-    acts: Vec<Act>,
+impl Ready {
+    /// Nothing yet.
+    fn nothing(alloc: Global) -> Ready {
+        Ready {
+            ends: Vec::new(alloc),
+            answer: Answer::Nothing,
+            heard: Heard::nothing(alloc),
+        }
+    }
 }
 
 /// Items that were taken from an outbox. Only `Core::take` makes one.
@@ -344,47 +348,54 @@ impl<D: Disk> Core<D> {
         ensures cause { IfErr result (λ f. f ≡ DiskFailed → D.failures (disk_of (store_of self.old)) < D.failures (disk_of (store_of self.new))) }
         ensures no_other { (IsErrOf result DiskFailed → ⊥) → D.failures (disk_of (store_of self.new)) ≡ D.failures (disk_of (store_of self.old)) }
     {
-        let Ok(prepared) = self.prepare(&event, phase) else {
+        let mut ready = Ready::nothing(self.alloc);
+        let Ok(acts) = self.prepare(&event, phase, &mut ready) else {
             drop(event);
             return Err(CoreFault::Memory);
         };
-        let Prepared { ready, acts } = prepared;
         let row = row_in(&acts);
         let journal = match self.write(acts) {
             Ok(journal) => journal,
             Err(fault) => {
                 drop(event);
-                drop(ready);
                 return Err(fault);
             }
         };
-        let Ok(()) = self.answer(event, ready, row) else {
+        let Ok(()) = self.answer(event, &mut ready, row) else {
             drop(journal);
             return Err(CoreFault::Memory);
         };
         Ok(journal)
     }
 
-    /// Plans an event that is not declined, with its connection in this phase before it, and handles it; nothing is put and nothing written. Gives what its answer needs, and the acts that it has.
-    fn prepare(&mut self, event: &Event, before: Option<Conn>) -> Result<Prepared, AllocError>
+    /// Plans an event that is not declined, with its connection in this phase before it, and handles it; nothing is put and nothing written. Fills in what its answer needs, and gives the acts that it has.
+    fn prepare(
+        &mut self,
+        event: &Event,
+        before: Option<Conn>,
+        ready: &mut Ready,
+    ) -> Result<Vec<Act>, AllocError>
         ensures rest { self.new ≡ record self.old { state = state_of self.new } }
-        ensures ready { IfOk result (λ p. (t : List Entry) → Fits self.old t → IsTaken t event.now before → IsReady (state_of self.new) (booked t event.now) event.now p.ready) }
-        ensures acts { IfOk result (λ p. (t : List Entry) → Fits self.old t → IsTaken t event.now before → p.acts.items ≡ acts_of t event.now) }
-        ensures writable { IfOk result (λ p. Writable (kept_book self.old) p.acts.items) }
+        ensures ready { OnOk result ((t : List Entry) → Fits self.old t → IsTaken t event.now before → IsReady (state_of self.new) (booked t event.now) event.now ready.new) }
+        ensures acts { IfOk result (λ acts. (t : List Entry) → Fits self.old t → IsTaken t event.now before → acts.items ≡ acts_of t event.now) }
+        ensures writable { IfOk result (λ acts. Writable (kept_book self.old) acts.items) }
     {
-        let ends = self.state.turn(event)?;
-        let phase = phase_found(event, &ends, before);
-        let Planned { full, answer, acts } = self.plan(&ends, phase, event)?;
-        let heard = hear(&mut self.state, event, &ends, phase, &answer)?;
-        let acts = self.admit(full, &ends, event, &answer, &heard, acts)?;
-        Ok(Prepared {
-            ready: Ready {
-                ends,
-                answer,
-                heard,
-            },
-            acts,
-        })
+        ready.ends = self.state.turn(event)?;
+        let phase = phase_found(event, &ready.ends, before);
+        let Planned { full, answer, acts } = self.plan(&ready.ends, phase, event)?;
+        ready.answer = answer;
+        let Ok(()) = hear(
+            &mut self.state,
+            event,
+            &ready.ends,
+            phase,
+            &ready.answer,
+            &mut ready.heard,
+        ) else {
+            drop(acts);
+            return Err(AllocError);
+        };
+        self.admit(full, &ready.ends, event, &ready.answer, &ready.heard, acts)
     }
 
     /// Plans an event: the answer to its item, and what it does to the book but for an admission; by what it would do to a journal with room if there
@@ -541,10 +552,10 @@ impl<D: Disk> Core<D> {
     fn answer(
         &mut self,
         event: Event,
-        ready: Ready,
+        ready: &mut Ready,
         row: Option<RowNumber>,
     ) -> Result<(), AllocError>
-        ensures tables { OnOk result ((t : List Entry) → IsReady (state_of self.old) t event ready → row ≡ row_found t → TablesFit (state_of self.new) (answered (id_of self.old) t (step_of event))) }
+        ensures tables { OnOk result ((t : List Entry) → IsReady (state_of self.old) t event ready.old → row ≡ row_found t → TablesFit (state_of self.new) (answered (id_of self.old) t (step_of event))) }
         ensures started { OnOk result (self.new.started ≡ true) }
         ensures counted { OnOk result (counts_of self.new ≡ with_event event (counts_of self.old)) }
         ensures uncounted { OnErr result (counts_of self.new ≡ counts_of self.old) }
@@ -554,7 +565,6 @@ impl<D: Disk> Core<D> {
     {
         let Ok(counts) = self.counts.with_event(&event) else {
             drop(event);
-            drop(ready);
             return Err(AllocError);
         };
         reply_to(&mut self.state, &self.id, event, ready, row)?;
@@ -676,17 +686,19 @@ fn reply_to(
     state: &mut State,
     id: &RouterId,
     event: Event,
-    ready: Ready,
+    ready: &mut Ready,
     row: Option<RowNumber>,
 ) -> Result<(), AllocError>
-    ensures { OnOk result ((t : List Entry) → IsReady state.old t event ready → row ≡ row_found t → TablesFit state.new (answered id.now t (step_of event))) }
+    ensures { OnOk result ((t : List Entry) → IsReady state.old t event ready.old → row ≡ row_found t → TablesFit state.new (answered id.now t (step_of event))) }
 {
-    let Ready {
-        ends,
-        answer,
-        heard,
-    } = ready;
-    reply(state, id, &ends, event, answer, row, heard)?;
-    after(state)?;
-    Ok(())
+    reply(
+        state,
+        id,
+        &ready.ends,
+        event,
+        &ready.answer,
+        row,
+        &mut ready.heard,
+    )?;
+    after(state)
 }

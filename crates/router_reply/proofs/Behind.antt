@@ -1,22 +1,25 @@
 -- The trace after an item, by its answer.
 use Rattle.std.proofs.Common.{◌≡◌, ◌∙◌, ap, refl, ℕ, true, false, List, []}
 use Rattle.std.specs.Prelude.{Option, Some, None}
+use Rattle.amqp_perf.specs.declared.perf.Attach.{Attach as AnAttach}
 use Rattle.amqp_perf.specs.declared.perf.Disposition.{Disposition as ADisposition}
+use Rattle.amqp_perf.specs.Parts.{attach_of}
 use Rattle.amqp_perf.specs.declared.perf.Perf.TheVariants as perf
 use Rattle.amqp_frames.specs.declared.item.Item.{Item}
 use Rattle.amqp_frames.specs.declared.item.Item.TheVariants as item
 use Rattle.amqp_conn.specs.declared.conn.Conn.{Conn}
+use Rattle.router_trace.specs.declared.condition.Condition.{Condition}
 use Rattle.router_trace.specs.Trace.{Entry, Put, goes, each_to, puts}
 use Rattle.router_trace.specs.Links.{link_place}
 use Rattle.router_trace.specs.Settling.{part_of}
 use Rattle.router_trace.specs.declared.binding.Binding.{Binding}
 use Rattle.router_passing.specs.Passing.{with_bound}
 use Rattle.router_rows.specs.declared.answer.Answer.{Answer}
-use Rattle.router_rows.specs.declared.answer.Answer.TheVariants.{Taken, Settle}
+use Rattle.router_rows.specs.declared.answer.Answer.TheVariants.{Attach, Refuse, Taken, Settle}
 use Rattle.router_rows.specs.Rows.{said}
 use Rattle.router_reply.specs.Acts.{answer_of}
 use Rattle.router_transfers.specs.Transfers.{part_put, part_bound, disposition_in, given_behind}
-use Rattle.router_reply.specs.Replies.{item_row, item_bound, item_put, links_put, put_for_transfer, put_for_disposition, bound_for, settled_put, attach_put, row_found, behind_answer}
+use Rattle.router_reply.specs.Replies.{item_row, item_bound, item_put, links_put, put_for_transfer, put_for_disposition, bound_for, settled_put, put_for_attach, put_if_attach, attach_put, row_found, behind_answer}
 use Rattle.router_reply.proofs.Puts.{goes_both}
 
 -- an answer takes no transfer, or answers no disposition
@@ -92,6 +95,20 @@ pub settled_left : (u : List Entry) (c : ℕ) (i : Item) (own : ℕ) → attach_
 settled_left u c (item.Frame sasl channel (perf.Attach x) payload) own = refl
 settled_left u c (item.Frame sasl channel _ payload) own = refl
 settled_left u c _ own = refl
+
+-- and so does what is no answer to an attach
+unattached_by : (t : List Entry) (c : ℕ) (x : AnAttach) (a : Answer) → ((own : ℕ) → a ≡ Attach own → ⊥) → ((own handle : ℕ) (e : Condition) → a ≡ Refuse own handle e → ⊥) → put_for_attach t c x a ≡ []
+unattached_by t c x (Attach own) taken refused = absurd (taken own refl)
+unattached_by t c x (Refuse own handle e) taken refused = absurd (refused own handle e refl)
+unattached_by t c x _ taken refused = refl
+
+unattached_in : (t : List Entry) (c : ℕ) (x : Option AnAttach) (a : Answer) → ((own : ℕ) → a ≡ Attach own → ⊥) → ((own handle : ℕ) (e : Condition) → a ≡ Refuse own handle e → ⊥) → put_if_attach t c x a ≡ []
+unattached_in t c None a taken refused = refl
+unattached_in t c (Some x) a taken refused = unattached_by t c x a taken refused
+
+pub unattached : (t : List Entry) (c : ℕ) (i : Item) (a : Answer) → ((own : ℕ) → a ≡ Attach own → ⊥) → ((own handle : ℕ) (e : Condition) → a ≡ Refuse own handle e → ⊥) → attach_put t c i a ≡ []
+unattached t c (item.Frame sasl channel body payload) a taken refused = unattached_in t c (attach_of body) a taken refused
+unattached t c _ a taken refused = refl
 
 -- the trace after an item, by what was found of its connection
 abbrev pub behind_item : List ℕ → List Entry → List Entry → ℕ → Item → Option Conn → List Entry

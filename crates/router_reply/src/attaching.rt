@@ -217,6 +217,27 @@ pub fn answer_item(
 ) -> Result<(), AllocError>
     ensures { OnOk result ((t : List Entry) → TablesFit state.old t → TablesFit state.new (goes (attach_put t conn item answer.now) t)) }
 {
+    match answer {
+        Answer::Attach { .. } | Answer::Refuse { .. } => answer_frame(
+            state, id, conn, item, answer,
+        ),
+        _ => {
+            drop(item);
+            Ok(())
+        }
+    }
+}
+
+/// Puts the items of an answer to an attach into outboxes, if the item is one.
+fn answer_frame(
+    state: &mut State,
+    id: &RouterId,
+    conn: u64,
+    item: Item,
+    answer: &Answer,
+) -> Result<(), AllocError>
+    ensures { OnOk result ((t : List Entry) → TablesFit state.old t → TablesFit state.new (goes (attach_put t conn item answer.now) t)) }
+{
     match item {
         Item::Frame {
             sasl: _sasl,

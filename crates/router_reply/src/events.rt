@@ -18,13 +18,13 @@ use crate::closing::{close_all, say};
 use crate::heard::Heard;
 use amqp_conn::Conn;
 use amqp_frames::Item;
-use amqp_link::Part;
 use book_core::RowNumber;
 use router_rows::Answer;
 use router_state::State;
-use router_trace::{ConnectionId, Event, Outgoing, RouterId};
+use router_trace::{ConnectionId, Event, RouterId};
 use router_transfers::{disposition_in, settle, take_part};
 use std::alloc::AllocError;
+use std::mem;
 
 /// The deliveries that a disposition decides without settling them, and that are answered.
 fn on_settle(
@@ -53,36 +53,18 @@ fn begin_item(
     item: &Item,
     answer: &Answer,
     row: Option<RowNumber>,
-    heard: Heard,
+    heard: &mut Heard,
 ) -> Result<(), AllocError>
-    ensures { OnOk result ((t after : List Entry) → TablesFit state.old after → ItemHeard t conn item.now answer.now heard → answer.now ≡ answer_of t conn.0 phase item.now
+    ensures { OnOk result ((t after : List Entry) → TablesFit state.old after → ItemHeard t conn item.now answer.now heard.old → answer.now ≡ answer_of t conn.0 phase item.now
         → row ≡ row_found t → (u : List Entry) × TablesFit state.new u
         × (goes (attach_put u conn.0 item.now answer.now) u ≡ behind_answer id.now t after conn.0 phase item.now answer.now)) }
 {
-    let Heard {
-        part,
-        ids,
-        beats,
-        ..
-    } = heard;
-    drop(beats);
     match answer {
         Answer::Taken { own, handle } => {
-            drop(ids);
-            take_part(state, id, conn.0, *own, *handle, row, part)?;
-            Ok(())
+            take_part(state, id, conn.0, *own, *handle, row, heard.part.take())
         }
-        Answer::Settle { own } => {
-            drop(part);
-            on_settle(state, id, conn, *own, item, &ids)?;
-            Ok(())
-        }
-        _ => {
-            drop(part);
-            drop(ids);
-            say(state, id, conn.0, phase, answer)?;
-            Ok(())
-        }
+        Answer::Settle { own } => on_settle(state, id, conn, *own, item, &heard.ids),
+        _ => say(state, id, conn.0, phase, answer),
     }
 }
 
@@ -92,41 +74,31 @@ fn on_item(
     id: &RouterId,
     conn: ConnectionId,
     item: Item,
-    answer: Answer,
+    answer: &Answer,
     row: Option<RowNumber>,
-    heard: Heard,
+    heard: &mut Heard,
 ) -> Result<(), AllocError>
-    ensures { OnOk result ((t after : List Entry) → TablesFit state.old after → answer ≡ answer_to_event t (event.Item conn item) → row ≡ row_found t → ItemHeard t conn item answer heard
+    ensures { OnOk result ((t after : List Entry) → TablesFit state.old after → answer.now ≡ answer_to_event t (event.Item conn item) → row ≡ row_found t → ItemHeard t conn item answer.now heard.old
         → TablesFit state.new (replied_behind id.now t after (event.Item conn item))) }
 {
     let Some(phase) = heard.phase else {
-        drop(heard);
         drop(item);
         return Ok(());
     };
-    let Ok(()) = begin_item(state, id, conn, phase, &item, &answer, row, heard) else {
+    let Ok(()) = begin_item(state, id, conn, phase, &item, answer, row, heard) else {
         drop(item);
         return Err(AllocError);
     };
-    answer_item(state, id, conn.0, item, &answer)?;
-    Ok(())
+    answer_item(state, id, conn.0, item, answer)
 }
 
 /// The heartbeats that a tick made due.
-fn on_tick(state: &mut State, heard: Heard) -> Result<(), AllocError>
-    ensures { OnOk result ((t after : List Entry) (ms : ℕ) → TablesFit state.old after → puts_of heard.beats.items ≡ beats t (event.Tick ms) ms
+fn on_tick(state: &mut State, heard: &mut Heard) -> Result<(), AllocError>
+    ensures { OnOk result ((t after : List Entry) (ms : ℕ) → TablesFit state.old after → puts_of heard.old.beats.items ≡ beats t (event.Tick ms) ms
         → TablesFit state.new (goes (beats t (event.Tick ms) ms) after)) }
 {
-    let Heard {
-        part,
-        ids,
-        beats,
-        ..
-    } = heard;
-    drop(part);
-    drop(ids);
-    state.put_all(beats)?;
-    Ok(())
+    let beats = mem::replace(&mut heard.beats, Vec::new(state.alloc()));
+    state.put_all(beats)
 }
 
 /// What an event's own row puts, behind the closes.
@@ -134,26 +106,23 @@ fn own_row(
     state: &mut State,
     id: &RouterId,
     event: Event,
-    answer: Answer,
+    answer: &Answer,
     row: Option<RowNumber>,
-    heard: Heard,
+    heard: &mut Heard,
 ) -> Result<(), AllocError>
-    ensures { OnOk result ((t after : List Entry) → TablesFit state.old after → answer ≡ answer_to_event t event → row ≡ row_found t
-        → IsHeard t event answer heard → TablesFit state.new (replied_behind id.now t after event)) }
+    ensures { OnOk result ((t after : List Entry) → TablesFit state.old after → answer.now ≡ answer_to_event t event → row ≡ row_found t
+        → IsHeard t event answer.now heard.old → TablesFit state.new (replied_behind id.now t after event)) }
 {
     match event {
         Event::Up(_, peer) => {
             drop(peer);
-            drop(heard);
+            Ok(())
         }
-        Event::Item(conn, item) => {
-            on_item(state, id, conn, item, answer, row, heard)?;
-        }
-        Event::Down(_) => drop(heard),
-        Event::Tick(_) => on_tick(state, heard)?,
-        Event::Start => drop(heard),
+        Event::Item(conn, item) => on_item(state, id, conn, item, answer, row, heard),
+        Event::Down(_) => Ok(()),
+        Event::Tick(_) => on_tick(state, heard),
+        Event::Start => Ok(()),
     }
-    Ok(())
 }
 
 /// Replies to an event that was handled (`hear`) with the answer that was planned and the row that its acts admit: the closes of these connections, whose
@@ -167,19 +136,17 @@ pub fn reply(
     id: &RouterId,
     ends: &[u64],
     event: Event,
-    answer: Answer,
+    answer: &Answer,
     row: Option<RowNumber>,
-    heard: Heard,
+    heard: &mut Heard,
 ) -> Result<(), AllocError>
     ensures { OnOk result ((t : List Entry) → TablesFit state.old (did event ∷ t) → ends.now ≡ due t event
-        → answer ≡ answer_to_event t event → row ≡ row_found t → IsHeard t event answer heard
+        → answer.now ≡ answer_to_event t event → row ≡ row_found t → IsHeard t event answer.now heard.old
         → TablesFit state.new (replied id.now t (step_of event))) }
 {
     let Ok(()) = close_all(state, id, ends) else {
         drop(event);
-        drop(heard);
         return Err(AllocError);
     };
-    own_row(state, id, event, answer, row, heard)?;
-    Ok(())
+    own_row(state, id, event, answer, row, heard)
 }

@@ -32,7 +32,7 @@ pub struct Heard {
 
 impl Heard {
     /// Nothing.
-    pub(crate) fn nothing(alloc: Global) -> Heard {
+    pub fn nothing(alloc: Global) -> Heard {
         Heard {
             phase: None,
             part: None,
@@ -63,40 +63,29 @@ fn hear_item(
     ends: &[u64],
     phase: Option<Conn>,
     answer: &Answer,
-) -> Result<Heard, AllocError>
-    ensures heard { IfOk result (λ heard. (t : List Entry) (ends : List ℕ) → TablesAt state.old t (event.Item conn item.now) ends → phase ≡ phase_found t (event.Item conn item.now) → ItemHeard t conn item.now answer.now heard) }
+    heard: &mut Heard,
+) -> Result<(), AllocError>
+    ensures heard { OnOk result ((t : List Entry) (ends : List ℕ) → TablesAt state.old t (event.Item conn item.now) ends → phase ≡ phase_found t (event.Item conn item.now) → ItemHeard t conn item.now answer.now heard.new) }
     ensures fits { OnOk result ((t : List Entry) → TablesAt state.old t (event.Item conn item.now) ends.now → ended_first t ≡ ends.now → TablesFit state.new (did (event.Item conn item.now) ∷ t)) }
 {
-    let ids = ids_in(state, conn.0, item, answer)?;
-    let Ok(part) = state.hear(conn, item, ends) else {
-        drop(ids);
-        return Err(AllocError);
-    };
-    Ok(Heard {
-        phase,
-        part,
-        ids,
-        beats: Vec::new(state.alloc()),
-    })
+    heard.phase = phase;
+    heard.ids = ids_in(state, conn.0, item, answer)?;
+    heard.part = state.hear(conn, item, ends)?;
+    Ok(())
 }
 
 /// Handles a tick: the clock moves to this moment.
-fn hear_tick(state: &mut State, moment: u64) -> Result<Heard, AllocError>
-    ensures heard { IfOk result (λ heard. (t : List Entry) (ends : List ℕ) → TablesAt state.old t (event.Tick moment) ends → puts_of heard.beats.items ≡ beats t (event.Tick moment) moment) }
+fn hear_tick(state: &mut State, moment: u64, heard: &mut Heard) -> Result<(), AllocError>
+    ensures heard { OnOk result ((t : List Entry) (ends : List ℕ) → TablesAt state.old t (event.Tick moment) ends → puts_of heard.new.beats.items ≡ beats t (event.Tick moment) moment) }
     ensures fits { OnOk result ((t : List Entry) (ends : List ℕ) → TablesAt state.old t (event.Tick moment) ends → TablesFit state.new (did (event.Tick moment) ∷ t)) }
 {
-    let beats = state.beats(moment)?;
+    heard.beats = state.beats(moment)?;
     state.tick(moment);
-    Ok(Heard {
-        phase: None,
-        part: None,
-        ids: Vec::new(state.alloc()),
-        beats,
-    })
+    Ok(())
 }
 
 /// Handles an event that is not refused, and puts nothing, after the turn that ended these connections because their outboxes were full
-/// (`State::turn`); `phase` is the phase of the item's connection as the event finds it. Returns what the answer to it needs.
+/// (`State::turn`); `phase` is the phase of the item's connection as the event finds it. Fills in what the answer to it needs.
 ///
 /// # Errors
 ///
@@ -107,24 +96,19 @@ pub fn hear(
     ends: &[u64],
     phase: Option<Conn>,
     answer: &Answer,
-) -> Result<Heard, AllocError>
-    ensures heard { IfOk result (λ heard. (t : List Entry) (ends : List ℕ) → TablesAt state.old t event.now ends → phase ≡ phase_found t event.now → IsHeard t event.now answer.now heard) }
+    heard: &mut Heard,
+) -> Result<(), AllocError>
+    ensures heard { OnOk result ((t : List Entry) (ends : List ℕ) → TablesAt state.old t event.now ends → phase ≡ phase_found t event.now → IsHeard t event.now answer.now heard.new) }
     ensures fits { OnOk result ((t : List Entry) → TablesAt state.old t event.now ends.now → ended_first t ≡ ends.now → refuses t event.now ≡ false → TablesFit state.new (did event.now ∷ t)) }
 {
     match event {
-        Event::Up(conn, peer) => {
-            state.up(*conn, peer)?;
-            Ok(Heard::nothing(state.alloc()))
-        }
-        Event::Item(conn, item) => hear_item(state, *conn, item, ends, phase, answer),
-        Event::Down(conn) => {
-            state.down(*conn)?;
-            Ok(Heard::nothing(state.alloc()))
-        }
-        Event::Tick(moment) => hear_tick(state, *moment),
+        Event::Up(conn, peer) => state.up(*conn, peer),
+        Event::Item(conn, item) => hear_item(state, *conn, item, ends, phase, answer, heard),
+        Event::Down(conn) => state.down(*conn),
+        Event::Tick(moment) => hear_tick(state, *moment, heard),
         Event::Start => {
             state.start();
-            Ok(Heard::nothing(state.alloc()))
+            Ok(())
         }
     }
 }

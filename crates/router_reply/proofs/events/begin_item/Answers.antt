@@ -1,4 +1,5 @@
 use Rattle.std.proofs.Common.{◌≡◌, ◌∙◌, sym, ap, subst, ℕ, true, List}
+use Rattle.std.proofs.lemmas.Result.{on_ok_weaker}
 use Rattle.std.specs.Prelude.{Option}
 use Rattle.amqp_link.specs.declared.part.Part.{Part}
 use Rattle.book_core.specs.declared.row.RowNumber.{RowNumber}
@@ -20,8 +21,9 @@ use Rattle.router_reply.specs.Replies.{attach_put, behind_answer, settled_put, r
 use Rattle.router_reply.proofs.Behind.{taken_is, settled_is, other_is, taken_left, settled_left}
 use Rattle.router_reply.proofs.events.begin_item.Goals as goal
 
-pub returns-in_ok-take_part-in-Taken : goal.returns-in_ok-take_part-in-Taken
-returns-in_ok-take_part-in-Taken c = λ t after fit heard answer row.
+pub returns-in-Taken : goal.returns-in-Taken
+returns-in-Taken c = on_ok_weaker c.take_part.result
+    (λ is t after fit heard answer row.
     let id = c.args.id.now in
     let item = c.args.item.now in
     let conn = c.args.conn.0 in
@@ -34,13 +36,15 @@ returns-in_ok-take_part-in-Taken c = λ t after fit heard answer row.
     let same : goes (attach_put u conn item (Taken own handle)) u ≡ behind_answer id t after conn phase item (Taken own handle) =
     ap (λ (ps : List Put). goes ps u) (taken_left u conn item own handle) ∙ sym (taken_is id t after conn phase item own handle) in (
       u,
-      subst (λ (p : Option Part). TablesFit c.take_part.new.state (given_behind after conn own handle (row_found t) p)) (heard.part own here)
-          (subst (λ (r : Option RowNumber). TablesFit c.take_part.new.state (given_behind after conn own handle r c.args.heard.part)) row (c.in_ok-take_part-in-Taken.ensures after fit)),
+      subst (λ (p : Option Part). TablesFit c.take_part.new.state (given_behind after conn own handle (row_found t) p)) (c.take.ensures.value ∙ heard.part own here)
+          (subst (λ (r : Option RowNumber). TablesFit c.take_part.new.state (given_behind after conn own handle r c.take.result)) row (is after fit)),
       subst (λ (a : Answer). goes (attach_put u conn item a) u ≡ behind_answer id t after conn phase item a) (sym c.in-Taken.is) same,
-    )
+    ))
+    c.take_part.ensures
 
-pub returns-in_ok-on_settle-in-Settle : goal.returns-in_ok-on_settle-in-Settle
-returns-in_ok-on_settle-in-Settle c = λ t after fit heard answer row.
+pub returns-in-Settle : goal.returns-in-Settle
+returns-in-Settle c = on_ok_weaker c.on_settle.result
+    (λ is t after fit heard answer row.
     let id = c.args.id.now in
     let item = c.args.item.now in
     let conn = c.args.conn.0 in
@@ -50,17 +54,20 @@ returns-in_ok-on_settle-in-Settle c = λ t after fit heard answer row.
     let same : goes (attach_put u conn item (Settle own)) u ≡ behind_answer id t after conn phase item (Settle own) =
     ap (λ (ps : List Put). goes ps u) (settled_left u conn item own) ∙ sym (settled_is id t after conn phase item own) in (
       u,
-      c.in_ok-on_settle-in-Settle.ensures t after fit (subst (λ (l : List ℕ). ids_named t conn own (disposition_in item) l) (sym c.deref.ensures.value) (subst (λ (a : Answer). ids_found t conn item a c.args.heard.ids.items) c.in-Settle.is heard.ids)),
+      is t after fit (subst (λ (l : List ℕ). ids_named t conn own (disposition_in item) l) (sym c.deref.ensures.value) (subst (λ (a : Answer). ids_found t conn item a c.args.heard.now.ids.items) c.in-Settle.is heard.ids)),
       subst (λ (a : Answer). goes (attach_put u conn item a) u ≡ behind_answer id t after conn phase item a) (sym c.in-Settle.is) same,
-    )
+    ))
+    c.on_settle.ensures
 
-pub returns-in_ok-say-in_default : goal.returns-in_ok-say-in_default
-returns-in_ok-say-in_default c = λ t after fit heard answer row.
+pub returns-in_default : goal.returns-in_default
+returns-in_default c = on_ok_weaker c.say.result
+    (λ is t after fit heard answer row.
     let id = c.args.id.now in
     let item = c.args.item.now in
     let conn = c.args.conn.0 in
     let phase = c.args.phase in (
       puts conn (said id phase c.args.answer.now) after,
-      c.in_ok-say-in_default.ensures after fit,
+      is after fit,
       sym (other_is id t after conn phase item c.args.answer.now c.in_default.not-Taken c.in_default.not-Settle),
-    )
+    ))
+    c.say.ensures

@@ -1,4 +1,5 @@
 use Rattle.std.proofs.Common.{◌≡◌, ◌∙◌, sym, ap, subst, rules, List}
+use Rattle.std.proofs.lemmas.Result.{on_ok_weaker}
 use Rattle.std.specs.Prelude.{Option, None}
 use Rattle.amqp_conn.specs.declared.conn.Conn.{Conn}
 use Rattle.router_trace.specs.Trace.{Entry}
@@ -9,19 +10,21 @@ use Rattle.router_reply.proofs.events.on_item.Goals as goal
 
 pub returns-in_default : goal.returns-in_default
 returns-in_default c = λ t after fit answered row heard.
-    let gone : c.args.heard.phase ≡ None = search rules in
+    let gone : c.args.heard.now.phase ≡ None = search rules in
     subst (λ (p : Option Conn). TablesFit c.args.state.now (behind_item c.args.id.now t after c.args.conn.0 c.args.item p)) (sym gone ∙ heard.phase) fit
 
 pub returns : goal.returns
-returns c = λ t after fit answered row heard.
+returns c = on_ok_weaker c.answer_item.result
+    (λ is t after fit answered row heard.
     let id = c.args.id.now in
     let item = c.args.item in
     let conn = c.args.conn.0 in
     let phase = c.in-Some.phase in
     let live = sym c.in-Some.is ∙ heard.phase in
-    let answer : c.args.answer ≡ answer_of t conn phase item
+    let answer : c.args.answer.now ≡ answer_of t conn phase item
     = answered ∙ ap (λ (p : Option Conn). answer_by t conn item p) (sym live) in
     let begun = c.in-Ok.ensures t after fit heard answer row in
     subst (λ (u : List Entry). TablesFit c.answer_item.new.state u)
-    (begun.2 ∙ decided id t after conn phase item c.args.answer _ answer live)
-    (c.in_ok-answer_item.ensures _ begun.1)
+    (begun.2 ∙ decided id t after conn phase item c.args.answer.now _ answer live)
+    (is _ begun.1))
+    c.answer_item.ensures

@@ -1,5 +1,5 @@
 use Rattle.std.proofs.Common.{◌≡◌, sym, subst, Bool, true, false, ◌∷◌}
-use Rattle.std.proofs.lemmas.Result.{IfOk-weaker, on_ok_weaker}
+use Rattle.std.proofs.lemmas.Result.{on_ok_weaker}
 use Rattle.std.specs.Prelude.{not}
 use Rattle.router_trace.specs.declared.event.Event.{Event}
 use Rattle.router_trace.specs.Trace.{did}
@@ -14,14 +14,20 @@ not_false : (b : Bool) → not b ≡ false → b ≡ true
 not_false true is = cc
 not_false false is = absurd cc
 
-pub returns-in_ok-up-in-Up-clause-fits : goal.returns-in_ok-up-in-Up-clause-fits
-returns-in_ok-up-in-Up-clause-fits c = λ t.
-    subst (λ (e : Event). TablesAt c.args.state.now t e c.args.ends.now → ended_first t ≡ c.args.ends.now → refuses t e ≡ false → TablesFit c.up.new.self (did e ∷ t)) (sym c.in-Up.is)
-    (λ at first free. c.in_ok-up-in-Up.ensures t c.args.ends.now at (not_false _ free))
+pub returns-in-Up-clause-heard : goal.returns-in-Up-clause-heard
+returns-in-Up-clause-heard c = on_ok_weaker c.up.result
+    (λ is t ends. subst (λ (e : Event). TablesAt c.args.state.now t e ends → c.args.phase ≡ phase_found t e → IsHeard t e c.args.answer.now c.args.heard.now) (sym c.in-Up.is) (λ at found. tt))
+    c.up.ensures
+
+pub returns-in-Up-clause-fits : goal.returns-in-Up-clause-fits
+returns-in-Up-clause-fits c = on_ok_weaker c.up.result
+    (λ is t. subst (λ (e : Event). TablesAt c.args.state.now t e c.args.ends.now → ended_first t ≡ c.args.ends.now → refuses t e ≡ false → TablesFit c.up.new.self (did e ∷ t)) (sym c.in-Up.is)
+    (λ at first free. is t c.args.ends.now at (not_false _ free)))
+    c.up.ensures
 
 pub returns-in-Item-clause-heard : goal.returns-in-Item-clause-heard
-returns-in-Item-clause-heard c = IfOk-weaker c.hear_item.result _ _
-    (λ heard is t ends. subst (λ (e : Event). TablesAt c.args.state.now t e ends → c.args.phase ≡ phase_found t e → IsHeard t e c.args.answer.now heard) (sym c.in-Item.is) (is t ends))
+returns-in-Item-clause-heard c = on_ok_weaker c.hear_item.result
+    (λ is t ends. subst (λ (e : Event). TablesAt c.args.state.now t e ends → c.args.phase ≡ phase_found t e → IsHeard t e c.args.answer.now c.hear_item.new.heard) (sym c.in-Item.is) (is t ends))
     c.hear_item.ensures.heard
 
 pub returns-in-Item-clause-fits : goal.returns-in-Item-clause-fits
@@ -29,10 +35,21 @@ returns-in-Item-clause-fits c = on_ok_weaker c.hear_item.result
     (λ is t. subst (λ (e : Event). TablesAt c.args.state.now t e c.args.ends.now → ended_first t ≡ c.args.ends.now → refuses t e ≡ false → TablesFit c.hear_item.new.state (did e ∷ t)) (sym c.in-Item.is) (λ at first free. is t at first))
     c.hear_item.ensures.fits
 
-pub returns-in_ok-down-in-Down-clause-fits : goal.returns-in_ok-down-in-Down-clause-fits
-returns-in_ok-down-in-Down-clause-fits c = λ t.
-    subst (λ (e : Event). TablesAt c.args.state.now t e c.args.ends.now → ended_first t ≡ c.args.ends.now → refuses t e ≡ false → TablesFit c.down.new.self (did e ∷ t)) (sym c.in-Down.is)
-    (λ at first free. c.in_ok-down-in-Down.ensures t c.args.ends.now at)
+pub returns-in-Down-clause-heard : goal.returns-in-Down-clause-heard
+returns-in-Down-clause-heard c = on_ok_weaker c.down.result
+    (λ is t ends. subst (λ (e : Event). TablesAt c.args.state.now t e ends → c.args.phase ≡ phase_found t e → IsHeard t e c.args.answer.now c.args.heard.now) (sym c.in-Down.is) (λ at found. tt))
+    c.down.ensures
+
+pub returns-in-Down-clause-fits : goal.returns-in-Down-clause-fits
+returns-in-Down-clause-fits c = on_ok_weaker c.down.result
+    (λ is t. subst (λ (e : Event). TablesAt c.args.state.now t e c.args.ends.now → ended_first t ≡ c.args.ends.now → refuses t e ≡ false → TablesFit c.down.new.self (did e ∷ t)) (sym c.in-Down.is)
+    (λ at first free. is t c.args.ends.now at))
+    c.down.ensures
+
+pub returns-in-Tick-clause-heard : goal.returns-in-Tick-clause-heard
+returns-in-Tick-clause-heard c = on_ok_weaker c.hear_tick.result
+    (λ is t ends. subst (λ (e : Event). TablesAt c.args.state.now t e ends → c.args.phase ≡ phase_found t e → IsHeard t e c.args.answer.now c.hear_tick.new.heard) (sym c.in-Tick.is) (λ at found. is t ends at))
+    c.hear_tick.ensures.heard
 
 pub returns-in-Tick-clause-fits : goal.returns-in-Tick-clause-fits
 returns-in-Tick-clause-fits c = on_ok_weaker c.hear_tick.result

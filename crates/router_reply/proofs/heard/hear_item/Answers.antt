@@ -4,6 +4,6 @@ use Rattle.router_reply.proofs.heard.hear_item.Goals as goal
 pub returns-clause-heard : goal.returns-clause-heard
 returns-clause-heard c = λ t ends at found. record {
   phase = found;
-  part = λ own here. c.in-Ok.ensures.part t ends own at here;
-  ids = c.in_ok-ids.ensures t (at_finds at);
+  part = λ own here. c.in_ok-heard-2.ensures.part t ends own at here;
+  ids = c.in_ok-heard.ensures t (at_finds at);
 }

@@ -1,4 +1,5 @@
 use Rattle.std.proofs.Common.{◌≡◌, ◌∙◌, sym, ap, subst, ℕ, List, [], ◌∷◌, Bool, false}
+use Rattle.std.proofs.lemmas.Result.{IfOk-weaker, on_ok_weaker}
 use Rattle.router_trace.specs.Trace.{Entry, did, Booked}
 use Rattle.router_trace.specs.Connection.{due, phase_found}
 use Rattle.router_trace.specs.Refusing.{refuses}
@@ -13,36 +14,40 @@ use Rattle.router_core.proofs.Preparing.{taken_in, prepared}
 use Rattle.router_core.proofs.router.Core.prepare.Goals as goal
 
 pub returns-clause-ready : goal.returns-clause-ready
-returns-clause-ready g c = λ t f taken.
+returns-clause-ready g c = on_ok_weaker c.admit.result
+    (λ is t f taken.
     let core = c.args.self.now in
     let e = c.args.event.now in
     let fit : TablesFit (state_of core) (booked t e) = booked_keeps (λ (u : List Entry). TablesFit (state_of core) u) t e (λ acts it. booked_fits (state_of core) acts (due t e) t it) f.tables in
-    let behind = c.in_ok-ends.ensures (booked t e) fit in
-    let at = c.in_ok-ends.ensures t f.tables in
+    let behind = c.in_ok-ready.ensures (booked t e) fit in
+    let at = c.in_ok-ready.ensures t f.tables in
     let phase : c.phase_found-phase.result ≡ phase_found t e = c.phase_found-phase.ensures t (c.deref.ensures.value ∙ at.are_due) taken.phase in
     let planned : TablesAt c.turn.new.self t e c.deref-2.result.now = subst (λ (cs : List ℕ). TablesAt c.turn.new.self t e cs) (sym c.deref-2.ensures.value) at in
     let free : refuses (booked t e) e ≡ false = taken_booked t e (not_refused t e taken.taken) in
     let answer : c.in_ok-full.field-0.answer ≡ answer_to_event (booked t e) e =
     c.in_ok-full.ensures.answer t planned phase ∙ ap (λ (b : Bool). event_answer b (kept_book core) t e) (c.in_ok-full.ensures.full t planned phase) ∙ answer_is core t e f in
     record {
-      tables = c.in_ok-acts.ensures.tables (did e ∷ booked t e)
-          (c.in_ok-heard.ensures.fits (booked t e) (subst (λ (cs : List ℕ). TablesAt c.turn.new.self (booked t e) e cs) (sym c.deref-3.ensures.value) behind) (sym (c.deref-3.ensures.value ∙ at.are_due)) free);
+      tables = is (did e ∷ booked t e)
+          (c.in-Ok.ensures.fits (booked t e) (subst (λ (cs : List ℕ). TablesAt c.turn.new.self (booked t e) e cs) (sym c.deref-3.ensures.value) behind) (sym (c.deref-3.ensures.value ∙ at.are_due)) free);
       ends = behind.are_due;
       answer = answer;
-      heard = c.in_ok-heard.ensures.heard (booked t e) _ behind (phase ∙ sym (phase_booked t e));
-    }
+      heard = c.in-Ok.ensures.heard (booked t e) _ behind (phase ∙ sym (phase_booked t e));
+    })
+    c.admit.ensures.tables
 
 pub returns-clause-acts : goal.returns-clause-acts
-returns-clause-acts g c = λ t f taken.
+returns-clause-acts g c = IfOk-weaker c.admit.result _ _
+    (λ acts is t f taken.
     let core = c.args.self.now in
     let e = c.args.event.now in
-    let at = c.in_ok-ends.ensures t f.tables in
+    let at = c.in_ok-ready.ensures t f.tables in
     let phase : c.phase_found-phase.result ≡ phase_found t e = c.phase_found-phase.ensures t (c.deref.ensures.value ∙ at.are_due) taken.phase in
     let planned : TablesAt c.turn.new.self t e c.deref-2.result.now = subst (λ (cs : List ℕ). TablesAt c.turn.new.self t e cs) (sym c.deref-2.ensures.value) at in
     let answer = c.in_ok-full.ensures.answer t planned phase in
     let plain : List Entry = Booked [] (due t e) ∷ t in
-    let behind = c.in_ok-ends.ensures plain (booked_fits (state_of core) [] (due t e) t f.tables) in
+    let behind = c.in_ok-ready.ensures plain (booked_fits (state_of core) [] (due t e) t f.tables) in
     let there : TablesAt c.turn.new.self plain e c.deref-3.result.now = subst (λ (cs : List ℕ). TablesAt c.turn.new.self plain e cs) (sym c.deref-3.ensures.value) behind in
-    let told = c.in_ok-acts.ensures.acts t (c.in_ok-heard.ensures.fits plain there (sym (c.deref-3.ensures.value ∙ at.are_due)) (not_refused t e taken.taken)) (c.deref-4.ensures.value ∙ at.are_due) (c.in_ok-heard.ensures.heard t _ at phase)
+    let told = is t (c.in-Ok.ensures.fits plain there (sym (c.deref-3.ensures.value ∙ at.are_due)) (not_refused t e taken.taken)) (c.deref-4.ensures.value ∙ at.are_due) (c.in-Ok.ensures.heard t _ at phase)
     (subst (λ (a : Answer). TakenIn t e a) (sym answer) (taken_in _ (kept_book core) t e)) in
-    prepared core t e _ _ _ _ f (c.in_ok-full.ensures.full t planned phase) answer (c.in_ok-full.ensures.acts t planned phase) told
+    prepared core t e _ _ _ _ f (c.in_ok-full.ensures.full t planned phase) answer (c.in_ok-full.ensures.acts t planned phase) told)
+    c.admit.ensures.acts
