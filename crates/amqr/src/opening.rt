@@ -1,7 +1,7 @@
 //! Opens the router over its journal.
 ghost use Rattle.std.specs.Prelude.{◌≡◌, ⊤, IfOk, IfErr};
 ghost use Rattle.router_core.specs.Handling.{counts_of};
-ghost use Rattle.router_core.specs.Counting.{uncounted};
+ghost use Rattle.router_counts.specs.Counting.{uncounted};
 ghost use Rattle.router_locked.specs.History.{IsOpened};
 ghost use Rattle.amqr_files.specs.Journals.{IsNotListed};
 

@@ -1,7 +1,7 @@
 //! The command that serves clients.
 ghost use Rattle.std.specs.Prelude.{◌≡◌, ◌^◌};
 ghost use Rattle.router_core.specs.Handling.{counts_of};
-ghost use Rattle.router_core.specs.Counting.{uncounted};
+ghost use Rattle.router_counts.specs.Counting.{uncounted};
 ghost use Rattle.router_locked.specs.History.{IsOpened};
 ghost use Rattle.router_seats.specs.Blank.{AreOf};
 

@@ -7,7 +7,7 @@ use Rattle.gate_journal.specs.Reserve.{reserve}
 use Rattle.router_store.specs.Store.{OpensTo, book_of, count_of, used_of, kept_of, exceeds}
 use Rattle.router_core.specs.declared.router.Core.{Core}
 use Rattle.router_core.specs.declared.router.Batch.{Batch}
-use Rattle.router_core.specs.declared.counts.Counts.{Counts}
+use Rattle.router_counts.specs.declared.counts.Counts.{Counts}
 use Rattle.amqp_conn.specs.declared.conn.Conn.{Conn}
 use Rattle.router_trace.specs.declared.event.Event.{Event}
 use Rattle.router_trace.specs.declared.event.Event.TheVariants as event

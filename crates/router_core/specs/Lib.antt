@@ -1,4 +1,3 @@
-pub mod Counting
 pub mod Faults
 pub mod Turns
 pub mod Handling
@@ -9,6 +8,7 @@ pub mod Door
 pub mod Logins
 pub mod Moves
 pub mod Laws
+pub use Rattle.router_counts.specs.Counting
 pub use Rattle.router_trace.specs.Trace
 pub use Rattle.router_trace.specs.Connection
 pub use Rattle.router_trace.specs.Refusing

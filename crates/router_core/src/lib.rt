@@ -1,7 +1,6 @@
 //! The router's core: events in, items out.
 #![tactic(auto)]
 
-mod counts;
 mod door;
 mod driving;
 mod fault;
@@ -9,7 +8,6 @@ mod laws;
 mod logins;
 mod router;
 
-pub use counts::Counts;
 pub use door::{Door, DoorAnswer};
 pub use driving::{Driven, Sent, drive};
 pub use fault::CoreFault;
@@ -20,4 +18,5 @@ pub use laws::{
 pub use logins::only_proved_users_pass;
 pub use route_table::Config;
 pub use router::{Batch, Core, Done};
+pub use router_counts::Counts;
 pub use router_trace::{ConnectionId, Event, Peer, PeerRole};

@@ -12,11 +12,11 @@ use Rattle.router_core.proofs.Books.{not_refused}
 use Rattle.router_trace.specs.Connection.{Connection, conn}
 use Rattle.router_core.specs.declared.router.Core.{Core}
 use Rattle.router_core.specs.declared.router.Batch.{Batch}
-use Rattle.router_core.specs.declared.counts.Counts.{Counts}
+use Rattle.router_counts.specs.declared.counts.Counts.{Counts}
 use Rattle.router_core.specs.Replies.{Replies}
 use Rattle.router_core.specs.Runs.{taking, items_of, waiting_of, took_one}
 use Rattle.router_core.specs.Moves.{Move, handles, takes, Goes}
-use Rattle.router_core.specs.Counting.{uncounted, with_event, with_batch}
+use Rattle.router_counts.specs.Counting.{uncounted, with_event, with_batch}
 use Rattle.router_core.specs.Handling.{Fits, is_failed, id_of, counts_of, IsBatchOf}
 use Rattle.router_core.proofs.Moves.{goes_on}
 use Rattle.router_locked.specs.History.{tally, IsOpened, HasHistory}

@@ -7,9 +7,9 @@ use Rattle.amqp_frames.specs.declared.item.Item.{Item}
 use Rattle.router_trace.specs.declared.event.ConnectionId.{ConnectionId}
 use Rattle.router_trace.specs.declared.event.Event.TheVariants as event
 use Rattle.router_trace.specs.Trace.{Entry, step_of}
-use Rattle.router_core.specs.declared.counts.Counts.{Counts}
+use Rattle.router_counts.specs.declared.counts.Counts.{Counts}
 use Rattle.router_core.specs.declared.router.Core.{Core}
-use Rattle.router_core.specs.Counting.{with_event}
+use Rattle.router_counts.specs.Counting.{with_event}
 use Rattle.router_core.specs.Handling.{Fits, id_of}
 use Rattle.router_core.specs.Replies.{handled}
 use Rattle.router_seats.specs.Adding.{Handled, with_items}

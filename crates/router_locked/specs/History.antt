@@ -4,9 +4,9 @@ use Rattle.router_trace.specs.Trace.{Beginning}
 use Rattle.router_trace.specs.Configuration.{beginning}
 use Rattle.router_trace.specs.Trace.{Trace}
 use Rattle.router_core.specs.declared.router.Core.{Core}
-use Rattle.router_core.specs.declared.counts.Counts.{Counts}
+use Rattle.router_counts.specs.declared.counts.Counts.{Counts}
 use Rattle.router_core.specs.Handling.{Fits, is_failed, id_of, counts_of}
-use Rattle.router_core.specs.Counting.{uncounted, with_event, with_batch}
+use Rattle.router_counts.specs.Counting.{uncounted, with_event, with_batch}
 use Rattle.router_core.specs.Moves.{Move, handles, takes, Goes}
 
 -- the counts after these moves: one more for each event, by kind, and for each take

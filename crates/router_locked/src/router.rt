@@ -7,7 +7,7 @@ ghost use Rattle.router_conns.specs.Fits.{IsLeast};
 ghost use Rattle.router_core.specs.Turns.{declines};
 ghost use Rattle.router_core.specs.Handling.{Fits, IsBatchOf, counts_of, id_of, is_failed, store_of};
 ghost use Rattle.router_core.specs.Replies.{handled};
-ghost use Rattle.router_core.specs.Counting.{uncounted, with_event, with_batch};
+ghost use Rattle.router_counts.specs.Counting.{uncounted, with_event, with_batch};
 ghost use Rattle.router_core.specs.declared.fault.CoreFault.TheVariants.{Disk as DiskFailed, Memory, Failed, NoConnection};
 ghost use Rattle.router_locked.specs.Handing.{batches_of};
 ghost use Rattle.router_locked.specs.History.{IsOpened, HasHistory};

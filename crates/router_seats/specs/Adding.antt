@@ -1,7 +1,7 @@
 -- Counts of several seats, added up, and of several items.
 use Rattle.std.specs.Prelude.{◌≡◌, ◌≤◌, ℕ, ◌+◌, List, drop, length, map, sum}
 use Rattle.amqp_frames.specs.declared.item.Item.{Item}
-use Rattle.router_core.specs.declared.counts.Counts.{Counts}
+use Rattle.router_counts.specs.declared.counts.Counts.{Counts}
 use Rattle.router_seats.specs.declared.kind.Kind.{Kind}
 use Rattle.router_seats.specs.declared.kind.Kind.TheVariants as kind
 

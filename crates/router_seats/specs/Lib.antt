@@ -1,3 +1,3 @@
 pub mod Adding
 pub mod Blank
-pub use Rattle.router_core.specs.Counting
+pub use Rattle.router_counts.specs.Counting

@@ -1,10 +1,10 @@
 //! The kinds of events.
 ghost use Rattle.std.specs.Prelude.{◌≡◌};
-ghost use Rattle.router_core.specs.declared.counts.Counts.{Counts};
-ghost use Rattle.router_core.specs.Counting.{with_event};
+ghost use Rattle.router_counts.specs.declared.counts.Counts.{Counts};
+ghost use Rattle.router_counts.specs.Counting.{with_event};
 ghost use Rattle.router_seats.specs.Adding.{with_kind};
 
-use router_core::Event;
+use router_trace::Event;
 
 /// The kind of an event.
 #[derive(Clone, Copy, Debug, PartialEq, Eq)]

@@ -1,10 +1,10 @@
 //! The counts of one thread.
 ghost use Rattle.std.specs.Prelude.{◌≡◌, IfSome};
-ghost use Rattle.router_core.specs.Counting.{uncounted};
+ghost use Rattle.router_counts.specs.Counting.{uncounted};
 
 use crate::ledgers::Ledgers;
 use crate::tally::Part;
-use router_core::Counts;
+use router_counts::Counts;
 use std::marker::Model;
 
 /// A thread's seat at the router. It counts what the thread did there: the events that it submitted, by kind, and the
@@ -20,7 +20,7 @@ pub struct Seat<G: Ledgers> {
 }
 
 impl<G: Ledgers> Model for Seat<G> {
-    ghost use Rattle.router_core.specs.declared.counts.Counts.{Counts};
+    ghost use Rattle.router_counts.specs.declared.counts.Counts.{Counts};
 
     ghost Value = { Counts };
 

@@ -1,13 +1,13 @@
 //! All totals that threads count together.
 ghost use Rattle.std.specs.Prelude.{◌≡◌, true, IfSome};
-ghost use Rattle.router_core.specs.Counting.{uncounted, with_batch};
+ghost use Rattle.router_counts.specs.Counting.{uncounted, with_batch};
 ghost use Rattle.router_seats.specs.Adding.{with_kind, plus, sums};
 
 use crate::kind::Kind;
 use crate::ledgers::{Blanks, Ledgers};
 use crate::seat::Seat;
 use crate::tally::{Gathered, Total};
-use router_core::Counts;
+use router_counts::Counts;
 use std::marker::Model;
 
 /// The totals. Contracts see them as the counts.
@@ -22,7 +22,7 @@ pub struct Totals<G: Ledgers> {
 }
 
 impl<G: Ledgers> Model for Totals<G> {
-    ghost use Rattle.router_core.specs.declared.counts.Counts.{Counts};
+    ghost use Rattle.router_counts.specs.declared.counts.Counts.{Counts};
 
     ghost Value = { Counts };
 
@@ -57,7 +57,7 @@ struct Gathering<G: Ledgers> {
 }
 
 impl<G: Ledgers> Model for Gathering<G> {
-    ghost use Rattle.router_core.specs.declared.counts.Counts.{Counts};
+    ghost use Rattle.router_counts.specs.declared.counts.Counts.{Counts};
 
     ghost Value = { Counts × Counts };
 

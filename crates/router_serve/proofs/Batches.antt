@@ -5,8 +5,8 @@ use Rattle.std.proofs.Math.Seq.{take-append-add}
 use Rattle.std.specs.Io.KnownBytes.{Appends}
 use Rattle.router_trace.specs.declared.event.ConnectionId.{ConnectionId}
 use Rattle.router_core.specs.declared.router.Batch.{Batch}
-use Rattle.router_core.specs.declared.counts.Counts.{Counts}
-use Rattle.router_core.specs.Counting.{with_batch}
+use Rattle.router_counts.specs.declared.counts.Counts.{Counts}
+use Rattle.router_counts.specs.Counting.{with_batch}
 use Rattle.router_serve.specs.declared.end.WriteEnd.{WriteEnd}
 use Rattle.router_serve.specs.declared.end.WriteEnd.TheVariants as end
 use Rattle.router_serve.specs.Wrote.{spelled, batches_spelled, items_in, Follow, with_batches, unwritten, Wrote}

@@ -7,7 +7,7 @@ use Rattle.amqp_frames.specs.declared.fault.FrameFault.{FrameFault}
 use Rattle.amqp_frames.specs.declared.item.Item.{Item}
 use Rattle.amqp_frames.specs.declared.item.Item.TheVariants as item
 use Rattle.amqp_frames.specs.Cuts.{Cuts, Stream}
-use Rattle.router_core.specs.declared.counts.Counts.{Counts}
+use Rattle.router_counts.specs.declared.counts.Counts.{Counts}
 use Rattle.router_serve.specs.declared.end.ReadEnd.{ReadEnd}
 use Rattle.router_serve.specs.declared.end.ReadEnd.TheVariants as end
 use Rattle.router_serve.specs.Greeting.{Gives, Stops}

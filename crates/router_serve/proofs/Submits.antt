@@ -6,7 +6,7 @@ use Rattle.std.specs.Vec.Iter.{into_iter_items, into_iter_steps}
 use Rattle.std.specs.declared.vec.IntoIter.{IntoIter}
 use Rattle.amqp_frames.specs.declared.item.Item.{Item}
 use Rattle.amqp_frames.specs.Cuts.{Stream}
-use Rattle.router_core.specs.declared.counts.Counts.{Counts}
+use Rattle.router_counts.specs.declared.counts.Counts.{Counts}
 use Rattle.router_serve.specs.declared.end.ReadEnd.{ReadEnd}
 use Rattle.router_serve.specs.declared.end.ReadEnd.TheVariants as end
 use Rattle.router_seats.specs.Adding.{Handled, with_items}

@@ -6,7 +6,7 @@ pub use Rattle.router_seats.specs.Adding
 pub use Rattle.router_locked.specs.History
 pub use Rattle.router_core.specs.Handling
 pub use Rattle.router_core.specs.Moves
-pub use Rattle.router_core.specs.Counting
+pub use Rattle.router_counts.specs.Counting
 pub use Rattle.router_core.specs.Door
 pub use Rattle.amqp_frames.specs.Cuts
 pub use Rattle.amqp_frames.specs.ItemSpelling

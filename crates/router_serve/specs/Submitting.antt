@@ -4,7 +4,7 @@ use Rattle.std.specs.Io.KnownBytes.{Consumes, IsAtEnd}
 use Rattle.amqp_frames.specs.declared.item.Item.{Item}
 use Rattle.amqp_frames.specs.declared.item.Item.TheVariants as item
 use Rattle.amqp_frames.specs.Cuts.{Stream}
-use Rattle.router_core.specs.declared.counts.Counts.{Counts}
+use Rattle.router_counts.specs.declared.counts.Counts.{Counts}
 use Rattle.router_core.specs.declared.fault.CoreFault.TheVariants.{Failed, NoConnection}
 use Rattle.router_seats.specs.Adding.{with_items}
 use Rattle.router_serve.specs.declared.end.ReadEnd.{ReadEnd}

@@ -5,7 +5,7 @@ use Rattle.amqp_frames.specs.declared.item.Item.{Item}
 use Rattle.amqp_frames.specs.ItemSpelling.{item_spelling}
 use Rattle.router_trace.specs.declared.event.ConnectionId.{ConnectionId}
 use Rattle.router_core.specs.declared.router.Batch.{Batch}
-use Rattle.router_core.specs.declared.counts.Counts.{Counts}
+use Rattle.router_counts.specs.declared.counts.Counts.{Counts}
 use Rattle.router_serve.specs.declared.end.WriteEnd.{WriteEnd}
 use Rattle.router_serve.specs.declared.end.WriteEnd.TheVariants as end
 

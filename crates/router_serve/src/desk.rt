@@ -4,7 +4,7 @@ ghost use Rattle.gate_journal.specs.Journal.{batch_count};
 ghost use Rattle.router_store.specs.Store.{journal_of};
 ghost use Rattle.router_trace.specs.declared.event.Event.TheVariants as event;
 ghost use Rattle.router_core.specs.Handling.{counts_of, store_of};
-ghost use Rattle.router_core.specs.Counting.{uncounted, with_event};
+ghost use Rattle.router_counts.specs.Counting.{uncounted, with_event};
 ghost use Rattle.router_locked.specs.History.{HasHistory, IsOpened};
 ghost use Rattle.router_seats.specs.Blank.{AreOf};
 

@@ -3,7 +3,7 @@ ghost use Rattle.std.specs.Prelude.{◌≡◌, ◌<◌, ◌≤◌, true, length,
 ghost use Rattle.gate_journal.specs.Journal.{batch_count};
 ghost use Rattle.router_store.specs.Store.{journal_of};
 ghost use Rattle.router_core.specs.Handling.{counts_of, store_of};
-ghost use Rattle.router_core.specs.Counting.{uncounted, with_event, with_batch};
+ghost use Rattle.router_counts.specs.Counting.{uncounted, with_event, with_batch};
 ghost use Rattle.router_seats.specs.Adding.{sums, Handled};
 ghost use Rattle.router_locked.specs.Handing.{Enough};
 ghost use Rattle.router_locked.specs.History.{IsOpened, HasHistory};

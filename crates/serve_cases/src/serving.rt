@@ -1,7 +1,7 @@
 //! A router with ledgers of its own for each row.
 ghost use Rattle.std.specs.Prelude.{◌≡◌, ◌^◌, IfOk};
 ghost use Rattle.router_core.specs.Handling.{counts_of};
-ghost use Rattle.router_core.specs.Counting.{uncounted};
+ghost use Rattle.router_counts.specs.Counting.{uncounted};
 ghost use Rattle.router_locked.specs.History.{IsOpened};
 ghost use Rattle.router_seats.specs.Blank.{AreOf};
 

@@ -1,6 +1,6 @@
-//! Counts of what the router did.
+//! The counts: events by kind, and batches.
 ghost use Rattle.std.specs.Prelude.{◌≡◌, ◌+◌, IfOk};
-ghost use Rattle.router_core.specs.Counting.{uncounted, with_event, with_batch};
+ghost use Rattle.router_counts.specs.Counting.{uncounted, with_event, with_batch};
 
 use router_trace::Event;
 use std::alloc::AllocError;

@@ -1,0 +1,6 @@
+//! Counts of what the router did.
+#![tactic(auto)]
+
+mod counts;
+
+pub use counts::Counts;
