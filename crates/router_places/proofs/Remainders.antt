@@ -25,6 +25,10 @@ or_true : (a : Bool) → (a || true) ≡ true
 or_true true = refl
 or_true false = refl
 
+nowhere : {V : Type 0} (value : Option V) → is_some value ≡ false → value ≡ None
+nowhere None none = refl
+nowhere (Some v) none = absurd (true≢false none)
+
 -- Numbers that are appended where they have a value: one that has none, ...
 pub not_told : (has : ℕ → Bool) (n k : ℕ) (before : Bool) → has k ≡ false → before ≡ (before || ((n == k) && has n))
 not_told has n k before none = by_test (n == k)
@@ -92,9 +96,12 @@ module _ {V : Type 0} where
   vacant n (Some None) free = refl
   vacant n (Some (Some entry)) free = absurd cc
 
-  pub as_before : (old new : List (Option (Entry V))) → (length old == 0) ≡ true → ((i : ℕ) → no_entry (slice_get new i) ≡ true) → (n i : ℕ) → at_place n (slice_get new i) ≡ at_place n (slice_get old i)
-  as_before [] new empty free n i = vacant n (slice_get new i) (free i)
-  as_before (place ∷ old) new empty free n i = let none = eqb-true (length (place ∷ old)) 0 empty in absurd (omega (arith, none))
+  pub all_vacant : (places : List (Option (Entry V))) → ((i : ℕ) → no_entry (slice_get places i) ≡ true) → (n i : ℕ) → at_place n (slice_get places i) ≡ None
+  all_vacant places free n i = vacant n (slice_get places i) (free i)
+
+  pub as_before : (old new : List (Option (Entry V))) → (length old == 0) ≡ true → ((i : ℕ) → no_entry (slice_get new i) ≡ true) → (n i j : ℕ) → at_place n (slice_get new i) ≡ at_place n (slice_get old j)
+  as_before [] new empty free n i j = vacant n (slice_get new i) (free i)
+  as_before (place ∷ old) new empty free n i j = let none = eqb-true (length (place ∷ old)) 0 empty in absurd (omega (arith, none))
 
   -- a value in the ordered map, of a number that has none in its place
   pub behind : (placed other : Option V) → is_some placed ≡ false → other ≡ or_else placed other
@@ -108,6 +115,17 @@ module _ {V : Type 0} where
       (λ e. let nowhere : is_some (placed q) ≡ false = ap (λ k. is_some (placed k)) (sym (eqb-true number q e)) ∙ none in
       rw e (sym (behind (placed q) (option_map (λ _. w) (old q)) nowhere) ∙ ap (option_map (λ _. w)) (behind (placed q) (old q) nowhere)))
       (λ e. rw e refl)
+
+-- values that are taken out of few places, one number after the other: what is in the few first, ...
+pub all_in : {V : Type 0} (few : ℕ → Option V) (numbers : List ℕ) → ((q : ℕ) → has q numbers ≡ is_some (few q)) → (q : ℕ) → has q numbers ≡ false → few q ≡ None
+all_in few numbers are q none = nowhere (few q) (sym (are q) ∙ none)
+
+-- ... and after one more
+pub taken_out : {V : Type 0} (before after : ℕ → Option V) (number : ℕ) (rest : List ℕ) → ((q : ℕ) → after q ≡ (if number == q then None else before q))
+    → ((q : ℕ) → has q (number ∷ rest) ≡ false → before q ≡ None) → (q : ℕ) → has q rest ≡ false → after q ≡ None
+taken_out before after number rest gone left q none = gone q ∙ by_test (number == q)
+    (λ e. rw e refl)
+    (λ e. let other : has q (number ∷ rest) ≡ false = by_test (q == number) (λ f. absurd (true≢false (sym (eq-eqb number q (sym (eqb-true q number f))) ∙ e))) (λ f. rw f none) in rw e (left q other))
 
 -- neither a value in its place nor one in the ordered map
 pub nothing : {V : Type 0} (placed : Option V) (others : BTreeMap ℕ V) (n : ℕ) → placed ≡ None → (btree_map_len others == 0) ≡ true → or_else placed (get nat_cmp others n) ≡ None

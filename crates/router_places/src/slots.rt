@@ -6,7 +6,7 @@ ghost use Rattle.std.specs.Ordering.{nat_cmp};
 ghost use Rattle.std.specs.BTreeMap.{get};
 ghost use Rattle.std.specs.Map.{keys_of};
 ghost use Rattle.amqp_session.specs.Ranges.{has};
-ghost use Rattle.router_places.specs.Slots.{in_slots, in_places, no_entry, is_free_for, is_listed, tells, LendsSlot, LendsPlaced};
+ghost use Rattle.router_places.specs.Slots.{in_slots, in_places, or_else, no_entry, is_free_for, is_listed, tells, LendsSlot, LendsPlaced};
 
 use std::alloc::{AllocError, Global};
 use std::collections::BTreeMap;
@@ -28,10 +28,10 @@ pub(crate) struct Places<V> {
     mask: u64,
 }
 
-/// Values by number. A number's place among a fixed count of places is its remainder by the count, and only a value whose place another one
-/// takes stands in an ordered map. So while no more neighbouring numbers than that have values, each call is a few instructions, and takes memory
-/// once, with the first value; what comes beyond costs a logarithm of the count at most. If an operation fails to allocate, the contents
-/// are unspecified.
+/// Values by number. A number's place among the places that there are is its remainder by their count, and only a value whose place another one
+/// takes stands in an ordered map. So while no more neighbouring numbers than places have values, each call is a few instructions; what comes
+/// beyond costs a logarithm of the count at most. Memory is taken twice: for a few places with the first value, since most tables never have more,
+/// and for all of them once a place is wanted by another number. If an operation fails to allocate, the contents are unspecified.
 #[derive(Drop)]
 pub struct Slots<V> {
     alloc: Global,
@@ -92,14 +92,75 @@ impl<V: Drop> Slots<V> {
     {
         self.placed.fill(self.alloc)?;
         if self.placed.has_room(number) {
-            let other = self.remove_other(number);
-            let placed = self.placed.put(number, value);
-            return Ok(placed.or(other));
+            return Ok(self.put(number, value));
+        }
+        self.insert_beside(number, value)
+    }
+
+    /// Puts a value in its number's place, and gives the one that the number had there or in the ordered map.
+    #[inline]
+    fn put(&mut self, number: u64, value: V) -> Option<V>
+        requires { is_free_for number (slice_get self.old.placed.places.items (bit_and number self.old.placed.mask)) ≡ true }
+        ensures set { (q : ℕ) → in_slots self.new q ≡ (if number == q then Some value else in_slots self.old q) }
+        ensures before { result ≡ in_slots self.old number }
+    {
+        let other = self.remove_other(number);
+        let placed = self.placed.put(number, value);
+        placed.or(other)
+    }
+
+    /// Gives a number this value where another one has its place: takes all places first, if there are fewer. Gives back the value that the number had.
+    /// Fails if memory is refused.
+    #[inline(never)]
+    fn insert_beside(&mut self, number: u64, value: V) -> Result<Option<V>, AllocError>
+        ensures set { OnOk result ((q : ℕ) → in_slots self.new q ≡ (if number == q then Some value else in_slots self.old q)) }
+        ensures before { IfOk result (λ before. before ≡ in_slots self.old number) }
+    {
+        self.widen()?;
+        self.set(number, value)
+    }
+
+    /// Gives a number this value, in its place or in the ordered map, and gives back the one that it had. Fails if memory is refused.
+    fn set(&mut self, number: u64, value: V) -> Result<Option<V>, AllocError>
+        ensures set { OnOk result ((q : ℕ) → in_slots self.new q ≡ (if number == q then Some value else in_slots self.old q)) }
+        ensures before { IfOk result (λ before. before ≡ in_slots self.old number) }
+    {
+        if self.placed.has_room(number) {
+            return Ok(self.put(number, value));
         }
         match self.others.insert(number, value) {
             Ok(before) => Ok(before),
             Err(_) => Err(AllocError),
         }
+    }
+
+    /// Takes all places, where there are fewer, and puts what stood in the few into its place among all. Fails if memory is refused.
+    #[inline(never)]
+    fn widen(&mut self) -> Result<(), AllocError>
+        ensures { OnOk result ((q : ℕ) → in_slots self.new q ≡ in_slots self.old q) }
+    {
+        if self.placed.is_wide() {
+            return Ok(());
+        }
+        let mut numbers = Vec::new(self.alloc);
+        self.placed.append_numbers(&mut numbers)?;
+        let all = self.placed.all_free(self.alloc)?;
+        let mut few = mem::replace(&mut self.placed, all);
+        for number in &numbers {
+            self.move_from(&mut few, *number)?;
+        }
+        Ok(())
+    }
+
+    /// Takes the value of a number out of its place among these, if it stands there, and gives it to the number here. Fails if memory is refused.
+    fn move_from(&mut self, few: &mut Places<V>, number: u64) -> Result<(), AllocError>
+        ensures moved { OnOk result ((q : ℕ) → or_else (in_places few.new q) (in_slots self.new q) ≡ or_else (in_places few.old q) (in_slots self.old q)) }
+        ensures gone { OnOk result ((q : ℕ) → in_places few.new q ≡ (if number == q then None else in_places few.old q)) }
+    {
+        if let Some(value) = few.take(number) {
+            self.set(number, value)?;
+        }
+        Ok(())
     }
 
     /// Removes the value of a number, and gives it.
@@ -163,18 +224,18 @@ impl<V: Drop> Slots<V> {
 }
 
 impl<V: Drop> Places<V> {
-    /// So many places.
+    /// No places yet, and at most so many.
     fn new(alloc: Global, count: usize) -> Places<V>
         ensures { (n : ℕ) → in_places result n ≡ None }
     {
         Places {
             places: Vec::new(alloc),
             count,
-            mask: (count as u64).saturating_sub(1),
+            mask: 0,
         }
     }
 
-    /// Makes the places, where there are none yet. Fails if memory is refused.
+    /// Makes a few places, where there are none yet. Fails if memory is refused.
     #[inline]
     fn fill(&mut self, alloc: Global) -> Result<(), AllocError>
         ensures { OnOk result ((n : ℕ) → in_places self.new n ≡ in_places self.old n) }
@@ -182,8 +243,30 @@ impl<V: Drop> Places<V> {
         if !self.places.is_empty() {
             return Ok(());
         }
-        self.places = free_places(alloc, self.count)?;
+        self.places = free_places(alloc, self.few())?;
+        self.mask = mask_of(self.few());
         Ok(())
+    }
+
+    /// How many places there are at first: eight, or all where there are fewer.
+    fn few(&self) -> usize {
+        self.count.min(8)
+    }
+
+    /// Whether all places are there.
+    fn is_wide(&self) -> bool {
+        self.places.len() >= self.count
+    }
+
+    /// As many places as there can be, each without a value. Fails if memory is refused.
+    fn all_free(&self, alloc: Global) -> Result<Places<V>, AllocError>
+        ensures { IfOk result (λ all. (n : ℕ) → in_places all n ≡ None) }
+    {
+        Ok(Places {
+            places: free_places(alloc, self.count)?,
+            count: self.count,
+            mask: mask_of(self.count),
+        })
     }
 
     /// The index of a number's place.
@@ -363,6 +446,11 @@ fn append_range<V>(values: Range<'_, u64, V>, numbers: &mut Vec<u64>) -> Result<
         numbers.push(*number)?;
     }
     Ok(())
+}
+
+/// What is kept of a number to have its place among so many, which are a power of two.
+fn mask_of(count: usize) -> u64 {
+    (count as u64).saturating_sub(1)
 }
 
 /// So many places without a value. Fails if memory is refused.

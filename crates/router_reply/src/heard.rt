@@ -85,7 +85,8 @@ fn hear_tick(state: &mut State, moment: u64, heard: &mut Heard) -> Result<(), Al
 }
 
 /// Handles an event that is not refused, and puts nothing, after the turn that ended these connections because their outboxes were full
-/// (`State::turn`); `phase` is the phase of the item's connection as the event finds it. Fills in what the answer to it needs.
+/// (`State::turn`); `phase` is the phase of the item's connection as the event finds it. Fills in what the answer to it needs; the fields of `heard` that such an
+/// event doesn't fill stay as they were.
 ///
 /// # Errors
 ///
