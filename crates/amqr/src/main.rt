@@ -1,15 +1,8 @@
 //! A message router for AMQP 1.0: the program.
 #![tactic(auto)]
 
-mod connection;
-mod house;
-mod hub;
-mod lines;
-mod listening;
 mod opening;
 mod serving;
-mod socket;
-mod streams;
 
 use crate::serving::serve;
 use amqr_commands::{Refusal, Status, refuse, run, serving_in};

@@ -5,12 +5,10 @@ ghost use Rattle.router_counts.specs.Counting.{uncounted};
 ghost use Rattle.router_locked.specs.History.{IsOpened};
 ghost use Rattle.router_seats.specs.Blank.{AreOf};
 
-use crate::house::House;
-use crate::hub::Hub;
-use crate::listening::listen;
 use crate::opening::open_router;
 use amqr_commands::{Refusal, Serving, Status, config_at, refuse};
 use amqr_files::JournalDisk;
+use amqr_sockets::{House, Hub, listen};
 use route_table::{Config, Listener, Role};
 use router_core::Core;
 use router_serve::{Blanks, Desk, Names};
@@ -206,8 +204,18 @@ fn counted<
     }
     hub.start(rt);
     listen(rt, &hub, listeners_of(&hub.house.config, own), sockets);
-    if hub.close() {
+    if close(hub) {
         return Ok(Status::Failed);
     }
     Ok(Status::Done)
+}
+
+/// The seats that no thread uses come back, and all else is let go. It tells whether the router failed.
+fn close<N: Names>(hub: Hub<Desk<JournalDisk, N>>) -> bool {
+    let Hub { router, house } = hub;
+    drop(house);
+    let closed = router.close();
+    let failed = closed.core.is_failed();
+    drop(closed);
+    failed
 }

@@ -8,12 +8,12 @@ use Rattle.amqp_frames.specs.declared.item.Item.{Item}
 use Rattle.amqp_frames.specs.declared.item.Item.TheVariants as item
 use Rattle.amqp_frames.specs.Cuts.{Cuts, Stream}
 use Rattle.router_counts.specs.declared.counts.Counts.{Counts}
-use Rattle.router_serve.specs.declared.end.ReadEnd.{ReadEnd}
-use Rattle.router_serve.specs.declared.end.ReadEnd.TheVariants as end
-use Rattle.router_serve.specs.Greeting.{Gives, Stops}
+use Rattle.router_service.specs.declared.end.ReadEnd.{ReadEnd}
+use Rattle.router_service.specs.declared.end.ReadEnd.TheVariants as end
+use Rattle.router_service.specs.Greeting.{Gives, Stops}
 use Rattle.router_seats.specs.Adding.{with_items}
 use Rattle.router_serve.specs.Submitting.{CountsSome, ends_badly, HandsIn, Hinders, is_bad, is_whole}
-use Rattle.router_serve.proofs.Streams.{at_end, Came, gives_more, gives_nothing, gives_the_same, none_behind}
+use Rattle.router_service.proofs.Streams.{at_end, Came, gives_more, gives_nothing, gives_the_same, none_behind}
 use Rattle.router_serve.proofs.Submits.{items_added, none_counted}
 
 -- the last item of a list is that of its end

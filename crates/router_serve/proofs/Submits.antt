@@ -7,8 +7,8 @@ use Rattle.std.specs.declared.vec.IntoIter.{IntoIter}
 use Rattle.amqp_frames.specs.declared.item.Item.{Item}
 use Rattle.amqp_frames.specs.Cuts.{Stream}
 use Rattle.router_counts.specs.declared.counts.Counts.{Counts}
-use Rattle.router_serve.specs.declared.end.ReadEnd.{ReadEnd}
-use Rattle.router_serve.specs.declared.end.ReadEnd.TheVariants as end
+use Rattle.router_service.specs.declared.end.ReadEnd.{ReadEnd}
+use Rattle.router_service.specs.declared.end.ReadEnd.TheVariants as end
 use Rattle.router_seats.specs.Adding.{Handled, with_items}
 use Rattle.router_serve.specs.Submitting.{CountsGone, CountsSome, HandsIn, Hinders, IsCore, with_downs, needs_down, Submitted}
 

@@ -1,12 +1,10 @@
-pub mod Ends
-pub mod Greeting
 pub mod Submitting
 pub mod Wrote
+pub use Rattle.router_service.specs.Ends
+pub use Rattle.router_service.specs.Greeting
+pub use Rattle.router_service.specs.Spelled
 pub use Rattle.router_seats.specs.Adding
 pub use Rattle.router_locked.specs.History
 pub use Rattle.router_core.specs.Handling
 pub use Rattle.router_core.specs.Moves
 pub use Rattle.router_counts.specs.Counting
-pub use Rattle.router_core.specs.Door
-pub use Rattle.amqp_frames.specs.Cuts
-pub use Rattle.amqp_frames.specs.ItemSpelling

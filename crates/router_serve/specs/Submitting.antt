@@ -7,9 +7,9 @@ use Rattle.amqp_frames.specs.Cuts.{Stream}
 use Rattle.router_counts.specs.declared.counts.Counts.{Counts}
 use Rattle.router_core.specs.declared.fault.CoreFault.TheVariants.{Failed, NoConnection}
 use Rattle.router_seats.specs.Adding.{with_items}
-use Rattle.router_serve.specs.declared.end.ReadEnd.{ReadEnd}
-use Rattle.router_serve.specs.declared.end.ReadEnd.TheVariants as end
-use Rattle.router_serve.specs.Greeting.{Gives}
+use Rattle.router_service.specs.declared.end.ReadEnd.{ReadEnd}
+use Rattle.router_service.specs.declared.end.ReadEnd.TheVariants as end
+use Rattle.router_service.specs.Greeting.{Gives}
 
 -- each item that left a queue is counted
 pub record CountsGone (old new : Counts) (before behind : List Item) : Type 0 where

@@ -1,18 +1,12 @@
 -- What a writer writes.
 use Rattle.std.specs.Prelude.{◌≡◌, ◌≢◌, ℕ, ◌+◌, ◌≤◌, List, [], ◌∷◌, ◌++◌, Option, length, take}
 use Rattle.std.specs.Io.KnownBytes.{Appends}
-use Rattle.amqp_frames.specs.declared.item.Item.{Item}
-use Rattle.amqp_frames.specs.ItemSpelling.{item_spelling}
 use Rattle.router_trace.specs.declared.event.ConnectionId.{ConnectionId}
 use Rattle.router_core.specs.declared.router.Batch.{Batch}
 use Rattle.router_counts.specs.declared.counts.Counts.{Counts}
-use Rattle.router_serve.specs.declared.end.WriteEnd.{WriteEnd}
-use Rattle.router_serve.specs.declared.end.WriteEnd.TheVariants as end
-
--- the canonical encodings of items, one after another
-abbrev pub spelled : List Item → List ℕ
-spelled [] = []
-spelled (i ∷ is) = item_spelling i ++ spelled is
+use Rattle.router_service.specs.declared.end.WriteEnd.{WriteEnd}
+use Rattle.router_service.specs.declared.end.WriteEnd.TheVariants as end
+use Rattle.router_service.specs.Spelled.{spelled}
 
 -- those of the items of batches
 abbrev pub batches_spelled : List Batch → List ℕ

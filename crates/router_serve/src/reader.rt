@@ -1,19 +1,16 @@
 //! The thread that reads what a peer sends and submits it to the router.
-ghost use Rattle.std.specs.Prelude.{◌≡◌, ℕ, List, [], false, length, OnOk, OnErr, IfOk, IfErr};
-ghost use Rattle.std.specs.Io.KnownBytes.{Consumes};
-ghost use Rattle.router_serve.specs.Greeting.{Gives, Stops};
+ghost use Rattle.std.specs.Prelude.{◌≡◌, [], false, length, OnOk, OnErr, IfErr};
 ghost use Rattle.router_seats.specs.Adding.{with_items};
 ghost use Rattle.router_serve.specs.Submitting.{CountsGone, CountsSome, ends_badly, HandsIn, Hinders, IsCore, needs_down, Submitted};
 
-use crate::end::ReadEnd;
-use crate::gate::{Gate, Side};
-use amqp_frames::{FrameFault, FrameReader, Item};
+use amqp_frames::{FrameReader, Item};
 use disk_core::Disk;
 use router_core::{ConnectionId, CoreFault, Event};
+use router_service::{Gate, ReadEnd, Side, read_items};
 use router_shared::{Ledgers, Log, Receipt, Seat, Shared};
 use std::alloc::Global;
 use std::collections::VecDeque;
-use std::io::{ErrorKind, Read};
+use std::io::Read;
 use std::sync::Wait;
 
 /// The number of bytes read at once.
@@ -185,38 +182,5 @@ fn ends_badly(items: &[Item]) -> bool
     match items.last() {
         Some(Item::Bad(_)) => true,
         _ => false,
-    }
-}
-
-/// Reads a piece, and returns the items that are complete with it. An interrupted read returns none.
-///
-/// # Errors
-///
-/// Why the reader ends: `End`, `ReadFailed` or `Memory`.
-pub(crate) fn read_items<I: Read>(
-    alloc: Global,
-    frames: &mut FrameReader,
-    input: &mut I,
-    piece: &mut [u8],
-) -> Result<Vec<Item>, ReadEnd>
-    ensures ok { IfOk result (λ items. (bytes : List ℕ) × Consumes (I.remaining input.old) (I.remaining input.new) bytes × Gives frames.old bytes items.items frames.new) }
-    ensures err { IfErr result (λ e. (bytes : List ℕ) × Consumes (I.remaining input.old) (I.remaining input.new) bytes × Stops e (length piece.old) frames.old bytes frames.new (I.remaining input.new)) }
-{
-    match input.read(piece) {
-        Ok(0) => Err(ReadEnd::End),
-        Ok(count) => {
-            let (bytes, _) = piece.split_at(count);
-            match frames.feed(bytes) {
-                Ok(items) => Ok(items),
-                Err(FrameFault::Memory) => Err(ReadEnd::Memory),
-                Err(_) => Err(ReadEnd::End),
-            }
-        }
-        Err(error) => {
-            if error.kind() == ErrorKind::Interrupted {
-                return Ok(Vec::new(alloc));
-            }
-            Err(ReadEnd::ReadFailed)
-        }
     }
 }

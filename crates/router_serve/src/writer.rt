@@ -1,14 +1,12 @@
 //! The thread that writes a connection's outgoing items.
-ghost use Rattle.std.specs.Prelude.{◌≡◌, ◌≤◌, ◌++◌, true, length, take, ℕ, OnOk, OnErr, IfOk};
+ghost use Rattle.std.specs.Prelude.{◌≡◌, ◌≤◌, true, length, take, ℕ, OnErr, IfOk};
 ghost use Rattle.std.specs.Io.KnownBytes.{Appends};
-ghost use Rattle.router_serve.specs.Wrote.{spelled, Wrote};
+ghost use Rattle.router_service.specs.Spelled.{spelled};
+ghost use Rattle.router_serve.specs.Wrote.{Wrote};
 
-use crate::end::WriteEnd;
-use crate::gate::{Gate, Side};
-use crate::writing::write_beginning;
-use amqp_frames::{Item, write_item};
 use disk_core::Disk;
 use router_core::{Batch, ConnectionId};
+use router_service::{Gate, Side, WriteEnd, spell, write_beginning};
 use router_shared::{Ledgers, Log, Seat, Shared};
 use std::alloc::{AllocError, Global};
 use std::io::Write;
@@ -87,15 +85,4 @@ fn announce<R: Wait, P: Gate>(rt: &R, gate: &P, batch: &Batch, number: u64) {
     for item in batch.items() {
         gate.see(rt, batch.conn(), Side::Writer, item);
     }
-}
-
-/// Encodes items into a buffer, which is emptied first.
-pub(crate) fn spell(alloc: Global, items: &[Item], buffer: &mut Vec<u8>) -> Result<(), AllocError>
-    ensures { OnOk result (buffer.new.items ≡ spelled items.now) }
-{
-    buffer.clear();
-    for item in items {
-        write_item(alloc, item, buffer)?;
-    }
-    Ok(())
 }

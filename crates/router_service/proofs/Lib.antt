@@ -1,0 +1,4 @@
+pub mod Appending
+pub mod Doors
+pub mod Greets
+pub mod Streams
