@@ -127,6 +127,7 @@ def credit(served):
     expect((consumer.bodies(), sender.queued), ([0, 1, 2], 5))
     for delivery, _ in consumer.got["r"]:
         consumer.decide(delivery, Delivery.ACCEPTED)
+    until(lambda: sum(bool(it.settled) for it in sent) == 3, consumer, producer)
     quiet(consumer, producer)
     expect([bool(it.settled) for it in sent], [True] * 3 + [False] * 5)
     receiver.flow(5)
