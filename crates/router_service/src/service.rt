@@ -6,7 +6,7 @@ use router_core::{ConnectionId, CoreFault, Peer};
 use std::io::{Read, Write};
 use std::sync::Wait;
 
-/// What the threads of a program ask of the router that they share. A [`Desk`] does it; threads that are written over this trait
+/// What the threads of a program ask of the router that they share. The `Desk` of `router_serve` does it; threads that are written over this trait
 /// know nothing of the router's tables, and are proved without them.
 pub trait Service: Send + Sync {
     /// What a thread counts in while it works with the router. It is put back in the end.
@@ -44,7 +44,7 @@ pub trait Service: Send + Sync {
         peer: Peer,
     ) -> Result<ConnectionId, CoreFault>;
 
-    /// Submits what a peer sends, until it ends, as [`serve_reader`] does. It returns the seat, and why it ended.
+    /// Submits what a peer sends, until it ends, as `serve_reader` of `router_serve` does. It returns the seat, and why it ended.
     fn read<R: Wait, I: Read, P: Gate>(
         &self,
         rt: &R,
@@ -56,7 +56,7 @@ pub trait Service: Send + Sync {
         gate: &P,
     ) -> (Self::Seat, ReadEnd);
 
-    /// Writes what the router sends to a connection, until that ends, as [`serve_writer`] does. It returns the seat, and why it ended.
+    /// Writes what the router sends to a connection, until that ends, as `serve_writer` of `router_serve` does. It returns the seat, and why it ended.
     fn write<R: Wait, W: Write, P: Gate>(
         &self,
         rt: &R,

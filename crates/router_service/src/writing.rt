@@ -35,6 +35,10 @@ pub fn write_beginning<W: Write>(output: &mut W, bytes: &[u8]) -> (usize, bool)
 }
 
 /// Encodes items into a buffer, which is emptied first.
+///
+/// # Errors
+///
+/// `AllocError` if memory was refused; the buffer's contents are unspecified then.
 pub fn spell(alloc: Global, items: &[Item], buffer: &mut Vec<u8>) -> Result<(), AllocError>
     ensures { OnOk result (buffer.new.items ≡ spelled items.now) }
 {
