@@ -6,6 +6,8 @@
 #include <stdio.h>
 #include <stdlib.h>
 #include <string.h>
+#include <sys/syscall.h>
+#include <unistd.h>
 
 static long count, first, all;
 
@@ -24,6 +26,13 @@ __attribute__((destructor)) static void stop(void) {
     if (!file) return;
     fprintf(file, "%ld\n", counted);
     fclose(file);
+}
+
+// A program that ends so runs no destructors.
+void _exit(int status) {
+    stop();
+    syscall(SYS_exit_group, status);
+    __builtin_unreachable();
 }
 
 static int refuses(void) {
